@@ -6,6 +6,8 @@
 
 mod bytes;
 mod seq;
+mod stack;
 
 pub use bytes::Bytes;
 pub use seq::Seq;
+pub use stack::Stack;
