@@ -11,3 +11,6 @@ mod stack;
 pub use bytes::Bytes;
 pub use seq::Seq;
 pub use stack::Stack;
+
+#[cfg(test)]
+mod tests;
