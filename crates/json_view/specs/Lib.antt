@@ -1,0 +1,5 @@
+pub mod Answers
+pub mod Located
+pub mod Names
+pub mod Place
+pub mod Reading

@@ -1,0 +1,73 @@
+-- What each reader of a value with its place answers: the value asked for, or the fault that is due.
+use Rattle.std.specs.Prelude.{ℕ, ℤ, List, Bool, Option, Some, None, option_map, option_and_then, Result, Ok, Err, ◌&&◌, if◌then◌else◌}
+use Rattle.std.specs.Prelude.{int_le}
+use Rattle.std.specs.Option.{ok_or, option_map_or}
+use Rattle.serde_json.specs.Data.{Data}
+use Rattle.serde_json.specs.Events.{items_len}
+use Rattle.serde_json.specs.Find.{get_member, at, as_object, as_array, as_number, as_integer, as_str, as_bool}
+use Rattle.json_view.specs.Located.{Located}
+use Rattle.json_view.specs.Names.{least_unlisted, first_missing}
+use Rattle.json_view.specs.Place.{member_pointer, item_pointer}
+use Rattle.json_view.specs.declared.fault.JsonFault.{JsonFault}
+use Rattle.json_view.specs.declared.fault.JsonFault.TheVariants.{WrongKind, MissingField, UnknownField, OutOfRange}
+
+-- the value, if it is of the kind asked for
+abbrev pub of_kind : {A : Type 0} → (Data → Option A) → Located → Result A JsonFault
+of_kind as_kind here = ok_or (as_kind here.value) (WrongKind here.place)
+
+abbrev pub result_and_then : {A B E : Type 0} → (A → Result B E) → Result A E → Result B E
+result_and_then f (Ok a) = f a
+result_and_then f (Err e) = Err e
+
+-- the first of two faults that is there, or a good answer
+abbrev pub first_fault : Option JsonFault → Option JsonFault → Result (Unit {0}) JsonFault
+first_fault (Some first) second = Err first
+first_fault None (Some second) = Err second
+first_fault None None = Ok tt
+
+-- An object with exactly the listed members: `WrongKind`, then the least unlisted name, then the first missing one.
+unfoldable pub only_of : List ℕ → Located → Result (Unit {0}) JsonFault
+only_of names here = result_and_then (λ members. first_fault (option_map (λ name. UnknownField (member_pointer here.place name)) (least_unlisted names members)) (option_map (λ name. MissingField (member_pointer here.place name)) (first_missing names members))) (of_kind as_object here)
+
+-- a member's value with its place
+abbrev pub at_member : List ℕ → List ℕ → Data → Located
+at_member place name value = record { value = value; place = member_pointer place name }
+
+-- the value of an object's member
+unfoldable pub field_of : List ℕ → Located → Result Located JsonFault
+field_of name here = result_and_then (λ members. ok_or (option_map (at_member here.place name) (get_member name members)) (MissingField (member_pointer here.place name))) (of_kind as_object here)
+
+-- how many items a list has, and 0 for what is no list
+abbrev pub item_count : Data → ℕ
+item_count value = option_map_or items_len (as_array value) 0
+
+-- the number of a list's items
+unfoldable pub items_of : Located → Result ℕ JsonFault
+items_of here = of_kind (λ value. option_map items_len (as_array value)) here
+
+-- an item's value with its place
+abbrev pub at_item : List ℕ → ℕ → Data → Located
+at_item place n value = record { value = value; place = item_pointer place n }
+
+-- the item n of a list
+unfoldable pub item_of : ℕ → Located → Option Located
+item_of n here = option_map (at_item here.place n) (at n here.value)
+
+-- the number that `serde_json` keeps as a u64 or an i64, if it is one
+abbrev pub whole_number_of : Data → Option ℤ
+whole_number_of value = option_and_then as_integer (as_number value)
+
+-- both limits are in the range
+abbrev pub within : List ℕ → ℤ → ℤ → ℤ → Result ℤ JsonFault
+within place low high number = if int_le low number && int_le number high then Ok number else Err (OutOfRange place)
+
+-- a whole number from `low` to `high`
+unfoldable pub int_of : ℤ → ℤ → Located → Result ℤ JsonFault
+int_of low high here = result_and_then (within here.place low high) (of_kind whole_number_of here)
+
+-- a string's bytes
+unfoldable pub text_of : Located → Result (List ℕ) JsonFault
+text_of here = of_kind as_str here
+
+unfoldable pub flag_of : Located → Result Bool JsonFault
+flag_of here = of_kind as_bool here

@@ -1,0 +1,9 @@
+//! Fields of JSON values, or the exact fault with its place.
+#![tactic(auto)]
+
+mod fault;
+mod place;
+mod view;
+
+pub use fault::JsonFault;
+pub use view::{View, parse};
