@@ -11,10 +11,10 @@ get_item-below zero (item d ds) h = refl
 get_item-below (suc n) (item d ds) h = get_item-below n ds (omega arith)
 
 -- an item below the count is there
-pub at-below : (n : ℕ) (value : Data) → n < item_count value → IsSome (at n value)
-at-below n null h = absurd (omega arith)
-at-below n (boolean b) h = absurd (omega arith)
-at-below n (number x) h = absurd (omega arith)
-at-below n (string s) h = absurd (omega arith)
-at-below n (array items) h = get_item-below n items h
-at-below n (object ms) h = absurd (omega arith)
+pub at_below : (n : ℕ) (value : Data) → n < item_count value → IsSome (at n value)
+at_below n null h = absurd (omega arith)
+at_below n (boolean b) h = absurd (omega arith)
+at_below n (number x) h = absurd (omega arith)
+at_below n (string s) h = absurd (omega arith)
+at_below n (array items) h = get_item-below n items h
+at_below n (object ms) h = absurd (omega arith)

@@ -2,7 +2,10 @@
 #![tactic(auto)]
 
 mod fault;
+mod names;
 mod place;
+#[cfg(test)]
+mod tests;
 mod view;
 
 pub use fault::JsonFault;

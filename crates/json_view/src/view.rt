@@ -1,15 +1,15 @@
 //! A JSON value with its place, and the readers of its fields.
-ghost use Rattle.std.specs.Prelude.{◌≡◌, ◌<◌, Some, IfOk, is_some, option_map};
-ghost use Rattle.serde_json.specs.Find.{as_null, get_member};
-ghost use Rattle.serde_json.specs.View.{view as value_of, members_view};
-ghost use Rattle.json_view.specs.Answers.{Answers, Parses, now_of, bytes_of, same, nothing};
+ghost use Rattle.std.specs.Prelude.{◌≡◌, ◌<◌, Some, IfOk, is_some};
+ghost use Rattle.serde_json.specs.Find.{as_null};
+ghost use Rattle.serde_json.specs.View.{view as value_of};
+ghost use Rattle.json_view.specs.Answers.{Answers, Parses, now_of, same, nothing};
 ghost use Rattle.json_view.specs.Located.{located, root_of};
-ghost use Rattle.json_view.specs.Names.{least_unlisted as least_unlisted_of, first_missing as first_missing_of, is_listed as is_listed_in};
 ghost use Rattle.json_view.specs.Reading.{only_of, field_of, items_of, item_of, item_count, int_of, text_of, flag_of, whole_number_of};
 
 use crate::fault::JsonFault;
+use crate::names::{first_missing, least_unlisted};
 use crate::place::Place;
-use serde_json::{Map, Value};
+use serde_json::Value;
 use std::alloc::Global;
 
 /// The value that `serde_json` reads of `bytes`.
@@ -109,7 +109,7 @@ impl<'a> View<'a> {
     }
 
     /// The item `n`, counted from 0, of a list.
-    #[tactic(auto, unfolding(crate::specs::Located::located, crate::specs::Reading::item_of))]
+    #[tactic(auto, using(crate::proofs::Items::at_below), unfolding(crate::specs::Located::located, crate::specs::Reading::item_of))]
     pub fn item<'p>(&'p self, n: usize) -> View<'p>
         requires { n < item_count (located self.now).value }
         ensures { item_of n (located self.now) ≡ Some (located result) }
@@ -186,32 +186,4 @@ fn whole_number(value: &Value) -> Option<i128>
         Some(number) => number.as_i128(),
         None => None,
     }
-}
-
-/// The least name of a member, by its bytes, that isn't listed in `names`.
-fn least_unlisted<'m>(members: &'m Map<String, Value>, names: &str) -> Option<&'m String>
-    ensures { option_map bytes_of result
-        ≡ least_unlisted_of names.now (members_view members.now.entries) }
-{
-    members.keys().find(|name| !is_listed(name.as_str(), names))
-}
-
-/// The first name listed in `names` that no member has.
-fn first_missing<'n>(members: &Map<String, Value>, names: &'n str) -> Option<&'n str>
-    ensures { option_map now_of result
-        ≡ first_missing_of names.now (members_view members.now.entries) }
-{
-    names.split(' ').find(|name| !has_member(members, name))
-}
-
-fn has_member(members: &Map<String, Value>, name: &str) -> bool
-    ensures { result ≡ is_some (get_member name.now (members_view members.now.entries)) }
-{
-    members.contains_key(name)
-}
-
-fn is_listed(name: &str, names: &str) -> bool
-    ensures { result ≡ is_listed_in names.now name.now }
-{
-    names.split(' ').any(|listed| listed == name)
 }

@@ -4,7 +4,7 @@ use Rattle.std.proofs.lemmas.Iterator.Search.{find_from_yields_List}
 use Rattle.std.proofs.lemmas.Iterator.Consumers.{YieldsList-from_shown}
 use Rattle.json_view.specs.Names.{is_listed}
 use Rattle.json_view.proofs.Least.{least_unlisted-first}
-use Rattle.json_view.proofs.view.least_unlisted.Goals as goal
+use Rattle.json_view.proofs.names.least_unlisted.Goals as goal
 
 pub returns : goal.returns
 returns c =

@@ -7,7 +7,7 @@ use Rattle.serde_json.specs.View.{members_view}
 use Rattle.std.proofs.lemmas.Iterator.Search.{find_from_yields_List}
 use Rattle.std.proofs.lemmas.Iterator.Splits.{YieldsList-from_str_split}
 use Rattle.std.proofs.Common.{tests}
-use Rattle.json_view.proofs.view.first_missing.Goals as goal
+use Rattle.json_view.proofs.names.first_missing.Goals as goal
 
 pub returns : goal.returns
 unfolding first_missing
