@@ -75,6 +75,14 @@ fn the_least_unknown_field_comes_before_the_first_missing_one(rt: HostRuntime) -
         place: pointer(alloc, "/a~1~0")?,
     };
     assert_eq!(rt; list.only(alloc, "c"), Err(fault));
+    let fault = JsonFault::WrongKind {
+        place: pointer(alloc, "/a~1~0")?,
+    };
+    assert_eq!(rt; list.field(alloc, "c").err(), Some(fault));
+    let fault = JsonFault::MissingField {
+        place: pointer(alloc, "/~0")?,
+    };
+    assert_eq!(rt; root.field(alloc, "~").err(), Some(fault));
     Ok(())
 }
 
