@@ -1,4 +1,5 @@
 pub mod Answers
+pub mod Leads
 pub mod Located
 pub mod Names
 pub mod Place

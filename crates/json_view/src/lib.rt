@@ -2,6 +2,7 @@
 #![tactic(auto)]
 
 mod fault;
+mod laws;
 mod names;
 mod place;
 #[cfg(test)]
@@ -9,4 +10,5 @@ mod tests;
 mod view;
 
 pub use fault::JsonFault;
+pub use laws::places_lead_to_their_values;
 pub use view::{View, parse};
