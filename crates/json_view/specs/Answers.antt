@@ -7,16 +7,12 @@ use Rattle.serde_json.specs.Read.{read}
 use Rattle.serde_json.specs.View.{view as value_of}
 use Rattle.serde_json.specs.declared.value.Value.{Value}
 use Rattle.json_view.specs.declared.fault.JsonFault.{JsonFault}
-use Rattle.json_view.specs.declared.fault.JsonFault.TheVariants.{NotJson, WrongKind, MissingField, UnknownField, OutOfRange, Memory}
+use Rattle.json_view.specs.declared.fault.JsonFault.TheVariants.{NotJson, Memory}
 
 -- the fault that is due, or want of memory for its place
 abbrev pub StandsFor : JsonFault → JsonFault → Type 0
 StandsFor Memory due = Unit {0}
-StandsFor NotJson due = NotJson ≡ due
-StandsFor (WrongKind place) due = WrongKind place ≡ due
-StandsFor (MissingField place) due = MissingField place ≡ due
-StandsFor (UnknownField place) due = UnknownField place ≡ due
-StandsFor (OutOfRange place) due = OutOfRange place ≡ due
+StandsFor fault due = fault ≡ due
 
 -- The answer is the one that is due, where `shows` is what a clause sees of its value. Want of memory comes
 -- only in the place of another fault.

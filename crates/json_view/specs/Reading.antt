@@ -1,6 +1,5 @@
 -- What each reader of a value with its place answers: the value asked for, or the fault that is due.
-use Rattle.std.specs.Prelude.{ℕ, ℤ, List, Bool, Option, Some, None, option_map, option_and_then, Result, Ok, Err, ◌&&◌, if◌then◌else◌}
-use Rattle.std.specs.Prelude.{int_le}
+use Rattle.std.specs.Prelude.{ℕ, ℤ, List, Bool, Option, Some, None, option_map, option_and_then, Result, Ok, Err, ◌&&◌, if◌then◌else◌, int_le}
 use Rattle.std.specs.Option.{ok_or, option_map_or}
 use Rattle.serde_json.specs.Data.{Data}
 use Rattle.serde_json.specs.Events.{items_len}
@@ -25,9 +24,15 @@ first_fault (Some first) second = Err first
 first_fault None (Some second) = Err second
 first_fault None None = Ok tt
 
--- An object with exactly the listed members: `WrongKind`, then the least unlisted name, then the first missing one.
+abbrev pub unknown_field : List ℕ → List ℕ → JsonFault
+unknown_field place name = UnknownField (member_pointer place name)
+
+abbrev pub missing_field : List ℕ → List ℕ → JsonFault
+missing_field place name = MissingField (member_pointer place name)
+
+-- An object with exactly the listed members: the least unlisted name is a fault, and then the first missing one.
 unfoldable pub only_of : List ℕ → Located → Result (Unit {0}) JsonFault
-only_of names here = result_and_then (λ members. first_fault (option_map (λ name. UnknownField (member_pointer here.place name)) (least_unlisted names members)) (option_map (λ name. MissingField (member_pointer here.place name)) (first_missing names members))) (of_kind as_object here)
+only_of names here = result_and_then (λ members. first_fault (option_map (unknown_field here.place) (least_unlisted names members)) (option_map (missing_field here.place) (first_missing names members))) (of_kind as_object here)
 
 -- a member's value with its place
 abbrev pub at_member : List ℕ → List ℕ → Data → Located
@@ -35,7 +40,7 @@ at_member place name value = record { value = value; place = member_pointer plac
 
 -- the value of an object's member
 unfoldable pub field_of : List ℕ → Located → Result Located JsonFault
-field_of name here = result_and_then (λ members. ok_or (option_map (at_member here.place name) (get_member name members)) (MissingField (member_pointer here.place name))) (of_kind as_object here)
+field_of name here = result_and_then (λ members. ok_or (option_map (at_member here.place name) (get_member name members)) (missing_field here.place name)) (of_kind as_object here)
 
 -- how many items a list has, and 0 for what is no list
 abbrev pub item_count : Data → ℕ
@@ -57,7 +62,7 @@ item_of n here = option_map (at_item here.place n) (at n here.value)
 abbrev pub whole_number_of : Data → Option ℤ
 whole_number_of value = option_and_then as_integer (as_number value)
 
--- both limits are in the range
+-- the number, if it lies in the range, of which both limits are part
 abbrev pub within : List ℕ → ℤ → ℤ → ℤ → Result ℤ JsonFault
 within place low high number = if int_le low number && int_le number high then Ok number else Err (OutOfRange place)
 
@@ -65,9 +70,10 @@ within place low high number = if int_le low number && int_le number high then O
 unfoldable pub int_of : ℤ → ℤ → Located → Result ℤ JsonFault
 int_of low high here = result_and_then (within here.place low high) (of_kind whole_number_of here)
 
--- a string's bytes
+-- the bytes of a string's text
 unfoldable pub text_of : Located → Result (List ℕ) JsonFault
 text_of here = of_kind as_str here
 
+-- a truth value
 unfoldable pub flag_of : Located → Result Bool JsonFault
 flag_of here = of_kind as_bool here
