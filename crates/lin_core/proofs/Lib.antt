@@ -1,0 +1,9 @@
+pub mod Admitted
+pub mod Cells
+pub mod CommonInterval
+pub mod Division
+pub mod Matching
+pub mod Midway
+pub mod Partly
+pub mod Ring
+pub mod Soundness

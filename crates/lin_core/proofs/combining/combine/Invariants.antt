@@ -1,0 +1,7 @@
+use Rattle.std.proofs.Common.{drop}
+use Rattle.lin_core.specs.Sums.{variables}
+use Rattle.lin_core.proofs.Partly.{IsPartly}
+use Rattle.lin_core.proofs.combining.combine.Given as goal
+
+abbrev pub invariant-loop-index : goal.invariant-loop-index
+invariant-loop-index l = IsPartly l.rows l.multipliers (drop l.index-index l.multipliers) l.index-index (variables l.fn.into) l.into
