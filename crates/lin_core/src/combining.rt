@@ -54,6 +54,7 @@ pub fn combine(rows: &[Row], multipliers: &[(u32, i64)], into: &mut Scratch) -> 
     ensures fault { result_err result ≡ first_fault rows.now multipliers.now }
     ensures sum { OnOk result (IsSumOf (variables into.old) rows.now multipliers.now into.new) }
     ensures refused { OnErr result (into.new ≡ zero_sum (variables into.old)) }
+    ensures over { variables into.new ≡ variables into.old }
     ensures sound { OnOk result ((numbers : ℕ → ℤ) → AllHold numbers rows.now → pos 0 ≤ℤ value_of_sum numbers into.new) }
 {
     into.clear();

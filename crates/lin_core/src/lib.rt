@@ -11,6 +11,8 @@ mod laws;
 mod rows;
 mod showing;
 mod sums;
+#[cfg(test)]
+mod tests;
 mod wrapping;
 
 pub use combining::combine;
