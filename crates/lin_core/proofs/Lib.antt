@@ -5,5 +5,5 @@ pub mod Division
 pub mod Matching
 pub mod Midway
 pub mod Partly
-pub mod Ring
+pub mod Signs
 pub mod Soundness

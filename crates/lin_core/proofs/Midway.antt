@@ -7,7 +7,8 @@ use Rattle.std.proofs.lemmas.List.{get_or-set_same, get_or-set_other, length-set
 use Rattle.lin_core.specs.declared.rows.Row.{Row}
 use Rattle.lin_core.specs.Rows.{coefficient_of, RiseFrom}
 use Rattle.lin_core.specs.Sums.{Sum, variables, coefficient_in}
-use Rattle.lin_core.proofs.Ring.{mul-add_ℤ, mul-zero_ℤ}
+use Rattle.list_views.proofs.Ring.{times_plus}
+use Rattle.lin_core.proofs.Signs.{mul-zero_ℤ}
 use Rattle.lin_core.specs.Steps.{AddsRow}
 
 -- `rest` is left of the terms `all`: it rises from `low`, and from there on no coefficient has changed yet
@@ -41,7 +42,7 @@ size_of_sum a b = omega (arith, ints)
 -- one number of the sum, where its term has come (`here`) and where it has not
 one_sum : (here : Bool) (next now old by k rest all : ℤ) → next ≡ cond here (now +ℤ by *ℤ k) now → now +ℤ by *ℤ (cond here k (pos 0) +ℤ rest) ≡ old +ℤ by *ℤ all → next +ℤ by *ℤ rest ≡ old +ℤ by *ℤ all
 one_sum true next now old by k rest all e h =
-    let d = mul-add_ℤ by k rest in
+    let d = times_plus by k rest in
     omega (arith, ints)
 one_sum false next now old by k rest all e h =
     let d : pos 0 +ℤ rest ≡ rest = omega (arith, ints) in

@@ -11,7 +11,8 @@ use Rattle.lin_core.specs.declared.rows.RowKind.TheVariants.{AtLeastZero, IsZero
 use Rattle.lin_core.specs.Combination.{number_of, sum_of, summed_coefficient, IsSumOf, IsAllowedAt, AllAllowed}
 use Rattle.lin_core.specs.Rows.{coefficient_of, value_of_terms, value_of_row, IsOfKind, Holds, AllHold, RiseFrom, Rise, AllRise}
 use Rattle.lin_core.specs.Sums.{Sum, value_from, value_of_sum}
-use Rattle.lin_core.proofs.Ring.{mul-add_ℤ, add-mul_ℤ, mul_assoc_ℤ, mul-zero_ℤ, zero-mul_ℤ, mul_nonneg_ℤ}
+use Rattle.list_views.proofs.Ring.{times_plus, plus_times, times_assoc}
+use Rattle.lin_core.proofs.Signs.{mul-zero_ℤ, zero-mul_ℤ, mul_nonneg_ℤ}
 
 -- the sum of coefficient times number over the n variables from k on
 abbrev pub span : (ℕ → ℤ) → (ℕ → ℤ) → ℕ → ℕ → ℤ
@@ -34,14 +35,14 @@ add_both a b c d p q e h = omega (arith, ints)
 
 pub span_add : (numbers f g : ℕ → ℤ) (k n : ℕ) → span numbers (λ x. f x +ℤ g x) k n ≡ span numbers f k n +ℤ span numbers g k n
 span_add numbers f g k zero = refl
-span_add numbers f g k (suc n) = add_both (f k *ℤ numbers k) (g k *ℤ numbers k) (span numbers f (suc k) n) (span numbers g (suc k) n) _ _ (add-mul_ℤ (f k) (g k) (numbers k)) (span_add numbers f g (suc k) n)
+span_add numbers f g k (suc n) = add_both (f k *ℤ numbers k) (g k *ℤ numbers k) (span numbers f (suc k) n) (span numbers g (suc k) n) _ _ (plus_times (f k) (g k) (numbers k)) (span_add numbers f g (suc k) n)
 
 mul_both : (by a b p q : ℤ) → p ≡ by *ℤ a → q ≡ by *ℤ b → p +ℤ q ≡ by *ℤ (a +ℤ b)
-mul_both by a b p q e h = rw (e, h) (sym (mul-add_ℤ by a b))
+mul_both by a b p q e h = rw (e, h) (sym (times_plus by a b))
 
 pub span_mul : (numbers : ℕ → ℤ) (by : ℤ) (f : ℕ → ℤ) (k n : ℕ) → span numbers (λ x. by *ℤ f x) k n ≡ by *ℤ span numbers f k n
 span_mul numbers by f k zero = sym (mul-zero_ℤ by)
-span_mul numbers by f k (suc n) = mul_both by _ _ _ _ (mul_assoc_ℤ by (f k) (numbers k)) (span_mul numbers by f (suc k) n)
+span_mul numbers by f k (suc n) = mul_both by _ _ _ _ (times_assoc by (f k) (numbers k)) (span_mul numbers by f (suc k) n)
 
 -- the coefficient of one variable alone
 abbrev only : ℕ → ℤ → ℕ → ℤ
@@ -108,7 +109,7 @@ found_add f g None = refl
 found_add f g (Some row) = refl
 
 four : (by a b both s t whole : ℤ) → both ≡ a +ℤ b → whole ≡ s +ℤ t → by *ℤ both +ℤ whole ≡ (by *ℤ a +ℤ s) +ℤ (by *ℤ b +ℤ t)
-four by a b both s t whole e h = rw e (omega (arith, ints, mul-add_ℤ by a b))
+four by a b both s t whole e h = rw e (omega (arith, ints, times_plus by a b))
 
 pub sum_of_add : (f g : Row → ℤ) (rows : List Row) (entries : List (ℕ × ℤ)) → sum_of (λ row. f row +ℤ g row) rows entries ≡ sum_of f rows entries +ℤ sum_of g rows entries
 sum_of_add f g rows [] = refl

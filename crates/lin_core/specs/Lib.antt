@@ -1,4 +1,5 @@
 pub mod Combination
+pub mod FaultText
 pub mod Intervals
 pub mod Laws
 pub mod Rounds

@@ -23,6 +23,11 @@ pub enum LinFault {
 }
 
 impl fmt::Display for LinFault {
+    ghost use Rattle.std.specs.Prelude.{Some};
+    ghost use Rattle.lin_core.specs.FaultText.{text_of};
+
+    ghost output = { λ fault. Some (text_of fault) };
+
     fn fmt<W: fmt::Write>(&self, f: &mut fmt::Formatter<W>) -> fmt::Result {
         match self {
             LinFault::BadIndex { n } => write!(f, "entry {n} names a row that is not there"),
