@@ -1,0 +1,7 @@
+pub mod Fields
+pub mod EntryLaws
+pub mod PoolLaws
+pub mod Places
+pub mod Names
+pub mod Outcome
+pub mod LookUps

@@ -1,0 +1,4 @@
+pub mod Entry
+pub mod View
+pub mod Text
+pub mod Reading

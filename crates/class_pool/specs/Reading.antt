@@ -1,0 +1,144 @@
+-- A pool's first fault, by a plain computation on the bytes that are left and the place where they begin.
+use Rattle.std.specs.Prelude.{◌≡◌, ℕ, ℤ, zero, suc, ◌+◌, ◌-◌, Bool, true, false, ◌&&◌, ◌==◌, nat_lt, nat_le, List, [], ◌∷◌, length, take, drop, position, map, Option, Result, Ok, Err, if◌then◌else◌}
+use Rattle.std.specs.Int.{w32, cast_signed}
+use Rattle.std.specs.List.{filter_map}
+use Rattle.std.specs.Option.{option_map, option_map_or}
+use Rattle.std.specs.Result.{result_ok}
+use Rattle.byteorder.specs.Endian.{big_number}
+use Rattle.class_pool.specs.declared.entry.PoolEntry.{PoolEntry}
+use Rattle.class_pool.specs.declared.entry.PoolEntry.TheVariants.{Utf8, Integer, Float, Long, Double, Class, Str, Member, NameAndType}
+use Rattle.class_pool.specs.declared.fault.PoolFault.{PoolFault}
+use Rattle.class_pool.specs.declared.fault.PoolFault.TheVariants.{Truncated, BadTag, BadUtf8, BadIndex, Memory}
+use Rattle.class_pool.specs.Entry.{is_wide_tag, is_wide, is_barred}
+use Rattle.class_pool.specs.Text.{places_of, first_bad_index}
+
+-- what isn't read yet: the place of its first byte, and the bytes
+pub record Unread : Type 0 where
+  pub at : ℕ
+  pub bytes : List ℕ
+
+abbrev pub unread : List ℕ → ℕ → Unread
+unread bytes at = record { at = at; bytes = drop at bytes }
+
+-- a step that reads, and what it leaves
+abbrev pub Read : Type 0 → Type 0
+Read A = Result (A × Unread) PoolFault
+
+infixl 10 ◌>>=◌
+abbrev pub ◌>>=◌ : {A B : Type 0} → Result A PoolFault → (A → Result B PoolFault) → Result B PoolFault
+(Ok x) >>= next = next x
+(Err fault) >>= next = Err fault
+
+-- What a call answers, seen by view, is what reading gives.
+abbrev pub Answers : {X Y : Type 0} → (X → Y) → Result X PoolFault → Result Y PoolFault → Type 0
+Answers view (Ok x) read = read ≡ Ok (view x)
+Answers view (Err fault) read = read ≡ Err fault
+
+-- The same of a call that takes memory, unless memory ran out.
+abbrev pub Fails : {Y : Type 0} → PoolFault → Result Y PoolFault → Type 0
+Fails Memory read = Unit {0}
+Fails (Truncated at) read = read ≡ Err (Truncated at)
+Fails (BadTag at) read = read ≡ Err (BadTag at)
+Fails (BadUtf8 at) read = read ≡ Err (BadUtf8 at)
+Fails (BadIndex entry) read = read ≡ Err (BadIndex entry)
+
+abbrev pub Gives : {X Y : Type 0} → (X → Y) → Result X PoolFault → Result Y PoolFault → Type 0
+Gives view (Ok x) read = read ≡ Ok (view x)
+Gives view (Err fault) read = Fails fault read
+
+-- a field of n bytes
+abbrev pub field_at : ℕ → Unread → Read (List ℕ)
+field_at n u =
+    if nat_lt (length u.bytes) n then Err (Truncated u.at)
+    else Ok (take n u.bytes, record { at = u.at + n; bytes = drop n u.bytes })
+
+-- a number of n bytes
+abbrev pub number_at : ℕ → Unread → Read ℕ
+number_at n u = field_at n u >>= λ f. Ok (big_number n f.0, f.1)
+
+-- a signed number of four bytes
+abbrev pub signed_at : Unread → Read ℤ
+signed_at u = field_at 4 u >>= λ f. Ok (cast_signed w32 (big_number 4 f.0), f.1)
+
+-- a field whose length stands before it in two bytes
+unfoldable pub counted_at : Unread → Read (List ℕ)
+counted_at u = do
+  n ← number_at 2 u
+  field_at n.0 n.1
+
+-- two indexes
+unfoldable pub indexes_at : Unread → Read (ℕ × ℕ)
+indexes_at u = do
+  first ← number_at 2 u
+  second ← number_at 2 first.1
+  Ok ((first.0, second.0), second.1)
+
+-- the content after a tag that stands at `at`
+unfoldable pub content_at : ℕ → ℕ → Unread → Read PoolEntry
+content_at at tag u =
+    if tag == 1 then (counted_at u >>= λ t. Ok (Utf8 t.0, t.1))
+    else (if tag == 3 then (signed_at u >>= λ n. Ok (Integer n.0, n.1))
+    else (if tag == 4 then (number_at 4 u >>= λ n. Ok (Float n.0, n.1))
+    else (if tag == 5 then (number_at 8 u >>= λ n. Ok (Long n.0, n.1))
+    else (if tag == 6 then (number_at 8 u >>= λ n. Ok (Double n.0, n.1))
+    else (if tag == 7 then (number_at 2 u >>= λ n. Ok (Class n.0, n.1))
+    else (if tag == 8 then (number_at 2 u >>= λ n. Ok (Str n.0, n.1))
+    else (if (nat_le 9 tag && nat_le tag 11) then (indexes_at u >>= λ p. Ok (Member tag p.0.0 p.0.1, p.1))
+    else (if tag == 12 then (indexes_at u >>= λ p. Ok (NameAndType p.0.0 p.0.1, p.1))
+    else Err (BadTag at)))))))))
+
+-- an entry: a tag and its content
+unfoldable pub entry_text_at : Unread → Read PoolEntry
+entry_text_at u = do
+  tag ← number_at 1 u
+  content_at u.at tag.0 tag.1
+
+-- the rule on the bytes of a Utf8 entry, whose text ends at the place `next`
+abbrev pub text_rule : PoolEntry → ℕ → Result (Unit {0}) PoolFault
+text_rule (Utf8 text) next = option_map_or (λ k. Err (BadUtf8 (next - length text + k))) (position is_barred text) (Ok tt)
+text_rule _ next = Ok tt
+
+abbrev pub starts_wide : List ℕ → Bool
+starts_wide [] = false
+starts_wide (tag ∷ _) = is_wide_tag tag
+
+-- An entry under its rules. At the last place no Long or Double stands.
+unfoldable pub entry_at_place : Bool → Unread → Read PoolEntry
+entry_at_place last u =
+    if last && starts_wide u.bytes then Err (BadTag u.at)
+    else (entry_text_at u >>= λ e. text_rule e.0 e.1.at >>= λ _. Ok e)
+
+-- the entries of so many places
+unfoldable pub entries_at : ℕ → Unread → Read (List PoolEntry)
+entries_at zero u = Ok ([], u)
+entries_at (suc zero) u = do
+  e ← entry_at_place true u
+  Ok (e.0 ∷ [], e.1)
+entries_at (suc (suc n)) u = do
+  e ← entry_at_place false u
+  es ← if is_wide e.0 then entries_at n e.1 else entries_at (suc n) e.1
+  Ok (e.0 ∷ es.0, es.1)
+
+-- A pool: the count, the entries of the places 1 to count - 1, and then the rule on what entries name.
+unfoldable pub pool_at : Unread → Read (List PoolEntry)
+pool_at u = do
+  count ← number_at 2 u
+  es ← entries_at (count.0 - 1) count.1
+  option_map_or (λ i. Err (BadIndex i)) (first_bad_index es.0) (Ok es)
+
+-- ---- places
+
+-- the entry that begins at a place, none where no entry's text begins
+abbrev pub slot_in : List ℕ → ℕ → Option PoolEntry
+slot_in bytes place = option_map (λ e. e.0) (result_ok (entry_text_at (unread bytes place)))
+
+abbrev pub slots_in : List ℕ → List ℕ → List (Option PoolEntry)
+slots_in bytes places = map (slot_in bytes) places
+
+-- the entries that begin at these places
+abbrev pub entries_in : List ℕ → List ℕ → List PoolEntry
+entries_in bytes places = filter_map (λ slot. slot) (slots_in bytes places)
+
+-- the places, from place 0 on, are those of these entries
+abbrev pub Agrees : List ℕ → List ℕ → Type 0
+Agrees bytes places = places_of (entries_in bytes places) ≡ slots_in bytes places

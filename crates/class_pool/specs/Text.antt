@@ -1,0 +1,107 @@
+-- A constant pool and its text (JVM specification, SE 6, sections 4.1 and 4.4).
+use Rattle.std.specs.Prelude.{◌≡◌, ℕ, ◌+◌, ◌-◌, ◌<◌, ◌^◌, Bool, false, not, List, [], ◌∷◌, ◌++◌, length, drop, position, slice_index_or, Option, Some, None, if◌then◌else◌}
+use Rattle.std.specs.List.{flat_map, list_all, AllByRecursion}
+use Rattle.std.specs.Option.{option_map, option_map_or, option_and_then}
+use Rattle.std.specs.Prelude.{ℤ}
+use Rattle.byteorder.specs.Endian.{big_bytes}
+use Rattle.class_pool.specs.declared.entry.PoolEntry.{PoolEntry}
+use Rattle.class_pool.specs.declared.entry.PoolEntry.TheVariants.{Utf8, Integer, Class, Member, NameAndType}
+use Rattle.class_pool.specs.Entry.{tag_of, is_wide, names_of, entry_bytes, Fits}
+
+-- ---- numbers of entries
+
+-- the places that an entry takes: its own, and behind a Long or Double an empty one
+abbrev pub slots_of : PoolEntry → List (Option PoolEntry)
+slots_of e = Some e ∷ (if is_wide e then None ∷ [] else [])
+
+-- all places of a pool, from 0 on; place 0 is empty
+abbrev pub places_of : List PoolEntry → List (Option PoolEntry)
+places_of entries = None ∷ flat_map slots_of entries
+
+-- the entry of that number: none at 0, at the second place of a Long or Double, and past the end
+abbrev pub entry_at : List PoolEntry → ℕ → Option PoolEntry
+entry_at entries i = slice_index_or (places_of entries) i None
+
+abbrev pub tag_at : List PoolEntry → ℕ → Option ℕ
+tag_at entries i = option_map tag_of (entry_at entries i)
+
+-- ---- what a pool is
+
+-- the entry of that number is there, and it is what is wanted
+abbrev pub stands : List PoolEntry → ℕ × (PoolEntry → Bool) → Bool
+stands entries n = option_map_or n.1 (entry_at entries n.0) false
+
+-- what the entry at a place names isn't there or is another kind of entry; an empty place names nothing
+abbrev pub names_badly : List PoolEntry → Option PoolEntry → Bool
+names_badly entries place = option_map_or (λ e. not (list_all (stands entries) (names_of e))) place false
+
+-- the number of the first entry that names badly
+abbrev pub first_bad_index : List PoolEntry → Option ℕ
+first_bad_index entries = position (names_badly entries) (places_of entries)
+
+-- The rules: each entry has a text, the number of places fits its field, and what entries name is there.
+pub record IsPool (entries : List PoolEntry) : Type 0 where
+  pub fit : AllByRecursion Fits entries
+  pub count : length (places_of entries) < 2 ^ 16
+  pub names : first_bad_index entries ≡ None
+
+-- the text under a count, which is written before the entries
+abbrev pub counted_bytes : ℕ → List PoolEntry → List ℕ
+counted_bytes count entries = big_bytes 2 count ++ flat_map entry_bytes entries
+
+-- The text of a pool: the count, which is one more than the last number, and the entries in order.
+abbrev pub pool_bytes : List PoolEntry → List ℕ
+pool_bytes entries = counted_bytes (length (places_of entries)) entries
+
+-- From the place `from` on the bytes spell this pool, up to the place `next`. The entries take the places 1 to
+-- count - 1, so no entry stands under the count 1, nor under the count 0.
+pub record Spells (bytes : List ℕ) (from : ℕ) (entries : List PoolEntry) (next : ℕ) : Type 0 where
+  pub pool : IsPool entries
+  pub count : ℕ
+  pub count_fits : count < 2 ^ 16
+  pub places : length (places_of entries) ≡ count - 1 + 1
+  pub text : drop from bytes ≡ counted_bytes count entries ++ drop next bytes
+  pub ends : next ≡ from + length (counted_bytes count entries)
+
+-- ---- look-ups
+
+abbrev pub text_of : PoolEntry → Option (List ℕ)
+text_of (Utf8 text) = Some text
+text_of _ = None
+
+-- the bytes of a Utf8 entry
+abbrev pub utf8_at : List PoolEntry → ℕ → Option (List ℕ)
+utf8_at entries i = option_and_then text_of (entry_at entries i)
+
+abbrev pub value_of : PoolEntry → Option ℤ
+value_of (Integer value) = Some value
+value_of _ = None
+
+-- the number of an Integer entry
+abbrev pub integer_at : List PoolEntry → ℕ → Option ℤ
+integer_at entries i = option_and_then value_of (entry_at entries i)
+
+abbrev pub class_of : List PoolEntry → PoolEntry → Option (List ℕ)
+class_of entries (Class name) = utf8_at entries name
+class_of entries _ = None
+
+-- the name of a Class entry
+abbrev pub class_name_at : List PoolEntry → ℕ → Option (List ℕ)
+class_name_at entries i = option_and_then (class_of entries) (entry_at entries i)
+
+abbrev pub pair_of : List PoolEntry → PoolEntry → Option (List ℕ × List ℕ)
+pair_of entries (NameAndType name descriptor) = option_and_then (λ n. option_map (λ d. (n, d)) (utf8_at entries descriptor)) (utf8_at entries name)
+pair_of entries _ = None
+
+-- the name and the descriptor of a NameAndType entry
+abbrev pub name_and_type_at : List PoolEntry → ℕ → Option (List ℕ × List ℕ)
+name_and_type_at entries i = option_and_then (pair_of entries) (entry_at entries i)
+
+abbrev pub member_of : List PoolEntry → PoolEntry → Option (ℕ × List ℕ × List ℕ × List ℕ)
+member_of entries (Member tag class name_and_type) =
+    option_and_then (λ c. option_map (λ p. (tag, c, p.0, p.1)) (name_and_type_at entries name_and_type)) (class_name_at entries class)
+member_of entries _ = None
+
+-- the tag, the class's name, the name and the descriptor of a Fieldref, Methodref or InterfaceMethodref entry
+abbrev pub member_at : List PoolEntry → ℕ → Option (ℕ × List ℕ × List ℕ × List ℕ)
+member_at entries i = option_and_then (member_of entries) (entry_at entries i)

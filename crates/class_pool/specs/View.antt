@@ -1,0 +1,16 @@
+-- An entry where it stands in the input is seen as the entry that it spells.
+use Rattle.class_pool.specs.declared.entry.PoolEntry.{PoolEntry}
+use Rattle.class_pool.specs.declared.entry.PoolEntry.TheVariants as entries
+use Rattle.class_pool.specs.declared.entry.EntryView.{EntryView}
+use Rattle.class_pool.specs.declared.entry.EntryView.TheVariants as views
+
+abbrev pub entry_of : EntryView → PoolEntry
+entry_of (views.Utf8 text) = entries.Utf8 text.now
+entry_of (views.Integer value) = entries.Integer value
+entry_of (views.Float bits) = entries.Float bits
+entry_of (views.Long bits) = entries.Long bits
+entry_of (views.Double bits) = entries.Double bits
+entry_of (views.Class name) = entries.Class name
+entry_of (views.Str text) = entries.Str text
+entry_of (views.Member tag class name_and_type) = entries.Member tag class name_and_type
+entry_of (views.NameAndType name descriptor) = entries.NameAndType name descriptor
