@@ -2,13 +2,13 @@
 use Rattle.std.proofs.Common.{◌≡◌, ℕ, ℤ, ◌+◌, ◌-◌, ◌≤◌, Bool, true, false, cond, eqb, leb, ◌&&◌, List, [], ◌∷◌, ◌++◌, length, Option, Some, None, Result, Ok, Err, refl, sym, ap, subst, ◌∙◌, arith, inl, inr, ◌⊎◌, leb-true}
 use Rattle.std.specs.Prelude.{position}
 use Rattle.std.specs.Option.{option_map_or}
-use Rattle.std.proofs.lemmas.Bool.{eqb-true, cases_lt}
+use Rattle.std.proofs.lemmas.Bool.{eqb-true, ne_eqb, cases_lt}
 use Rattle.class_pool.specs.declared.entry.PoolEntry.{PoolEntry}
 use Rattle.class_pool.specs.declared.entry.PoolEntry.TheVariants.{Utf8, Integer, Float, Long, Double, Class, Str, Member, NameAndType}
 use Rattle.class_pool.specs.declared.fault.PoolFault.{PoolFault}
 use Rattle.class_pool.specs.declared.fault.PoolFault.TheVariants.{BadTag, BadUtf8}
 use Rattle.class_pool.specs.Entry.{tag_of, content_of, is_wide, entry_bytes, is_barred, HasText, IsAllowed, Fits}
-use Rattle.class_pool.specs.Reading.{◌>>=◌, Read, Unread, number_at, signed_at, counted_at, indexes_at, content_at, entry_text_at, text_rule, starts_wide, entry_at_place}
+use Rattle.class_pool.specs.Reading.{◌>>=◌, Read, Unread, number_at, signed_at, counted_at, indexes_at, content_at, entry_text_at, text_rule, is_wide_tag, starts_wide, entry_at_place}
 use Rattle.class_pool.proofs.Fields.{IsBytes, bind_ok, guard_ok, ok_is, Takes, Takes-then, back_2, back_4, back_8, number_takes, number_again, byte_takes, byte_again, signed_takes, signed_again, counted_takes, counted_again, indexes_takes, indexes_again}
 
 -- which way a test went
@@ -185,11 +185,26 @@ place_text last u x e =
     let c = bind_ok (text_rule b.0.0 b.0.1.at) (λ _. Ok b.0) x b.2 in
     (g.0, subst (λ (y : PoolEntry × Unread). (entry_text_at u ≡ Ok y) × IsAllowed y.0) (ok_is b.0 x c.2) (b.1, allowed b.0.0 b.0.1.at c.0 c.1))
 
+narrow_member : (tag : ℕ) → 9 ≤ tag → is_wide_tag tag ≡ false
+narrow_member tag low = rw (ne_eqb tag 5 (omega arith), ne_eqb tag 6 (omega arith)) refl
+
+-- the tags of the entries that take two places
+pub wide_tag : (e : PoolEntry) → HasText e → is_wide_tag (tag_of e) ≡ is_wide e
+wide_tag (Utf8 text) h = refl
+wide_tag (Integer value) h = refl
+wide_tag (Float bits) h = refl
+wide_tag (Long bits) h = refl
+wide_tag (Double bits) h = refl
+wide_tag (Class name) h = refl
+wide_tag (Str text) h = refl
+wide_tag (Member tag class name_and_type) h = narrow_member tag h.0
+wide_tag (NameAndType name descriptor) h = refl
+
 pub place_takes : (last : Bool) (u : Unread) (x : PoolEntry × Unread) → IsBytes u.bytes → entry_at_place last u ≡ Ok x → IsTaken last u x
 place_takes last u x fits e =
     let p = place_text last u x e in
     let t = entry_takes u x fits p.1.0 in
-    let same : starts_wide u.bytes ≡ is_wide x.0 = ap starts_wide t.0.parts in
+    let same : starts_wide u.bytes ≡ is_wide x.0 = ap starts_wide t.0.parts ∙ wide_tag x.0 t.1 in
     record {
       takes = t.0;
       fits = (t.1, p.1.1);
@@ -203,6 +218,6 @@ unfolding entry_at_place
 place_again last at e rest fits narrow =
     let u : Unread = record { at = at; bytes = entry_bytes e ++ rest } in
     let v : Unread = record { at = at + length (entry_bytes e); bytes = rest } in
-    ap (λ (b : Bool). cond b (Err (BadTag at)) (entry_text_at u >>= λ y. text_rule y.0 y.1.at >>= λ _. Ok y)) narrow
+    ap (λ (b : Bool). cond b (Err (BadTag at)) (entry_text_at u >>= λ y. text_rule y.0 y.1.at >>= λ _. Ok y)) (ap (λ (b : Bool). last && b) (wide_tag e fits.0) ∙ narrow)
     ∙ ap (λ (r : Read PoolEntry). r >>= λ y. text_rule y.0 y.1.at >>= λ _. Ok y) (entry_again at e rest fits.0)
     ∙ ap (λ (r : Result (Unit {0}) PoolFault). r >>= λ _. Ok (e, v)) (allowed_again e v.at fits.1)

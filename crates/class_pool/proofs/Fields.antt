@@ -36,7 +36,7 @@ pub guard_ok : {A : Type 0} (b : Bool) (d : PoolFault) (x : Result A PoolFault) 
 guard_ok true d x y e = absurd cc
 guard_ok false d x y e = (refl, e)
 
-abbrev done : {A : Type 0} → A → Result A PoolFault
+abbrev pub done : {A : Type 0} → A → Result A PoolFault
 done x = Ok x
 
 pub ok_is : {A : Type 0} (x y : A) → done x ≡ done y → x ≡ y

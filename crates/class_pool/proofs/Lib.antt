@@ -5,3 +5,4 @@ pub mod Places
 pub mod Names
 pub mod Outcome
 pub mod LookUps
+pub mod Growth

@@ -12,7 +12,8 @@ use Rattle.class_pool.specs.declared.fault.PoolFault.{PoolFault}
 use Rattle.class_pool.specs.declared.fault.PoolFault.TheVariants.{Truncated, BadTag, BadUtf8, BadIndex, Memory}
 use Rattle.class_pool.specs.Entry.{is_wide}
 use Rattle.class_pool.specs.Text.{slots_of, places_of}
-use Rattle.class_pool.specs.Reading.{◌>>=◌, Read, Unread, unread, Fails, entry_text_at, entry_at_place, entries_at, slot_in, slots_in, entries_in, Agrees}
+use Rattle.class_pool.specs.Reading.{◌>>=◌, Read, Unread, unread, Fails, entry_text_at, entry_at_place, entries_at}
+use Rattle.class_pool.specs.Places.{slot_in, slots_in, entries_in, Agrees}
 use Rattle.class_pool.proofs.Fields.{IsBytes, IsBytes-drop}
 use Rattle.class_pool.proofs.EntryLaws.{place_text, place_takes}
 use Rattle.class_pool.proofs.PoolLaws.{is_zero, with_front, narrow_step, wide_step}
@@ -35,7 +36,7 @@ entries_more : (bytes ps qs : List ℕ) → entries_in bytes (ps ++ qs) ≡ entr
 entries_more bytes ps qs =
     ap (filter_map (λ slot. slot)) (slots_more bytes ps qs) ∙ filter_map-append (λ (slot : Option PoolEntry). slot) (slots_in bytes ps) (slots_in bytes qs)
 
-places_more : (es : List PoolEntry) (e : PoolEntry) → places_of (es ++ e ∷ []) ≡ places_of es ++ slots_of e
+pub places_more : (es : List PoolEntry) (e : PoolEntry) → places_of (es ++ e ∷ []) ≡ places_of es ++ slots_of e
 places_more es e =
     ap (λ (slots : List (Option PoolEntry)). None ∷ slots) (flat_map-append slots_of es (e ∷ []) ∙ ap (λ (more : List (Option PoolEntry)). flat_map slots_of es ++ more) (append-nil (slots_of e)))
 

@@ -1,15 +1,15 @@
 -- What is read as a pool is spelled so, and what is spelled so is read.
-use Rattle.std.proofs.Common.{◌≡◌, ℕ, zero, suc, ◌+◌, ◌-◌, Bool, true, false, cond, ◌&&◌, List, [], ◌∷◌, ◌++◌, length, drop, Option, Some, None, Ok, Err, refl, sym, ap, subst, ◌∙◌, append_assoc, arith, inl, inr}
+use Rattle.std.proofs.Common.{◌≡◌, ℕ, zero, suc, ◌+◌, ◌-◌, Bool, true, false, cond, ◌&&◌, List, [], ◌∷◌, ◌++◌, length, Option, Some, None, Ok, Err, refl, sym, ap, subst, ◌∙◌, append_assoc, arith, inl, inr}
 use Rattle.std.specs.List.{flat_map, AllByRecursion}
 use Rattle.std.specs.Option.{option_map_or}
-use Rattle.std.proofs.lemmas.List.{drop_at, length-append}
+use Rattle.std.proofs.lemmas.List.{length-append}
 use Rattle.std.proofs.lemmas.Bool.{cases_Bool}
 use Rattle.byteorder.specs.Endian.{big_bytes}
 use Rattle.class_pool.specs.declared.entry.PoolEntry.{PoolEntry}
 use Rattle.class_pool.specs.declared.fault.PoolFault.TheVariants.{BadIndex}
-use Rattle.class_pool.specs.Entry.{is_wide, entry_bytes, Fits}
+use Rattle.class_pool.specs.Entry.{is_wide, entry_bytes, HasText, Fits}
 use Rattle.class_pool.specs.Text.{slots_of, places_of, first_bad_index, IsPool, pool_bytes, Spells}
-use Rattle.class_pool.specs.Reading.{◌>>=◌, Read, Unread, unread, number_at, entry_at_place, entries_at, pool_at}
+use Rattle.class_pool.specs.Reading.{◌>>=◌, Read, Unread, number_at, entry_at_place, entries_at, pool_at}
 use Rattle.class_pool.proofs.Fields.{IsBytes, bind_ok, ok_is, Takes, Takes-then, back_2, number_takes, number_again}
 use Rattle.class_pool.proofs.EntryLaws.{IsTaken, place_takes, place_again}
 
@@ -124,59 +124,62 @@ named : (o : Option ℕ) (y x : List PoolEntry × Unread) → option_map_or (λ 
 named None y x e = (refl, ok_is y x e)
 named (Some i) y x e = absurd cc
 
-pub pool_found : (bytes : List ℕ) (from : ℕ) (es : List PoolEntry) (next : ℕ) → IsBytes (drop from bytes) → pool_at (unread bytes from) ≡ Ok (es, unread bytes next) → Spells bytes from es next
+pub pool_found : (u : Unread) (es : List PoolEntry) (v : Unread) → IsBytes u.bytes → pool_at u ≡ Ok (es, v) → Spells u es v
 unfolding pool_at
-pool_found bytes from es next fits e =
-    let x : List PoolEntry × Unread = (es, unread bytes next) in
-    let a = bind_ok (number_at 2 (unread bytes from)) (λ count. entries_at (count.0 - 1) count.1 >>= λ es. option_map_or (λ i. Err (BadIndex i)) (first_bad_index es.0) (Ok es)) x e in
+pool_found u es v fits e =
+    let x : List PoolEntry × Unread = (es, v) in
+    let a = bind_ok (number_at 2 u) (λ count. entries_at (count.0 - 1) count.1 >>= λ es. option_map_or (λ i. Err (BadIndex i)) (first_bad_index es.0) (Ok es)) x e in
     let b = bind_ok (entries_at (a.0.0 - 1) a.0.1) (λ es. option_map_or (λ i. Err (BadIndex i)) (first_bad_index es.0) (Ok es)) x a.2 in
     let g = named (first_bad_index b.0.0) b.0 x b.2 in
-    let s = number_takes 2 back_2 (unread bytes from) a.0 fits a.1 in
+    let s = number_takes 2 back_2 u a.0 fits a.1 in
     let ts = entries_take (a.0.0 - 1) a.0.1 b.0 s.0.fits b.1 in
     let P : List PoolEntry × Unread → Type 0 = λ y. AreTaken (a.0.0 - 1) a.0.1 y × (first_bad_index y.0 ≡ None) in
     let h = subst P g.1 (ts, g.0) in
-    let whole = Takes-then (unread bytes from) (big_bytes 2 a.0.0) a.0.1 (flat_map entry_bytes es) (unread bytes next) s.0 h.0.0 in
+    let whole = Takes-then u (big_bytes 2 a.0.0) a.0.1 (flat_map entry_bytes es) v s.0 h.0.0 in
     record {
       pool = record { fit = h.0.2; count = omega (arith, h.0.1, s.1); names = h.1 };
       count = a.0.0;
       count_fits = s.1;
       places = omega (arith, h.0.1);
       text = whole.parts;
-      ends = whole.place;
+      place = whole.place;
     }
 
-pub pool_again : (bytes : List ℕ) (from : ℕ) (es : List PoolEntry) (next : ℕ) → Spells bytes from es next → pool_at (unread bytes from) ≡ Ok (es, unread bytes next)
+pub pool_again : (u : Unread) (es : List PoolEntry) (v : Unread) → Spells u es v → pool_at u ≡ Ok (es, v)
 unfolding pool_at
-pool_again bytes from es next s =
-    let tail : List ℕ = flat_map entry_bytes es ++ drop next bytes in
+pool_again u es v s =
+    let tail : List ℕ = flat_map entry_bytes es ++ v.bytes in
     let n : s.count - 1 ≡ taken es = omega (arith, s.places) in
-    let ends : from + 2 + length (flat_map entry_bytes es) ≡ next = omega (arith, s.ends, length-append (big_bytes 2 s.count) (flat_map entry_bytes es)) in
+    let ends : u.at + 2 + length (flat_map entry_bytes es) ≡ v.at = omega (arith, s.place, length-append (big_bytes 2 s.count) (flat_map entry_bytes es)) in
     let rest : Read ℕ → Read (List PoolEntry) = λ r. r >>= λ count. entries_at (count.0 - 1) count.1 >>= λ es. option_map_or (λ i. Err (BadIndex i)) (first_bad_index es.0) (Ok es) in
     let check : Read (List PoolEntry) → Read (List PoolEntry) = λ r. r >>= λ es. option_map_or (λ i. Err (BadIndex i)) (first_bad_index es.0) (Ok es) in
-    ap (λ (b : List ℕ). pool_at (record { at = from; bytes = b })) s.text
-    ∙ ap rest (number_again 2 from s.count tail s.count_fits)
-    ∙ ap (λ (k : ℕ). check (entries_at k (record { at = from + 2; bytes = tail }))) n
-    ∙ ap check (entries_again es (from + 2) (drop next bytes) s.pool.fit)
-    ∙ ap (λ (k : ℕ). check (Ok (es, record { at = k; bytes = drop next bytes }))) ends
-    ∙ ap (λ (o : Option ℕ). option_map_or (λ i. Err (BadIndex i)) o (Ok (es, unread bytes next))) s.pool.names
+    ap (λ (b : List ℕ). pool_at (record { at = u.at; bytes = b })) s.text
+    ∙ ap rest (number_again 2 u.at s.count tail s.count_fits)
+    ∙ ap (λ (k : ℕ). check (entries_at k (record { at = u.at + 2; bytes = tail }))) n
+    ∙ ap check (entries_again es (u.at + 2) v.bytes s.pool.fit)
+    ∙ ap (λ (k : ℕ). check (Ok (es, record { at = k; bytes = v.bytes }))) ends
+    ∙ ap (λ (o : Option ℕ). option_map_or (λ i. Err (BadIndex i)) o (Ok (es, v))) s.pool.names
 
-pub same_parts : (x y : List PoolEntry × Unread) → x ≡ y → (x.0 ≡ y.0) × (x.1.at ≡ y.1.at)
-same_parts x y e = (ap (λ (p : List PoolEntry × Unread). p.0) e, ap (λ (p : List PoolEntry × Unread). p.1.at) e)
+same_parts : (x y : List PoolEntry × Unread) → x ≡ y → (x.0 ≡ y.0) × (x.1 ≡ y.1)
+same_parts x y e = (ap (λ (p : List PoolEntry × Unread). p.0) e, ap (λ (p : List PoolEntry × Unread). p.1) e)
 
 -- no bytes spell two pools
-pub pool_one : (bytes : List ℕ) (from : ℕ) (es es' : List PoolEntry) (next next' : ℕ) → Spells bytes from es next → Spells bytes from es' next' → (es ≡ es') × (next ≡ next')
-pool_one bytes from es es' next next' s t =
-    same_parts (es, unread bytes next) (es', unread bytes next') (ok_is _ _ (sym (pool_again bytes from es next s) ∙ pool_again bytes from es' next' t))
+pub pool_one : (u : Unread) (es es' : List PoolEntry) (v v' : Unread) → Spells u es v → Spells u es' v' → (es ≡ es') × (v ≡ v')
+pool_one u es es' v v' s t = same_parts (es, v) (es', v') (ok_is _ _ (sym (pool_again u es v s) ∙ pool_again u es' v' t))
 
 -- what is written is spelled
-pub pool_written : (before rest : List ℕ) (es : List PoolEntry) → IsPool es → Spells (before ++ (pool_bytes es ++ rest)) (length before) es (length before + length (pool_bytes es))
-pool_written before rest es pool = record {
+pub pool_written : (at : ℕ) (es : List PoolEntry) (rest : List ℕ) → IsPool es → Spells (record { at = at; bytes = pool_bytes es ++ rest }) es (record { at = at + length (pool_bytes es); bytes = rest })
+pool_written at es rest pool = record {
   pool = pool;
   count = length (places_of es);
   count_fits = pool.count;
   places = omega arith;
-  text =
-      drop_at before (pool_bytes es ++ rest) (length before) refl
-      ∙ ap (λ (r : List ℕ). pool_bytes es ++ r) (sym (ap (λ (all : List ℕ). drop (length before + length (pool_bytes es)) all) (sym (append_assoc before (pool_bytes es) rest)) ∙ drop_at (before ++ pool_bytes es) rest (length before + length (pool_bytes es)) (length-append before (pool_bytes es))));
-  ends = refl;
+  text = refl;
+  place = refl;
 }
+
+-- ---- entries that have a text, whether or not they make a pool
+
+pub texts_from_pool : (es : List PoolEntry) → AllByRecursion Fits es → AllByRecursion HasText es
+texts_from_pool [] fit = tt
+texts_from_pool (e ∷ es) fit = (fit.0.0, texts_from_pool es fit.1)

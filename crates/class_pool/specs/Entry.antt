@@ -12,7 +12,7 @@
 --               InterfaceMethodref
 --   12          NameAndType             two indexes of 2 bytes                             1        two Utf8
 --
--- The four definitions below are this table: a tag of a later edition is one more equation in each.
+-- The definitions below are this table: a tag of a later edition is one more equation in each.
 use Rattle.std.specs.Prelude.{◌≡◌, ℕ, ◌<◌, ◌≤◌, ◌^◌, Bool, true, false, ◌||◌, ◌==◌, nat_le, List, [], ◌∷◌, ◌++◌, length, position, None, FitsSigned}
 use Rattle.std.specs.Int.{w32, cast_unsigned}
 use Rattle.byteorder.specs.Endian.{big_bytes}
@@ -43,9 +43,11 @@ content_of (Str text) = big_bytes 2 text
 content_of (Member tag class name_and_type) = big_bytes 2 class ++ big_bytes 2 name_and_type
 content_of (NameAndType name descriptor) = big_bytes 2 name ++ big_bytes 2 descriptor
 
--- the tags of the entries that take two places: Long and Double
-abbrev pub is_wide_tag : ℕ → Bool
-is_wide_tag tag = (tag == 5) || (tag == 6)
+-- the entries that take two places
+abbrev pub is_wide : PoolEntry → Bool
+is_wide (Long bits) = true
+is_wide (Double bits) = true
+is_wide _ = false
 
 -- ---- what entries name
 
@@ -76,9 +78,6 @@ names_of (Class name) = (name, is_utf8) ∷ []
 names_of (Str text) = (text, is_utf8) ∷ []
 names_of (Member tag class name_and_type) = (class, is_class) ∷ (name_and_type, is_name_and_type) ∷ []
 names_of (NameAndType name descriptor) = (name, is_utf8) ∷ (descriptor, is_utf8) ∷ []
-
-abbrev pub is_wide : PoolEntry → Bool
-is_wide e = is_wide_tag (tag_of e)
 
 -- the text of an entry
 abbrev pub entry_bytes : PoolEntry → List ℕ

@@ -2,3 +2,4 @@ pub mod Entry
 pub mod View
 pub mod Text
 pub mod Reading
+pub mod Places

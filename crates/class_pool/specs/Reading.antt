@@ -1,24 +1,15 @@
 -- A pool's first fault, by a plain computation on the bytes that are left and the place where they begin.
-use Rattle.std.specs.Prelude.{◌≡◌, ℕ, ℤ, zero, suc, ◌+◌, ◌-◌, Bool, true, false, ◌&&◌, ◌==◌, nat_lt, nat_le, List, [], ◌∷◌, length, take, drop, position, map, Option, Result, Ok, Err, if◌then◌else◌}
+use Rattle.std.specs.Prelude.{◌≡◌, ℕ, ℤ, zero, suc, ◌+◌, ◌-◌, Bool, true, false, ◌&&◌, ◌||◌, ◌==◌, nat_lt, nat_le, List, [], ◌∷◌, length, take, drop, position, Result, Ok, Err, if◌then◌else◌}
 use Rattle.std.specs.Int.{w32, cast_signed}
-use Rattle.std.specs.List.{filter_map}
-use Rattle.std.specs.Option.{option_map, option_map_or}
-use Rattle.std.specs.Result.{result_ok}
+use Rattle.std.specs.Option.{option_map_or}
 use Rattle.byteorder.specs.Endian.{big_number}
 use Rattle.class_pool.specs.declared.entry.PoolEntry.{PoolEntry}
 use Rattle.class_pool.specs.declared.entry.PoolEntry.TheVariants.{Utf8, Integer, Float, Long, Double, Class, Str, Member, NameAndType}
 use Rattle.class_pool.specs.declared.fault.PoolFault.{PoolFault}
 use Rattle.class_pool.specs.declared.fault.PoolFault.TheVariants.{Truncated, BadTag, BadUtf8, BadIndex, Memory}
-use Rattle.class_pool.specs.Entry.{is_wide_tag, is_wide, is_barred}
-use Rattle.class_pool.specs.Text.{places_of, first_bad_index}
-
--- what isn't read yet: the place of its first byte, and the bytes
-pub record Unread : Type 0 where
-  pub at : ℕ
-  pub bytes : List ℕ
-
-abbrev pub unread : List ℕ → ℕ → Unread
-unread bytes at = record { at = at; bytes = drop at bytes }
+use Rattle.class_pool.specs.Entry.{is_wide, is_barred}
+use Rattle.class_pool.specs.Text.{first_bad_index}
+pub use Rattle.class_pool.specs.Text.{Unread, unread}
 
 -- a step that reads, and what it leaves
 abbrev pub Read : Type 0 → Type 0
@@ -98,6 +89,10 @@ abbrev pub text_rule : PoolEntry → ℕ → Result (Unit {0}) PoolFault
 text_rule (Utf8 text) next = option_map_or (λ k. Err (BadUtf8 (next - length text + k))) (position is_barred text) (Ok tt)
 text_rule _ next = Ok tt
 
+-- the tags of the entries that take two places
+abbrev pub is_wide_tag : ℕ → Bool
+is_wide_tag tag = (tag == 5) || (tag == 6)
+
 abbrev pub starts_wide : List ℕ → Bool
 starts_wide [] = false
 starts_wide (tag ∷ _) = is_wide_tag tag
@@ -125,20 +120,3 @@ pool_at u = do
   count ← number_at 2 u
   es ← entries_at (count.0 - 1) count.1
   option_map_or (λ i. Err (BadIndex i)) (first_bad_index es.0) (Ok es)
-
--- ---- places
-
--- the entry that begins at a place, none where no entry's text begins
-abbrev pub slot_in : List ℕ → ℕ → Option PoolEntry
-slot_in bytes place = option_map (λ e. e.0) (result_ok (entry_text_at (unread bytes place)))
-
-abbrev pub slots_in : List ℕ → List ℕ → List (Option PoolEntry)
-slots_in bytes places = map (slot_in bytes) places
-
--- the entries that begin at these places
-abbrev pub entries_in : List ℕ → List ℕ → List PoolEntry
-entries_in bytes places = filter_map (λ slot. slot) (slots_in bytes places)
-
--- the places, from place 0 on, are those of these entries
-abbrev pub Agrees : List ℕ → List ℕ → Type 0
-Agrees bytes places = places_of (entries_in bytes places) ≡ slots_in bytes places

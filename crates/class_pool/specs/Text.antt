@@ -6,7 +6,7 @@ use Rattle.std.specs.Prelude.{ℤ}
 use Rattle.byteorder.specs.Endian.{big_bytes}
 use Rattle.class_pool.specs.declared.entry.PoolEntry.{PoolEntry}
 use Rattle.class_pool.specs.declared.entry.PoolEntry.TheVariants.{Utf8, Integer, Class, Member, NameAndType}
-use Rattle.class_pool.specs.Entry.{tag_of, is_wide, names_of, entry_bytes, Fits}
+use Rattle.class_pool.specs.Entry.{tag_of, is_wide, names_of, entry_bytes, HasText, Fits}
 
 -- ---- numbers of entries
 
@@ -39,6 +39,11 @@ names_badly entries place = option_map_or (λ e. not (list_all (stands entries) 
 abbrev pub first_bad_index : List PoolEntry → Option ℕ
 first_bad_index entries = position (names_badly entries) (places_of entries)
 
+-- Entries have a text: each one has, and the number of places fits its field.
+pub record HasTexts (entries : List PoolEntry) : Type 0 where
+  pub each : AllByRecursion HasText entries
+  pub count : length (places_of entries) < 2 ^ 16
+
 -- The rules: each entry has a text, the number of places fits its field, and what entries name is there.
 pub record IsPool (entries : List PoolEntry) : Type 0 where
   pub fit : AllByRecursion Fits entries
@@ -53,15 +58,23 @@ counted_bytes count entries = big_bytes 2 count ++ flat_map entry_bytes entries
 abbrev pub pool_bytes : List PoolEntry → List ℕ
 pool_bytes entries = counted_bytes (length (places_of entries)) entries
 
--- From the place `from` on the bytes spell this pool, up to the place `next`. The entries take the places 1 to
--- count - 1, so no entry stands under the count 1, nor under the count 0.
-pub record Spells (bytes : List ℕ) (from : ℕ) (entries : List PoolEntry) (next : ℕ) : Type 0 where
+-- what isn't read yet: the place of its first byte, and the bytes from there on
+pub record Unread : Type 0 where
+  pub at : ℕ
+  pub bytes : List ℕ
+
+abbrev pub unread : List ℕ → ℕ → Unread
+unread bytes at = record { at = at; bytes = drop at bytes }
+
+-- The bytes of `from` begin with the text of this pool, and `rest` is what stands behind it. The entries take the places
+-- 1 to count - 1, so no entry stands under the count 1, nor under the count 0.
+pub record Spells (from : Unread) (entries : List PoolEntry) (rest : Unread) : Type 0 where
   pub pool : IsPool entries
   pub count : ℕ
   pub count_fits : count < 2 ^ 16
   pub places : length (places_of entries) ≡ count - 1 + 1
-  pub text : drop from bytes ≡ counted_bytes count entries ++ drop next bytes
-  pub ends : next ≡ from + length (counted_bytes count entries)
+  pub text : from.bytes ≡ counted_bytes count entries ++ rest.bytes
+  pub place : rest.at ≡ from.at + length (counted_bytes count entries)
 
 -- ---- look-ups
 

@@ -21,7 +21,7 @@ pub(crate) struct Entries<'a> {
 impl<'a> Model for Entries<'a> {
     ghost use Rattle.std.specs.Prelude.{List, ◌<◌, ◌^◌, length};
     ghost use Rattle.class_pool.specs.declared.entry.PoolEntry.{PoolEntry};
-    ghost use Rattle.class_pool.specs.Reading.{entries_in, Agrees};
+    ghost use Rattle.class_pool.specs.Places.{entries_in, Agrees};
 
     ghost Value = { List PoolEntry };
 

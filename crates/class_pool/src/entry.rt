@@ -67,4 +67,21 @@ impl EntryView<'_> {
             EntryView::NameAndType(_, _) => 12,
         }
     }
+
+    pub(crate) fn is_wide(self) -> bool
+        ensures { result ≡ is_wide (entry_of self.entry) }
+    {
+        matches!(self, EntryView::Long(_) | EntryView::Double(_))
+    }
+}
+
+impl PoolEntry {
+    ghost use Rattle.std.specs.Prelude.{◌≡◌};
+    ghost use Rattle.class_pool.specs.Entry.{is_wide};
+
+    pub(crate) fn is_wide(&self) -> bool
+        ensures { result ≡ is_wide self.now }
+    {
+        matches!(self, PoolEntry::Long(_) | PoolEntry::Double(_))
+    }
 }

@@ -6,9 +6,13 @@ mod entries;
 mod entry;
 mod fault;
 mod field;
+mod laws;
 mod pool;
 mod reading;
+mod writing;
 
 pub use entry::PoolEntry;
 pub use fault::PoolFault;
+pub use laws::{one_pool, pool_has_texts, read_is_spelled, written_is_spelled};
 pub use pool::Pool;
+pub use writing::write_pool;

@@ -1,11 +1,11 @@
 //! Constant pools.
 
-ghost use Rattle.std.specs.Prelude.{◌≡◌, ℕ, List, length, false, IfOk, is_some, Ok};
+ghost use Rattle.std.specs.Prelude.{◌≡◌, List, length, false, IfOk, is_some, Ok};
 ghost use Rattle.std.specs.Option.{option_copied, option_map, option_map_or};
 ghost use Rattle.class_pool.specs.Entry.{is_class, is_member};
 ghost use Rattle.class_pool.specs.declared.entry.PoolEntry.{PoolEntry};
-ghost use Rattle.class_pool.specs.Text.{places_of, entry_at, tag_at, utf8_at, integer_at, class_name_at, member_at, Spells};
-ghost use Rattle.class_pool.specs.Reading.{Gives, unread, pool_at};
+ghost use Rattle.class_pool.specs.Text.{places_of, entry_at, tag_at, utf8_at, integer_at, class_name_at, member_at, Unread, unread, Spells};
+ghost use Rattle.class_pool.specs.Reading.{Gives, pool_at};
 
 use crate::entries::Entries;
 use crate::fault::PoolFault;
@@ -56,9 +56,10 @@ impl<'a> Pool<'a> {
     /// The first fault in file order where the bytes spell no pool, and [`PoolFault::Memory`].
     pub fn read(alloc: Global, bytes: &'a [u8], from: usize) -> Result<(Pool<'a>, usize), PoolFault>
         // What is read is spelled so.
-        ensures found { IfOk result (λ r. Spells bytes.now from r.0 r.1) }
+        ensures found { IfOk result (λ r. Spells (unread bytes.now from) r.0 (unread bytes.now r.1)) }
         // What is spelled so is read, unless memory runs out.
-        ensures only { (entries : List PoolEntry) (next : ℕ) → Spells bytes.now from entries next → Gives {Y = List PoolEntry × ℕ} (λ r. (r.0, r.1)) result (Ok (entries, next)) }
+        ensures only { (entries : List PoolEntry) (rest : Unread) → Spells (unread bytes.now from) entries rest
+            → Gives {Y = List PoolEntry × Unread} (λ r. (r.0, unread bytes.now r.1)) result (Ok (entries, rest)) }
         // Which fault it is.
         ensures exact { Gives (λ r. (r.0, unread bytes.now r.1)) result (pool_at (unread bytes.now from)) }
     {

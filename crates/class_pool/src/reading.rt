@@ -1,9 +1,10 @@
 //! Entries of the input, one after the other.
 
 ghost use Rattle.std.specs.Prelude.{◌≡◌, ◌<◌, ◌+◌, ◌-◌, [], ◌∷◌, ◌++◌, if◌then◌else◌, drop, length, position, IfSome, IfOk, OnOk};
-ghost use Rattle.class_pool.specs.Entry.{is_barred, is_wide_tag};
+ghost use Rattle.class_pool.specs.Entry.{is_barred};
 ghost use Rattle.class_pool.specs.View.{entry_of};
-ghost use Rattle.class_pool.specs.Reading.{Answers, Gives, unread, entries_at, entries_in, Agrees, content_at, entry_text_at, text_rule, starts_wide, entry_at_place};
+ghost use Rattle.class_pool.specs.Reading.{Answers, Gives, unread, entries_at, content_at, entry_text_at, text_rule, is_wide_tag, starts_wide, entry_at_place};
+ghost use Rattle.class_pool.specs.Places.{entries_in, Agrees};
 
 use crate::entry::EntryView;
 use crate::fault::PoolFault;
@@ -169,7 +170,7 @@ pub(crate) fn places_at(
     while places.len() < count {
         let last = places.len() + 1 == count;
         let (entry, after) = checked_entry_at(bytes, next, last)?;
-        push_places(&mut places, next, bytes.len(), is_wide_tag(entry.tag()))?;
+        push_places(&mut places, next, bytes.len(), entry.is_wide())?;
         next = after;
     }
     Ok((places, next))

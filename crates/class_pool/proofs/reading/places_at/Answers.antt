@@ -1,6 +1,6 @@
 use Rattle.std.proofs.Common.{◌≡◌, ◌+◌, ◌∷◌, [], ◌++◌, eqb, length, subst, sym, ap, ◌∙◌, arith}
 use Rattle.std.proofs.lemmas.Result.{err_from_is_err_and}
-use Rattle.class_pool.specs.Entry.{is_wide, is_wide_tag}
+use Rattle.class_pool.specs.Entry.{is_wide}
 use Rattle.class_pool.specs.View.{entry_of}
 use Rattle.class_pool.proofs.Places.{Progress, own_places, begins, goes_on, stops, is_done}
 use Rattle.class_pool.proofs.reading.places_at.Goals as goal
@@ -22,7 +22,7 @@ returns-in_err-entry-clause-read c =
 pub loop-places-preserved : goal.loop-places-preserved
 loop-places-preserved c =
     let len : c.len-in-loop-places.result ≡ length c.loop-places.places.items = omega (arith, c.len-in-loop-places.ensures, c.loop-places.places.ok) in
-    let wide : c.is_wide_tag.result ≡ is_wide (entry_of c.in_ok-entry.entry) = c.is_wide_tag.ensures ∙ ap is_wide_tag c.tag.ensures in
+    let wide : c.is_wide.result ≡ is_wide (entry_of c.in_ok-entry.entry) = c.is_wide.ensures in
     let items = c.in_ok-push_places.ensures ∙ ap (λ w. c.loop-places.places.items ++ own_places c.args.bytes.now c.loop-places.next w) wide in
     subst (λ places. Progress c.args.bytes.now c.args.at c.args.count places c.in_ok-entry.after) (sym items) (
     goes_on c.args.bytes.now c.args.at c.args.count c.loop-places.places.items c.loop-places.next (eqb (c.len-in-loop-places.result + 1) c.args.count)

@@ -1,0 +1,15 @@
+-- How the count of a pool grows entry by entry.
+use Rattle.std.proofs.Common.{ℕ, ◌≤◌, List, length, take, drop, ap, arith}
+use Rattle.std.specs.List.{flat_map}
+use Rattle.std.proofs.lemmas.List.{length-append, take-append-drop}
+use Rattle.std.proofs.lemmas.List.Concat.{flat_map-append}
+use Rattle.class_pool.specs.declared.entry.PoolEntry.{PoolEntry}
+use Rattle.class_pool.specs.Text.{slots_of, places_of}
+
+-- entries in front take no more places than all
+pub count_bound : (es : List PoolEntry) (i : ℕ) → length (places_of (take i es)) ≤ length (places_of es)
+count_bound es i =
+    let split = ap (λ (xs : List PoolEntry). length (flat_map slots_of xs)) (take-append-drop i es) in
+    let parts = ap length (flat_map-append slots_of (take i es) (drop i es)) in
+    let sum = length-append (flat_map slots_of (take i es)) (flat_map slots_of (drop i es)) in
+    omega (arith, split, parts, sum)
