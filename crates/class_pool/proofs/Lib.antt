@@ -6,3 +6,4 @@ pub mod Names
 pub mod Outcome
 pub mod LookUps
 pub mod Growth
+pub mod Rereading

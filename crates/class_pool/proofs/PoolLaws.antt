@@ -8,10 +8,10 @@ use Rattle.byteorder.specs.Endian.{big_bytes}
 use Rattle.class_pool.specs.declared.entry.PoolEntry.{PoolEntry}
 use Rattle.class_pool.specs.declared.fault.PoolFault.TheVariants.{BadIndex}
 use Rattle.class_pool.specs.Entry.{is_wide, entry_bytes, HasText, Fits}
-use Rattle.class_pool.specs.Text.{slots_of, places_of, first_bad_index, IsPool, pool_bytes, Spells}
+use Rattle.class_pool.specs.Text.{slots_of, places_of, first_bad_index, IsPool, pool_bytes, Spells, HasTexts}
 use Rattle.class_pool.specs.Reading.{◌>>=◌, Read, Unread, number_at, entry_at_place, entries_at, pool_at}
-use Rattle.class_pool.proofs.Fields.{IsBytes, bind_ok, ok_is, Takes, Takes-then, back_2, number_takes, number_again}
-use Rattle.class_pool.proofs.EntryLaws.{IsTaken, place_takes, place_again}
+use Rattle.class_pool.proofs.Fields.{IsBytes, bind_ok, done, ok_is, Takes, Takes-then, back_2, number_takes, number_again}
+use Rattle.class_pool.proofs.EntryLaws.{IsTaken, entry_again, place_text, place_takes, place_again}
 
 -- what was read before, and what is still read
 abbrev pub with_front : List PoolEntry → Read (List PoolEntry) → Read (List PoolEntry)
@@ -56,10 +56,10 @@ cons_taken n m last u e es t ts count = (
   (t.fits, ts.2),
 )
 
-slots_narrow : (e : PoolEntry) → is_wide e ≡ false → length (slots_of e) ≡ 1
+pub slots_narrow : (e : PoolEntry) → is_wide e ≡ false → length (slots_of e) ≡ 1
 slots_narrow e h = ap (λ (b : Bool). length (Some e ∷ cond b (None ∷ []) [])) h
 
-slots_wide : (e : PoolEntry) → is_wide e ≡ true → length (slots_of e) ≡ 2
+pub slots_wide : (e : PoolEntry) → is_wide e ≡ true → length (slots_of e) ≡ 2
 slots_wide e h = ap (λ (b : Bool). length (Some e ∷ cond b (None ∷ []) [])) h
 
 pub entries_take : (n : ℕ) (u : Unread) (x : List PoolEntry × Unread) → IsBytes u.bytes → entries_at n u ≡ Ok x → AreTaken n u x
@@ -183,3 +183,70 @@ pool_written at es rest pool = record {
 pub texts_from_pool : (es : List PoolEntry) → AllByRecursion Fits es → AllByRecursion HasText es
 texts_from_pool [] fit = tt
 texts_from_pool (e ∷ es) fit = (fit.0.0, texts_from_pool es fit.1)
+
+-- the first of some entries
+first_ok : (m : ℕ) (u : Unread) (x : List PoolEntry × Unread) → entries_at (suc m) u ≡ Ok x → (e : PoolEntry × Unread) × (entry_at_place (is_zero m) u ≡ Ok e)
+unfolding entries_at
+first_ok zero u x h =
+    let b = bind_ok (entry_at_place true u) (λ y. Ok (y.0 ∷ [], y.1)) x h in
+    (b.0, b.1)
+first_ok (suc n) u x h =
+    let b = bind_ok (entry_at_place false u) (λ y. cond (is_wide y.0) (entries_at n y.1) (entries_at (suc n) y.1) >>= λ es. Ok (y.0 ∷ es.0, es.1)) x h in
+    (b.0, b.1)
+
+-- the entry that is read from an entry's text is that entry
+first_same : (last : Bool) (at : ℕ) (e : PoolEntry) (rest : List ℕ) (y : PoolEntry × Unread) → HasText e → entry_at_place last (record { at = at; bytes = entry_bytes e ++ rest }) ≡ Ok y
+    → entry_at_place last (record { at = at; bytes = entry_bytes e ++ rest }) ≡ Ok (e, record { at = at + length (entry_bytes e); bytes = rest })
+first_same last at e rest y text h =
+    let u : Unread = record { at = at; bytes = entry_bytes e ++ rest } in
+    let v : Unread = record { at = at + length (entry_bytes e); bytes = rest } in
+    let read = (place_text last u y h).1.0 in
+    let same : y ≡ (e, v) = ok_is y (e, v) (sym read ∙ entry_again at e rest text) in
+    h ∙ ap (λ (x : PoolEntry × Unread). done x) same
+
+others_of : (e : PoolEntry) (read : Read (List PoolEntry)) (x : List PoolEntry × Unread) → with_front (e ∷ []) read ≡ Ok x → (y : List PoolEntry × Unread) × (read ≡ Ok y) × (e ∷ y.0 ≡ x.0)
+others_of e read x h =
+    let b = bind_ok read (λ y. Ok (e ∷ y.0, y.1)) x h in
+    (b.0, b.1, ap (λ (p : List PoolEntry × Unread). p.0) (ok_is (e ∷ b.0.0, b.0.1) x b.2))
+
+-- entries that are read from the text of entries are these entries
+same_entries : (es : List PoolEntry) (at : ℕ) (rest : List ℕ) (x : List PoolEntry × Unread) → AllByRecursion HasText es
+    → entries_at (taken es) (record { at = at; bytes = flat_map entry_bytes es ++ rest }) ≡ Ok x → x.0 ≡ es
+unfolding entries_at
+same_entries [] at rest x texts h = sym (ap (λ (p : List PoolEntry × Unread). p.0) (ok_is ([], record { at = at; bytes = rest }) x h))
+same_entries (e ∷ es) at rest x texts h =
+    let tail : List ℕ = flat_map entry_bytes es ++ rest in
+    let u : Unread = record { at = at; bytes = entry_bytes e ++ tail } in
+    let v : Unread = record { at = at + length (entry_bytes e); bytes = tail } in
+    let regroup : (entry_bytes e ++ flat_map entry_bytes es) ++ rest ≡ entry_bytes e ++ tail = append_assoc (entry_bytes e) (flat_map entry_bytes es) rest in
+    let read : entries_at (taken (e ∷ es)) u ≡ Ok x = sym (ap (λ (b : List ℕ). entries_at (taken (e ∷ es)) (record { at = at; bytes = b })) regroup) ∙ h in
+    let count = length-append (slots_of e) (flat_map slots_of es) in
+    elim (cases_Bool (is_wide e)) [
+      | inl wide ↦
+          let n : taken (e ∷ es) ≡ suc (suc (taken es)) = omega (arith, count, slots_wide e wide) in
+          let here : entries_at (suc (suc (taken es))) u ≡ Ok x = sym (ap (λ (k : ℕ). entries_at k u) n) ∙ read in
+          let f = first_ok (suc (taken es)) u x here in
+          let o = others_of e (entries_at (taken es) v) x (sym (wide_step (taken es) u e v (first_same false at e tail f.0 texts.0 f.1) wide) ∙ here) in
+          sym o.2 ∙ ap (λ (l : List PoolEntry). e ∷ l) (same_entries es (at + length (entry_bytes e)) rest o.0 texts.1 o.1)
+      | inr narrow ↦
+          let n : taken (e ∷ es) ≡ suc (taken es) = omega (arith, count, slots_narrow e narrow) in
+          let here : entries_at (suc (taken es)) u ≡ Ok x = sym (ap (λ (k : ℕ). entries_at k u) n) ∙ read in
+          let f = first_ok (taken es) u x here in
+          let o = others_of e (entries_at (taken es) v) x (sym (narrow_step (taken es) (is_zero (taken es)) u e v refl (first_same (is_zero (taken es)) at e tail f.0 texts.0 f.1) narrow) ∙ here) in
+          sym o.2 ∙ ap (λ (l : List PoolEntry). e ∷ l) (same_entries es (at + length (entry_bytes e)) rest o.0 texts.1 o.1)
+    ]
+
+-- the pool that the text of entries spells has these entries
+pub same_pool : (at : ℕ) (es es' : List PoolEntry) (rest : List ℕ) (v : Unread) → HasTexts es → Spells (record { at = at; bytes = pool_bytes es ++ rest }) es' v → es' ≡ es
+unfolding pool_at
+same_pool at es es' rest v texts s =
+    let u : Unread = record { at = at; bytes = pool_bytes es ++ rest } in
+    let tail : List ℕ = flat_map entry_bytes es ++ rest in
+    let after : Read ℕ → Read (List PoolEntry) = λ r. r >>= λ count. entries_at (count.0 - 1) count.1 >>= λ es. option_map_or (λ i. Err (BadIndex i)) (first_bad_index es.0) (Ok es) in
+    let count = number_again 2 at (length (places_of es)) tail texts.count in
+    let whole : after (Ok (length (places_of es), record { at = at + 2; bytes = tail })) ≡ Ok (es', v) = sym (ap after count) ∙ pool_again u es' v s in
+    let b = bind_ok (entries_at (length (places_of es) - 1) (record { at = at + 2; bytes = tail })) (λ es. option_map_or (λ i. Err (BadIndex i)) (first_bad_index es.0) (Ok es)) (es', v) whole in
+    let g = named (first_bad_index b.0.0) b.0 (es', v) b.2 in
+    let n : length (places_of es) - 1 ≡ taken es = omega arith in
+    let read : entries_at (taken es) (record { at = at + 2; bytes = tail }) ≡ Ok b.0 = sym (ap (λ (k : ℕ). entries_at k (record { at = at + 2; bytes = tail })) n) ∙ b.1 in
+    sym (ap (λ (p : List PoolEntry × Unread). p.0) g.1) ∙ same_entries es (at + 2) rest b.0 texts.each read

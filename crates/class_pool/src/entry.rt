@@ -77,11 +77,32 @@ impl EntryView<'_> {
 
 impl PoolEntry {
     ghost use Rattle.std.specs.Prelude.{◌≡◌};
-    ghost use Rattle.class_pool.specs.Entry.{is_wide};
+    ghost use Rattle.class_pool.specs.View.{entry_of};
 
-    pub(crate) fn is_wide(&self) -> bool
-        ensures { result ≡ is_wide self.now }
+    /// The same entry, borrowed.
+    pub(crate) fn view(&self) -> EntryView<'_>
+        ensures { entry_of result ≡ self.now }
     {
-        matches!(self, PoolEntry::Long(_) | PoolEntry::Double(_))
+        match self {
+            PoolEntry::Utf8(text) => EntryView::Utf8(text.as_slice()),
+            PoolEntry::Integer(value) => EntryView::Integer(*value),
+            PoolEntry::Float(bits) => EntryView::Float(*bits),
+            PoolEntry::Long(bits) => EntryView::Long(*bits),
+            PoolEntry::Double(bits) => EntryView::Double(*bits),
+            PoolEntry::Class(name) => EntryView::Class(*name),
+            PoolEntry::Str(text) => EntryView::Str(*text),
+            PoolEntry::Member {
+                tag,
+                class,
+                name_and_type,
+            } => EntryView::Member {
+                tag: *tag,
+                class: *class,
+                name_and_type: *name_and_type,
+            },
+            PoolEntry::NameAndType(name, descriptor) => {
+                EntryView::NameAndType(*name, *descriptor)
+            }
+        }
     }
 }

@@ -28,3 +28,9 @@ pub fn read_is_spelled()
 pub fn pool_has_texts()
     ensures { (entries : List PoolEntry) → IsPool entries → HasTexts entries }
 {}
+
+/// Where the text of some entries spells a pool, the pool has these entries.
+pub fn entries_of_text()
+    ensures { (at : ℕ) (entries others : List PoolEntry) (rest : List ℕ) (end : Unread) → HasTexts entries
+        → Spells (record { at = at; bytes = pool_bytes entries ++ rest }) others end → others ≡ entries }
+{}

@@ -9,10 +9,12 @@ mod field;
 mod laws;
 mod pool;
 mod reading;
+mod rules;
 mod writing;
 
 pub use entry::PoolEntry;
 pub use fault::PoolFault;
-pub use laws::{one_pool, pool_has_texts, read_is_spelled, written_is_spelled};
+pub use laws::{entries_of_text, one_pool, pool_has_texts, read_is_spelled, written_is_spelled};
 pub use pool::Pool;
+pub use rules::{has_texts, is_pool};
 pub use writing::write_pool;
