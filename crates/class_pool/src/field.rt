@@ -7,7 +7,7 @@ use crate::fault::PoolFault;
 use byteorder::{BigEndian, ByteOrder};
 
 /// The `len` bytes at `at`.
-pub fn field(bytes: &[u8], at: usize, len: usize) -> Result<(&[u8], usize), PoolFault>
+pub(crate) fn field(bytes: &[u8], at: usize, len: usize) -> Result<(&[u8], usize), PoolFault>
     ensures { Answers (λ x. (x.0.now, unread bytes.now x.1)) result (field_at len (unread bytes.now at)) }
 {
     if bytes.len().saturating_sub(at) < len {
@@ -20,7 +20,7 @@ pub fn field(bytes: &[u8], at: usize, len: usize) -> Result<(&[u8], usize), Pool
 }
 
 /// The byte at `at`.
-pub fn u8_at(bytes: &[u8], at: usize) -> Result<(u8, usize), PoolFault>
+pub(crate) fn u8_at(bytes: &[u8], at: usize) -> Result<(u8, usize), PoolFault>
     ensures { Answers (λ x. (x.0, unread bytes.now x.1)) result (number_at 1 (unread bytes.now at)) }
 {
     let (field, next) = field(bytes, at, 1)?;
@@ -28,7 +28,7 @@ pub fn u8_at(bytes: &[u8], at: usize) -> Result<(u8, usize), PoolFault>
 }
 
 /// The number of two bytes at `at`.
-pub fn u16_at(bytes: &[u8], at: usize) -> Result<(u16, usize), PoolFault>
+pub(crate) fn u16_at(bytes: &[u8], at: usize) -> Result<(u16, usize), PoolFault>
     ensures { Answers (λ x. (x.0, unread bytes.now x.1)) result (number_at 2 (unread bytes.now at)) }
 {
     let (field, next) = field(bytes, at, 2)?;
@@ -36,7 +36,7 @@ pub fn u16_at(bytes: &[u8], at: usize) -> Result<(u16, usize), PoolFault>
 }
 
 /// The number of four bytes at `at`.
-pub fn u32_at(bytes: &[u8], at: usize) -> Result<(u32, usize), PoolFault>
+pub(crate) fn u32_at(bytes: &[u8], at: usize) -> Result<(u32, usize), PoolFault>
     ensures { Answers (λ x. (x.0, unread bytes.now x.1)) result (number_at 4 (unread bytes.now at)) }
 {
     let (field, next) = field(bytes, at, 4)?;
@@ -44,7 +44,7 @@ pub fn u32_at(bytes: &[u8], at: usize) -> Result<(u32, usize), PoolFault>
 }
 
 /// The number of eight bytes at `at`.
-pub fn u64_at(bytes: &[u8], at: usize) -> Result<(u64, usize), PoolFault>
+pub(crate) fn u64_at(bytes: &[u8], at: usize) -> Result<(u64, usize), PoolFault>
     ensures { Answers (λ x. (x.0, unread bytes.now x.1)) result (number_at 8 (unread bytes.now at)) }
 {
     let (field, next) = field(bytes, at, 8)?;
@@ -52,7 +52,7 @@ pub fn u64_at(bytes: &[u8], at: usize) -> Result<(u64, usize), PoolFault>
 }
 
 /// The signed number of four bytes at `at`.
-pub fn i32_at(bytes: &[u8], at: usize) -> Result<(i32, usize), PoolFault>
+pub(crate) fn i32_at(bytes: &[u8], at: usize) -> Result<(i32, usize), PoolFault>
     ensures { Answers (λ x. (x.0, unread bytes.now x.1)) result (signed_at (unread bytes.now at)) }
 {
     let (field, next) = field(bytes, at, 4)?;
@@ -61,7 +61,7 @@ pub fn i32_at(bytes: &[u8], at: usize) -> Result<(i32, usize), PoolFault>
 
 /// The bytes whose number stands before them, at `at`.
 #[tactic(auto, unfolding(crate::specs::Reading::counted_at))]
-pub fn counted_at(bytes: &[u8], at: usize) -> Result<(&[u8], usize), PoolFault>
+pub(crate) fn counted_at(bytes: &[u8], at: usize) -> Result<(&[u8], usize), PoolFault>
     ensures { Answers (λ x. (x.0.now, unread bytes.now x.1)) result (counted_at (unread bytes.now at)) }
 {
     let (len, next) = u16_at(bytes, at)?;
@@ -70,7 +70,7 @@ pub fn counted_at(bytes: &[u8], at: usize) -> Result<(&[u8], usize), PoolFault>
 
 /// The two indexes at `at`.
 #[tactic(auto, unfolding(crate::specs::Reading::indexes_at))]
-pub fn indexes_at(bytes: &[u8], at: usize) -> Result<((u16, u16), usize), PoolFault>
+pub(crate) fn indexes_at(bytes: &[u8], at: usize) -> Result<((u16, u16), usize), PoolFault>
     ensures { Answers (λ x. (x.0, unread bytes.now x.1)) result (indexes_at (unread bytes.now at)) }
 {
     let (first, next) = u16_at(bytes, at)?;
