@@ -1,0 +1,36 @@
+-- What a class file says: the names and descriptors themselves, in place of the indexes by which the file names them.
+use Rattle.std.specs.Prelude.{ℕ, List, Option}
+use Rattle.class_pool.specs.declared.entry.PoolEntry.{PoolEntry}
+
+-- a range of code, where its exceptions are handled, and the index of the caught class, or 0: start, end, handler, catch
+abbrev pub Handler : Type 0
+Handler = ℕ × ℕ × ℕ × ℕ
+
+pub record FieldContent : Type 0 where
+  pub flags : ℕ
+  pub name : List ℕ
+  pub desc : List ℕ
+
+pub record CodeContent : Type 0 where
+  pub max_stack : ℕ
+  pub max_locals : ℕ
+  pub code : List ℕ
+  pub table : List Handler
+
+pub record MethodContent : Type 0 where
+  pub flags : ℕ
+  pub name : List ℕ
+  pub desc : List ℕ
+  pub code : Option CodeContent
+
+pub record ClassContent : Type 0 where
+  pub major : ℕ
+  pub flags : ℕ
+  pub name : List ℕ
+  pub super_name : List ℕ
+  pub interfaces : List (List ℕ)
+  pub fields : List FieldContent
+  pub methods : List MethodContent
+  pub pool : List PoolEntry
+  -- how many attributes of the file are no method's Code: those of fields, of methods, of Codes and of the class
+  pub skipped : ℕ

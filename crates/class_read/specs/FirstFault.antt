@@ -1,0 +1,272 @@
+-- The class that bytes spell, or the first fault: the fields of the file in their order, and each rule where the last
+-- field that it speaks of ends.
+use Rattle.std.specs.Prelude.{◌≡◌, ◌&&◌, ◌||◌, ◌==◌, ℕ, ◌+◌, ◌-◌, not, Bool, true, false, List, [], ◌∷◌, ◌++◌, length, map, take, drop, Option, Some, None, Result, Ok, Err, is_some, is_none, nat_lt, nat_le, if◌then◌else◌}
+use Rattle.std.specs.Option.{option_map_or}
+use Rattle.std.specs.List.{list_any}
+use Rattle.std.specs.Str.{bytes_eq}
+use Rattle.class_pool.specs.Text.{utf8_at, class_name_at}
+use Rattle.class_pool.specs.declared.entry.PoolEntry.{PoolEntry}
+use Rattle.class_pool.specs.declared.fault.PoolFault.{PoolFault}
+use Rattle.class_pool.specs.declared.fault.PoolFault.TheVariants as pools
+use Rattle.class_pool.specs.Reading.{Unread, pool_at}
+use Rattle.class_read.specs.declared.fault.ClassFault.{ClassFault}
+use Rattle.class_read.specs.declared.fault.ClassFault.TheVariants.{BadMagic, Version, Pool, Truncated, BadDescriptor, DuplicateMember, CodeLength, MissingCode, ExtraCode, TrailingBytes, Memory}
+use Rattle.class_read.specs.declared.names.MemberKind.{MemberKind}
+use Rattle.class_read.specs.declared.names.MemberKind.TheVariants.{Field, Method}
+use Rattle.class_read.specs.Names.{is_class_name, is_descriptor}
+use Rattle.class_read.specs.Content.{Handler, FieldContent, CodeContent, MethodContent, ClassContent}
+use Rattle.class_read.specs.Reading.{Read, and_then, ◌>>=◌, pure, place, passing, holding, u2_at, u4_at, bytes_at, named_at, sized_at, repeated, collected}
+use Rattle.class_read.specs.Text.{magic_number}
+use Rattle.class_read.specs.Rules.{code_name, has_code, same_key, is_read_major}
+
+-- ---- indexes
+
+-- the name that a Class entry gives
+unfoldable pub class_index_at : ℕ → List PoolEntry → List ℕ → Read (List ℕ)
+class_index_at total pool = passing is_class_name (λ _. BadDescriptor) total (named_at (class_name_at pool) total)
+
+abbrev pub is_catch : List PoolEntry → ℕ → Bool
+is_catch pool i = (i == 0) || option_map_or is_class_name (class_name_at pool i) false
+
+-- ---- attributes
+
+-- the name of an attribute
+abbrev pub attribute_name_at : ℕ → List PoolEntry → List ℕ → Read (List ℕ)
+attribute_name_at total pool = named_at (utf8_at pool) total
+
+-- a length, and a content of that length, which is skipped
+unfoldable pub content_at : ℕ → List ℕ → Read (Unit {0})
+content_at total = do
+  size ← u4_at total
+  content ← bytes_at total size
+  pure tt
+
+unfoldable pub skipped_at : ℕ → List PoolEntry → Unit {0} → List ℕ → Read (Unit {0})
+skipped_at total pool _ = do
+  name ← attribute_name_at total pool
+  content_at total
+
+-- attributes that are skipped, and how many they are
+unfoldable pub attributes_at : ℕ → List PoolEntry → List ℕ → Read ℕ
+attributes_at total pool = do
+  count ← u2_at total
+  all ← repeated (skipped_at total pool) count tt
+  pure count
+
+-- ---- code
+
+-- what a handler catches
+abbrev pub catch_at : ℕ → List PoolEntry → List ℕ → Read ℕ
+catch_at total pool = passing (is_catch pool) (λ _. BadDescriptor) total (u2_at total)
+
+-- an entry of an exception table
+unfoldable pub handler_at : ℕ → List PoolEntry → List ℕ → Read Handler
+handler_at total pool = do
+  start ← u2_at total
+  end ← u2_at total
+  handler ← u2_at total
+  catch ← catch_at total pool
+  pure (start, end, handler, catch)
+
+unfoldable pub table_at : ℕ → List PoolEntry → List ℕ → Read (List Handler)
+table_at total pool = do
+  count ← u2_at total
+  repeated (collected (handler_at total pool)) count []
+
+abbrev pub is_code_length : ℕ → Bool
+is_code_length n = nat_lt 0 n && nat_le n 65535
+
+abbrev pub code_length_at : ℕ → List ℕ → Read ℕ
+code_length_at total = passing is_code_length (λ _. CodeLength) total (u4_at total)
+
+-- code, and how many attributes it has
+unfoldable pub code_at : ℕ → List PoolEntry → List ℕ → Read (CodeContent × ℕ)
+code_at total pool = do
+  max_stack ← u2_at total
+  max_locals ← u2_at total
+  size ← code_length_at total
+  code ← bytes_at total size
+  table ← table_at total pool
+  skipped ← attributes_at total pool
+  pure (record { max_stack = max_stack; max_locals = max_locals; code = code; table = table }, skipped)
+
+abbrev pub is_code_name : List ℕ → Bool
+is_code_name name = bytes_eq name code_name
+
+-- the code that was found, and how many attributes are no code
+abbrev pub Found : Type 0
+Found = Option CodeContent × ℕ
+
+-- `Code` may stand where the method has code, and once
+abbrev pub may_stand : Bool → Found → List ℕ → Bool
+may_stand coded made name = not (is_code_name name) || (coded && is_none made.0)
+
+abbrev pub method_name_at : ℕ → List PoolEntry → Bool → Found → List ℕ → Read (List ℕ)
+method_name_at total pool coded made = passing (may_stand coded made) (λ _. ExtraCode) total (attribute_name_at total pool)
+
+unfoldable pub code_found_at : ℕ → List PoolEntry → Found → List ℕ → Read Found
+code_found_at total pool made = do
+  code ← sized_at total (code_at total pool)
+  pure (Some code.0, made.1 + code.1)
+
+unfoldable pub one_more_at : ℕ → Found → List ℕ → Read Found
+one_more_at total made = do
+  content ← content_at total
+  pure (made.0, made.1 + 1)
+
+-- an attribute of a method that has code, or of one that hasn't
+unfoldable pub method_attribute_at : ℕ → List PoolEntry → Bool → Found → List ℕ → Read Found
+method_attribute_at total pool coded made = do
+  name ← method_name_at total pool coded made
+  if is_code_name name then code_found_at total pool made else one_more_at total made
+
+unfoldable pub method_attributes_at : ℕ → List PoolEntry → Bool → List ℕ → Read Found
+method_attributes_at total pool coded = do
+  count ← u2_at total
+  found ← repeated (method_attribute_at total pool coded) count (None, 0)
+  ended ← holding (is_some found.0 || not coded) MissingCode total
+  pure found
+
+-- ---- members
+
+abbrev pub Key : Type 0
+Key = List ℕ × List ℕ
+
+abbrev pub is_new : List Key → Key → Bool
+is_new earlier key = not (list_any (same_key key) earlier)
+
+abbrev pub descriptor_at : ℕ → List PoolEntry → MemberKind → ℕ → List ℕ → Read (List ℕ)
+descriptor_at total pool kind flags = passing (is_descriptor kind flags) (λ _. BadDescriptor) total (named_at (utf8_at pool) total)
+
+-- the descriptor of a member whose name and descriptor no earlier one has
+abbrev pub new_descriptor_at : ℕ → List PoolEntry → MemberKind → List Key → ℕ → List ℕ → List ℕ → Read (List ℕ)
+new_descriptor_at total pool kind earlier flags name =
+    passing (λ desc. is_new earlier (name, desc)) (λ _. DuplicateMember) total (descriptor_at total pool kind flags)
+
+-- a member up to its attributes, after those with the keys `earlier`
+unfoldable pub head_at : ℕ → List PoolEntry → MemberKind → List Key → List ℕ → Read FieldContent
+head_at total pool kind earlier = do
+  flags ← u2_at total
+  name ← named_at (utf8_at pool) total
+  desc ← new_descriptor_at total pool kind earlier flags name
+  pure (record { flags = flags; name = name; desc = desc })
+
+abbrev pub field_keys : List FieldContent → List Key
+field_keys fields = map (λ f. (f.name, f.desc)) fields
+
+abbrev pub method_keys : List MethodContent → List Key
+method_keys methods = map (λ m. (m.name, m.desc)) methods
+
+-- a field after those with the keys `earlier`, and how many attributes it has
+unfoldable pub field_at : ℕ → List PoolEntry → List Key → List ℕ → Read (FieldContent × ℕ)
+field_at total pool earlier = do
+  field ← head_at total pool Field earlier
+  skipped ← attributes_at total pool
+  pure (field, skipped)
+
+unfoldable pub method_at : ℕ → List PoolEntry → List Key → List ℕ → Read (MethodContent × ℕ)
+method_at total pool earlier = do
+  head ← head_at total pool Method earlier
+  found ← method_attributes_at total pool (has_code head.flags)
+  pure (record { flags = head.flags; name = head.name; desc = head.desc; code = found.0 }, found.1)
+
+-- one more field, and one more method
+unfoldable pub more_fields_at : ℕ → List PoolEntry → List FieldContent × ℕ → List ℕ → Read (List FieldContent × ℕ)
+more_fields_at total pool made = do
+  field ← field_at total pool (field_keys made.0)
+  pure (made.0 ++ field.0 ∷ [], made.1 + field.1)
+
+unfoldable pub more_methods_at : ℕ → List PoolEntry → List MethodContent × ℕ → List ℕ → Read (List MethodContent × ℕ)
+more_methods_at total pool made = do
+  method ← method_at total pool (method_keys made.0)
+  pure (made.0 ++ method.0 ∷ [], made.1 + method.1)
+
+unfoldable pub fields_at : ℕ → List PoolEntry → List ℕ → Read (List FieldContent × ℕ)
+fields_at total pool = do
+  count ← u2_at total
+  repeated (more_fields_at total pool) count ([], 0)
+
+unfoldable pub methods_at : ℕ → List PoolEntry → List ℕ → Read (List MethodContent × ℕ)
+methods_at total pool = do
+  count ← u2_at total
+  repeated (more_methods_at total pool) count ([], 0)
+
+-- ---- the class
+
+unfoldable pub interfaces_at : ℕ → List PoolEntry → List ℕ → Read (List (List ℕ))
+interfaces_at total pool = do
+  count ← u2_at total
+  repeated (collected (class_index_at total pool)) count []
+
+-- no byte stands after the class
+abbrev pub end_at : ℕ → List ℕ → Read (Unit {0})
+end_at total bytes = holding (length bytes == 0) TrailingBytes total bytes
+
+-- what follows the pool, in a file of this major
+unfoldable pub body_at : ℕ → ℕ → List PoolEntry → List ℕ → Read ClassContent
+body_at total major pool = do
+  flags ← u2_at total
+  name ← class_index_at total pool
+  super_name ← class_index_at total pool
+  interfaces ← interfaces_at total pool
+  fields ← fields_at total pool
+  methods ← methods_at total pool
+  skipped ← attributes_at total pool
+  pure (record {
+    major = major;
+    flags = flags;
+    name = name;
+    super_name = super_name;
+    interfaces = interfaces;
+    fields = fields.0;
+    methods = methods.0;
+    pool = pool;
+    skipped = fields.1 + methods.1 + skipped;
+  })
+
+-- The constant pool, by the reading of pools.
+abbrev pub pool_read : Result (List PoolEntry × Unread) PoolFault → Read (List PoolEntry)
+pool_read (Ok x) = Ok (x.0, x.1.bytes)
+pool_read (Err fault) = Err (Pool fault)
+
+-- the fault of a class whose pool has this fault
+abbrev pub of_pool : PoolFault → ClassFault
+of_pool pools.Memory = Memory
+of_pool fault = Pool fault
+
+-- the bytes after some place of a file
+abbrev pub IsEnd : List ℕ → List ℕ → Type 0
+IsEnd file rest = rest ≡ drop (length file - length rest) file
+
+abbrev pub pool_field_at : ℕ → List ℕ → Read (List PoolEntry)
+pool_field_at total bytes = pool_read (pool_at (record { at = place total bytes; bytes = bytes }))
+
+abbrev pub magic_at : ℕ → List ℕ → Read ℕ
+magic_at total = passing (λ n. n == magic_number) (λ _ _. BadMagic) total (u4_at total)
+
+abbrev pub major_at : ℕ → List ℕ → Read ℕ
+major_at total = passing is_read_major (λ n _. Version n) total (u2_at total)
+
+-- a whole file
+unfoldable pub file_at : ℕ → List ℕ → Read ClassContent
+file_at total = do
+  magic ← magic_at total
+  minor ← u2_at total
+  major ← major_at total
+  pool ← pool_field_at total
+  body_at total major pool
+
+-- a whole file, and no byte after it
+unfoldable pub whole_at : ℕ → List ℕ → Read ClassContent
+whole_at total = do
+  class ← file_at total
+  ended ← end_at total
+  pure class
+
+abbrev pub without_rest : Read ClassContent → Result ClassContent ClassFault
+without_rest (Ok x) = Ok x.0
+without_rest (Err fault) = Err fault
+
+-- The class that the bytes spell, else the first fault.
+unfoldable pub class_in : List ℕ → Result ClassContent ClassFault
+class_in bytes = without_rest (whole_at (length bytes) bytes)

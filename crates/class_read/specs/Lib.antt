@@ -1,0 +1,7 @@
+pub mod Reading
+pub mod Names
+pub mod Content
+pub mod Text
+pub mod Rules
+pub mod FirstFault
+pub mod View

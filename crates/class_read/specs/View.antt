@@ -1,0 +1,25 @@
+-- Members and codes where they stand in the file are seen as their contents.
+use Rattle.std.specs.Prelude.{ℕ, List, Option, Some, None}
+use Rattle.std.specs.Option.{option_map}
+use Rattle.class_read.specs.declared.view.FieldView.{FieldView}
+use Rattle.class_read.specs.declared.view.MethodView.{MethodView}
+use Rattle.class_read.specs.declared.view.CodeView.{CodeView}
+use Rattle.class_read.specs.declared.method.Found.{Found}
+use Rattle.class_read.specs.Content.{FieldContent, MethodContent, CodeContent}
+
+abbrev pub field_content : FieldView → FieldContent
+field_content f = record { flags = f.flags; name = f.name.now; desc = f.desc.now }
+
+abbrev pub code_content : CodeView → CodeContent
+code_content c = record { max_stack = c.max_stack; max_locals = c.max_locals; code = c.code.now; table = c.table }
+
+abbrev pub code_contents : Option CodeView → Option CodeContent
+code_contents None = None
+code_contents (Some c) = Some (code_content c)
+
+abbrev pub method_content : MethodView → MethodContent
+method_content m = record { flags = m.flags; name = m.name.now; desc = m.desc.now; code = code_contents m.code }
+
+-- the code that was found so far, and how many attributes are no code
+abbrev pub found_content : Found → Option CodeContent × ℕ
+found_content f = (code_contents f.code, f.skipped)
