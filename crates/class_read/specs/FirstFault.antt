@@ -133,7 +133,7 @@ abbrev pub Key : Type 0
 Key = List ℕ × List ℕ
 
 abbrev pub is_new : List Key → Key → Bool
-is_new earlier key = not (list_any (same_key key) earlier)
+is_new earlier key = not (list_any (λ e. same_key e key) earlier)
 
 abbrev pub descriptor_at : ℕ → List PoolEntry → MemberKind → ℕ → List ℕ → Read (List ℕ)
 descriptor_at total pool kind flags = passing (is_descriptor kind flags) (λ _. BadDescriptor) total (named_at (utf8_at pool) total)

@@ -14,5 +14,6 @@ mod text;
 mod view;
 
 pub use fault::ClassFault;
+pub use reading::one_class;
 pub use text::{AttrText, ClassText, MemberText};
 pub use view::{ClassView, CodeView, FieldView, MethodView};

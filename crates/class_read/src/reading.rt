@@ -1,8 +1,9 @@
 //! A whole class file.
 
-ghost use Rattle.std.specs.Prelude.{◌≡◌, ◌≤◌, ◌<◌, ◌^◌, ◌+◌, List, [], map, length, Ok};
+ghost use Rattle.std.specs.Prelude.{◌≡◌, ◌≤◌, ◌<◌, ◌^◌, ◌+◌, ℕ, List, [], map, length, IfOk, Ok};
 ghost use Rattle.class_read.specs.Reading.{Gives, repeated, collected};
-ghost use Rattle.class_read.specs.Rules.{is_read_major};
+ghost use Rattle.class_read.specs.Content.{ClassContent};
+ghost use Rattle.class_read.specs.Rules.{is_read_major, Spells};
 ghost use Rattle.class_read.specs.FirstFault.{class_index_at, interfaces_at, magic_at, major_at, of_pool, IsEnd, pool_field_at, end_at, body_at, file_at, whole_at, class_in};
 
 use crate::attribute::{attributes, class_index};
@@ -180,9 +181,18 @@ impl<'a> ClassView<'a> {
     ///
     /// The first fault where the bytes spell no class, as [`ClassFault`] says, and [`ClassFault::Memory`].
     pub fn read(alloc: Global, bytes: &'a [u8]) -> Result<ClassView<'a>, ClassFault>
-        // Which class it is, or which fault.
+        // What is read is spelled so.
+        ensures found { IfOk result (λ c. Spells bytes.now c) }
+        // What is spelled so is read, unless memory runs out.
+        ensures only { (c : ClassContent) → Spells bytes.now c → Gives {Y = ClassContent} (λ d. d) result (Ok c) }
+        // Which fault it is.
         ensures exact { Gives (λ c. c) result (class_in bytes.now) }
     {
         class(alloc, bytes)
     }
 }
+
+/// No bytes spell two classes.
+pub fn one_class()
+    ensures { (bytes : List ℕ) (c d : ClassContent) → Spells bytes c → Spells bytes d → c ≡ d }
+{}

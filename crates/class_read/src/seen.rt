@@ -34,7 +34,7 @@ impl<'a> Seen<'a> {
 
     /// Whether this name and descriptor came before.
     pub fn has(&self, name: &[u8], desc: &[u8]) -> bool
-        ensures { result ≡ list_any (same_key (name.now, desc.now)) self.now }
+        ensures { result ≡ list_any (λ e. same_key e (name.now, desc.now)) self.now }
     {
         has_same(self.keys.as_slice(), name, desc)
     }
@@ -49,7 +49,7 @@ impl<'a> Seen<'a> {
 }
 
 fn has_same(keys: &[(&[u8], &[u8])], name: &[u8], desc: &[u8]) -> bool
-    ensures { result ≡ list_any (λ k. same_key (name.now, desc.now) (k.0.now, k.1.now)) keys.now }
+    ensures { result ≡ list_any (λ k. same_key (k.0.now, k.1.now) (name.now, desc.now)) keys.now }
 {
-    keys.iter().any(|k| name == k.0 && desc == k.1)
+    keys.iter().any(|k| k.0 == name && k.1 == desc)
 }

@@ -1,0 +1,269 @@
+-- The reading of a class file is exact: the class that is read is the one that the bytes spell.
+use Rattle.std.proofs.Common.{◌≡◌, ℕ, zero, suc, ◌+◌, ◌-◌, ◌^◌, ◌<◌, ◌≤◌, Bool, true, false, cond, eqb, List, [], ◌∷◌, ◌++◌, length, map, get_or, Option, Some, None, Result, Ok, Err, refl, sym, ap, subst, ◌∙◌, append_assoc, arith}
+use Rattle.std.specs.Prelude.{IsSome}
+use Rattle.std.specs.Int.{bytes_high_first}
+use Rattle.std.specs.List.{flat_map, AllByRecursion}
+use Rattle.std.specs.Option.{option_and_then, option_map_or}
+use Rattle.std.proofs.lemmas.Bool.{eqb-true, eq-eqb}
+use Rattle.std.proofs.lemmas.List.{append-nil, length-append, nil_from_length}
+use Rattle.class_pool.specs.declared.entry.PoolEntry.{PoolEntry}
+use Rattle.class_pool.specs.declared.fault.PoolFault.{PoolFault}
+use Rattle.class_pool.specs.declared.fault.PoolFault.TheVariants.{BadIndex}
+use Rattle.class_pool.specs.Entry.{is_wide, entry_bytes}
+use Rattle.class_pool.specs.Text as pools
+use Rattle.class_pool.specs.Text.{slots_of, places_of, first_bad_index, IsPool, counted_bytes, pool_bytes, class_name_at}
+use Rattle.class_pool.specs.Reading as pool_reading
+use Rattle.class_pool.specs.Reading.{Unread, number_at, entries_at, pool_at}
+use Rattle.class_pool.proofs.Fields.{Takes, Takes-then, back_2, number_takes, number_again}
+use Rattle.class_pool.proofs.Fields as pool_fields
+use Rattle.class_pool.proofs.PoolLaws.{taken, entries_take, entries_again}
+use Rattle.class_read.specs.declared.fault.ClassFault.{ClassFault}
+use Rattle.class_read.specs.declared.fault.ClassFault.TheVariants.{BadMagic, Version, TrailingBytes}
+use Rattle.class_read.specs.declared.text.AttrText.{AttrText}
+use Rattle.class_read.specs.declared.text.MemberText.{MemberText}
+use Rattle.class_read.specs.declared.text.ClassText.{ClassText}
+use Rattle.class_read.specs.Content.{FieldContent, MethodContent, ClassContent}
+use Rattle.class_read.specs.Reading.{Read, and_then, ◌>>=◌, pure, place, passing, holding, u2_at, u4_at}
+use Rattle.class_read.specs.Text.{u2, u4, counted, attr_text, member_text, magic_number, class_bytes}
+use Rattle.class_read.specs.Rules.{IsClass, name_of, WellFormed, is_read_major, field_of, method_of, skipped_of, skipped_in, content_of, Spells}
+use Rattle.class_read.specs.FirstFault.{interfaces_at, pool_read, pool_field_at, end_at, body_at, magic_at, major_at, file_at, whole_at, without_rest, class_in}
+use Rattle.class_read.proofs.Exact.{IsBytes, Taken, Exact, then_exact, made_exact, told_exact, ruled_exact, passing_exact, u2_exact, u4_exact, listed_exact, bind_ok, tested_ok, parts_of}
+use Rattle.class_read.proofs.AttributeLaws.{class_exact, AreOthers, others_exact}
+use Rattle.class_read.proofs.MemberLaws.{AreFields, AreMethods, fields_exact, methods_exact}
+
+-- ---- the pool
+
+abbrev pool_done : List PoolEntry × Unread → Result (List PoolEntry × Unread) PoolFault
+pool_done x = Ok x
+
+names_ok : (o : Option ℕ) (y x : List PoolEntry × Unread) → option_map_or (λ i. Err (BadIndex i)) o (pool_done y) ≡ pool_done x → (o ≡ None) × (y ≡ x)
+names_ok None y x e = (refl, pool_fields.ok_is y x e)
+names_ok (Some i) y x e = absurd cc
+
+-- a pool under a count
+abbrev Counted : Type 0
+Counted = ℕ × List PoolEntry
+
+abbrev IsCounted : Counted → Type 0
+IsCounted p = (p.0 < 2 ^ 16) × IsPool p.1 × (length (places_of p.1) ≡ p.0 - 1 + 1)
+
+abbrev counted_text : Counted → List ℕ
+counted_text p = counted_bytes p.0 p.1
+
+pool_takes : (u : Unread) (x : List PoolEntry × Unread) → IsBytes u.bytes → pool_at u ≡ pool_done x → (count : ℕ) × IsCounted (count, x.0) × Takes u (counted_bytes count x.0) x.1
+unfolding pool_at
+pool_takes u x fits e =
+    let check : List PoolEntry × Unread → Result (List PoolEntry × Unread) PoolFault = λ es. option_map_or (λ i. Err (BadIndex i)) (first_bad_index es.0) (Ok es) in
+    let a = pool_fields.bind_ok (number_at 2 u) (λ count. pool_reading.◌>>=◌ (entries_at (count.0 - 1) count.1) check) x e in
+    let b = pool_fields.bind_ok (entries_at (a.0.0 - 1) a.0.1) check x a.2 in
+    let g = names_ok (first_bad_index b.0.0) b.0 x b.2 in
+    let s = number_takes 2 back_2 u a.0 fits a.1 in
+    let ts = entries_take (a.0.0 - 1) a.0.1 b.0 s.0.fits b.1 in
+    let all = Takes-then u _ a.0.1 (flat_map entry_bytes b.0.0) b.0.1 s.0 ts.0 in
+    let good : IsPool b.0.0 = record { fit = ts.2; count = omega (arith, ts.1, s.1); names = g.0 } in
+    let P : List PoolEntry × Unread → Type 0 = λ y. IsCounted (a.0.0, y.0) × Takes u (counted_bytes a.0.0 y.0) y.1 in
+    let h = subst P g.1 ((s.1, good, omega (arith, ts.1)), all) in
+    (a.0.0, h.0, h.1)
+
+pool_again : (at : ℕ) (p : Counted) (rest : List ℕ) → IsCounted p → pool_read (pool_at (record { at = at; bytes = counted_text p ++ rest })) ≡ Ok (p.1, rest)
+unfolding pool_at
+pool_again at p rest h =
+    let es : List PoolEntry = p.1 in
+    let tail : List ℕ = flat_map entry_bytes p.1 ++ rest in
+    let n : p.0 - 1 ≡ taken p.1 = omega (arith, h.2) in
+    let check : Result (List PoolEntry × Unread) PoolFault → Result (List PoolEntry × Unread) PoolFault = λ r. pool_reading.◌>>=◌ r (λ es. option_map_or (λ i. Err (BadIndex i)) (first_bad_index es.0) (Ok es)) in
+    let whole : Result (ℕ × Unread) PoolFault → Result (List PoolEntry × Unread) PoolFault = λ r. pool_reading.◌>>=◌ r (λ count. check (entries_at (count.0 - 1) count.1)) in
+    let end : Unread = record { at = at + 2 + length (flat_map entry_bytes p.1); bytes = rest } in
+    ap pool_read (
+    ap (λ (b : List ℕ). pool_at (record { at = at; bytes = b })) (append_assoc (bytes_high_first 2 p.0) (flat_map entry_bytes p.1) rest)
+    ∙ ap whole (number_again 2 at p.0 tail h.0)
+    ∙ ap (λ (k : ℕ). check (entries_at k (record { at = at + 2; bytes = tail }))) n
+    ∙ ap check (entries_again p.1 (at + 2) rest h.1.fit)
+    ∙ ap (λ (o : Option ℕ). option_map_or (λ i. Err (BadIndex i)) o (pool_done (p.1, end))) h.1.names
+    )
+
+pool_ok : (r : Result (List PoolEntry × Unread) PoolFault) (v : List PoolEntry) (rest : List ℕ) → pool_read r ≡ Ok (v, rest) → (x : List PoolEntry × Unread) × (r ≡ Ok x) × (x.0 ≡ v) × (x.1.bytes ≡ rest)
+pool_ok (Ok x) v rest e = let p = parts_of x.0 v x.1.bytes rest e in (x, refl, p.0, p.1)
+pool_ok (Err f) v rest e = absurd cc
+
+pool_exact : (total : ℕ) → Exact (pool_field_at total) counted_text IsCounted (λ p. p.1)
+pool_exact total = record {
+  takes = λ bytes v rest fits e.
+      let u : Unread = record { at = place total bytes; bytes = bytes } in
+      let o = pool_ok (pool_at u) v rest e in
+      let t = pool_takes u o.0 fits o.1 in
+      record {
+        it = (t.0, o.0.0);
+        fits = t.1;
+        parts = t.2.parts ∙ ap (λ (r : List ℕ). counted_bytes t.0 o.0.0 ++ r) o.3;
+        seen = o.2;
+        rest_fits = subst IsBytes o.3 t.2.fits;
+      };
+  again = λ p rest h. pool_again (place total (counted_text p ++ rest)) p rest h;
+}
+
+-- ---- what follows the pool
+
+interfaces_exact : (total : ℕ) (pool : List PoolEntry) → Exact (interfaces_at total pool) (counted u2) (λ is. (length is < 2 ^ 16) × AllByRecursion (IsClass pool) is) (map (name_of pool))
+unfolding interfaces_at
+interfaces_exact total pool = listed_exact total (class_exact total pool)
+
+abbrev Body : Type 0
+Body = ℕ × (ℕ × (ℕ × (List ℕ × (List MemberText × (List MemberText × List AttrText)))))
+
+abbrev body_text : Body → List ℕ
+body_text b = u2 b.0 ++ (u2 b.1.0 ++ (u2 b.1.1.0 ++ (counted u2 b.1.1.1.0 ++ (counted member_text b.1.1.1.1.0 ++ (counted member_text b.1.1.1.1.1.0 ++ counted attr_text b.1.1.1.1.1.1)))))
+
+abbrev IsBody : List PoolEntry → Body → Type 0
+IsBody pool b =
+    (b.0 < 2 ^ 16) × (IsClass pool b.1.0 × (IsClass pool b.1.1.0 × (((length b.1.1.1.0 < 2 ^ 16) × AllByRecursion (IsClass pool) b.1.1.1.0) × (AreFields pool b.1.1.1.1.0 × (AreMethods pool b.1.1.1.1.1.0 × AreOthers pool b.1.1.1.1.1.1)))))
+
+abbrev body_content : ℕ → List PoolEntry → Body → ClassContent
+body_content major pool b = record {
+  major = major;
+  flags = b.0;
+  name = name_of pool b.1.0;
+  super_name = name_of pool b.1.1.0;
+  interfaces = map (name_of pool) b.1.1.1.0;
+  fields = map (field_of pool) b.1.1.1.1.0;
+  methods = map (method_of pool) b.1.1.1.1.1.0;
+  pool = pool;
+  skipped = skipped_of b.1.1.1.1.0 + skipped_of b.1.1.1.1.1.0 + skipped_in b.1.1.1.1.1.1;
+}
+
+body_exact : (total major : ℕ) (pool : List PoolEntry) → Exact (body_at total major pool) body_text (IsBody pool) (body_content major pool)
+unfolding body_at
+body_exact total major pool =
+    then_exact (u2_exact total) (λ flags. then_exact (class_exact total pool) (λ name. then_exact (class_exact total pool) (λ super_name. then_exact (interfaces_exact total pool) (λ interfaces.
+    then_exact (fields_exact total pool) (λ fields. then_exact (methods_exact total pool) (λ methods.
+    made_exact {B = ClassContent} (λ (skipped : ℕ). record {
+      major = major;
+      flags = flags;
+      name = name;
+      super_name = super_name;
+      interfaces = interfaces;
+      fields = fields.0;
+      methods = methods.0;
+      pool = pool;
+      skipped = fields.1 + methods.1 + skipped;
+    }) (others_exact total pool)))))))
+
+-- ---- the file
+
+abbrev File : Type 0
+File = ℕ × (ℕ × (ℕ × (Counted × Body)))
+
+abbrev parts_of_class : ClassText → File
+parts_of_class c = (magic_number, (c.minor, (c.major, ((length (places_of c.pool), c.pool), (c.flags, (c.this_index, (c.super_index, (c.interfaces, (c.fields, (c.methods, c.attributes))))))))))
+
+abbrev class_of_parts : File → ClassText
+class_of_parts f = record {
+  minor = f.1.0;
+  major = f.1.1.0;
+  pool = f.1.1.1.0.1;
+  flags = f.1.1.1.1.0;
+  this_index = f.1.1.1.1.1.0;
+  super_index = f.1.1.1.1.1.1.0;
+  interfaces = f.1.1.1.1.1.1.1.0;
+  fields = f.1.1.1.1.1.1.1.1.0;
+  methods = f.1.1.1.1.1.1.1.1.1.0;
+  attributes = f.1.1.1.1.1.1.1.1.1.1;
+}
+
+-- a pool that has a class has a place, so its count is the number of its places
+none_in_empty : (i : ℕ) → IsSome (class_name_at [] i) → ⊥
+none_in_empty zero h = absurd cc
+none_in_empty (suc i) h = absurd cc
+
+one_slot : (e : PoolEntry) → 1 ≤ length (slots_of e)
+one_slot e = omega arith
+
+has_place : (pool : List PoolEntry) (i : ℕ) → IsSome (class_name_at pool i) → 2 ≤ length (places_of pool)
+has_place [] i h = absurd (none_in_empty i h)
+has_place (e ∷ pool) i h = omega (arith, length-append (slots_of e) (flat_map slots_of pool), one_slot e)
+
+abbrev pub IsReadClass : ClassText → Type 0
+IsReadClass c = WellFormed c × (is_read_major c.major ≡ true)
+
+pub file_exact : (total : ℕ) → Exact (file_at total) class_bytes IsReadClass content_of
+unfolding file_at
+file_exact total =
+    told_exact (then_exact (passing_exact (λ n. eqb n magic_number) (λ _ _. BadMagic) total (u4_exact total)) (λ magic. then_exact (u2_exact total) (λ minor.
+    then_exact (passing_exact is_read_major (λ n _. Version n) total (u2_exact total)) (λ major. then_exact (pool_exact total) (λ pool. body_exact total major pool)))))
+    parts_of_class class_of_parts
+    (λ f h.
+    let magic : magic_number ≡ f.0 = sym (eqb-true f.0 magic_number h.0.1) in
+    let some = has_place f.1.1.1.0.1 f.1.1.1.1.1.0 h.1.1.1.1.1.0.there in
+    let count : length (places_of f.1.1.1.0.1) ≡ f.1.1.1.0.0 = omega (arith, some, h.1.1.1.0.2) in
+    let made : ℕ → ℕ → File = λ m k. (m, (f.1.0, (f.1.1.0, ((k, f.1.1.1.0.1), f.1.1.1.1)))) in
+    ap (λ (m : ℕ). made m (length (places_of f.1.1.1.0.1))) magic ∙ ap (made f.0) count)
+    (λ f h. (
+      record {
+        minor_fits = h.1.0;
+        major_fits = h.1.1.0.0;
+        pool = h.1.1.1.0.1;
+        flags_fit = h.1.1.1.1.0;
+        this_class = h.1.1.1.1.1.0;
+        super_class = h.1.1.1.1.1.1.0;
+        interfaces_fit = h.1.1.1.1.1.1.1.0.0;
+        interfaces = h.1.1.1.1.1.1.1.0.1;
+        fields_fit = h.1.1.1.1.1.1.1.1.0.0;
+        fields = h.1.1.1.1.1.1.1.1.0.1;
+        fields_differ = h.1.1.1.1.1.1.1.1.0.2;
+        methods_fit = h.1.1.1.1.1.1.1.1.1.0.0;
+        methods = h.1.1.1.1.1.1.1.1.1.0.1;
+        methods_differ = h.1.1.1.1.1.1.1.1.1.0.2;
+        attributes_fit = h.1.1.1.1.1.1.1.1.1.1.0;
+        attributes = h.1.1.1.1.1.1.1.1.1.1.1;
+      },
+      h.1.1.0.1,
+    ))
+    (λ c h.
+    let r = h.0 in
+    ((omega arith, refl), (r.minor_fits, ((r.major_fits, h.1), ((r.pool.count, r.pool, omega arith), (r.flags_fit, (r.this_class, (r.super_class, ((r.interfaces_fit, r.interfaces), ((r.fields_fit, r.fields, r.fields_differ), ((r.methods_fit, r.methods, r.methods_differ), (r.attributes_fit, r.attributes))))))))))))
+    (λ c h. refl) (λ c h. refl)
+
+-- ---- classes
+
+abbrev only : ClassContent → Result ClassContent ClassFault
+only c = Ok c
+
+one_is : (x y : ClassContent) → only x ≡ only y → x ≡ y
+one_is x y e = cc
+
+rest_of : (r : Read ClassContent) (c : ClassContent) → without_rest r ≡ Ok c → (rest : List ℕ) × (r ≡ Ok (c, rest))
+rest_of (Ok x) c e = let same : x.0 ≡ c = one_is x.0 c e in (x.1, ap (λ (d : ClassContent). Ok (d, x.1)) same)
+rest_of (Err f) c e = absurd cc
+
+-- what is read is spelled
+pub class_found : (bytes : List ℕ) (c : ClassContent) → IsBytes bytes → class_in bytes ≡ Ok c → Spells bytes c
+unfolding class_in whole_at
+class_found bytes c fits e =
+    let r = rest_of (whole_at (length bytes) bytes) c e in
+    let next : ClassContent → List ℕ → Read ClassContent = λ class. end_at (length bytes) >>= λ u. pure class in
+    let a = bind_ok (file_at (length bytes) bytes) next (c, r.0) r.1 in
+    let t = (file_exact (length bytes)).takes bytes a.0.0 a.0.1 fits a.1 in
+    let b = bind_ok (end_at (length bytes) a.0.1) (λ u. pure a.0.0) (c, r.0) a.2 in
+    let start : Unit {0} × List ℕ = (tt, a.0.1) in
+    let g = tested_ok (eqb (length a.0.1) 0) (TrailingBytes (place (length bytes) a.0.1)) start b.0 b.1 in
+    let nothing : a.0.1 ≡ [] = nil_from_length a.0.1 (eqb-true _ _ g.0) in
+    let p = parts_of a.0.0 c b.0.1 r.0 b.2 in
+    record {
+      text = t.it;
+      rules = t.fits.0;
+      major = t.fits.1;
+      bytes_are = sym (t.parts ∙ ap (λ (x : List ℕ). class_bytes t.it ++ x) nothing ∙ append-nil (class_bytes t.it));
+      content = t.seen ∙ p.0;
+    }
+
+-- what is spelled is read
+pub class_again : (bytes : List ℕ) (c : ClassContent) → Spells bytes c → class_in bytes ≡ Ok c
+unfolding class_in whole_at
+class_again bytes c s =
+    let whole : class_bytes s.text ++ [] ≡ bytes = append-nil (class_bytes s.text) ∙ s.bytes_are in
+    let read : file_at (length bytes) bytes ≡ Ok (c, []) = ap (file_at (length bytes)) (sym whole) ∙ (file_exact (length bytes)).again s.text [] (s.rules, s.major) ∙ ap (λ (d : ClassContent). Ok (d, [])) s.content in
+    rw read refl
+
+-- no bytes spell two classes
+pub class_one : (bytes : List ℕ) (c d : ClassContent) → Spells bytes c → Spells bytes d → c ≡ d
+class_one bytes c d s t = one_is c d (sym (class_again bytes c s) ∙ class_again bytes d t)

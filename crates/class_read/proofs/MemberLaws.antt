@@ -1,0 +1,200 @@
+-- The readings of fields and methods are exact for their texts.
+use Rattle.std.proofs.Common.{◌≡◌, ℕ, zero, suc, ◌+◌, ◌^◌, ◌<◌, ◌≤◌, Bool, true, false, cond, ◌&&◌, ◌||◌, not, List, [], ◌∷◌, ◌++◌, length, map, Option, Some, None, refl, sym, ap, subst, ◌∙◌, append_assoc, arith}
+use Rattle.std.specs.List.{AllByRecursion, IsDistinct, list_any}
+use Rattle.std.proofs.lemmas.Bool.{not-true, not_from_false, or_parts, or_from}
+use Rattle.std.proofs.lemmas.List.{append-nil, map-append}
+use Rattle.std.proofs.lemmas.List.Folds.{list_any-append}
+use Rattle.class_pool.specs.declared.entry.PoolEntry.{PoolEntry}
+use Rattle.class_read.specs.declared.fault.ClassFault.TheVariants.{BadDescriptor, DuplicateMember}
+use Rattle.class_read.specs.declared.text.AttrText.{AttrText}
+use Rattle.class_read.specs.declared.text.MemberText.{MemberText}
+use Rattle.class_read.specs.declared.names.MemberKind.{MemberKind}
+use Rattle.class_read.specs.declared.names.MemberKind.TheVariants.{Field, Method}
+use Rattle.class_read.specs.Reading.{Read, and_then, ◌>>=◌, pure, passing, u2_at, named_at, repeated}
+use Rattle.class_read.specs.Content.{FieldContent, MethodContent, CodeContent}
+use Rattle.class_read.specs.Names.{IsDescriptor, is_descriptor}
+use Rattle.class_read.specs.Text.{u2, counted, attr_text, member_text}
+use Rattle.class_read.specs.Rules.{text_of, IsText, has_code, IsMember, IsField, IsMethod, key_of, same_key, AreDistinct, codes_in, first_of, skipped_in, skipped_of, field_of, method_of}
+use Rattle.class_read.specs.FirstFault.{Key, Found, is_new, descriptor_at, new_descriptor_at, head_at, field_at, method_at, field_keys, method_keys, more_fields_at, more_methods_at, fields_at, methods_at}
+use Rattle.class_read.proofs.Exact.{Exact, then_exact, made_exact, told_exact, ruled_exact, passing_exact, u2_exact, FitAll, next_all, counted_exact}
+use Rattle.class_read.proofs.Types.{descriptor_found, descriptor_again}
+use Rattle.class_read.proofs.AttributeLaws.{text_exact, AreOthers, others_exact, HasCodes, method_attributes_exact}
+
+-- ---- a member up to its attributes
+
+abbrev Head : Type 0
+Head = ℕ × (ℕ × ℕ)
+
+abbrev head_text : Head → List ℕ
+head_text h = u2 h.0 ++ (u2 h.1.0 ++ u2 h.1.1)
+
+abbrev IsHead : List PoolEntry → MemberKind → List Key → Head → Type 0
+IsHead pool kind earlier h =
+    (h.0 < 2 ^ 16) × (IsText pool h.1.0 × ((IsText pool h.1.1 × (is_descriptor kind h.0 (text_of pool h.1.1) ≡ true)) × (is_new earlier (text_of pool h.1.0, text_of pool h.1.1) ≡ true)))
+
+abbrev head_view : List PoolEntry → Head → FieldContent
+head_view pool h = record { flags = h.0; name = text_of pool h.1.0; desc = text_of pool h.1.1 }
+
+head_exact : (total : ℕ) (pool : List PoolEntry) (kind : MemberKind) (earlier : List Key) → Exact (head_at total pool kind earlier) head_text (IsHead pool kind earlier) (head_view pool)
+unfolding head_at
+head_exact total pool kind earlier =
+    then_exact (u2_exact total) (λ flags. then_exact (text_exact total pool) (λ name.
+    made_exact {B = FieldContent} (λ (desc : List ℕ). record { flags = flags; name = name; desc = desc })
+    (passing_exact (λ desc. is_new earlier (name, desc)) (λ _. DuplicateMember) total (passing_exact (is_descriptor kind flags) (λ _. BadDescriptor) total (text_exact total pool)))))
+
+-- ---- one field, one method
+
+abbrev pub NewField : List PoolEntry → List Key → MemberText → Type 0
+NewField pool earlier m = IsField pool m × (is_new earlier (key_of pool m) ≡ true)
+
+abbrev pub NewMethod : List PoolEntry → List Key → MemberText → Type 0
+NewMethod pool earlier m = IsMethod pool m × (is_new earlier (key_of pool m) ≡ true)
+
+abbrev Nested : Type 0
+Nested = Head × List AttrText
+
+abbrev nested : MemberText → Nested
+nested m = ((m.flags, (m.name, m.desc)), m.attributes)
+
+abbrev member : Nested → MemberText
+member p = record { flags = p.0.0; name = p.0.1.0; desc = p.0.1.1; attributes = p.1 }
+
+field_exact : (total : ℕ) (pool : List PoolEntry) (earlier : List Key) → Exact (field_at total pool earlier) member_text (NewField pool earlier) (λ m. (field_of pool m, skipped_in m.attributes))
+unfolding field_at
+field_exact total pool earlier =
+    told_exact (then_exact (head_exact total pool Field earlier) (λ field. made_exact {B = FieldContent × ℕ} (λ (skipped : ℕ). (field, skipped)) (others_exact total pool)))
+    nested member (λ p h. refl)
+    (λ p h. (
+      record {
+        member = record { flags_fit = h.0.0; name = h.0.1.0; desc = h.0.1.1.0.0; descriptor = descriptor_found Field p.0.0 (text_of pool p.0.1.1) h.0.1.1.0.1; attributes_fit = h.1.0 };
+        attributes = h.1.1;
+      },
+      h.0.1.1.1,
+    ))
+    (λ m h. ((h.0.member.flags_fit, (h.0.member.name, ((h.0.member.desc, descriptor_again Field m.flags (text_of pool m.desc) h.0.member.descriptor), h.1))), (h.0.member.attributes_fit, h.0.attributes)))
+    (λ m h. refl) (λ m h. refl)
+
+method_exact : (total : ℕ) (pool : List PoolEntry) (earlier : List Key) → Exact (method_at total pool earlier) member_text (NewMethod pool earlier) (λ m. (method_of pool m, skipped_in m.attributes))
+unfolding method_at
+method_exact total pool earlier =
+    told_exact (then_exact (head_exact total pool Method earlier) (λ head. made_exact {B = MethodContent × ℕ}
+    (λ (found : Found). (record { flags = head.flags; name = head.name; desc = head.desc; code = found.0 }, found.1)) (method_attributes_exact total pool (has_code head.flags))))
+    nested member (λ p h. refl)
+    (λ p h. (
+      record {
+        member = record { flags_fit = h.0.0; name = h.0.1.0; desc = h.0.1.1.0.0; descriptor = descriptor_found Method p.0.0 (text_of pool p.0.1.1) h.0.1.1.0.1; attributes_fit = h.1.0 };
+        attributes = h.1.1;
+        codes = h.1.2;
+      },
+      h.0.1.1.1,
+    ))
+    (λ m h. ((h.0.member.flags_fit, (h.0.member.name, ((h.0.member.desc, descriptor_again Method m.flags (text_of pool m.desc) h.0.member.descriptor), h.1))), (h.0.member.attributes_fit, h.0.attributes, h.0.codes)))
+    (λ m h. refl) (λ m h. refl)
+
+-- ---- members after one another
+
+-- members, each with a key that no earlier one has, and with so many attributes
+abbrev Stands : {X : Type 0} → (X → Key) → (MemberText → Key) → (MemberText → Type 0) → List X × ℕ → MemberText → Type 0
+Stands key of Rule made m = Rule m × (is_new (map key made.0) (of m) ≡ true)
+
+abbrev grown : {X : Type 0} → (MemberText → X) → List X × ℕ → MemberText → List X × ℕ
+grown item made m = (made.0 ++ item m ∷ [], made.1 + skipped_in m.attributes)
+
+abbrev Fresh : List Key → Key → Type 0
+Fresh earlier k = list_any (λ e. same_key e k) earlier ≡ false
+
+fresh_split : (earlier : List Key) (k : Key) (ks : List Key) → AllByRecursion (Fresh (earlier ++ k ∷ [])) ks → AllByRecursion (Fresh earlier) ks × AllByRecursion (λ j. same_key k j ≡ false) ks
+fresh_split earlier k [] h = (tt, tt)
+fresh_split earlier k (j ∷ ks) h =
+    let p = or_parts (list_any (λ e. same_key e j) earlier) (same_key k j || false) (sym (list_any-append (λ e. same_key e j) earlier (k ∷ [])) ∙ h.0) in
+    let q = or_parts (same_key k j) false p.1 in
+    let r = fresh_split earlier k ks h.1 in
+    ((p.0, r.0), (q.0, r.1))
+
+fresh_join : (earlier : List Key) (k : Key) (ks : List Key) → AllByRecursion (Fresh earlier) ks → AllByRecursion (λ j. same_key k j ≡ false) ks → AllByRecursion (Fresh (earlier ++ k ∷ [])) ks
+fresh_join earlier k [] h g = tt
+fresh_join earlier k (j ∷ ks) h g =
+    (list_any-append (λ e. same_key e j) earlier (k ∷ []) ∙ or_from (list_any (λ e. same_key e j) earlier) (same_key k j || false) h.0 (or_from (same_key k j) false g.0 refl), fresh_join earlier k ks h.1 g.1)
+
+members_to : {X : Type 0} (item : MemberText → X) (key : X → Key) (of : MemberText → Key) (Rule : MemberText → Type 0) → ((m : MemberText) → key (item m) ≡ of m)
+    → (made : List X × ℕ) (ms : List MemberText) → FitAll (Stands key of Rule) (grown item) made ms
+    → AllByRecursion Rule ms × AllByRecursion (Fresh (map key made.0)) (map of ms) × IsDistinct same_key (map of ms)
+unfolding IsDistinct
+members_to item key of Rule same made [] h = (tt, tt, tt)
+members_to item key of Rule same made (m ∷ ms) h =
+    let r = members_to item key of Rule same (grown item made m) ms h.1 in
+    let more : map key (made.0 ++ item m ∷ []) ≡ map key made.0 ++ of m ∷ [] = map-append key made.0 (item m ∷ []) ∙ ap (λ (k : Key). map key made.0 ++ k ∷ []) (same m) in
+    let s = fresh_split (map key made.0) (of m) (map of ms) (subst (λ (ks : List Key). AllByRecursion (Fresh ks) (map of ms)) more r.1) in
+    let new : Fresh (map key made.0) (of m) = not-true (list_any (λ e. same_key e (of m)) (map key made.0)) h.0.1 in
+    ((h.0.0, r.0), (new, s.0), (s.1, r.2))
+
+members_from : {X : Type 0} (item : MemberText → X) (key : X → Key) (of : MemberText → Key) (Rule : MemberText → Type 0) → ((m : MemberText) → key (item m) ≡ of m)
+    → (made : List X × ℕ) (ms : List MemberText) → AllByRecursion Rule ms → AllByRecursion (Fresh (map key made.0)) (map of ms) → IsDistinct same_key (map of ms)
+    → FitAll (Stands key of Rule) (grown item) made ms
+unfolding IsDistinct
+members_from item key of Rule same made [] rules fresh distinct = tt
+members_from item key of Rule same made (m ∷ ms) rules fresh distinct =
+    let more : map key (made.0 ++ item m ∷ []) ≡ map key made.0 ++ of m ∷ [] = map-append key made.0 (item m ∷ []) ∙ ap (λ (k : Key). map key made.0 ++ k ∷ []) (same m) in
+    let joined = fresh_join (map key made.0) (of m) (map of ms) fresh.1 distinct.0 in (
+      (rules.0, not_from_false (list_any (λ e. same_key e (of m)) (map key made.0)) fresh.0),
+      members_from item key of Rule same (grown item made m) ms rules.1 (subst (λ (ks : List Key). AllByRecursion (Fresh ks) (map of ms)) (sym more) joined) distinct.1,
+    )
+
+all_fresh : (ks : List Key) → AllByRecursion (Fresh []) ks
+all_fresh [] = tt
+all_fresh (k ∷ ks) = (refl, all_fresh ks)
+
+made_items : {X : Type 0} (item : MemberText → X) (made : List X × ℕ) (ms : List MemberText) → (next_all (grown item) made ms).0 ≡ made.0 ++ map item ms
+made_items item made [] = sym (append-nil made.0)
+made_items item made (m ∷ ms) = made_items item (grown item made m) ms ∙ append_assoc made.0 (item m ∷ []) (map item ms)
+
+made_skipped : {X : Type 0} (item : MemberText → X) (made : List X × ℕ) (ms : List MemberText) → (next_all (grown item) made ms).1 ≡ made.1 + skipped_of ms
+made_skipped item made [] = omega arith
+made_skipped item made (m ∷ ms) = omega (arith, made_skipped item (grown item made m) ms)
+
+pair_of : {X : Type 0} (made : List X × ℕ) (xs : List X) (n : ℕ) → made.0 ≡ xs → made.1 ≡ n → made ≡ (xs, n)
+pair_of {X = X} made xs n e f = ap (λ (l : List X). (l, made.1)) e ∙ ap (λ (k : ℕ). (xs, k)) f
+
+abbrev pub AreFields : List PoolEntry → List MemberText → Type 0
+AreFields pool ms = (length ms < 2 ^ 16) × AllByRecursion (IsField pool) ms × AreDistinct pool ms
+
+abbrev pub AreMethods : List PoolEntry → List MemberText → Type 0
+AreMethods pool ms = (length ms < 2 ^ 16) × AllByRecursion (IsMethod pool) ms × AreDistinct pool ms
+
+abbrev field_key : FieldContent → Key
+field_key f = (f.name, f.desc)
+
+abbrev method_key : MethodContent → Key
+method_key m = (m.name, m.desc)
+
+more_fields_exact : (total : ℕ) (pool : List PoolEntry) (made : List FieldContent × ℕ)
+    → Exact (more_fields_at total pool made) member_text (Stands field_key (key_of pool) (IsField pool) made) (grown (field_of pool) made)
+unfolding more_fields_at
+more_fields_exact total pool made = made_exact {B = List FieldContent × ℕ} (λ (field : FieldContent × ℕ). (made.0 ++ field.0 ∷ [], made.1 + field.1)) (field_exact total pool (field_keys made.0))
+
+more_methods_exact : (total : ℕ) (pool : List PoolEntry) (made : List MethodContent × ℕ)
+    → Exact (more_methods_at total pool made) member_text (Stands method_key (key_of pool) (IsMethod pool) made) (grown (method_of pool) made)
+unfolding more_methods_at
+more_methods_exact total pool made = made_exact {B = List MethodContent × ℕ} (λ (method : MethodContent × ℕ). (made.0 ++ method.0 ∷ [], made.1 + method.1)) (method_exact total pool (method_keys made.0))
+
+pub fields_exact : (total : ℕ) (pool : List PoolEntry) → Exact (fields_at total pool) (counted member_text) (AreFields pool) (λ ms. (map (field_of pool) ms, skipped_of ms))
+unfolding fields_at
+fields_exact total pool =
+    told_exact (counted_exact total (more_fields_exact total pool) ([], 0)) (λ ms. ms) (λ ms. ms) (λ ms h. refl)
+    (λ ms h.
+    let r = members_to (field_of pool) field_key (key_of pool) (IsField pool) (λ m. refl) ([], 0) ms h.1 in
+    (h.0, r.0, r.2))
+    (λ ms h. (h.0, members_from (field_of pool) field_key (key_of pool) (IsField pool) (λ m. refl) ([], 0) ms h.1 (all_fresh (map (key_of pool) ms)) h.2))
+    (λ ms h. refl)
+    (λ ms h. pair_of (next_all (grown (field_of pool)) ([], 0) ms) (map (field_of pool) ms) (skipped_of ms) (made_items (field_of pool) ([], 0) ms) (made_skipped (field_of pool) ([], 0) ms ∙ omega arith))
+
+pub methods_exact : (total : ℕ) (pool : List PoolEntry) → Exact (methods_at total pool) (counted member_text) (AreMethods pool) (λ ms. (map (method_of pool) ms, skipped_of ms))
+unfolding methods_at
+methods_exact total pool =
+    told_exact (counted_exact total (more_methods_exact total pool) ([], 0)) (λ ms. ms) (λ ms. ms) (λ ms h. refl)
+    (λ ms h.
+    let r = members_to (method_of pool) method_key (key_of pool) (IsMethod pool) (λ m. refl) ([], 0) ms h.1 in
+    (h.0, r.0, r.2))
+    (λ ms h. (h.0, members_from (method_of pool) method_key (key_of pool) (IsMethod pool) (λ m. refl) ([], 0) ms h.1 (all_fresh (map (key_of pool) ms)) h.2))
+    (λ ms h. refl)
+    (λ ms h. pair_of (next_all (grown (method_of pool)) ([], 0) ms) (map (method_of pool) ms) (skipped_of ms) (made_items (method_of pool) ([], 0) ms) (made_skipped (method_of pool) ([], 0) ms ∙ omega arith))
