@@ -1,0 +1,71 @@
+//! What is asked, and what is answered.
+ghost use Rattle.std.specs.Prelude.{◌≡◌};
+ghost use Rattle.jterm.specs.declared.verdict.Refused.TheVariants.{Memory};
+
+use list_views::Seq;
+use std::alloc::{AllocError, AllocFailed};
+
+/// What a command does with the files that it names.
+#[derive(Clone, Copy, Debug, PartialEq, Eq)]
+pub enum Request {
+    /// To prove that a method ends. `nodes` is the limit on the nodes of the graph that is built.
+    Prove {
+        /// At least 1 and at most 20,000.
+        nodes: u32,
+    },
+}
+
+/// The answer of a command whose input is not refused.
+#[derive(Debug, Drop)]
+pub struct Verdict {
+    /// The exit status.
+    pub status: u8,
+    /// The bytes for the output.
+    pub out: Seq<u8>,
+}
+
+/// Why there is no verdict.
+#[derive(Clone, Copy, Debug, PartialEq, Eq)]
+pub enum Refused {
+    /// The input has this fault at this place.
+    At {
+        /// The file or the step that has the fault.
+        place: Place,
+        /// What is wrong there.
+        fault: Fault,
+    },
+    /// Want of memory.
+    Memory,
+}
+
+/// The file or the step that has a fault.
+#[derive(Clone, Copy, Debug, PartialEq, Eq)]
+pub enum Place {
+    /// The class file of this number, counted from 0 in the order of the words.
+    Class(u32),
+    /// The description.
+    Description,
+}
+
+/// What is wrong with the input.
+#[derive(Clone, Copy, Debug, PartialEq, Eq)]
+pub enum Fault {
+    /// It may be good input, but what reads it is not built yet.
+    NotBuilt,
+}
+
+impl From<AllocError> for Refused {
+    ghost from_gives = { λ _ refused. refused ≡ Memory };
+
+    fn from(_error: AllocError) -> Refused {
+        Refused::Memory
+    }
+}
+
+impl<T: Drop> From<AllocFailed<T>> for Refused {
+    ghost from_gives = { λ _ refused. refused ≡ Memory };
+
+    fn from(_failed: AllocFailed<T>) -> Refused {
+        Refused::Memory
+    }
+}

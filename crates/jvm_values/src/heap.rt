@@ -1,0 +1,47 @@
+//! Values and the objects that references name (JVM specification, sections 2.4 and 2.5.3).
+use crate::types::{Kind, Ty};
+use list_views::Seq;
+
+/// A value on a stack, in a local, a field or an array of references.
+#[derive(Clone, Copy, Debug, PartialEq, Eq)]
+pub enum Value {
+    /// A number of 32 bits with a sign.
+    Int(i32),
+    /// The reference to no object.
+    Null,
+    /// The reference to the object of this number in the heap.
+    Ref(u32),
+}
+
+/// An object of the heap.
+#[derive(Debug, Drop)]
+pub enum Object {
+    /// An instance of a class, with the values of its fields, those of the topmost superclass first.
+    Instance {
+        /// The class's number.
+        class: u32,
+        /// The fields' values.
+        fields: Seq<Value>,
+    },
+    /// An array of numbers.
+    Nums {
+        /// The kind of its items.
+        kind: Kind,
+        /// The items.
+        items: Seq<i32>,
+    },
+    /// An array of references.
+    Refs {
+        /// The type of its items.
+        element: Ty,
+        /// The items, each a reference or null.
+        items: Seq<Value>,
+    },
+}
+
+/// The objects that a run has made, each under its number, the first under 0.
+#[derive(Debug, Drop)]
+pub struct Heap {
+    /// The objects.
+    pub objects: Seq<Object>,
+}

@@ -1,0 +1,18 @@
+//! The values, objects, frames and states of the written machine, and its types.
+//!
+//! The machine is that of the Java virtual machine specification (Java SE 6), chapter 2, in the part that this
+//! library knows: ints, references and null. Two values of these types are equal where they hold the same lists and
+//! numbers: capacity and allocator play no part.
+#![tactic(auto)]
+
+mod heap;
+mod pile;
+mod shape;
+mod state;
+mod types;
+
+pub use heap::{Heap, Object, Value};
+pub use pile::Pile;
+pub use shape::{Shape, Term};
+pub use state::{Frame, Mode, State};
+pub use types::{Base, Kind, Slot, Ty};

@@ -1,0 +1,23 @@
+//! Shapes of the part of a heap that a value reaches, and its term.
+
+/// A property of all objects that a value reaches, itself included.
+#[derive(Clone, Copy, Debug, PartialEq, Eq)]
+pub enum Shape {
+    /// One path leads to each object.
+    Tree,
+    /// No path leads back to its start.
+    Dag,
+    /// Nothing is said.
+    Any,
+}
+
+/// The unfolding of a heap from a value.
+#[derive(Debug, Drop)]
+pub enum Term {
+    /// Null.
+    Null,
+    /// An object that holds no reference.
+    Leaf,
+    /// An instance of the class of this number, with the terms of its references.
+    Node(u32, Vec<Term>),
+}

@@ -1,0 +1,40 @@
+//! Frames and states (JVM specification, sections 2.5 and 2.6).
+use crate::heap::{Heap, Value};
+use crate::pile::Pile;
+use list_views::Seq;
+
+/// The frame of a call that runs (JVM specification, section 2.6).
+#[derive(Debug, Drop)]
+pub struct Frame {
+    /// The method's number among the reached methods.
+    pub method: u32,
+    /// The place of the instruction that runs next, in bytes from the code's start. A caller's place stays at its
+    /// invoke instruction until the callee returns.
+    pub pc: u16,
+    /// The local variables, of which some may be unset.
+    pub locals: Seq<Option<Value>>,
+    /// The operand stack, seen top first.
+    pub stack: Pile<Value>,
+}
+
+/// Whether a state runs instructions or looks for a handler.
+#[derive(Clone, Copy, Debug, PartialEq, Eq)]
+pub enum Mode {
+    /// The top frame's instruction runs next.
+    Normal,
+    /// The object of this number is thrown and not yet caught.
+    Throwing(u32),
+}
+
+/// A state of the machine.
+#[derive(Debug, Drop)]
+pub struct State {
+    /// The frames, seen with the running call's first.
+    pub frames: Pile<Frame>,
+    /// The heap.
+    pub heap: Heap,
+    /// The mode.
+    pub mode: Mode,
+    /// The values of the static fields, none while static fields are refused.
+    pub statics: Seq<Value>,
+}
