@@ -1,0 +1,28 @@
+-- stand-in
+use Rattle.std.specs.Prelude.{ℕ, List, Option}
+
+pub record CodeContent : Type 0 where
+  pub max_stack : ℕ
+  pub max_locals : ℕ
+  pub code : List ℕ
+  pub table : List (ℕ × ℕ × ℕ × ℕ)
+
+pub record FieldContent : Type 0 where
+  pub flags : ℕ
+  pub name : List ℕ
+  pub desc : List ℕ
+
+pub record MethodContent : Type 0 where
+  pub flags : ℕ
+  pub name : List ℕ
+  pub desc : List ℕ
+  pub code : Option CodeContent
+
+pub record ClassContent : Type 0 where
+  pub major : ℕ
+  pub flags : ℕ
+  pub name : List ℕ
+  pub super_name : List ℕ
+  pub interfaces : List (List ℕ)
+  pub fields : List FieldContent
+  pub methods : List MethodContent

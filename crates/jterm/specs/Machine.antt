@@ -1,0 +1,161 @@
+-- The machine that the headline speaks of: what one instruction does, and what a run of many gives.
+--
+-- The table follows the JVM specification, chapter 6, form by form. What it does not name is `Stuck`: an operand that
+-- is missing or of another kind, a local that is unset, a place where no instruction stands. Nothing here knows of a
+-- prover.
+use Rattle.std.specs.Prelude.{◌≡◌, ℕ, zero, suc, ◌==◌, nat_lt, if◌then◌else◌, List, [], ◌∷◌, length, slice_get, slice_set, Option, Some, None, unwrap_or, ℤ, ◌+ℤ◌}
+use Rattle.std.specs.Int.{w32, int_wrap}
+use Rattle.jvm_values.specs.declared.heap.Value.{Value}
+use Rattle.jvm_values.specs.declared.heap.Value.TheVariants.{Int, Null, Ref}
+use Rattle.jvm_values.specs.declared.types.Slot.{Slot}
+use Rattle.jvm_values.specs.declared.state.Frame.{Frame}
+use Rattle.jvm_values.specs.declared.state.Mode.TheVariants.{Normal, Throwing}
+use Rattle.jvm_values.specs.declared.state.Mode.{Mode}
+use Rattle.jvm_values.specs.declared.state.State.{State}
+use Rattle.jterm.specs.declared.form.Form.{Form}
+use Rattle.jterm.specs.declared.form.Form.TheVariants.{Iconst, Iload, Istore, Iadd, Ireturn}
+use Rattle.jterm.specs.Options.{◌>>=◌}
+
+-- a reached method: the class that declares it, what it takes and gives, the limits of its frame and its instructions,
+-- each with its place in the code
+pub record Method : Type 0 where
+  pub class : ℕ
+  pub name : List ℕ
+  pub desc : List ℕ
+  pub params : List Slot
+  pub result : Option Slot
+  pub max_stack : ℕ
+  pub max_locals : ℕ
+  pub instructions : List (ℕ × Form)
+
+-- the place of the first of these instructions; there is none at the code's end
+abbrev pub first_place : List (ℕ × Form) → Option ℕ
+first_place [] = None
+first_place (i ∷ rest) = Some i.0
+
+-- the instruction at a place, and the place of the next one
+abbrev pub instruction_at : List (ℕ × Form) → ℕ → Option (Form × Option ℕ)
+instruction_at [] place = None
+instruction_at (i ∷ rest) place = if i.0 == place then Some (i.1, first_place rest) else instruction_at rest place
+
+-- an int on the top of a stack, and what is below it
+abbrev pub top_int : List Value → Option (ℤ × List Value)
+top_int (Int v ∷ below) = Some (v, below)
+top_int (Null ∷ below) = None
+top_int (Ref r ∷ below) = None
+top_int [] = None
+
+-- the int of a local
+abbrev pub int_of_local : Option Value → Option ℤ
+int_of_local (Some (Int v)) = Some v
+int_of_local (Some Null) = None
+int_of_local (Some (Ref r)) = None
+int_of_local None = None
+
+-- iconst, bipush: pushes the int
+unfoldable pub iconst_of : ℤ → Frame → Option Frame
+iconst_of v frame = Some (record frame { stack = Int v ∷ frame.stack })
+
+-- iload: the local is an int, and is pushed
+unfoldable pub iload_of : ℕ → Frame → Option Frame
+iload_of n frame = do
+  local ← slice_get frame.locals n
+  v ← int_of_local local
+  Some (record frame { stack = Int v ∷ frame.stack })
+
+-- istore: takes the top int into a local of the frame
+unfoldable pub istore_of : ℕ → Frame → Option Frame
+istore_of n frame = do
+  taken ← top_int frame.stack
+  if nat_lt n (length frame.locals) then Some (record frame { locals = slice_set frame.locals n (Some (Int taken.0)); stack = taken.1 }) else None
+
+-- iadd: takes two ints and pushes their sum, wrapped to 32 bits
+unfoldable pub iadd_of : Frame → Option Frame
+iadd_of frame = do
+  right ← top_int frame.stack
+  left ← top_int right.1
+  Some (record frame { stack = Int (int_wrap w32 (left.0 +ℤ right.0)) ∷ left.1 })
+
+-- what one step gives: a state to go on from, the end of the run by a return or by a throw that nothing catches, or
+-- nothing that the table names
+pub data Outcome : Type 0 where
+  Going : State → Outcome
+  Returned : Option Value → Outcome
+  Threw : ℕ → Outcome
+  Stuck : Outcome
+
+-- the frame goes on at a place
+unfoldable pub going : State → List Frame → Option ℕ → Option Frame → Option Outcome
+going state below next changed = do
+  place ← next
+  frame ← changed
+  Some (Going (record state { frames = record frame { pc = place } ∷ below }))
+
+-- a call has returned a value: its caller goes on after its invoke instruction with the value on its stack, and
+-- without a caller the run has returned
+unfoldable pub returned : List Method → State → Value → List Frame → Option Outcome
+returned methods state v [] = Some (Returned (Some v))
+returned methods state v (caller ∷ below) = do
+  method ← slice_get methods caller.method
+  call ← instruction_at method.instructions caller.pc
+  going state below call.1 (Some (record caller { stack = v ∷ caller.stack }))
+
+-- one form, run in the frame `frame` over the frames `below`; every form that is not said to jump goes on at `next`
+abbrev pub perform : List Method → Form → Option ℕ → State → Frame → List Frame → Option Outcome
+perform methods (Iconst v) next state frame below = going state below next (iconst_of v frame)
+perform methods (Iload n) next state frame below = going state below next (iload_of n frame)
+perform methods (Istore n) next state frame below = going state below next (istore_of n frame)
+perform methods Iadd next state frame below = going state below next (iadd_of frame)
+perform methods Ireturn next state frame below = do
+  taken ← top_int frame.stack
+  returned methods state (Int taken.0) below
+
+-- normal mode: the instruction at the top frame's place
+unfoldable pub normal_step : List Method → State → List Frame → Option Outcome
+normal_step methods state [] = None
+normal_step methods state (frame ∷ below) = do
+  method ← slice_get methods frame.method
+  here ← instruction_at method.instructions frame.pc
+  perform methods here.0 here.1 state frame below
+
+-- throwing mode: no method has a handler yet, so the top frame goes and its caller's stack is emptied; with one frame
+-- left the run ends with the throw
+unfoldable pub throwing_step : State → ℕ → List Frame → Option Outcome
+throwing_step state thrown [] = None
+throwing_step state thrown (frame ∷ []) = Some (Threw thrown)
+throwing_step state thrown (frame ∷ caller ∷ below) = Some (Going (record state { frames = record caller { stack = [] } ∷ below }))
+
+abbrev pub step_in : List Method → State → Mode → Option Outcome
+step_in methods state Normal = normal_step methods state state.frames
+step_in methods state (Throwing thrown) = throwing_step state thrown state.frames
+
+-- one step of the machine
+unfoldable pub step : List Method → State → Outcome
+step methods state = unwrap_or (step_in methods state state.mode) Stuck
+
+-- an ended run stays as it is
+unfoldable pub step_on : List Method → Outcome → Outcome
+step_on methods (Going state) = step methods state
+step_on methods (Returned v) = Returned v
+step_on methods (Threw r) = Threw r
+step_on methods Stuck = Stuck
+
+-- the result of `count` steps
+abbrev pub run : List Method → ℕ → State → Outcome
+run methods zero state = Going state
+run methods (suc count) state = step_on methods (run methods count state)
+
+-- the run has ended, by a return or by a throw that nothing catches
+abbrev pub IsEnd : Outcome → Type 0
+IsEnd (Going state) = ⊥
+IsEnd (Returned v) = Unit {0}
+IsEnd (Threw r) = Unit {0}
+IsEnd Stuck = ⊥
+
+-- some number of steps ends the run
+abbrev pub Ends : List Method → State → Type 0
+Ends methods state = (count : ℕ) × IsEnd (run methods count state)
+
+-- no number of steps makes the run stuck
+abbrev pub IsNeverStuck : List Method → State → Type 0
+IsNeverStuck methods state = (count : ℕ) → run methods count state ≡ Stuck → ⊥

@@ -1,0 +1,159 @@
+-- Typings of a method: what each local and each stack entry holds when an instruction is reached.
+--
+-- It is the part of the JVM specification, section 4.10.2 (verification by type inference), that the forms need.
+use Rattle.std.specs.Prelude.{◌≡◌, ℕ, ◌-◌, ◌<◌, ◌≤◌, nat_lt, if◌then◌else◌, List, [], ◌∷◌, ◌++◌, length, map, replicate, slice_get, slice_set, Option, Some, None, All, ◌≢◌}
+use Rattle.jvm_values.specs.declared.types.Ty.{Ty}
+use Rattle.jvm_values.specs.declared.types.Slot.{Slot}
+use Rattle.jvm_values.specs.declared.types.Slot.TheVariants.{Num, Ref}
+use Rattle.jterm.specs.declared.form.Form.{Form}
+use Rattle.jterm.specs.declared.form.Form.TheVariants.{Iconst, Iload, Istore, Iadd, Ireturn}
+use Rattle.jterm.specs.Options.{◌>>=◌}
+use Rattle.jterm.specs.Machine.{Method, instruction_at}
+use Rattle.jterm.specs.World.{World, Sub, erase}
+
+-- what a local or a stack entry holds: nothing that may be read, an int, null, or a reference of an erased type
+pub data PlaceType : Type 0 where
+  UnsetPlace : PlaceType
+  IntPlace : PlaceType
+  NullPlace : PlaceType
+  RefPlace : Ty → PlaceType
+
+-- the types of a frame's locals, and of its stack from the top down
+pub record FrameType : Type 0 where
+  pub locals : List PlaceType
+  pub stack : List PlaceType
+
+-- what holds the first also holds the second, which is wider
+abbrev pub IsWithin : World → PlaceType → PlaceType → Type 0
+IsWithin world a UnsetPlace = Unit {0}
+IsWithin world IntPlace IntPlace = Unit {0}
+IsWithin world NullPlace NullPlace = Unit {0}
+IsWithin world NullPlace (RefPlace t) = Unit {0}
+IsWithin world (RefPlace s) (RefPlace t) = Sub world s t
+IsWithin world UnsetPlace IntPlace = ⊥
+IsWithin world UnsetPlace NullPlace = ⊥
+IsWithin world UnsetPlace (RefPlace t) = ⊥
+IsWithin world IntPlace NullPlace = ⊥
+IsWithin world IntPlace (RefPlace t) = ⊥
+IsWithin world NullPlace IntPlace = ⊥
+IsWithin world (RefPlace s) IntPlace = ⊥
+IsWithin world (RefPlace s) NullPlace = ⊥
+
+-- place by place
+abbrev pub AreWithin : World → List PlaceType → List PlaceType → Type 0
+AreWithin world [] [] = Unit {0}
+AreWithin world (a ∷ narrow) (b ∷ wide) = IsWithin world a b × AreWithin world narrow wide
+AreWithin world [] (b ∷ wide) = ⊥
+AreWithin world (a ∷ narrow) [] = ⊥
+
+-- an int on the top, and what is below it
+abbrev pub top_int_place : List PlaceType → Option (List PlaceType)
+top_int_place (IntPlace ∷ below) = Some below
+top_int_place (UnsetPlace ∷ below) = None
+top_int_place (NullPlace ∷ below) = None
+top_int_place (RefPlace t ∷ below) = None
+top_int_place [] = None
+
+abbrev pub int_place : PlaceType → Option PlaceType
+int_place IntPlace = Some IntPlace
+int_place UnsetPlace = None
+int_place NullPlace = None
+int_place (RefPlace t) = None
+
+-- iconst, bipush: an int more
+unfoldable pub iconst_types : FrameType → Option FrameType
+iconst_types types = Some (record types { stack = IntPlace ∷ types.stack })
+
+-- iload: the local is an int
+unfoldable pub iload_types : ℕ → FrameType → Option FrameType
+iload_types n types = do
+  local ← slice_get types.locals n
+  int ← int_place local
+  Some (record types { stack = int ∷ types.stack })
+
+-- istore: an int on the top, and the local is one of the frame's
+unfoldable pub istore_types : ℕ → FrameType → Option FrameType
+istore_types n types = do
+  below ← top_int_place types.stack
+  if nat_lt n (length types.locals) then Some (record { locals = slice_set types.locals n IntPlace; stack = below }) else None
+
+-- iadd: two ints, then one
+unfoldable pub iadd_types : FrameType → Option FrameType
+iadd_types types = do
+  left ← top_int_place types.stack
+  below ← top_int_place left
+  Some (record types { stack = IntPlace ∷ below })
+
+-- ireturn: the method gives a number, and an int is on the top
+unfoldable pub ireturn_types : Option Slot → FrameType → Option FrameType
+ireturn_types (Some (Num kind)) types = do
+  below ← top_int_place types.stack
+  Some (record types { stack = below })
+ireturn_types (Some (Ref t)) types = None
+ireturn_types None types = None
+
+-- the types after a form; None where it does not find what it needs
+abbrev pub types_after : Method → Form → FrameType → Option FrameType
+types_after method (Iconst v) types = iconst_types types
+types_after method (Iload n) types = iload_types n types
+types_after method (Istore n) types = istore_types n types
+types_after method Iadd types = iadd_types types
+types_after method Ireturn types = ireturn_types method.result types
+
+-- where a form leads; None is past the code's end
+abbrev pub places_after : Form → Option ℕ → List (Option ℕ)
+places_after (Iconst v) next = next ∷ []
+places_after (Iload n) next = next ∷ []
+places_after (Istore n) next = next ∷ []
+places_after Iadd next = next ∷ []
+places_after Ireturn next = []
+
+-- a typing gives types to places of the code
+abbrev pub Types : Type 0
+Types = ℕ → Option FrameType
+
+-- the typing has at this place types that are as wide as these
+pub record Leads (world : World) (typing : Types) (types : FrameType) (place : ℕ) : Type 0 where
+  pub there : FrameType
+  pub is_there : typing place ≡ Some there
+  pub locals : AreWithin world types.locals there.locals
+  pub stack : AreWithin world types.stack there.stack
+
+-- a form may lead to this place: it is one of the code's
+abbrev pub LeadsTo : World → Types → FrameType → Option ℕ → Type 0
+LeadsTo world typing types (Some place) = Leads world typing types place
+LeadsTo world typing types None = ⊥
+
+-- the typing holds at one place: locals and stack fit the method's limits, no stack entry is unset, an instruction
+-- stands there and finds what it needs, and it leads to places whose types are as wide as those that it leaves
+pub record IsTyped (world : World) (method : Method) (typing : Types) (place : ℕ) (types : FrameType) : Type 0 where
+  pub locals : length types.locals ≡ method.max_locals
+  pub stack : length types.stack ≤ method.max_stack
+  pub set : All (λ entry. entry ≢ UnsetPlace) types.stack
+  pub form : Form
+  pub next : Option ℕ
+  pub stands : instruction_at method.instructions place ≡ Some (form, next)
+  pub after : FrameType
+  pub runs : types_after method form types ≡ Some after
+  pub leads : All (LeadsTo world typing after) (places_after form next)
+
+-- what a parameter holds: an int, or a reference of its erased type
+abbrev pub type_of_slot : World → Slot → PlaceType
+type_of_slot world (Num kind) = IntPlace
+type_of_slot world (Ref t) = RefPlace (erase world t)
+
+-- the types at a method's entry: its parameters in the first locals, the other locals unset, and an empty stack
+abbrev pub entry_types : World → Method → FrameType
+entry_types world method = record {
+  locals = map (type_of_slot world) method.params ++ replicate (method.max_locals - length method.params) UnsetPlace;
+  stack = [];
+}
+
+-- a typing of a method
+pub record IsTyping (world : World) (method : Method) (typing : Types) : Type 0 where
+  pub entry : Leads world typing (entry_types world method) 0
+  pub each : (place : ℕ) (types : FrameType) → typing place ≡ Some types → IsTyped world method typing place types
+
+-- the method has a typing
+abbrev pub HasTyping : World → Method → Type 0
+HasTyping world method = (typing : Types) × IsTyping world method typing
