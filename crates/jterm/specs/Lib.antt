@@ -4,3 +4,7 @@ pub mod World
 pub mod Code
 pub mod Machine
 pub mod Typing
+pub mod Description
+pub mod Headline
+pub mod Plain
+pub mod Decision

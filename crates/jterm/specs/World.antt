@@ -51,6 +51,8 @@ built_in name super_name = record {
   interfaces = [];
   fields = [];
   methods = built_in_init ∷ [];
+  pool = [];
+  skipped = 0;
 }
 
 -- the built-in classes, 0 to 14

@@ -1,0 +1,22 @@
+-- The line that describes an input: the method, and every int for each of its parameters.
+use Rattle.std.specs.Prelude.{◌≡◌, ◌≢◌, ℕ, ◌≤◌, List, [], ◌∷◌, ◌++◌, All, replicate}
+use Rattle.jterm.specs.declared.line.Line.{Line}
+
+-- the descriptor of a method that takes so many ints and gives one: `(`, an `I` for each, and `)I` (JVM specification,
+-- section 4.3.3)
+abbrev pub int_descriptor : ℕ → List ℕ
+int_descriptor params = 40 ∷ replicate params 73 ++ 41 ∷ 73 ∷ []
+
+-- a word: a byte at least, and neither a space nor a newline
+pub record IsWord (word : List ℕ) : Type 0 where
+  pub some : word ≢ []
+  pub unbroken : All (λ b. (b ≢ 32) × (b ≢ 10)) word
+
+-- the bytes are the line `CLASS NAME (I..)I` with single spaces and a newline at its end; NAME doesn't begin with `<`,
+-- and there are at most 255 parameters
+pub record IsLine (bytes : List ℕ) (line : Line) : Type 0 where
+  pub text : bytes ≡ line.class ++ 32 ∷ (line.name ++ 32 ∷ (int_descriptor line.params ++ 10 ∷ []))
+  pub class : IsWord line.class
+  pub name : IsWord line.name
+  pub plain_name : (rest : List ℕ) → line.name ≢ 60 ∷ rest
+  pub few : line.params ≤ 255
