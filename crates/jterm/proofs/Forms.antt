@@ -1,15 +1,13 @@
 -- A form that a typing lets run does run, and leaves a frame of the types that the typing says.
-use Rattle.std.proofs.Common.{◌≡◌, ℕ, zero, suc, ◌<◌, List, [], ◌∷◌, length, slice_get, slice_set, Option, Some, None, refl, ap, sym, ◌∙◌, subst, true, false, Bool, nat_lt, arith, rules, tests, ℤ, if◌then◌else◌}
+use Rattle.std.proofs.Common.{◌≡◌, ℕ, zero, suc, List, [], ◌∷◌, length, slice_get, slice_set, Option, Some, None, refl, ap, sym, subst, true, false, Bool, nat_lt, ℤ, if◌then◌else◌}
 use Rattle.std.specs.Int.{w32, int_wrap}
 use Rattle.std.specs.Prelude.{◌+ℤ◌}
 use Rattle.jvm_values.specs.declared.heap.Value.{Value}
 use Rattle.jvm_values.specs.declared.heap.Value.TheVariants.{Int, Null, Ref}
 use Rattle.jvm_values.specs.declared.state.Frame.{Frame}
-use Rattle.jvm_values.specs.declared.types.Slot.{Slot}
-use Rattle.jvm_values.specs.declared.types.Ty.{Ty}
 use Rattle.jterm.specs.Options.{◌>>=◌}
 use Rattle.jterm.specs.Machine.{top_int, int_of_local, iconst_of, iload_of, istore_of, iadd_of}
-use Rattle.jterm.specs.Typing.{PlaceType, UnsetPlace, IntPlace, NullPlace, RefPlace, FrameType, top_int_place, int_place, iconst_types, iload_types, istore_types, iadd_types, ireturn_types}
+use Rattle.jterm.specs.Typing.{PlaceType, UnsetPlace, IntPlace, NullPlace, RefPlace, FrameType, top_int_place, int_place, iconst_types, iload_types, istore_types, iadd_types}
 
 -- what a place holds is of its type; of null and references nothing is asked
 abbrev pub Fills : PlaceType → Option Value → Type 0

@@ -2,3 +2,5 @@ pub mod Runs
 pub mod Forms
 pub mod Places
 pub mod Straight
+pub mod Decoding
+pub mod Words

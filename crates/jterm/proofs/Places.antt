@@ -1,5 +1,5 @@
 -- The places of a code's instructions rise, so each place has one instruction.
-use Rattle.std.proofs.Common.{◌≡◌, ℕ, zero, suc, ◌+◌, ◌<◌, ◌≤◌, ◌==◌, List, [], ◌∷◌, ◌++◌, length, Option, Some, None, refl, ap, sym, ◌∙◌, subst, true, false, Bool, arith, if◌then◌else◌, ◌⊎◌, inl, inr}
+use Rattle.std.proofs.Common.{◌≡◌, ℕ, ◌+◌, ◌<◌, ◌≤◌, ◌==◌, List, [], ◌∷◌, ◌++◌, length, Some, sym, subst, true, false, arith, inl, inr}
 use Rattle.std.proofs.lemmas.Bool.Decides.{nat_tests}
 use Rattle.jterm.specs.declared.form.Form.{Form}
 use Rattle.jterm.specs.declared.form.Form.TheVariants.{Iconst, Iload, Istore, Iadd, Ireturn}
@@ -12,11 +12,11 @@ length-is bytes other e h = subst (λ (b : List ℕ). 0 < length b) (sym e) h
 -- an instruction has a byte at least
 pub Encodes-length : (form : Form) (bytes : List ℕ) → Encodes form bytes → 0 < length bytes
 Encodes-length (Iconst v) bytes (inl h) = length-is bytes _ h.2.1 (omega arith)
-Encodes-length (Iconst v) bytes (inr h) = length-is bytes _ h.2.1 (omega arith)
+Encodes-length (Iconst v) bytes (inr h) = length-is bytes _ h.2 (omega arith)
 Encodes-length (Iload n) bytes (inl h) = length-is bytes _ h.1 (omega arith)
-Encodes-length (Iload n) bytes (inr h) = length-is bytes _ h.1 (omega arith)
+Encodes-length (Iload n) bytes (inr h) = length-is bytes _ h (omega arith)
 Encodes-length (Istore n) bytes (inl h) = length-is bytes _ h.1 (omega arith)
-Encodes-length (Istore n) bytes (inr h) = length-is bytes _ h.1 (omega arith)
+Encodes-length (Istore n) bytes (inr h) = length-is bytes _ h (omega arith)
 Encodes-length Iadd bytes h = length-is bytes _ h (omega arith)
 Encodes-length Ireturn bytes h = length-is bytes _ h (omega arith)
 

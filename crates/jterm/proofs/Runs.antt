@@ -1,8 +1,8 @@
 -- Runs of the machine from their first step.
-use Rattle.std.proofs.Common.{◌≡◌, ℕ, zero, suc, List, Option, refl, ap, sym, ◌∙◌, subst}
+use Rattle.std.proofs.Common.{◌≡◌, ℕ, zero, suc, List, Option, ap, sym, ◌∙◌, subst}
 use Rattle.jvm_values.specs.declared.heap.Value.{Value}
 use Rattle.jvm_values.specs.declared.state.State.{State}
-use Rattle.jterm.specs.Machine.{Method, Outcome, Going, Returned, Threw, Stuck, step, step_on, run, IsEnd, Ends, IsNeverStuck}
+use Rattle.jterm.specs.Machine.{Method, Going, Returned, Stuck, step, step_on, run, IsEnd, Ends, IsNeverStuck}
 
 -- a run ends and is never stuck
 pub record Finishes (methods : List Method) (state : State) : Type 0 where

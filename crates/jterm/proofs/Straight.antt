@@ -1,9 +1,8 @@
 -- A code without jumps that has a typing runs to its return and is never stuck.
-use Rattle.std.proofs.Common.{◌≡◌, ℕ, zero, suc, ◌+◌, ◌≤◌, List, [], ◌∷◌, ◌++◌, length, slice_get, Option, Some, None, unwrap_or, refl, ap, sym, ◌∙◌, subst, All, append_assoc, arith, ◌<◌, ℤ}
+use Rattle.std.proofs.Common.{◌≡◌, ℕ, List, [], ◌∷◌, ◌++◌, slice_get, Option, Some, None, unwrap_or, refl, ap, sym, ◌∙◌, subst, All, append_assoc, arith, ℤ}
 use Rattle.jvm_values.specs.declared.heap.Value.{Value}
 use Rattle.jvm_values.specs.declared.heap.Value.TheVariants.{Int}
 use Rattle.jvm_values.specs.declared.state.Frame.{Frame}
-use Rattle.jvm_values.specs.declared.state.Mode.{Mode}
 use Rattle.jvm_values.specs.declared.state.Mode.TheVariants.{Normal}
 use Rattle.jvm_values.specs.declared.state.State.{State}
 use Rattle.jvm_values.specs.declared.types.Slot.{Slot}
@@ -12,11 +11,10 @@ use Rattle.jterm.specs.declared.form.Form.{Form}
 use Rattle.jterm.specs.declared.form.Form.TheVariants.{Iconst, Iload, Istore, Iadd, Ireturn}
 use Rattle.jterm.specs.Code.{IsCode}
 use Rattle.jterm.specs.World.{World}
-use Rattle.jterm.specs.Options.{◌>>=◌}
-use Rattle.jterm.specs.Machine.{Method, Outcome, Going, Returned, Stuck, first_place, instruction_at, perform, going, returned, top_int, iconst_of, iload_of, istore_of, iadd_of, normal_step, step_in, step}
-use Rattle.jterm.specs.Typing.{PlaceType, UnsetPlace, IntPlace, NullPlace, RefPlace, FrameType, IsWithin, AreWithin, Types, Leads, LeadsTo, IsTyped, IsTyping, types_after, places_after, ireturn_types, top_int_place}
+use Rattle.jterm.specs.Machine.{Method, Outcome, Going, Returned, Stuck, instruction_at, perform, going, returned, top_int, normal_step, step}
+use Rattle.jterm.specs.Typing.{PlaceType, UnsetPlace, IntPlace, NullPlace, RefPlace, FrameType, IsWithin, AreWithin, Types, LeadsTo, IsTyped, IsTyping, types_after, places_after, ireturn_types, top_int_place}
 use Rattle.jterm.proofs.Runs.{Finishes, Finishes-going, Finishes-returned}
-use Rattle.jterm.proofs.Forms.{Fills, FillLocals, FillStack, FillFrame, Makes, TakesInt, take_int, and_then-some, iconst_makes, iload_makes, istore_makes, iadd_makes}
+use Rattle.jterm.proofs.Forms.{Fills, FillLocals, FillStack, FillFrame, Makes, take_int, and_then-some, iconst_makes, iload_makes, istore_makes, iadd_makes}
 use Rattle.jterm.proofs.Places.{instruction_at-place}
 
 -- what fills a place fills a wider one
@@ -81,7 +79,7 @@ moves world methods method typing place state s form (Some n) after made found r
     let found' : instruction_at method.instructions s.frame.pc ≡ Some (form, Some n) = rw s.here found in
     let goes : going state [] (Some n) made ≡ Some (Going (record state { frames = record m.after { pc = n } ∷ [] })) = going-makes state n made m.after m.made_is in
     let one : step methods state ≡ Going (record state { frames = record m.after { pc = n } ∷ [] }) =
-        step-stands methods method state s.frame form (Some n) s.alone s.normal s.runs found' ∙ ap (λ (o : Option Outcome). unwrap_or o Stuck) (runs ∙ goes) in
+    step-stands methods method state s.frame form (Some n) s.alone s.normal s.runs found' ∙ ap (λ (o : Option Outcome). unwrap_or o Stuck) (runs ∙ goes) in
     Finishes-going methods state _ one (go n refl (record state { frames = record m.after { pc = n } ∷ [] }) (record {
       frame = record m.after { pc = n };
       alone = refl;
@@ -95,6 +93,7 @@ moves world methods method typing place state s form (Some n) after made found r
         stack = FillStack-within world after.stack leads.there.stack m.after.stack leads.stack m.fits.stack;
       };
     }))
+
 -- a method that may return an int here has one on the top
 returned_int : (result : Option Slot) (types after : FrameType) → ireturn_types result types ≡ Some after → (below : List PlaceType) × (top_int_place types.stack ≡ Some below)
 unfolding ireturn_types
@@ -113,7 +112,7 @@ returns world methods method typing place state s next result after found e =
     let top = returned_int result s.types after e in
     let taken = take_int s.types.stack top.0 s.frame.stack top.1 s.fits.stack in
     let one : step methods state ≡ Returned (Some (Int taken.int)) =
-        step-stands methods method state s.frame Ireturn next s.alone s.normal s.runs found' ∙ ireturn-returns methods state s.frame taken.int taken.under next taken.taken in
+    step-stands methods method state s.frame Ireturn next s.alone s.normal s.runs found' ∙ ireturn-returns methods state s.frame taken.int taken.under next taken.taken in
     Finishes-returned methods state _ one
 
 -- what stands at a place does what the typing says of it
@@ -161,13 +160,13 @@ finishes_at world methods method typing place state Ireturn next s t found go =
 pub finishes_from : (world : World) (methods : List Method) (method : Method) (typing : Types) (code : List ℕ) (rest done : List (ℕ × Form)) (i : ℕ × Form) → IsTyping world method typing → IsCode 0 method.instructions code → method.instructions ≡ done ++ i ∷ rest → (state : State) → Stands world methods method typing i.0 state → Finishes methods state
 finishes_from world methods method typing code [] done i typed spelled split state s =
     let found : instruction_at method.instructions i.0 ≡ Some (i.1, None) =
-        rw split (instruction_at-place 0 done i [] code (subst (λ (is : List (ℕ × Form)). IsCode 0 is code) split spelled)) in
+    rw split (instruction_at-place 0 done i [] code (subst (λ (is : List (ℕ × Form)). IsCode 0 is code) split spelled)) in
     finishes_at world methods method typing i.0 state i.1 None s (turn world method typing i.0 s.types i.1 None (typed.each i.0 s.types s.typed) found) found (λ place e. absurd (cc))
 finishes_from world methods method typing code (j ∷ rest) done i typed spelled split state s =
     let found : instruction_at method.instructions i.0 ≡ Some (i.1, Some j.0) =
-        rw split (instruction_at-place 0 done i (j ∷ rest) code (subst (λ (is : List (ℕ × Form)). IsCode 0 is code) split spelled)) in
+    rw split (instruction_at-place 0 done i (j ∷ rest) code (subst (λ (is : List (ℕ × Form)). IsCode 0 is code) split spelled)) in
     finishes_at world methods method typing i.0 state i.1 (Some j.0) s (turn world method typing i.0 s.types i.1 (Some j.0) (typed.each i.0 s.types s.typed) found) found
     (λ place e next there.
-      let same : j.0 ≡ place = cc in
-      finishes_from world methods method typing code rest (done ++ i ∷ []) j typed spelled (split ∙ sym (append_assoc done (i ∷ []) (j ∷ rest))) next
-      (subst (λ (p : ℕ). Stands world methods method typing p next) (sym same) there))
+    let same : j.0 ≡ place = cc in
+    finishes_from world methods method typing code rest (done ++ i ∷ []) j typed spelled (split ∙ sym (append_assoc done (i ∷ []) (j ∷ rest))) next
+    (subst (λ (p : ℕ). Stands world methods method typing p next) (sym same) there))

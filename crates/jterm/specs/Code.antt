@@ -4,13 +4,17 @@ use Rattle.std.specs.Int.{w8, cast_signed}
 use Rattle.jterm.specs.declared.form.Form.{Form}
 use Rattle.jterm.specs.declared.form.Form.TheVariants.{Iconst, Iload, Istore, Iadd, Ireturn}
 
+-- instructions, each with its place in the code
+abbrev pub Instructions : Type 0
+Instructions = List (ℕ × Form)
+
 -- one opcode alone, the one that stands `n` places after `first`, where `count` opcodes stand in a row
 abbrev pub IsShort : ℕ → ℕ → ℕ → List ℕ → Type 0
 IsShort first count n bytes = (n < count) × (bytes ≡ (first + n) ∷ [])
 
 -- an opcode and an operand of one byte
 abbrev pub IsLong : ℕ → ℕ → List ℕ → Type 0
-IsLong opcode operand bytes = (operand < 256) × (bytes ≡ opcode ∷ operand ∷ [])
+IsLong opcode operand bytes = bytes ≡ opcode ∷ operand ∷ []
 
 -- these bytes are the form: iconst_m1 to iconst_5 are 2 to 8, bipush is 16 and has a byte with a sign; iload is 21,
 -- iload_0 to iload_3 are 26 to 29; istore is 54, istore_0 to istore_3 are 59 to 62; iadd is 96; ireturn is 172
@@ -23,7 +27,7 @@ Encodes Iadd bytes = bytes ≡ 96 ∷ []
 Encodes Ireturn bytes = bytes ≡ 172 ∷ []
 
 -- the code is these instructions one after another, each with its place, the first at `place`
-abbrev pub IsCode : ℕ → List (ℕ × Form) → List ℕ → Type 0
+abbrev pub IsCode : ℕ → Instructions → List ℕ → Type 0
 IsCode place [] code = code ≡ []
 IsCode place (i ∷ rest) code =
     (i.0 ≡ place)

@@ -1,5 +1,5 @@
 -- stand-in
-use Rattle.std.specs.Prelude.{ℕ, List, Option, [], ◌≡◌}
+use Rattle.std.specs.Prelude.{ℕ, List, Option}
 
 pub data PoolEntry : Type 0 where
   Utf8 : List ℕ → PoolEntry

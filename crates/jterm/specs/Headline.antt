@@ -1,8 +1,7 @@
 -- What the headline says of the bytes of a description and of class files.
-use Rattle.std.specs.Prelude.{◌≡◌, ◌≢◌, ℕ, ◌-◌, ◌≤◌, List, [], ◌∷◌, ◌++◌, length, map, All, Contains, replicate, slice_get, codes, Option, Some, None, FitsSigned, IsTrue, IsFalse, ℤ, Bool, true, false, if◌then◌else◌}
+use Rattle.std.specs.Prelude.{◌≡◌, ◌≢◌, ℕ, ◌-◌, List, [], ◌∷◌, ◌++◌, length, map, All, Contains, replicate, slice_get, codes, Option, Some, None, FitsSigned, IsFalse, ℤ, if◌then◌else◌}
 use Rattle.std.specs.List.{flat_map}
 use Rattle.std.specs.Int.{w32}
-use Rattle.jvm_values.specs.declared.heap.Value.{Value}
 use Rattle.jvm_values.specs.declared.heap.Value.TheVariants.{Int}
 use Rattle.jvm_values.specs.declared.state.Frame.{Frame}
 use Rattle.jvm_values.specs.declared.state.Mode.TheVariants.{Normal}
@@ -13,7 +12,6 @@ use Rattle.jvm_values.specs.declared.types.Base.{Base}
 use Rattle.jvm_values.specs.declared.types.Base.TheVariants as bases
 use Rattle.jvm_values.specs.declared.types.Slot.{Slot}
 use Rattle.jvm_values.specs.declared.types.Slot.TheVariants as slots
-use Rattle.jvm_values.specs.declared.types.Ty.{Ty}
 use Rattle.jterm.specs.declared.line.Line.{Line}
 use Rattle.jterm.specs.Content.{ClassContent, MethodContent, CodeContent, Spells}
 use Rattle.jterm.specs.World.{World, world_of, Links, IsReference, class_type, has_flag, STATIC_FLAG, NATIVE_FLAG, SYNCHRONIZED_FLAG}

@@ -2,6 +2,7 @@ pub mod Options
 pub mod Content
 pub mod World
 pub mod Code
+pub mod Reading
 pub mod Machine
 pub mod Typing
 pub mod Description

@@ -1,11 +1,11 @@
 -- The classes that the first stage decides.
-use Rattle.std.specs.Prelude.{◌≡◌, ◌≢◌, ℕ, ◌⊎◌, List, [], ◌∷◌, ◌++◌, All, replicate, codes, Option, Some, IsTrue, IsFalse}
+use Rattle.std.specs.Prelude.{◌≡◌, ◌≢◌, ℕ, ◌⊎◌, List, [], ◌∷◌, ◌++◌, All, replicate, codes, Some, IsTrue, IsFalse}
 use Rattle.jvm_values.specs.declared.types.Kind.TheVariants as kinds
 use Rattle.jvm_values.specs.declared.types.Slot.TheVariants as slots
 use Rattle.jterm.specs.declared.form.Form.{Form}
 use Rattle.jterm.specs.declared.form.Form.TheVariants.{Ireturn}
 use Rattle.jterm.specs.declared.line.Line.{Line}
-use Rattle.jterm.specs.Content.{ClassContent, MethodContent, CodeContent, Spells, PoolEntry, tag_of}
+use Rattle.jterm.specs.Content.{ClassContent, MethodContent, CodeContent, Spells, tag_of}
 use Rattle.jterm.specs.World.{built_ins, world_of, has_flag, STATIC_FLAG, NATIVE_FLAG, SYNCHRONIZED_FLAG, ABSTRACT_FLAG, INTERFACE_FLAG}
 use Rattle.jterm.specs.Code.{IsCode}
 use Rattle.jterm.specs.Machine.{Method}

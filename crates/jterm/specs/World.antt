@@ -2,11 +2,11 @@
 --
 -- Built-in are the classes of `java.lang` that the instructions' throws and every program may need (Java SE 6). Each
 -- has no fields and one method `<init>()V` that only returns.
-use Rattle.std.specs.Prelude.{◌≡◌, ℕ, ◌<◌, ◌≢◌, Bool, true, false, not, ◌==◌, if◌then◌else◌, List, [], ◌∷◌, ◌++◌, ◌+◌, ◌≤◌, ◌⊎◌, length, slice_get, Option, Some, None, IsTrue, Contains, codes, bit_and}
+use Rattle.std.specs.Prelude.{◌≡◌, ℕ, ◌<◌, Bool, false, not, ◌==◌, if◌then◌else◌, List, [], ◌∷◌, ◌++◌, ◌+◌, ◌≤◌, ◌⊎◌, length, slice_get, Option, Some, None, IsTrue, Contains, codes, bit_and}
 use Rattle.jvm_values.specs.declared.types.Ty.{Ty}
 use Rattle.jvm_values.specs.declared.types.Base.{Base}
 use Rattle.jvm_values.specs.declared.types.Base.TheVariants.{Class, Num}
-use Rattle.jterm.specs.Content.{ClassContent, MethodContent, CodeContent}
+use Rattle.jterm.specs.Content.{ClassContent, MethodContent}
 
 -- the access flags that matter (JVM specification, tables 4.1, 4.4 and 4.5)
 abbrev pub STATIC_FLAG : ℕ

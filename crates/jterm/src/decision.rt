@@ -3,9 +3,8 @@ ghost use Rattle.std.specs.Prelude.{◌≡◌, List, ℕ, [], ◌∷◌, map, If
 ghost use Rattle.jterm.specs.Decision.{Takes, SaysYes, Answers};
 ghost use Rattle.jterm.specs.Headline.{AllEnd};
 
-use std::alloc::Global;
-
 use crate::verdict::{Fault, Place, Refused, Request, Verdict};
+use std::alloc::Global;
 
 /// Does what the request asks for with the bytes of the files that its command names, in the order of the words:
 /// the description, and then the classes.

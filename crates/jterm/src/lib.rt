@@ -4,6 +4,7 @@
 mod decision;
 mod form;
 mod line;
+mod reading;
 mod verdict;
 
 pub use decision::decide;

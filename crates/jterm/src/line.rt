@@ -1,6 +1,8 @@
 //! The description of the first stage: one line that names a method.
-ghost use Rattle.std.specs.Prelude.{◌≡◌, MatchOption};
-ghost use Rattle.jterm.specs.Description.{IsLine};
+ghost use Rattle.std.specs.Prelude.{◌≡◌, ◌≤◌, ◌∷◌, [], ◌++◌, ◌==◌, ℕ, List, MatchOption};
+ghost use Rattle.std.specs.List.{position, list_all};
+ghost use Rattle.jterm.specs.declared.line.Line.{Line};
+ghost use Rattle.jterm.specs.Description.{IsLine, IsFirstWord, IsEnclosed, IsParams, ends_word};
 
 use list_views::Bytes;
 
@@ -13,4 +15,67 @@ pub struct Line<'a> {
     pub name: Bytes<'a>,
     /// The number of its parameters.
     pub params: u8,
+}
+
+/// The place of the first space or newline.
+fn word_end(bytes: &[u8]) -> Option<usize>
+    ensures { result ≡ position ends_word bytes.now }
+{
+    bytes.iter().position(|b| *b == b' ' || *b == b'\n')
+}
+
+/// The word at the front and the bytes after the space that follows it.
+fn first_word(bytes: &[u8]) -> Option<(&[u8], &[u8])>
+    ensures { MatchOption result ((word rest : List ℕ) → IsFirstWord bytes.now word rest → ⊥)
+        (λ split. IsFirstWord bytes.now split.0.now split.1.now) }
+{
+    let end = word_end(bytes)?;
+    if end == 0 || bytes[end] != b' ' {
+        return None;
+    }
+    Some((&bytes[..end], &bytes[end + 1..]))
+}
+
+/// Whether each byte is the mark of an int.
+fn are_marks(bytes: &[u8]) -> bool
+    ensures { result ≡ list_all (λ b. b == 73) bytes.now }
+{
+    bytes.iter().all(|b| *b == b'I')
+}
+
+/// The bytes between `(` and `)I` with a newline.
+fn enclosed(bytes: &[u8]) -> Option<&[u8]>
+    ensures { MatchOption result ((marks : List ℕ) → IsEnclosed bytes.now marks → ⊥) (λ marks. IsEnclosed bytes.now marks.now) }
+{
+    let rest = bytes.strip_prefix(b"(")?;
+    let marks = rest.strip_suffix(b")I\n")?;
+    Some(marks)
+}
+
+/// The number of parameters of the descriptor `(I..)I`, after which only a newline stands.
+fn params_of(bytes: &[u8]) -> Option<u8>
+    ensures { MatchOption result ((params : ℕ) → IsParams bytes.now params → ⊥) (λ params. IsParams bytes.now params) }
+{
+    let marks = enclosed(bytes)?;
+    if marks.len() > 255 || !are_marks(marks) {
+        return None;
+    }
+    Some(marks.len() as u8)
+}
+
+/// The line that `bytes` is, or None where it is none.
+pub fn read_line(bytes: &[u8]) -> Option<Line<'_>>
+    ensures { MatchOption result ((line : Line) → IsLine bytes.now line → ⊥) (λ line. IsLine bytes.now line) }
+{
+    let (class, rest) = first_word(bytes)?;
+    let (name, rest) = first_word(rest)?;
+    if name[0] == b'<' {
+        return None;
+    }
+    let params = params_of(rest)?;
+    Some(Line {
+        class: Bytes::new(class),
+        name: Bytes::new(name),
+        params,
+    })
 }
