@@ -20,7 +20,7 @@ split_test A C x y z true e taken other = taken refl e
 split_test A C x y z false e taken other = other refl e
 
 -- by a test that chose
-by_if : {A C : Type 0} {b : Bool} {x y z : A} → (if b then x else y) ≡ z → (b ≡ true → x ≡ z → C) → (b ≡ false → y ≡ z → C) → C
+pub by_if : {A C : Type 0} {b : Bool} {x y z : A} → (if b then x else y) ≡ z → (b ≡ true → x ≡ z → C) → (b ≡ false → y ≡ z → C) → C
 by_if {A = A} {C = C} {b = b} {x = x} {y = y} {z = z} e taken other = split_test A C x y z b e taken other
 
 pair-first : {A B : Type 0} (a b : A) (x y : B) → (let o : Option (A × B) = Some (a, x) in o) ≡ Some (b, y) → (a ≡ b) × (x ≡ y)
@@ -47,7 +47,7 @@ long : (opcode : ℕ) (form : ℕ → Form) (rest : List ℕ) (wanted : Form) (a
 long opcode form [] wanted after h e = absurd (cc)
 long opcode form (n ∷ rest) wanted after h e = fronts (opcode ∷ n ∷ rest) (form n) wanted rest after (opcode ∷ n ∷ []) (h n) refl e
 
-eq-of-test : (a b : ℕ) → (a == b) ≡ true → a ≡ b
+pub eq-of-test : (a b : ℕ) → (a == b) ≡ true → a ≡ b
 eq-of-test a b e = grind (arith, nat_tests)
 
 between : (low opcode high : ℕ) → (nat_le low opcode && nat_le opcode high) ≡ true → (low ≤ opcode) × (opcode ≤ high)

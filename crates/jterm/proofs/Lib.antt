@@ -4,3 +4,6 @@ pub mod Places
 pub mod Straight
 pub mod Decoding
 pub mod Words
+pub mod PassLemmas
+pub mod PassSound
+pub mod PassComplete

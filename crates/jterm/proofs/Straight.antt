@@ -95,7 +95,7 @@ moves world methods method typing place state s form (Some n) after made found r
     }))
 
 -- a method that may return an int here has one on the top
-returned_int : (result : Option Slot) (types after : FrameType) → ireturn_types result types ≡ Some after → (below : List PlaceType) × (top_int_place types.stack ≡ Some below)
+pub returned_int : (result : Option Slot) (types after : FrameType) → ireturn_types result types ≡ Some after → (below : List PlaceType) × (top_int_place types.stack ≡ Some below)
 unfolding ireturn_types
 returned_int (Some (Num kind)) types after e = let first = and_then-some _ _ _ e in (first.0, first.1)
 returned_int (Some (Ref t)) types after e = absurd (cc)
@@ -132,7 +132,7 @@ second_of_some None = None
 same_turn : (a b : Form) (x y : Option ℕ) (same : (let o : Option (Form × Option ℕ) = Some (a, x) in o) ≡ Some (b, y)) → (a ≡ b) × (x ≡ y)
 same_turn a b x y same = (ap (λ (o : Option (Form × Option ℕ)). first_of_some o a) same, ap second_of_some same)
 
-turn : (world : World) (method : Method) (typing : Types) (place : ℕ) (types : FrameType) (form : Form) (next : Option ℕ) → IsTyped world method typing place types → instruction_at method.instructions place ≡ Some (form, next) → Turn world method typing types form next
+pub turn : (world : World) (method : Method) (typing : Types) (place : ℕ) (types : FrameType) (form : Form) (next : Option ℕ) → IsTyped world method typing place types → instruction_at method.instructions place ≡ Some (form, next) → Turn world method typing types form next
 turn world method typing place types form next t found =
     let same = same_turn t.form form t.next next (sym t.stands ∙ found) in
     let forms = same.0 in

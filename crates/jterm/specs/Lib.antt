@@ -9,3 +9,4 @@ pub mod Description
 pub mod Headline
 pub mod Plain
 pub mod Decision
+pub mod Pass

@@ -5,6 +5,7 @@ mod decision;
 mod form;
 mod line;
 mod reading;
+mod typing;
 mod verdict;
 
 pub use decision::decide;

@@ -1,0 +1,299 @@
+-- A straight code that has a typing is taken by the pass.
+use Rattle.std.proofs.Common.{◌≡◌, ℕ, zero, suc, ◌+◌, ◌-◌, ◌<◌, ◌≤◌, nat_lt, List, [], ◌∷◌, ◌++◌, length, map, replicate, slice_get, slice_set, slice_index_or, Option, Some, None, refl, ap, sym, ◌∙◌, subst, true, false, Bool, arith, append_assoc, if◌then◌else◌, All, add-one, length-append}
+use Rattle.std.proofs.lemmas.Bool.Decides.{nat_tests}
+use Rattle.std.proofs.lemmas.List.{length-replicate, length-map}
+use Rattle.std.specs.Prelude.{◌≢◌}
+use Rattle.jvm_values.specs.declared.types.Kind.TheVariants as kinds
+use Rattle.jvm_values.specs.declared.types.Slot.TheVariants.{Num}
+use Rattle.jterm.specs.declared.form.Form.{Form}
+use Rattle.jterm.specs.declared.form.Form.TheVariants.{Iconst, Iload, Istore, Iadd, Ireturn}
+use Rattle.jterm.specs.declared.typing.Known.{Known}
+use Rattle.jterm.specs.Options.{◌>>=◌}
+use Rattle.jterm.specs.Code.{IsCode}
+use Rattle.jterm.specs.World.{World}
+use Rattle.jterm.specs.Machine.{Method, first_place, instruction_at}
+use Rattle.jterm.specs.Pass.{Passes, entry_known, known_after, known_along}
+use Rattle.jterm.specs.Plain.{ReturnsLast}
+use Rattle.jterm.specs.Typing.{PlaceType, UnsetPlace, IntPlace, NullPlace, RefPlace, FrameType, IsWithin, AreWithin, Types, Leads, LeadsTo, IsTyping, HasTyping, types_after, places_after, iconst_types, iload_types, istore_types, iadd_types, top_int_place, int_place, entry_types, type_of_slot}
+use Rattle.jterm.proofs.Forms.{some-same, and_then-some, chosen, int_place-int}
+use Rattle.jterm.proofs.PassSound.{place_of, not_return}
+use Rattle.jterm.proofs.Places.{instruction_at-place}
+use Rattle.jterm.proofs.Straight.{turn, returned_int}
+
+-- ---- what is known is within what a typing says
+
+within_trans : (world : World) (b : Bool) (p q : PlaceType) → IsWithin world (place_of b) p → IsWithin world p q → IsWithin world (place_of b) q
+within_trans world b p UnsetPlace h k = tt
+within_trans world true IntPlace IntPlace h k = tt
+within_trans world true UnsetPlace IntPlace h k = absurd k
+within_trans world true NullPlace IntPlace h k = absurd k
+within_trans world true (RefPlace t) IntPlace h k = absurd k
+within_trans world false UnsetPlace IntPlace h k = absurd k
+within_trans world false IntPlace IntPlace h k = absurd h
+within_trans world false NullPlace IntPlace h k = absurd h
+within_trans world false (RefPlace t) IntPlace h k = absurd h
+within_trans world true UnsetPlace NullPlace h k = absurd k
+within_trans world true IntPlace NullPlace h k = absurd k
+within_trans world true NullPlace NullPlace h k = absurd h
+within_trans world true (RefPlace t) NullPlace h k = absurd h
+within_trans world false UnsetPlace NullPlace h k = absurd k
+within_trans world false IntPlace NullPlace h k = absurd h
+within_trans world false NullPlace NullPlace h k = absurd h
+within_trans world false (RefPlace t) NullPlace h k = absurd h
+within_trans world true UnsetPlace (RefPlace s) h k = absurd k
+within_trans world true IntPlace (RefPlace s) h k = absurd k
+within_trans world true NullPlace (RefPlace s) h k = absurd h
+within_trans world true (RefPlace t) (RefPlace s) h k = absurd h
+within_trans world false UnsetPlace (RefPlace s) h k = absurd k
+within_trans world false IntPlace (RefPlace s) h k = absurd h
+within_trans world false NullPlace (RefPlace s) h k = absurd h
+within_trans world false (RefPlace t) (RefPlace s) h k = absurd h
+
+locals_trans : (world : World) (set : List Bool) (mid wide : List PlaceType) → AreWithin world (map place_of set) mid → AreWithin world mid wide → AreWithin world (map place_of set) wide
+locals_trans world [] [] wide h k = k
+locals_trans world [] (p ∷ mid) wide h k = absurd h
+locals_trans world (b ∷ set) [] wide h k = absurd h
+locals_trans world (b ∷ set) (p ∷ mid) [] h k = absurd k
+locals_trans world (b ∷ set) (p ∷ mid) (q ∷ wide) h k = (within_trans world b p q h.0 k.0, locals_trans world set mid wide h.1 k.1)
+
+stack_trans : (world : World) (depth : ℕ) (mid wide : List PlaceType) → AreWithin world (replicate depth IntPlace) mid → AreWithin world mid wide → AreWithin world (replicate depth IntPlace) wide
+stack_trans world zero [] wide h k = k
+stack_trans world zero (p ∷ mid) wide h k = absurd h
+stack_trans world (suc depth) [] wide h k = absurd h
+stack_trans world (suc depth) (p ∷ mid) [] h k = absurd k
+stack_trans world (suc depth) (p ∷ mid) (q ∷ wide) h k = (within_trans world true p q h.0 k.0, stack_trans world depth mid wide h.1 k.1)
+
+pub record Known_within (world : World) (known : Known) (types : FrameType) : Type 0 where
+  pub locals : AreWithin world (map place_of known.set) types.locals
+  pub stack : AreWithin world (replicate known.depth IntPlace) types.stack
+
+locals_length : (world : World) (set : List Bool) (wide : List PlaceType) → AreWithin world (map place_of set) wide → length set ≡ length wide
+locals_length world [] [] h = refl
+locals_length world [] (p ∷ wide) h = absurd h
+locals_length world (b ∷ set) [] h = absurd h
+locals_length world (b ∷ set) (p ∷ wide) h = let e = locals_length world set wide h.1 in ap suc e
+
+stack_length : (world : World) (depth : ℕ) (wide : List PlaceType) → AreWithin world (replicate depth IntPlace) wide → depth ≡ length wide
+stack_length world zero [] h = refl
+stack_length world zero (p ∷ wide) h = absurd h
+stack_length world (suc depth) [] h = absurd h
+stack_length world (suc depth) (p ∷ wide) h = let e = stack_length world depth wide h.1 in ap suc e
+
+within_length : (world : World) (narrow wide : List PlaceType) → AreWithin world narrow wide → length narrow ≡ length wide
+within_length world [] [] h = refl
+within_length world [] (p ∷ wide) h = absurd h
+within_length world (b ∷ narrow) [] h = absurd h
+within_length world (b ∷ narrow) (p ∷ wide) h = let e = within_length world narrow wide h.1 in ap suc e
+
+-- a local that a typing has as an int is known to be one
+known_int : (world : World) (n : ℕ) (set : List Bool) (wide : List PlaceType) (p : PlaceType) → AreWithin world (map place_of set) wide → slice_get wide n ≡ Some p → p ≡ IntPlace → slice_index_or set n false ≡ true
+known_int world n [] [] p h e i = absurd (cc)
+known_int world n [] (q ∷ wide) p h e i = absurd h
+known_int world n (b ∷ set) [] p h e i = absurd h
+known_int world zero (true ∷ set) (q ∷ wide) p h e i = refl
+known_int world zero (false ∷ set) (q ∷ wide) p h e i = let same : q ≡ IntPlace = some-same q p e ∙ i in let w : IsWithin world UnsetPlace IntPlace = subst (IsWithin world UnsetPlace) same h.0 in absurd w
+known_int world (suc n) (b ∷ set) (q ∷ wide) p h e i = known_int world n set wide p h.1 e i
+
+locals_set : (world : World) (n : ℕ) (set : List Bool) (wide : List PlaceType) → AreWithin world (map place_of set) wide → AreWithin world (map place_of (slice_set set n true)) (slice_set wide n IntPlace)
+locals_set world n [] [] h = tt
+locals_set world n [] (q ∷ wide) h = absurd h
+locals_set world n (b ∷ set) [] h = absurd h
+locals_set world zero (b ∷ set) (q ∷ wide) h = (tt, h.1)
+locals_set world (suc n) (b ∷ set) (q ∷ wide) h = (h.0, locals_set world n set wide h.1)
+
+-- an int on the top of a typing's stack is one of those known
+record Less (world : World) (depth : ℕ) (below : List PlaceType) : Type 0 where
+  some : 0 < depth
+  within : AreWithin world (replicate (depth - 1) IntPlace) below
+
+less : (world : World) (depth : ℕ) (wide below : List PlaceType) → AreWithin world (replicate depth IntPlace) wide → top_int_place wide ≡ Some below → Less world depth below
+less world depth [] below h e = absurd (cc)
+less world depth (UnsetPlace ∷ wide) below h e = absurd (cc)
+less world depth (NullPlace ∷ wide) below h e = absurd (cc)
+less world depth (RefPlace t ∷ wide) below h e = absurd (cc)
+less world zero (IntPlace ∷ wide) below h e = absurd h
+less world (suc d) (IntPlace ∷ wide) below h e =
+    let n : suc d - 1 ≡ d = omega arith in
+    record { some = omega arith; within = rw n (subst (AreWithin world (replicate d IntPlace)) (some-same wide below e) h.1) }
+
+record KnownAfter (world : World) (max_stack : ℕ) (form : Form) (known : Known) (after : FrameType) : Type 0 where
+  later : Known
+  known_is : known_after max_stack form known ≡ Some later
+  within : Known_within world later after
+
+nat_lt-true : (a b : ℕ) → a < b → nat_lt a b ≡ true
+nat_lt-true a b h = grind (arith, nat_tests)
+
+knows : (world : World) (method : Method) (form : Form) (known : Known) (types after : FrameType) → (form ≡ Ireturn → ⊥) → Known_within world known types → types_after method form types ≡ Some after → length after.stack ≤ method.max_stack → KnownAfter world method.max_stack form known after
+unfolding iconst_types iload_types istore_types iadd_types
+knows world method (Iconst v) known types after other w e room =
+    let same : (let t : FrameType = record types { stack = IntPlace ∷ types.stack } in t) ≡ after = some-same _ _ e in
+    let depth = stack_length world known.depth types.stack w.stack in
+    let long : length after.stack ≡ suc (length types.stack) = ap (λ (t : FrameType). length t.stack) (sym same) in
+    let fits = nat_lt-true known.depth method.max_stack (omega arith) in
+    record {
+      later = record known { depth = known.depth + 1 };
+      known_is = rw fits refl;
+      within = subst (Known_within world (record known { depth = known.depth + 1 })) same (record { locals = w.locals; stack = rw (add-one known.depth) (tt, w.stack) });
+    }
+knows world method (Iload n) known types after other w e room =
+    let first = and_then-some (slice_get types.locals n) (λ local. int_place local >>= λ int. Some (record types { stack = int ∷ types.stack })) after e in
+    let second = and_then-some (int_place first.0) (λ int. Some (record types { stack = int ∷ types.stack })) after first.2 in
+    let q_is : second.0 ≡ IntPlace = int_place-int first.0 second.0 second.1 in
+    let p_is : first.0 ≡ IntPlace = place_int first.0 second.0 second.1 in
+    let set = known_int world n known.set types.locals first.0 w.locals first.1 p_is in
+    let same : (let t : FrameType = record types { stack = second.0 ∷ types.stack } in t) ≡ after = some-same _ _ second.2 in
+    let depth = stack_length world known.depth types.stack w.stack in
+    let long : length after.stack ≡ suc (length types.stack) = ap (λ (t : FrameType). length t.stack) (sym same) in
+    let fits = nat_lt-true known.depth method.max_stack (omega arith) in
+    record {
+      later = record known { depth = known.depth + 1 };
+      known_is = rw (set, fits) refl;
+      within = subst (Known_within world (record known { depth = known.depth + 1 })) same (record { locals = w.locals; stack = rw (add-one known.depth, q_is) (tt, w.stack) });
+    }
+  where
+    place_int : (p q : PlaceType) → int_place p ≡ Some q → p ≡ IntPlace
+    place_int IntPlace q e = refl
+    place_int UnsetPlace q e = absurd (cc)
+    place_int NullPlace q e = absurd (cc)
+    place_int (RefPlace t) q e = absurd (cc)
+knows world method (Istore n) known types after other w e room =
+    let first = and_then-some (top_int_place types.stack) (λ below. if nat_lt n (length types.locals) then Some (let t : FrameType = record { locals = slice_set types.locals n IntPlace; stack = below } in t) else None) after e in
+    let l = less world known.depth types.stack first.0 w.stack first.1 in
+    let c = chosen (nat_lt n (length types.locals)) _ after first.2 in
+    let long = locals_length world known.set types.locals w.locals in
+    let fits : nat_lt n (length known.set) ≡ true = rw long c.0 in
+    let some = nat_lt-true 0 known.depth l.some in
+    record {
+      later = record { set = slice_set known.set n true; depth = known.depth - 1 };
+      known_is = rw (some, fits) refl;
+      within = subst (Known_within world (record { set = slice_set known.set n true; depth = known.depth - 1 })) c.1 (record { locals = locals_set world n known.set types.locals w.locals; stack = l.within });
+    }
+knows world method Iadd known types after other w e room =
+    let first = and_then-some (top_int_place types.stack) (λ left. top_int_place left >>= λ below. Some (let t : FrameType = record types { stack = IntPlace ∷ below } in t)) after e in
+    let second = and_then-some (top_int_place first.0) (λ below. Some (let t : FrameType = record types { stack = IntPlace ∷ below } in t)) after first.2 in
+    let l = less world known.depth types.stack first.0 w.stack first.1 in
+    let m = less world (known.depth - 1) first.0 second.0 l.within second.1 in
+    let same : (let t : FrameType = record types { stack = IntPlace ∷ second.0 } in t) ≡ after = some-same _ _ second.2 in
+    let some = l.some in
+    let more = m.some in
+    let two = nat_lt-true 1 known.depth (omega arith) in
+    let back : known.depth - 1 ≡ suc (known.depth - 1 - 1) = omega arith in
+    record {
+      later = record known { depth = known.depth - 1 };
+      known_is = rw two refl;
+      within = subst (Known_within world (record known { depth = known.depth - 1 })) same (record {
+        locals = w.locals;
+        stack = subst (λ (d : ℕ). AreWithin world (replicate d IntPlace) (IntPlace ∷ second.0)) (sym back) (tt, m.within);
+      });
+    }
+knows world method Ireturn known types after other w e room = absurd (other refl)
+
+-- ---- along the code
+
+abbrev start : List (ℕ × Form) → ℕ → ℕ
+start [] place = place
+start (i ∷ before) place = i.0
+
+first_place-start : (before : List (ℕ × Form)) (place : ℕ) → first_place (before ++ (place, Ireturn) ∷ []) ≡ Some (start before place)
+first_place-start [] place = refl
+first_place-start (i ∷ before) place = refl
+
+leads_of : (P : Option ℕ → Type 0) (form : Form) (next : Option ℕ) → (form ≡ Ireturn → ⊥) → All P (places_after form next) → P next
+leads_of P (Iconst v) next other h = h 0 next (omega arith)
+leads_of P (Iload n) next other h = h 0 next (omega arith)
+leads_of P (Istore n) next other h = h 0 next (omega arith)
+leads_of P Iadd next other h = h 0 next (omega arith)
+leads_of P Ireturn next other h = absurd (other refl)
+
+record Taken (max_stack : ℕ) (before : List (ℕ × Form)) (known : Known) : Type 0 where
+  last : Known
+  along : known_along max_stack before known ≡ Some last
+  some : 0 < last.depth
+
+taken_first : (max_stack : ℕ) (i : ℕ × Form) (before : List (ℕ × Form)) (known later : Known) → known_after max_stack i.1 known ≡ Some later → Taken max_stack before later → Taken max_stack (i ∷ before) known
+taken_first max_stack i before known later e t = record { last = t.last; along = rw e t.along; some = t.some }
+
+taken_along : (world : World) (method : Method) (typing : Types) (code : List ℕ) → IsTyping world method typing → IsCode 0 method.instructions code → (before done : List (ℕ × Form)) (place : ℕ) → method.instructions ≡ done ++ (before ++ (place, Ireturn) ∷ []) → All (λ i. i.1 ≢ Ireturn) before → (known : Known) (types : FrameType) → typing (start before place) ≡ Some types → Known_within world known types → Taken method.max_stack before known
+taken_along world method typing code typed reading [] done place split others known types at w =
+    let found : instruction_at method.instructions place ≡ Some (Ireturn, None) =
+    rw split (instruction_at-place 0 done (place, Ireturn) [] code (subst (λ (is : List (ℕ × Form)). IsCode 0 is code) split reading)) in
+    let t = turn world method typing place types Ireturn None (typed.each place types at) found in
+    let top = returned_int method.result types t.after t.runs in
+    let l = less world known.depth types.stack top.0 w.stack top.1 in
+    record { last = known; along = refl; some = l.some }
+taken_along world method typing code typed reading (i ∷ before) done place split others known types at w =
+    let found : instruction_at method.instructions i.0 ≡ Some (i.1, first_place (before ++ (place, Ireturn) ∷ [])) =
+    rw split (instruction_at-place 0 done i (before ++ (place, Ireturn) ∷ []) code (subst (λ (is : List (ℕ × Form)). IsCode 0 is code) split reading)) in
+    let t = turn world method typing i.0 types i.1 (first_place (before ++ (place, Ireturn) ∷ [])) (typed.each i.0 types at) found in
+    let other : i.1 ≡ Ireturn → ⊥ = others 0 i (omega arith) in
+    let to = leads_of (LeadsTo world typing t.after) i.1 (first_place (before ++ (place, Ireturn) ∷ [])) other t.leads in
+    let leads : Leads world typing t.after (start before place) = subst (LeadsTo world typing t.after) (first_place-start before place) to in
+    let there = typed.each (start before place) leads.there leads.is_there in
+    let long = within_length world t.after.stack leads.there.stack leads.stack in
+    let most = there.stack in
+    let k = knows world method i.1 known types t.after other w t.runs (omega arith) in
+    taken_first method.max_stack i before known k.later k.known_is
+    (taken_along world method typing code typed reading before (done ++ i ∷ []) place (split ∙ sym (append_assoc done (i ∷ []) (before ++ (place, Ireturn) ∷ []))) (λ n d h. others (suc n) d (omega arith)) k.later leads.there leads.is_there
+    (record {
+      locals = locals_trans world k.later.set t.after.locals leads.there.locals k.within.locals leads.locals;
+      stack = stack_trans world k.later.depth t.after.stack leads.there.stack k.within.stack leads.stack;
+    }))
+
+-- ---- the entry
+
+unset_places : (n : ℕ) → replicate n UnsetPlace ≡ map place_of (replicate n false)
+unset_places zero = refl
+unset_places (suc n) = ap (λ (ps : List PlaceType). UnsetPlace ∷ ps) (unset_places n)
+
+entry_places : (world : World) (n k : ℕ) → map (type_of_slot world) (replicate n (Num kinds.Int)) ++ replicate k UnsetPlace ≡ map place_of (replicate n true ++ replicate k false)
+entry_places world zero k = unset_places k
+entry_places world (suc n) k = ap (λ (ps : List PlaceType). IntPlace ∷ ps) (entry_places world n k)
+
+start_zero : (before : List (ℕ × Form)) (place : ℕ) (code : List ℕ) → IsCode 0 (before ++ (place, Ireturn) ∷ []) code → start before place ≡ 0
+start_zero [] place code h = h.0
+start_zero (i ∷ before) place code h = h.0
+
+-- a straight code that has a typing, in any world, is taken by the pass
+pub Passes-HasTyping : (world : World) (method : Method) (count : ℕ) (code : List ℕ) → method.params ≡ replicate count (Num kinds.Int) → IsCode 0 method.instructions code → ReturnsLast method.instructions → HasTyping world method → Passes count method.max_stack method.max_locals method.instructions
+Passes-HasTyping world method count code params reading returns typing =
+    let typed = typing.1 in
+    let entry = typed.entry in
+    let there = typed.each 0 entry.there entry.is_there in
+    let rest = method.max_locals - length method.params in
+    let counted : length method.params ≡ count = ap length params ∙ length-replicate count (Num kinds.Int) in
+    let long : length (entry_types world method).locals ≡ length entry.there.locals = within_length world (entry_types world method).locals entry.there.locals entry.locals in
+    let parts : length (entry_types world method).locals ≡ length (map (type_of_slot world) method.params) + length (replicate (method.max_locals - length method.params) UnsetPlace) =
+    length-append (map (type_of_slot world) method.params) (replicate (method.max_locals - length method.params) UnsetPlace) in
+    let front : length (map (type_of_slot world) method.params) ≡ length method.params = length-map method.params (type_of_slot world) in
+    let back = length-replicate (method.max_locals - length method.params) UnsetPlace in
+    let limit = there.locals in
+    let places : (entry_types world method).locals ≡ map place_of (replicate count true ++ replicate (method.max_locals - count) false) =
+    rw (counted, params) (entry_places world count (method.max_locals - count)) in
+    let split : method.instructions ≡ [] ++ (returns.before ++ (returns.place, Ireturn) ∷ []) = returns.last in
+    let first : Known_within world (entry_known count method.max_locals) entry.there = record {
+      locals = subst (λ (ps : List PlaceType). AreWithin world ps entry.there.locals) places entry.locals;
+      stack = entry.stack;
+    } in
+    let zero_is = start_zero returns.before returns.place code (subst (λ (is : List (ℕ × Form)). IsCode 0 is code) returns.last reading) in
+    let t = taken_along world method typing.0 code typed reading returns.before [] returns.place split returns.nowhere_else (entry_known count method.max_locals) entry.there (subst (λ (p : ℕ). typing.0 p ≡ Some entry.there) (sym zero_is) entry.is_there) first in
+    record { fits = omega arith; before = returns.before; place = returns.place; last = returns.last; known = t.last; along = t.along; some = t.some }
+
+all_cons : {A : Type 0} (P : A → Type 0) (x : A) (xs : List A) → P x → All P xs → All P (x ∷ xs)
+all_cons P x xs p all zero d h = p
+all_cons P x xs p all (suc k) d h = all k d (omega arith)
+
+elsewhere : (max_stack : ℕ) (before : List (ℕ × Form)) (known last : Known) → known_along max_stack before known ≡ Some last → All (λ i. i.1 ≢ Ireturn) before
+elsewhere max_stack [] known last e = λ k d h. absurd (omega arith)
+elsewhere max_stack (i ∷ before) known last e =
+    let first = and_then-some (known_after max_stack i.1 known) (known_along max_stack before) last e in
+    all_cons (λ j. j.1 ≢ Ireturn) i before (not_return max_stack i.1 known first.0 first.1) (elsewhere max_stack before first.0 last first.2)
+
+-- what the pass takes returns at its end and nowhere else
+pub ReturnsLast-Passes : (count max_stack max_locals : ℕ) (is : List (ℕ × Form)) → Passes count max_stack max_locals is → ReturnsLast is
+ReturnsLast-Passes count max_stack max_locals is p = record {
+  before = p.before;
+  place = p.place;
+  last = p.last;
+  nowhere_else = elsewhere max_stack p.before (entry_known count max_locals) p.known p.along;
+}

@@ -1,0 +1,322 @@
+-- A straight code that the pass takes has a typing.
+use Rattle.std.proofs.Common.{◌≡◌, ℕ, zero, suc, ◌+◌, ◌-◌, ◌<◌, ◌≤◌, ◌==◌, ◌&&◌, nat_lt, List, [], ◌∷◌, ◌++◌, length, map, replicate, slice_get, slice_set, slice_index_or, Option, Some, None, refl, ap, sym, ◌∙◌, subst, true, false, Bool, arith, append_assoc, if◌then◌else◌, All, add-one, length-append}
+use Rattle.std.proofs.lemmas.Bool.Decides.{nat_tests}
+use Rattle.std.proofs.lemmas.List.{length-replicate, length-map, length-set}
+use Rattle.std.proofs.lemmas.List.Elements.{All-replicate}
+use Rattle.std.specs.Prelude.{◌≢◌}
+use Rattle.jvm_values.specs.declared.types.Kind.{Kind}
+use Rattle.jvm_values.specs.declared.types.Kind.TheVariants as kinds
+use Rattle.jvm_values.specs.declared.types.Slot.TheVariants.{Num}
+use Rattle.jterm.specs.declared.form.Form.{Form}
+use Rattle.jterm.specs.declared.form.Form.TheVariants.{Iconst, Iload, Istore, Iadd, Ireturn}
+use Rattle.jterm.specs.declared.typing.Known.{Known}
+use Rattle.jterm.specs.Options.{◌>>=◌}
+use Rattle.jterm.specs.Code.{IsCode}
+use Rattle.jterm.specs.World.{World}
+use Rattle.jterm.specs.Machine.{Method, first_place}
+use Rattle.jterm.specs.Pass.{Passes, entry_known, pushed, known_after, known_along}
+use Rattle.jterm.specs.Typing.{PlaceType, UnsetPlace, IntPlace, FrameType, AreWithin, Types, Leads, LeadsTo, IsTyped, HasTyping, types_after, places_after, iconst_types, iload_types, istore_types, iadd_types, ireturn_types, type_of_slot}
+use Rattle.jterm.proofs.Forms.{some-same, and_then-some}
+use Rattle.jterm.proofs.Decoding.{by_if, eq-of-test}
+use Rattle.jterm.proofs.Places.{Encodes-length, instruction_at-place}
+
+-- ---- what is known, as types
+
+abbrev pub place_of : Bool → PlaceType
+place_of true = IntPlace
+place_of false = UnsetPlace
+
+abbrev pub types_of : Known → FrameType
+types_of known = record { locals = map place_of known.set; stack = replicate known.depth IntPlace }
+
+-- the pass goes on to a return at the end with an int on the stack
+abbrev pub Goes : ℕ → List (ℕ × Form) → Known → Type 0
+Goes max_stack [] known = ⊥
+Goes max_stack (i ∷ []) known = (i.1 ≡ Ireturn) × (0 < known.depth)
+Goes max_stack (i ∷ j ∷ rest) known = (after : Known) × (known_after max_stack i.1 known ≡ Some after) × Goes max_stack (j ∷ rest) after
+
+goes_on : (max_stack : ℕ) (i : ℕ × Form) (before : List (ℕ × Form)) (place : ℕ) (known after : Known) → known_after max_stack i.1 known ≡ Some after → Goes max_stack (before ++ (place, Ireturn) ∷ []) after → Goes max_stack (i ∷ (before ++ (place, Ireturn) ∷ [])) known
+goes_on max_stack i [] place known after f g = (after, f, g)
+goes_on max_stack i (j ∷ more) place known after f g = (after, f, g)
+
+pub Goes-along : (max_stack : ℕ) (before : List (ℕ × Form)) (place : ℕ) (known last : Known) → known_along max_stack before known ≡ Some last → 0 < last.depth → Goes max_stack (before ++ (place, Ireturn) ∷ []) known
+Goes-along max_stack [] place known last e h = (refl, subst (λ (k : Known). 0 < k.depth) (sym (some-same known last e)) h)
+Goes-along max_stack (i ∷ before) place known last e h =
+    let first = and_then-some _ _ _ e in
+    goes_on max_stack i before place known first.0 first.1 (Goes-along max_stack before place first.0 last first.2 h)
+
+-- ---- what is known is kept within the limits, and a form makes of its types what it makes of it
+
+pub record Fine (max_stack max_locals : ℕ) (known : Known) : Type 0 where
+  pub locals : length known.set ≡ max_locals
+  pub stack : known.depth ≤ max_stack
+
+record Agrees (max_stack max_locals : ℕ) (method : Method) (form : Form) (known after : Known) : Type 0 where
+  fine : Fine max_stack max_locals after
+  types : types_after method form (types_of known) ≡ Some (types_of after)
+
+taken : {A : Type 0} (b : Bool) (x y : A) → (if b then Some x else None) ≡ Some y → (b ≡ true) × (x ≡ y)
+taken true x y e = (refl, some-same x y e)
+taken false x y e = absurd (cc)
+
+chosen_by : {A : Type 0} (b : Bool) (o : Option A) (y : A) → (if b then o else None) ≡ Some y → (b ≡ true) × (o ≡ Some y)
+chosen_by true o y e = (refl, e)
+chosen_by false o y e = absurd (cc)
+
+nat_lt-of : (a b : ℕ) → nat_lt a b ≡ true → a < b
+nat_lt-of a b e = grind (arith, nat_tests)
+
+and-both : (a b : Bool) → (a && b) ≡ true → (a ≡ true) × (b ≡ true)
+and-both true b e = (refl, e)
+and-both false b e = absurd (cc)
+
+replicate-add-one : (n : ℕ) → IntPlace ∷ replicate n IntPlace ≡ replicate (n + 1) IntPlace
+replicate-add-one n = rw (add-one n) refl
+
+slice_get-set : (set : List Bool) (n : ℕ) → slice_index_or set n false ≡ true → slice_get (map place_of set) n ≡ Some IntPlace
+slice_get-set [] n e = absurd (cc)
+slice_get-set (b ∷ set) zero e = ap (λ (c : Bool). Some (place_of c)) e
+slice_get-set (b ∷ set) (suc n) e = slice_get-set set n e
+
+slice_set-map : (set : List Bool) (n : ℕ) → slice_set (map place_of set) n IntPlace ≡ map place_of (slice_set set n true)
+slice_set-map [] n = refl
+slice_set-map (b ∷ set) zero = refl
+slice_set-map (b ∷ set) (suc n) = ap (λ (ps : List PlaceType). place_of b ∷ ps) (slice_set-map set n)
+
+-- a stack of ints with one on the top
+stack_less : (depth : ℕ) → 0 < depth → replicate depth IntPlace ≡ IntPlace ∷ replicate (depth - 1) IntPlace
+stack_less zero h = absurd (omega arith)
+stack_less (suc d) h = let e : suc d - 1 ≡ d = omega arith in rw e refl
+
+pushes : (max_stack max_locals : ℕ) (known after : Known) → Fine max_stack max_locals known → pushed max_stack known ≡ Some after → Fine max_stack max_locals after × ((let types : FrameType = record { locals = map place_of known.set; stack = IntPlace ∷ replicate known.depth IntPlace } in types) ≡ types_of after)
+pushes max_stack max_locals known after f e =
+    let t = taken (nat_lt known.depth max_stack) (record known { depth = known.depth + 1 }) after e in
+    let below = nat_lt-of known.depth max_stack t.0 in
+    let made : Fine max_stack max_locals (record known { depth = known.depth + 1 }) = record { locals = f.locals; stack = omega arith } in (
+      subst (Fine max_stack max_locals) t.1 made,
+      ap (λ (s : List PlaceType). let types : FrameType = record { locals = map place_of known.set; stack = s } in types) (replicate-add-one known.depth) ∙ ap types_of t.1,
+    )
+
+agrees : (max_stack max_locals : ℕ) (method : Method) (form : Form) (known after : Known) → Fine max_stack max_locals known → known_after max_stack form known ≡ Some after → Agrees max_stack max_locals method form known after
+unfolding iconst_types iload_types istore_types iadd_types
+agrees max_stack max_locals method (Iconst v) known after f e =
+    let p = pushes max_stack max_locals known after f e in
+    record { fine = p.0; types = ap Some p.1 }
+agrees max_stack max_locals method (Iload n) known after f e =
+    let t = chosen_by (slice_index_or known.set n false) (pushed max_stack known) after e in
+    let p = pushes max_stack max_locals known after f t.1 in
+    record { fine = p.0; types = rw (slice_get-set known.set n t.0) (ap Some p.1) }
+agrees max_stack max_locals method (Istore n) known after f e =
+    let t = taken (nat_lt 0 known.depth && nat_lt n (length known.set)) (record { set = slice_set known.set n true; depth = known.depth - 1 }) after e in
+    let both = and-both (nat_lt 0 known.depth) (nat_lt n (length known.set)) t.0 in
+    let some = nat_lt-of 0 known.depth both.0 in
+    let n_fits : nat_lt n (length (map place_of known.set)) ≡ true = rw length-map both.1 in
+    let made : Fine max_stack max_locals (record { set = slice_set known.set n true; depth = known.depth - 1 }) =
+    (let d = f.stack in record { locals = length-set known.set n true ∙ f.locals; stack = omega arith }) in
+    record {
+      fine = subst (Fine max_stack max_locals) t.1 made;
+      types = rw (stack_less known.depth some, n_fits, slice_set-map known.set n) (ap (λ (k : Known). Some (types_of k)) t.1);
+    }
+agrees max_stack max_locals method Iadd known after f e =
+    let t = taken (nat_lt 1 known.depth) (record known { depth = known.depth - 1 }) after e in
+    let two = nat_lt-of 1 known.depth t.0 in
+    let first = stack_less known.depth (omega arith) in
+    let second = stack_less (known.depth - 1) (omega arith) in
+    let made : Fine max_stack max_locals (record known { depth = known.depth - 1 }) = (let d = f.stack in record { locals = f.locals; stack = omega arith }) in
+    record {
+      fine = subst (Fine max_stack max_locals) t.1 made;
+      types = rw (first, second) (ap (λ (s : List PlaceType). let types : FrameType = record { locals = map place_of known.set; stack = s } in Some types) (sym second) ∙ ap (λ (k : Known). Some (types_of k)) t.1);
+    }
+agrees max_stack max_locals method Ireturn known after f e = absurd (cc)
+
+-- ---- the typing that the pass gives
+
+-- the places rise from `low` on
+abbrev pub Rises : ℕ → List (ℕ × Form) → Type 0
+Rises low [] = Unit {0}
+Rises low (i ∷ rest) = (low ≤ i.0) × Rises (suc i.0) rest
+
+pub Rises-less : (low high : ℕ) (is : List (ℕ × Form)) → low ≤ high → Rises high is → Rises low is
+Rises-less low high [] h r = tt
+Rises-less low high (i ∷ rest) h r = (let l : high ≤ i.0 = r.0 in omega arith, r.1)
+
+pub IsCode-rises : (place : ℕ) (is : List (ℕ × Form)) (code : List ℕ) → IsCode place is code → Rises place is
+IsCode-rises place [] code h = tt
+IsCode-rises place (i ∷ rest) code h =
+    let e : i.0 ≡ place = h.0 in
+    let long = Encodes-length i.1 h.1.0 h.1.2 in
+    (omega arith, Rises-less (suc i.0) (place + length h.1.0) rest (omega arith) (IsCode-rises (place + length h.1.0) rest h.1.1 h.1.4))
+
+-- what the pass knows at a place
+abbrev pub known_at : ℕ → List (ℕ × Form) → Known → ℕ → Option Known
+known_at max_stack [] known place = None
+known_at max_stack (i ∷ rest) known place =
+    if i.0 == place then Some known else (known_after max_stack i.1 known >>= λ after. known_at max_stack rest after place)
+
+abbrev typed : Option Known → Option FrameType
+typed (Some known) = Some (types_of known)
+typed None = None
+
+abbrev pub typing_of : ℕ → List (ℕ × Form) → Known → Types
+typing_of max_stack is known place = typed (known_at max_stack is known place)
+
+known_at-here : (max_stack : ℕ) (i : ℕ × Form) (rest : List (ℕ × Form)) (known : Known) → known_at max_stack (i ∷ rest) known i.0 ≡ Some known
+known_at-here max_stack i rest known = let e : (i.0 == i.0) ≡ true = grind (arith, nat_tests) in rw e refl
+
+-- a place of the rest is past the first
+known_at-past : (max_stack low : ℕ) (is : List (ℕ × Form)) (known there : Known) (place : ℕ) → Rises low is → known_at max_stack is known place ≡ Some there → low ≤ place
+known_at-past max_stack low [] known there place r e = absurd (cc)
+known_at-past max_stack low (i ∷ rest) known there place r e =
+    by_if e
+    (λ here s. let same = eq-of-test i.0 place here in let l : low ≤ i.0 = r.0 in omega arith)
+    (λ other s.
+    let next = and_then-some (known_after max_stack i.1 known) (λ after. known_at max_stack rest after place) there s in
+    let l : low ≤ i.0 = r.0 in
+    let later : suc i.0 ≤ place = known_at-past max_stack (suc i.0) rest next.0 there place r.1 next.2 in
+    omega arith)
+
+-- what the pass knows at a place of the rest it knows there from the first on
+known_at-later : (max_stack : ℕ) (i : ℕ × Form) (rest : List (ℕ × Form)) (known after there : Known) (place : ℕ) → Rises (suc i.0) rest → known_after max_stack i.1 known ≡ Some after → known_at max_stack rest after place ≡ Some there → known_at max_stack (i ∷ rest) known place ≡ Some there
+known_at-later max_stack i rest known after there place r e h =
+    let past : suc i.0 ≤ place = known_at-past max_stack (suc i.0) rest after there place r h in
+    let other : (i.0 == place) ≡ false = grind (arith, nat_tests) in
+    rw (other, e) h
+
+typed-some : (o : Option Known) (types : FrameType) → typed o ≡ Some types → (known : Known) × (o ≡ Some known) × (types_of known ≡ types)
+typed-some None types e = absurd (cc)
+typed-some (Some known) types e = (known, refl, some-same _ _ e)
+
+AreWithin-places : (world : World) (set : List Bool) → AreWithin world (map place_of set) (map place_of set)
+AreWithin-places world [] = tt
+AreWithin-places world (true ∷ set) = (tt, AreWithin-places world set)
+AreWithin-places world (false ∷ set) = (tt, AreWithin-places world set)
+
+AreWithin-ints : (world : World) (depth : ℕ) → AreWithin world (replicate depth IntPlace) (replicate depth IntPlace)
+AreWithin-ints world zero = tt
+AreWithin-ints world (suc depth) = (tt, AreWithin-ints world depth)
+
+-- what holds at the places of a code that the pass goes over
+record Whole (world : World) (method : Method) (known : Known) (code : List ℕ) : Type 0 where
+  number : Kind
+  result : method.result ≡ Some (Num number)
+  reading : IsCode 0 method.instructions code
+
+int_is_set : IntPlace ≢ UnsetPlace
+int_is_set e = cc
+
+typed_at : (world : World) (method : Method) (first known : Known) (code : List ℕ) (w : Whole world method first code) (done rest : List (ℕ × Form)) (i : ℕ × Form) (after : FrameType) → method.instructions ≡ done ++ i ∷ rest → Fine method.max_stack method.max_locals known → types_after method i.1 (types_of known) ≡ Some after → All (LeadsTo world (typing_of method.max_stack method.instructions first) after) (places_after i.1 (first_place rest)) → IsTyped world method (typing_of method.max_stack method.instructions first) i.0 (types_of known)
+typed_at world method first known code w done rest i after split fine runs leads = record {
+  locals = length-map known.set place_of ∙ fine.locals;
+  stack = subst (λ (n : ℕ). n ≤ method.max_stack) (sym (length-replicate known.depth IntPlace)) fine.stack;
+  set = All-replicate (λ entry. entry ≢ UnsetPlace) known.depth IntPlace int_is_set;
+  form = i.1;
+  next = first_place rest;
+  stands = rw split (instruction_at-place 0 done i rest code (subst (λ (is : List (ℕ × Form)). IsCode 0 is code) split w.reading));
+  after = after;
+  runs = runs;
+  leads = leads;
+}
+
+all_one : {A : Type 0} (P : A → Type 0) (x : A) → P x → All P (x ∷ [])
+all_one P x p zero d h = p
+all_one P x p (suc k) d h = absurd (omega arith)
+
+all_none : {A : Type 0} (P : A → Type 0) → All P []
+all_none P k d h = absurd (omega arith)
+
+-- every form but a return leads to the next place
+leads_next : (P : Option ℕ → Type 0) (form : Form) (next : Option ℕ) → (form ≡ Ireturn → ⊥) → P next → All P (places_after form next)
+leads_next P (Iconst v) next other p = all_one P next p
+leads_next P (Iload n) next other p = all_one P next p
+leads_next P (Istore n) next other p = all_one P next p
+leads_next P Iadd next other p = all_one P next p
+leads_next P Ireturn next other p = absurd (other refl)
+
+leads_none : (P : Option ℕ → Type 0) (form : Form) (next : Option ℕ) → form ≡ Ireturn → All P (places_after form next)
+leads_none P form next e = subst (λ (f : Form). All P (places_after f next)) (sym e) (all_none P)
+
+pub not_return : (max_stack : ℕ) (form : Form) (known after : Known) → known_after max_stack form known ≡ Some after → form ≡ Ireturn → ⊥
+not_return max_stack form known after e r = let n : known_after max_stack form known ≡ None = ap (λ (f : Form). known_after max_stack f known) r in cc
+
+returns_int : (method : Method) (number : Kind) (form : Form) (known : Known) → method.result ≡ Some (Num number) → form ≡ Ireturn → 0 < known.depth → types_after method form (types_of known) ≡ Some (record { locals = map place_of known.set; stack = replicate (known.depth - 1) IntPlace })
+unfolding ireturn_types
+returns_int method number form known result r some = rw (r, result, stack_less known.depth some) refl
+
+at_same : (world : World) (method : Method) (typing : Types) (place place' : ℕ) (known known' : Known) → place ≡ place' → known ≡ known' → IsTyped world method typing place (types_of known) → IsTyped world method typing place' (types_of known')
+at_same world method typing place place' known known' e f h =
+    subst (λ (k : Known). IsTyped world method typing place' (types_of k)) f (subst (λ (p : ℕ). IsTyped world method typing p (types_of known)) e h)
+
+-- each place of the rest is typed
+each_from : (world : World) (method : Method) (first known : Known) (code : List ℕ) (w : Whole world method first code) (rest done : List (ℕ × Form)) → method.instructions ≡ done ++ rest → (low : ℕ) → Rises low rest → Fine method.max_stack method.max_locals known → Goes method.max_stack rest known → ((place : ℕ) (there : Known) → known_at method.max_stack rest known place ≡ Some there → known_at method.max_stack method.instructions first place ≡ Some there) → (place : ℕ) (there : Known) → known_at method.max_stack rest known place ≡ Some there → IsTyped world method (typing_of method.max_stack method.instructions first) place (types_of there)
+each_from world method first known code w [] done split low rises fine goes whole place there e = absurd goes
+each_from world method first known code w (i ∷ []) done split low rises fine goes whole place there e =
+    by_if e
+    (λ here s.
+    at_same world method (typing_of method.max_stack method.instructions first) i.0 place known there (eq-of-test i.0 place here) (some-same known there s)
+    (typed_at world method first known code w done [] i _ split fine
+    (returns_int method w.number i.1 known w.result goes.0 goes.1)
+    (leads_none (LeadsTo world (typing_of method.max_stack method.instructions first) _) i.1 None goes.0)))
+    (λ other s. let next = and_then-some (known_after method.max_stack i.1 known) (λ after. known_at method.max_stack [] after place) there s in let none : (let o : Option Known = None in o) ≡ Some there = next.2 in absurd (cc))
+each_from world method first known code w (i ∷ j ∷ rest) done split low rises fine goes whole place there e =
+    let a = agrees method.max_stack method.max_locals method i.1 known goes.0 fine goes.1 in
+    let later : (place : ℕ) (there : Known) → known_at method.max_stack (j ∷ rest) goes.0 place ≡ Some there → known_at method.max_stack (i ∷ j ∷ rest) known place ≡ Some there = λ p t h. known_at-later method.max_stack i (j ∷ rest) known goes.0 t p rises.1 goes.1 h in
+    let at_j : known_at method.max_stack method.instructions first j.0 ≡ Some goes.0 = whole j.0 goes.0 (later j.0 goes.0 (known_at-here method.max_stack j rest goes.0)) in
+    let leads : Leads world (typing_of method.max_stack method.instructions first) (types_of goes.0) j.0 = record {
+      there = types_of goes.0;
+      is_there = ap typed at_j;
+      locals = AreWithin-places world goes.0.set;
+      stack = AreWithin-ints world goes.0.depth;
+    } in
+    by_if e
+    (λ here s.
+    at_same world method (typing_of method.max_stack method.instructions first) i.0 place known there (eq-of-test i.0 place here) (some-same known there s)
+    (typed_at world method first known code w done (j ∷ rest) i (types_of goes.0) split fine a.types
+    (leads_next (LeadsTo world (typing_of method.max_stack method.instructions first) (types_of goes.0)) i.1 (Some j.0) (not_return method.max_stack i.1 known goes.0 goes.1) leads)))
+    (λ other s.
+    let next = and_then-some (known_after method.max_stack i.1 known) (λ after. known_at method.max_stack (j ∷ rest) after place) there s in
+    let same : next.0 ≡ goes.0 = some-same next.0 goes.0 (sym next.1 ∙ goes.1) in
+    each_from world method first goes.0 code w (j ∷ rest) (done ++ i ∷ []) (split ∙ sym (append_assoc done (i ∷ []) (j ∷ rest))) (suc i.0) rises.1 a.fine goes.2
+    (λ p t h. whole p t (later p t h)) place there (subst (λ (k : Known). known_at method.max_stack (j ∷ rest) k place ≡ Some there) same next.2))
+
+-- ---- the entry
+
+unset_within : (world : World) (n : ℕ) → AreWithin world (replicate n UnsetPlace) (map place_of (replicate n false))
+unset_within world zero = tt
+unset_within world (suc n) = (tt, unset_within world n)
+
+ints_within : (world : World) (n : ℕ) (narrow : List PlaceType) (set : List Bool) → AreWithin world narrow (map place_of set) → AreWithin world (map (type_of_slot world) (replicate n (Num kinds.Int)) ++ narrow) (map place_of (replicate n true ++ set))
+ints_within world zero narrow set h = h
+ints_within world (suc n) narrow set h = (tt, ints_within world n narrow set h)
+
+first_at : (max_stack : ℕ) (is : List (ℕ × Form)) (known : Known) (code : List ℕ) → Goes max_stack is known → IsCode 0 is code → known_at max_stack is known 0 ≡ Some known
+first_at max_stack [] known code goes h = absurd goes
+first_at max_stack (i ∷ rest) known code goes h = subst (λ (p : ℕ). known_at max_stack (i ∷ rest) known p ≡ Some known) h.0 (known_at-here max_stack i rest known)
+
+-- a straight code that the pass takes has a typing, in any world
+pub HasTyping-Passes : (world : World) (method : Method) (count : ℕ) (number : Kind) (code : List ℕ) → method.params ≡ replicate count (Num kinds.Int) → method.result ≡ Some (Num number) → IsCode 0 method.instructions code → Passes count method.max_stack method.max_locals method.instructions → HasTyping world method
+HasTyping-Passes world method count number code params result reading passes =
+    let first : Known = entry_known count method.max_locals in
+    let goes : Goes method.max_stack method.instructions first =
+    subst (λ (is : List (ℕ × Form)). Goes method.max_stack is first) (sym passes.last) (Goes-along method.max_stack passes.before passes.place first passes.known passes.along passes.some) in
+    let long : length (replicate count true ++ replicate (method.max_locals - count) false) ≡ length (replicate count true) + length (replicate (method.max_locals - count) false) =
+    length-append (replicate count true) (replicate (method.max_locals - count) false) in
+    let front = length-replicate count true in
+    let back = length-replicate (method.max_locals - count) false in
+    let below = passes.fits in
+    let counted : length method.params ≡ count = ap length params ∙ length-replicate count (Num kinds.Int) in
+    let fine : Fine method.max_stack method.max_locals first = record { locals = omega arith; stack = omega arith } in
+    let w : Whole world method first code = record { number = number; result = result; reading = reading } in (
+      typing_of method.max_stack method.instructions first,
+      record {
+        entry = record {
+          there = types_of first;
+          is_there = ap typed (first_at method.max_stack method.instructions first code goes reading);
+          locals = rw (counted, params) (ints_within world count (replicate (method.max_locals - count) UnsetPlace) (replicate (method.max_locals - count) false) (unset_within world (method.max_locals - count)));
+          stack = tt;
+        };
+        each = λ place types h.
+            let there = typed-some (known_at method.max_stack method.instructions first place) types h in
+            subst (IsTyped world method (typing_of method.max_stack method.instructions first) place) there.2
+            (each_from world method first first code w method.instructions [] refl 0 (IsCode-rises 0 method.instructions code reading) fine goes (λ p t e. e) place there.0 there.1);
+      },
+    )
