@@ -7,3 +7,5 @@ pub mod Words
 pub mod PassLemmas
 pub mod PassSound
 pub mod PassComplete
+pub mod Worlds
+pub mod Plainly
