@@ -9,3 +9,4 @@ pub mod PassSound
 pub mod PassComplete
 pub mod Worlds
 pub mod Plainly
+pub mod Deciding

@@ -94,10 +94,22 @@ first_word_unique bytes (a ∷ word) rest (b ∷ word') rest' e f u v =
 
 -- ---- the descriptor
 
-pub enclosed_some : (bytes rest marks : List ℕ) → take 1 bytes ≡ 40 ∷ [] → rest ≡ drop 1 bytes → drop (length rest - 3) rest ≡ 41 ∷ 73 ∷ 10 ∷ [] → marks ≡ take (length rest - 3) rest → IsEnclosed bytes marks
-enclosed_some bytes rest marks front rest_is back marks_is =
-    let whole : rest ≡ marks ++ 41 ∷ 73 ∷ 10 ∷ [] = sym (take-append-drop (length rest - 3) rest) ∙ ap (λ (m : List ℕ). m ++ drop (length rest - 3) rest) (sym marks_is) ∙ ap (λ (t : List ℕ). marks ++ t) back in
+pub enclosed_some : (bytes rest marks end : List ℕ) → take 1 bytes ≡ 40 ∷ [] → rest ≡ drop 1 bytes → drop (length rest - length end) rest ≡ end → marks ≡ take (length rest - length end) rest → IsEnclosed bytes end marks
+enclosed_some bytes rest marks end front rest_is back marks_is =
+    let whole : rest ≡ marks ++ end = sym (take-append-drop (length rest - length end) rest) ∙ ap (λ (m : List ℕ). m ++ drop (length rest - length end) rest) (sym marks_is) ∙ ap (λ (t : List ℕ). marks ++ t) back in
     sym (take-append-drop 1 bytes) ∙ ap (λ (m : List ℕ). m ++ drop 1 bytes) front ∙ ap (λ (r : List ℕ). 40 ∷ r) (sym rest_is ∙ whole)
+
+-- where the bytes enclose marks, their end stands at the end
+pub enclosed_end : (bytes rest marks end : List ℕ) → bytes ≡ 40 ∷ (marks ++ end) → rest ≡ drop 1 bytes → drop (length rest - length end) rest ≡ end
+enclosed_end bytes rest marks end e r =
+    let rest_is : rest ≡ marks ++ end = r ∙ ap (λ (b : List ℕ). drop 1 b) e in
+    let long : length rest ≡ length marks + length end = ap length rest_is ∙ length-append marks end in
+    let n : length rest - length end ≡ length marks = omega arith in
+    rw n (rw rest_is (drop_front marks end))
+  where
+    drop_front : (a b : List ℕ) → drop (length a) (a ++ b) ≡ b
+    drop_front [] b = refl
+    drop_front (x ∷ a) b = drop_front a b
 
 -- bytes that are all the mark of an int are so many of it
 pub all_marks : (marks : List ℕ) → list_all (λ b. b == 73) marks ≡ true → marks ≡ replicate (length marks) 73
@@ -116,23 +128,33 @@ list_all-marks zero = refl
 list_all-marks (suc n) = list_all-marks n
 
 -- the descriptor of so many ints encloses so many marks
-pub IsEnclosed-params : (bytes : List ℕ) (n : ℕ) → bytes ≡ int_descriptor n ++ 10 ∷ [] → IsEnclosed bytes (replicate n 73)
+pub IsEnclosed-params : (bytes : List ℕ) (n : ℕ) → bytes ≡ int_descriptor n ++ 10 ∷ [] → IsEnclosed bytes (41 ∷ 73 ∷ 10 ∷ []) (replicate n 73)
 IsEnclosed-params bytes n e = e ∙ ap (λ (r : List ℕ). 40 ∷ r) (append_assoc (replicate n 73) (41 ∷ 73 ∷ []) (10 ∷ []))
 
-pub IsParams-marks : (bytes marks : List ℕ) → IsEnclosed bytes marks → length marks ≤ 255 → list_all (λ b. b == 73) marks ≡ true → IsParams bytes (length marks)
+pub IsParams-marks : (bytes marks : List ℕ) → IsEnclosed bytes (41 ∷ 73 ∷ 10 ∷ []) marks → length marks ≤ 255 → list_all (λ b. b == 73) marks ≡ true → IsParams bytes (length marks)
 IsParams-marks bytes marks e few all = record {
   text = e ∙ ap (λ (m : List ℕ). 40 ∷ (m ++ 41 ∷ 73 ∷ 10 ∷ [])) (all_marks marks all) ∙ sym (ap (λ (r : List ℕ). 40 ∷ r) (append_assoc (replicate (length marks) 73) (41 ∷ 73 ∷ []) (10 ∷ [])));
   few = few;
 }
 
+-- the marks of a descriptor
+pub int_descriptor-marks : (desc marks : List ℕ) (n : ℕ) → desc ≡ 40 ∷ (marks ++ 41 ∷ 73 ∷ []) → length marks ≡ n → list_all (λ b. b == 73) marks ≡ true → desc ≡ int_descriptor n
+int_descriptor-marks desc marks n e long all = e ∙ ap (λ (m : List ℕ). 40 ∷ (m ++ 41 ∷ 73 ∷ [])) (all_marks marks all ∙ ap (λ (k : ℕ). replicate k 73) long)
+
+pub marks-int_descriptor : (desc marks : List ℕ) (n : ℕ) → desc ≡ 40 ∷ (marks ++ 41 ∷ 73 ∷ []) → desc ≡ int_descriptor n → (length marks ≡ n) × (list_all (λ b. b == 73) marks ≡ true)
+marks-int_descriptor desc marks n e d =
+    let same : 40 ∷ (marks ++ 41 ∷ 73 ∷ []) ≡ 40 ∷ (replicate n 73 ++ 41 ∷ 73 ∷ []) = sym e ∙ d in
+    let m : marks ≡ replicate n 73 = append_cancel_right marks (replicate n 73) (41 ∷ 73 ∷ []) (cc) in
+    (ap length m ∙ length-replicate n 73, ap (list_all (λ b. b == 73)) m ∙ list_all-marks n)
+
 -- what the descriptor encloses
-pub params_marks : (bytes marks : List ℕ) (n : ℕ) → IsEnclosed bytes marks → bytes ≡ int_descriptor n ++ 10 ∷ [] → marks ≡ replicate n 73
+pub params_marks : (bytes marks : List ℕ) (n : ℕ) → IsEnclosed bytes (41 ∷ 73 ∷ 10 ∷ []) marks → bytes ≡ int_descriptor n ++ 10 ∷ [] → marks ≡ replicate n 73
 params_marks bytes marks n e p =
     let same : 40 ∷ (marks ++ 41 ∷ 73 ∷ 10 ∷ []) ≡ 40 ∷ (replicate n 73 ++ 41 ∷ 73 ∷ 10 ∷ []) = sym e ∙ IsEnclosed-params bytes n p in
     append_cancel_right marks (replicate n 73) (41 ∷ 73 ∷ 10 ∷ []) (cc)
 
 -- where there are more marks, or another byte, it is no descriptor
-pub no_params : (bytes marks : List ℕ) (n : ℕ) → IsEnclosed bytes marks → IsParams bytes n → (255 < length marks) ⊎ (list_all (λ b. b == 73) marks ≡ false) → ⊥
+pub no_params : (bytes marks : List ℕ) (n : ℕ) → IsEnclosed bytes (41 ∷ 73 ∷ 10 ∷ []) marks → IsParams bytes n → (255 < length marks) ⊎ (list_all (λ b. b == 73) marks ≡ false) → ⊥
 no_params bytes marks n e p (inl many) =
     let m = params_marks bytes marks n e p.text in
     let long : length marks ≡ n = ap length m ∙ length-replicate n 73 in
@@ -143,7 +165,7 @@ no_params bytes marks n e p (inr other) =
     let all : list_all (λ b. b == 73) marks ≡ true = ap (list_all (λ b. b == 73)) m ∙ list_all-marks n in
     cc
 
-pub not_enclosed : (bytes : List ℕ) (n : ℕ) → ((marks : List ℕ) → IsEnclosed bytes marks → ⊥) → IsParams bytes n → ⊥
+pub not_enclosed : (bytes : List ℕ) (n : ℕ) → ((marks : List ℕ) → IsEnclosed bytes (41 ∷ 73 ∷ 10 ∷ []) marks → ⊥) → IsParams bytes n → ⊥
 not_enclosed bytes n none p = none (replicate n 73) (IsEnclosed-params bytes n p.text)
 
 -- ---- the line

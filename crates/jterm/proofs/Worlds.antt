@@ -1,9 +1,12 @@
 -- The world of the built-in classes and one given class that is plain.
-use Rattle.std.proofs.Common.{◌≡◌, ℕ, zero, suc, ◌+◌, ◌<◌, List, [], ◌∷◌, ◌++◌, length, slice_get, Some, refl, ap, sym, ◌∙◌, subst, true, false, Bool, arith, ◌⊎◌, inl, inr, not, ◌&&◌}
+use Rattle.std.proofs.Common.{◌≡◌, ℕ, zero, suc, ◌+◌, ◌<◌, List, [], ◌∷◌, ◌++◌, length, slice_get, Some, refl, ap, sym, ◌∙◌, subst, true, false, Bool, arith, ◌⊎◌, inl, inr, not, ◌&&◌, ◌||◌, map, All, ◌==◌}
+use Rattle.std.specs.List.{list_any}
+use Rattle.jterm.proofs.Decoding.{eq-of-test}
+use Rattle.jterm.specs.BuiltInNames.{first_names, second_names, third_names}
 use Rattle.std.specs.Str.{bytes_eq}
-use Rattle.std.specs.Cmp.Lexicographic.{other_text}
-use Rattle.std.specs.Prelude.{◌≢◌, Contains, IsFalse, codes}
-use Rattle.jterm.specs.Content.{ClassContent}
+use Rattle.std.specs.Cmp.Lexicographic.{other_text, same_text}
+use Rattle.std.specs.Prelude.{◌↔◌, ◌≢◌, IsTrue, Contains, IsFalse, codes}
+use Rattle.class_read.specs.Content.{ClassContent}
 use Rattle.jterm.specs.World.{World, built_in, built_in_init, built_ins, world_of, Extends, Ascends, direct, further, IsInterface, Links, has_flag, INTERFACE_FLAG}
 
 -- ---- lists of classes
@@ -293,3 +296,76 @@ Links-single class s = record {
     by : (a : ℕ) (x : ClassContent) → Is (world_of (class ∷ [])) a x → 0 < a → ((a ≡ 0) × (x.super_name ≡ [])) ⊎ Above (world_of (class ∷ [])) a x → (b : ℕ) × (y : ClassContent) × (slice_get (world_of (class ∷ [])) b ≡ Some y) × (x.super_name ≡ y.name) × (IsInterface y → ⊥) × (IsInterface x → b ≡ 0)
     by a x e some (inl h) = let z = h.0 in absurd (omega arith)
     by a x e some (inr h) = (h.number, h.upper, h.upper_is, h.named, not_interface class s h.number h.upper h.upper_is, λ i. absurd (not_interface class s a x e i))
+
+-- ---- the names of the built-in classes
+
+names_are : map (λ c. c.name) built_ins ≡ first_names ++ (second_names ++ third_names)
+unfolding built_ins
+names_are = refl
+
+neither : (a b : Bool) → (a || b) ≡ false → (a ≡ false) × (b ≡ false)
+neither true b e = absurd (cc)
+neither false b e = (refl, e)
+
+one_of : {C : Type 0} (a b : Bool) → (a || b) ≡ true → (a ≡ true → C) → (b ≡ true → C) → C
+one_of true b e left right = left refl
+one_of false b e left right = right e
+
+or_right : (a b : Bool) → b ≡ true → (a || b) ≡ true
+or_right true b e = refl
+or_right false b e = e
+
+none_of : (name : List ℕ) (xs : World) → list_any (bytes_eq name) (map (λ c. c.name) xs) ≡ false → All (λ x. x.name ≢ name) xs
+none_of name [] e k d h = absurd (omega arith)
+none_of name (x ∷ xs) e zero d h = λ same. other_text name x.name (sym (neither (bytes_eq name x.name) (list_any (bytes_eq name) (map (λ c. c.name) xs)) e).0) (sym same)
+none_of name (x ∷ xs) e (suc k) d h = none_of name xs (neither (bytes_eq name x.name) (list_any (bytes_eq name) (map (λ c. c.name) xs)) e).1 k d (omega arith)
+
+some_of : (name : List ℕ) (xs : World) → list_any (bytes_eq name) (map (λ c. c.name) xs) ≡ true → All (λ x. x.name ≢ name) xs → ⊥
+some_of name [] e all = absurd (cc)
+some_of name (x ∷ xs) e all = one_of (bytes_eq name x.name) (list_any (bytes_eq name) (map (λ c. c.name) xs)) e
+    (λ t. all 0 x (omega arith) (sym (same_text name x.name (sym t))))
+    (λ t. some_of name xs t (λ k d h. all (suc k) d (omega arith)))
+
+any_left : (p : List ℕ → Bool) (xs ys : List (List ℕ)) → list_any p xs ≡ true → list_any p (xs ++ ys) ≡ true
+any_left p [] ys e = absurd (cc)
+any_left p (x ∷ xs) ys e = one_of (p x) (list_any p xs) e (λ t. rw t refl) (λ t. or_right (p x) (list_any p (xs ++ ys)) (any_left p xs ys t))
+
+any_right : (p : List ℕ → Bool) (xs ys : List (List ℕ)) → list_any p ys ≡ true → list_any p (xs ++ ys) ≡ true
+any_right p [] ys e = e
+any_right p (x ∷ xs) ys e = or_right (p x) (list_any p (xs ++ ys)) (any_right p xs ys e)
+
+any_none : (p : List ℕ → Bool) (xs ys : List (List ℕ)) → list_any p xs ≡ false → list_any p ys ≡ false → list_any p (xs ++ ys) ≡ false
+any_none p [] ys e f = f
+any_none p (x ∷ xs) ys e f = let n = neither (p x) (list_any p xs) e in rw n.0 (any_none p xs ys n.1 f)
+
+-- a name that is in none of the three parts is no built-in one
+pub new_name : (name : List ℕ) → list_any (bytes_eq name) first_names ≡ false → list_any (bytes_eq name) second_names ≡ false → list_any (bytes_eq name) third_names ≡ false → All (λ x. x.name ≢ name) built_ins
+new_name name a b c = none_of name built_ins (ap (list_any (bytes_eq name)) names_are ∙ any_none (bytes_eq name) first_names (second_names ++ third_names) a (any_none (bytes_eq name) second_names third_names b c))
+
+pub first_name : (name : List ℕ) → list_any (bytes_eq name) first_names ≡ true → All (λ x. x.name ≢ name) built_ins → ⊥
+first_name name e = some_of name built_ins (ap (list_any (bytes_eq name)) names_are ∙ any_left (bytes_eq name) first_names (second_names ++ third_names) e)
+
+pub second_name : (name : List ℕ) → list_any (bytes_eq name) second_names ≡ true → All (λ x. x.name ≢ name) built_ins → ⊥
+second_name name e = some_of name built_ins (ap (list_any (bytes_eq name)) names_are ∙ any_right (bytes_eq name) first_names (second_names ++ third_names) (any_left (bytes_eq name) second_names third_names e))
+
+pub third_name : (name : List ℕ) → list_any (bytes_eq name) third_names ≡ true → All (λ x. x.name ≢ name) built_ins → ⊥
+third_name name e = some_of name built_ins (ap (list_any (bytes_eq name)) names_are ∙ any_right (bytes_eq name) first_names (second_names ++ third_names) (any_right (bytes_eq name) second_names third_names e))
+
+-- a name that is in neither of the first parts is new exactly where it is not in the third
+pub new_or_not : (name : List ℕ) (b : Bool) → list_any (bytes_eq name) first_names ≡ false → list_any (bytes_eq name) second_names ≡ false → b ≡ list_any (bytes_eq name) third_names → IsTrue (not b) ↔ All (λ x. x.name ≢ name) built_ins
+new_or_not name true f s e = (λ t. absurd (cc), λ all. absurd (third_name name (sym e) all))
+new_or_not name false f s e = (λ t. new_name name f s (sym e), λ all. refl)
+
+-- a list is empty where what is made of its items is
+pub map-none : {A B : Type 0} (f : A → B) (xs : List A) → map f xs ≡ [] → xs ≡ []
+map-none f [] e = refl
+map-none f (x ∷ xs) e = cc
+
+-- what is made of the items of an empty list
+pub map-empty : {A B : Type 0} (f : A → B) (xs : List A) (b : Bool) → b ≡ (length xs == 0) → b ≡ true → map f xs ≡ []
+map-empty f [] b e t = refl
+map-empty f (x ∷ xs) b e t = absurd (let n : suc (length xs) ≡ 0 = eq-of-test (suc (length xs)) 0 (sym e ∙ t) in omega arith)
+
+pub map-some : {A B : Type 0} (f : A → B) (xs : List A) (b : Bool) → b ≡ (length xs == 0) → b ≡ false → map f xs ≡ [] → ⊥
+map-some f [] b e n m = let t : true ≡ false = sym e ∙ n in cc
+map-some f (x ∷ xs) b e n m = cc

@@ -1,5 +1,5 @@
 -- What `decide` answers, and why.
-use Rattle.std.specs.Prelude.{◌≡◌, ℕ, ◌≤◌, List, [], ◌∷◌, ◌++◌, length, Result, Ok, Err}
+use Rattle.std.specs.Prelude.{Bool, IsTrue, ◌↔◌, ◌≡◌, ℕ, ◌≤◌, List, [], ◌∷◌, ◌++◌, length, Result, Ok, Err}
 use Rattle.jterm.specs.declared.line.Line.{Line}
 use Rattle.jterm.specs.declared.verdict.Request.{Request}
 use Rattle.jterm.specs.declared.verdict.Request.TheVariants.{Prove}
@@ -36,3 +36,13 @@ Answers desc class (Err (At Description NotBuilt)) = (line : Line) → IsLine de
 Answers desc class (Err (At (Class number) NotBuilt)) =
     (number ≡ 0) × ((line : Line) × IsLine desc line × (IsPlainFile line class → ⊥))
 Answers desc class (Err Memory) = Unit {0}
+
+-- yes, or want of memory
+abbrev pub YesOrMemory : Result Verdict Refused → Type 0
+YesOrMemory (Ok verdict) = verdict ≡ yes
+YesOrMemory (Err refused) = refused ≡ Memory
+
+-- whether the file spells a plain class for the line, or want of memory
+abbrev pub PlainOrMemory : Line → List ℕ → Result Bool Refused → Type 0
+PlainOrMemory line file (Ok answer) = IsTrue answer ↔ IsPlainFile line file
+PlainOrMemory line file (Err refused) = refused ≡ Memory

@@ -22,9 +22,9 @@ pub record IsFirstWord (bytes word rest : List ℕ) : Type 0 where
   pub text : bytes ≡ word ++ 32 ∷ rest
   pub is_word : IsWord word
 
--- these bytes stand between `(` and `)I` with a newline
-abbrev pub IsEnclosed : List ℕ → List ℕ → Type 0
-IsEnclosed bytes marks = bytes ≡ 40 ∷ marks ++ 41 ∷ 73 ∷ 10 ∷ []
+-- the bytes are `(`, the marks and the end
+abbrev pub IsEnclosed : List ℕ → List ℕ → List ℕ → Type 0
+IsEnclosed bytes end marks = bytes ≡ 40 ∷ marks ++ end
 
 -- the descriptor of so many ints, at most 255, and a newline
 pub record IsParams (bytes : List ℕ) (params : ℕ) : Type 0 where

@@ -13,7 +13,8 @@ use Rattle.jvm_values.specs.declared.types.Base.TheVariants as bases
 use Rattle.jvm_values.specs.declared.types.Slot.{Slot}
 use Rattle.jvm_values.specs.declared.types.Slot.TheVariants as slots
 use Rattle.jterm.specs.declared.line.Line.{Line}
-use Rattle.jterm.specs.Content.{ClassContent, MethodContent, CodeContent, Spells}
+use Rattle.class_read.specs.Content.{ClassContent, MethodContent, CodeContent}
+use Rattle.class_read.specs.Rules.{Spells}
 use Rattle.jterm.specs.World.{World, world_of, Links, IsReference, class_type, has_flag, STATIC_FLAG, NATIVE_FLAG, SYNCHRONIZED_FLAG}
 use Rattle.jterm.specs.Code.{IsCode}
 use Rattle.jterm.specs.Machine.{Method, Ends, IsNeverStuck}

@@ -1,5 +1,4 @@
 pub mod Options
-pub mod Content
 pub mod World
 pub mod Code
 pub mod Reading
@@ -7,6 +6,7 @@ pub mod Machine
 pub mod Typing
 pub mod Description
 pub mod Headline
+pub mod BuiltInNames
 pub mod Plain
 pub mod Decision
 pub mod Pass

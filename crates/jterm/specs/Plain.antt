@@ -1,12 +1,15 @@
 -- The classes that the first stage decides.
-use Rattle.std.specs.Prelude.{◌≡◌, ◌≢◌, ℕ, ◌⊎◌, List, [], ◌∷◌, ◌++◌, All, replicate, codes, Some, IsTrue, IsFalse}
+use Rattle.std.specs.Prelude.{◌<◌, length, ◌≡◌, ◌≢◌, ℕ, ◌⊎◌, List, [], ◌∷◌, ◌++◌, All, replicate, codes, Option, Some, IsTrue, IsFalse}
 use Rattle.jvm_values.specs.declared.types.Kind.TheVariants as kinds
 use Rattle.jvm_values.specs.declared.types.Slot.TheVariants as slots
 use Rattle.jterm.specs.declared.form.Form.{Form}
 use Rattle.jterm.specs.declared.form.Form.TheVariants.{Ireturn}
 use Rattle.jterm.specs.declared.line.Line.{Line}
-use Rattle.jterm.specs.Content.{ClassContent, MethodContent, CodeContent, Spells, tag_of}
-use Rattle.jterm.specs.World.{built_ins, world_of, has_flag, STATIC_FLAG, NATIVE_FLAG, SYNCHRONIZED_FLAG, ABSTRACT_FLAG, INTERFACE_FLAG}
+use Rattle.class_pool.specs.declared.entry.PoolEntry.{PoolEntry}
+use Rattle.class_pool.specs.Text.{places_of, tag_at}
+use Rattle.class_read.specs.Content.{ClassContent, MethodContent, CodeContent}
+use Rattle.class_read.specs.Rules.{Spells}
+use Rattle.jterm.specs.World.{World, built_ins, world_of, has_flag, STATIC_FLAG, NATIVE_FLAG, SYNCHRONIZED_FLAG, ABSTRACT_FLAG, INTERFACE_FLAG}
 use Rattle.jterm.specs.Code.{IsCode}
 use Rattle.jterm.specs.Machine.{Method}
 use Rattle.jterm.specs.Typing.{HasTyping}
@@ -32,34 +35,56 @@ plain_method line code instructions = record {
   instructions = instructions;
 }
 
--- a plain class for the line. Its pool has Utf8 and Class entries alone; it has no interfaces, no fields and no
--- attribute but its method's Code; its name is the line's and no built-in one, its superclass is `java/lang/Object`,
--- and it is no interface. Its one method is the line's, static, and neither abstract, native nor synchronized. Its code
--- has no exception table, is a list of the forms with an ireturn at the end and nowhere else, and has a typing
-pub record IsPlain (line : Line) (class : ClassContent) : Type 0 where
-  pub tags : All (λ e. (tag_of e ≡ 1) ⊎ (tag_of e ≡ 7)) class.pool
+-- the tag of a Utf8 or of a Class
+abbrev pub IsPlainTag : Option ℕ → Type 0
+IsPlainTag tag = (tag ≡ Some 1) ⊎ (tag ≡ Some 7)
+
+-- every entry of the pool, by number from 1, has such a tag
+abbrev pub HasPlainTags : List PoolEntry → Type 0
+HasPlainTags pool = (i : ℕ) → 0 < i → i < length (places_of pool) → IsPlainTag (tag_at pool i)
+
+-- it has Utf8 and Class entries alone, no attribute but its methods' codes, no interfaces and no fields
+pub record IsBare (class : ClassContent) : Type 0 where
+  pub tags : HasPlainTags class.pool
   pub skipped : class.skipped ≡ 0
   pub interfaces : class.interfaces ≡ []
   pub fields : class.fields ≡ []
+
+-- its name is the line's and no built-in one, its superclass is `java/lang/Object`, and it is no interface
+pub record IsNamed (line : Line) (class : ClassContent) : Type 0 where
   pub name : class.name ≡ line.class
-  pub given : All (λ built_in. built_in.name ≢ line.class) built_ins
+  pub new : All (λ built_in. built_in.name ≢ line.class) built_ins
   pub under_object : class.super_name ≡ codes "java/lang/Object"
   pub no_interface : IsFalse (has_flag class.flags INTERFACE_FLAG)
-  pub method : MethodContent
-  pub only : class.methods ≡ method ∷ []
-  pub method_name : method.name ≡ line.name
-  pub method_desc : method.desc ≡ int_descriptor line.params
+
+-- the line's method: static, and neither abstract, native nor synchronized
+pub record IsPlainMethod (line : Line) (method : MethodContent) : Type 0 where
+  pub name : method.name ≡ line.name
+  pub desc : method.desc ≡ int_descriptor line.params
   pub static : IsTrue (has_flag method.flags STATIC_FLAG)
   pub not_abstract : IsFalse (has_flag method.flags ABSTRACT_FLAG)
   pub not_native : IsFalse (has_flag method.flags NATIVE_FLAG)
   pub not_synchronized : IsFalse (has_flag method.flags SYNCHRONIZED_FLAG)
-  pub code : CodeContent
-  pub has_code : method.code ≡ Some code
+
+-- The code, in a world. It has no exception table, is a list of the forms with an ireturn at the end and nowhere else, and
+-- has a typing.
+pub record IsPlainCode (world : World) (line : Line) (code : CodeContent) : Type 0 where
   pub no_table : code.table ≡ []
   pub instructions : List (ℕ × Form)
   pub reading : IsCode 0 instructions code.code
   pub returns : ReturnsLast instructions
-  pub typed : HasTyping (world_of (class ∷ [])) (plain_method line code instructions)
+  pub typed : HasTyping world (plain_method line code instructions)
+
+-- a plain class for the line: such a class with one such method, whose code is such a code
+pub record IsPlain (line : Line) (class : ClassContent) : Type 0 where
+  pub bare : IsBare class
+  pub named : IsNamed line class
+  pub method : MethodContent
+  pub only : class.methods ≡ method ∷ []
+  pub is_method : IsPlainMethod line method
+  pub code : CodeContent
+  pub has_code : method.code ≡ Some code
+  pub is_code : IsPlainCode (world_of (class ∷ [])) line code
 
 -- the file spells a plain class for the line
 pub record IsPlainFile (line : Line) (file : List ℕ) : Type 0 where

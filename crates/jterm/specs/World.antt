@@ -6,7 +6,7 @@ use Rattle.std.specs.Prelude.{◌≡◌, ℕ, ◌<◌, Bool, false, not, ◌==�
 use Rattle.jvm_values.specs.declared.types.Ty.{Ty}
 use Rattle.jvm_values.specs.declared.types.Base.{Base}
 use Rattle.jvm_values.specs.declared.types.Base.TheVariants.{Class, Num}
-use Rattle.jterm.specs.Content.{ClassContent, MethodContent}
+use Rattle.class_read.specs.Content.{ClassContent, MethodContent}
 
 -- the access flags that matter (JVM specification, tables 4.1, 4.4 and 4.5)
 abbrev pub STATIC_FLAG : ℕ

@@ -4,6 +4,7 @@
 mod decision;
 mod form;
 mod line;
+mod plain;
 mod reading;
 mod typing;
 mod verdict;

@@ -1,8 +1,8 @@
 //! The description of the first stage: one line that names a method.
-ghost use Rattle.std.specs.Prelude.{◌≡◌, ◌≤◌, ◌∷◌, [], ◌++◌, ◌==◌, ℕ, List, MatchOption};
+ghost use Rattle.std.specs.Prelude.{◌≡◌, ◌≤◌, ◌∷◌, [], ◌++◌, ◌==◌, ℕ, List, MatchOption, IsTrue, ◌↔◌};
 ghost use Rattle.std.specs.List.{position, list_all};
 ghost use Rattle.jterm.specs.declared.line.Line.{Line};
-ghost use Rattle.jterm.specs.Description.{IsLine, IsFirstWord, IsEnclosed, IsParams, ends_word};
+ghost use Rattle.jterm.specs.Description.{IsLine, int_descriptor, IsFirstWord, IsEnclosed, IsParams, ends_word};
 
 use list_views::Bytes;
 
@@ -43,12 +43,12 @@ fn are_marks(bytes: &[u8]) -> bool
     bytes.iter().all(|b| *b == b'I')
 }
 
-/// The bytes between `(` and `)I` with a newline.
-fn enclosed(bytes: &[u8]) -> Option<&[u8]>
-    ensures { MatchOption result ((marks : List ℕ) → IsEnclosed bytes.now marks → ⊥) (λ marks. IsEnclosed bytes.now marks.now) }
+/// The bytes between `(` and `end`, where the bytes are that.
+fn enclosed<'a>(bytes: &'a [u8], end: &[u8]) -> Option<&'a [u8]>
+    ensures { MatchOption result ((marks : List ℕ) → IsEnclosed bytes.now end.now marks → ⊥) (λ marks. IsEnclosed bytes.now end.now marks.now) }
 {
     let rest = bytes.strip_prefix(b"(")?;
-    let marks = rest.strip_suffix(b")I\n")?;
+    let marks = rest.strip_suffix(end)?;
     Some(marks)
 }
 
@@ -56,11 +56,21 @@ fn enclosed(bytes: &[u8]) -> Option<&[u8]>
 fn params_of(bytes: &[u8]) -> Option<u8>
     ensures { MatchOption result ((params : ℕ) → IsParams bytes.now params → ⊥) (λ params. IsParams bytes.now params) }
 {
-    let marks = enclosed(bytes)?;
+    let marks = enclosed(bytes, b")I\n")?;
     if marks.len() > 255 || !are_marks(marks) {
         return None;
     }
     Some(marks.len() as u8)
+}
+
+/// Whether it is the descriptor of so many ints that gives an int.
+pub fn is_int_descriptor(desc: &[u8], params: u8) -> bool
+    ensures { IsTrue result ↔ (desc.now ≡ int_descriptor params) }
+{
+    match enclosed(desc, b")I") {
+        Some(marks) => marks.len() == usize::from(params) && are_marks(marks),
+        None => false,
+    }
 }
 
 /// The line that `bytes` is, or None where it is none.

@@ -39,21 +39,20 @@ fn first_form(code: &[u8]) -> Option<(Form, &[u8])>
 /// # Errors
 ///
 /// Want of memory.
-pub fn read_code(alloc: Global, code: &[u8]) -> Result<Option<Vec<(u16, Form)>>, AllocError>
-    requires { length code.now < 2 ^ 16 }
+pub fn read_code(alloc: Global, code: &[u8]) -> Result<Option<Vec<(usize, Form)>>, AllocError>
     ensures { IfOk result (λ read. MatchOption read ((all : Instructions) → IsCode 0 all code.now → ⊥)
         (λ instructions. IsCode 0 instructions.items code.now)) }
 {
     let mut instructions = Vec::new(alloc);
     let mut rest = code;
-    let mut place: u16 = 0;
+    let mut place = 0;
     while !rest.is_empty() {
         let Some((form, after)) = first_form(rest) else {
             return Ok(None);
         };
         let length = rest.len() - after.len();
         instructions.push((place, form))?;
-        place += length as u16;
+        place += length;
         rest = after;
     }
     Ok(Some(instructions))

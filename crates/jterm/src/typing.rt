@@ -96,7 +96,7 @@ impl Known {
 /// Want of memory.
 pub fn has_typing(
     alloc: Global,
-    instructions: &[(u16, Form)],
+    instructions: &[(usize, Form)],
     params: u16,
     max_stack: u16,
     max_locals: u16,
