@@ -79,3 +79,6 @@ pub fn decide(alloc: Global, request: &Request, inputs: &[Vec<u8>]) -> Result<Ve
     let Request::Prove { .. } = request;
     decide_class(alloc, inputs[0].as_slice(), inputs[1].as_slice())
 }
+
+#[cfg(test)]
+mod tests;
