@@ -1,3 +1,7 @@
+pub mod WordsLemmas
+pub mod ReadingOrder
+pub mod Answering
+pub mod Endings
 pub mod Runs
 pub mod Forms
 pub mod Places

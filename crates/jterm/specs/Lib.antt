@@ -1,3 +1,7 @@
+pub mod Words
+pub mod Lines
+pub mod Outside
+pub mod Stop
 pub mod Options
 pub mod World
 pub mod Code

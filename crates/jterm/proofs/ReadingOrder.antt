@@ -1,0 +1,84 @@
+-- One file more is read.
+use Rattle.std.proofs.Common.{◌≡◌, ℕ, suc, zero, ◌+◌, ◌<◌, ◌≤◌, List, [], ◌∷◌, ◌++◌, length, map, take, get_or, slice_get, Some, refl, sym, ap, ◌∙◌, subst, arith, inl, inr, IsErrOf, Err}
+use Rattle.io_ports.specs.Count.{Rose}
+use Rattle.io_ports.specs.Told.{Told, IsContent, IsPastLimit, IsNotHeld}
+use Rattle.io_ports.specs.declared.files.FileFault.{FileFault}
+use Rattle.io_ports.specs.declared.files.FileFault.TheVariants.{Failed, TooLong, Missing, Memory}
+use Rattle.jterm.specs.declared.verdict.Request.{Request}
+use Rattle.jterm.specs.declared.verdict.Request.TheVariants.{Prove}
+use Rattle.jterm.specs.Outside.{AreContents, AreRead, limit_of}
+use Rattle.jterm.specs.Stop.{HasCause, stopped_at}
+
+-- the first k + 1 words
+pub take_words_more : {A : Type 0} (f : A → List ℕ) (xs : List A) (k : ℕ) (x : A) (y : List ℕ) → k < length xs → x ≡ get_or xs k x → y ≡ f x
+    → take (suc k) (map f xs) ≡ take k (map f xs) ++ y ∷ []
+take_words_more f [] k x y less is named = absurd (omega (arith, less))
+take_words_more f (z ∷ xs) zero x y less is named = ap (λ l. l ∷ []) (ap f (sym is) ∙ sym named)
+take_words_more f (z ∷ xs) (suc k) x y less is named =
+    ap (λ l. f z ∷ l) (take_words_more f xs k x y (omega (arith, less)) is named)
+
+pub get_word : {A : Type 0} (f : A → List ℕ) (xs : List A) (k : ℕ) (x : A) (y : List ℕ) → k < length xs → x ≡ get_or xs k x → y ≡ f x
+    → slice_get (map f xs) k ≡ Some y
+get_word f [] k x y less is named = absurd (omega (arith, less))
+get_word f (z ∷ xs) zero x y less is named = ap Some (ap f (sym is) ∙ sym named)
+get_word f (z ∷ xs) (suc k) x y less is named = get_word f xs k x y (omega (arith, less)) is named
+
+pub read_more : {F : Type 0} (leaves : F → List ℕ → F → Type 0) (names : List (List ℕ)) (name : List ℕ) (a b c : F)
+    → AreRead leaves names a b → leaves b name c → AreRead leaves (names ++ name ∷ []) a c
+read_more leaves [] name a b c same left = (c, subst (λ x. leaves x name c) (sym same) left, refl)
+read_more leaves (first ∷ names) name a b c read left = (read.0, read.1, read_more leaves names name read.0 b c read.2 left)
+
+-- the names read so far, and one more
+pub first_read_more : {F : Type 0} (leaves : F → List ℕ → F → Type 0) (names : List (List ℕ)) (k : ℕ) (name : List ℕ) (a b c : F)
+    → take (suc k) names ≡ take k names ++ name ∷ [] → AreRead leaves (take k names) a b → leaves b name c → AreRead leaves (take (suc k) names) a c
+first_read_more leaves names k name a b c more read left =
+    subst (λ l. AreRead leaves l a c) (sym more) (read_more leaves (take k names) name a b c read left)
+
+limit_anywhere : (request : Request) (p q : ℕ) → limit_of request p ≡ limit_of request q
+limit_anywhere (Prove nodes) p q = refl
+
+pub contents_more : (request : Request) (place : ℕ) (held : List ℕ → Told) (names contents : List (List ℕ)) (name content : List ℕ) (limit at : ℕ)
+    → AreContents request place held names contents → IsContent (held name) content → length content ≤ limit → limit ≡ limit_of request at
+    → AreContents request place held (names ++ name ∷ []) (contents ++ content ∷ [])
+contents_more request place held [] [] name content limit at are is within e =
+    (is, subst (λ l. length content ≤ l) (e ∙ limit_anywhere request at place) within, tt)
+contents_more request place held (n ∷ names) (c ∷ contents) name content limit at are is within e =
+    (are.0, are.1, contents_more request (place + 1) held names contents name content limit at are.2 is within e)
+contents_more request place held [] (c ∷ contents) name content limit at are is within e = absurd are
+contents_more request place held (n ∷ names) [] name content limit at are is within e = absurd are
+
+-- the contents read so far, and one more
+pub first_contents_more : (request : Request) (held between : List ℕ → Told) (names contents all : List (List ℕ)) (k : ℕ) (name content : List ℕ) (limit at : ℕ)
+    → take (suc k) names ≡ take k names ++ name ∷ [] → all ≡ contents ++ content ∷ []
+    → AreContents request 0 held (take k names) contents → between ≡ held → IsContent (between name) content → length content ≤ limit → limit ≡ limit_of request at
+    → AreContents request 0 held (take (suc k) names) all
+first_contents_more request held between names contents all k name content limit at more grown are same is within e =
+    let is' = subst (λ h. IsContent (h name) content) same is in
+    let both = contents_more request 0 held (take k names) contents name content limit at are is' within e in
+    subst (λ n. AreContents request 0 held n all) (sym more) (subst (AreContents request 0 held (take k names ++ name ∷ [])) (sym grown) both)
+
+-- a count that rose since a later moment rose since an earlier one
+pub rose_since : (before between after : ℕ) → before ≤ between → Rose between after → Rose before after
+rose_since before between after le rose = elim rose [ inl more ↦ inl (omega arith) | inr greatest ↦ inr greatest ]
+
+-- why the file at this place was not read
+pub has_cause : {T : Type 0} (request : Request) (names : List (List ℕ)) (held now : List ℕ → Told) (before between after place : ℕ) (name : List ℕ) (contents : List (List ℕ)) (fault : FileFault) (limit : ℕ)
+    → now ≡ held → limit ≡ limit_of request place → before ≤ between
+    → slice_get names place ≡ Some name → AreContents request 0 held (take place names) contents
+    → (IsErrOf {T = T} (Err fault) Failed → Rose between after)
+    → (IsErrOf {T = T} (Err fault) TooLong → IsPastLimit (now name) limit)
+    → (IsErrOf {T = T} (Err fault) Missing → IsNotHeld (now name))
+    → HasCause request names held before after (stopped_at place fault)
+has_cause request names held now before between after place name contents Failed limit same e le named earlier failed too_long missing =
+    record { name = name; is_named = named; contents = contents; earlier = earlier; cause = rose_since before between after le (failed refl) }
+has_cause request names held now before between after place name contents TooLong limit same e le named earlier failed too_long missing =
+    record {
+      name = name;
+      is_named = named;
+      contents = contents;
+      earlier = earlier;
+      cause = subst (λ h. IsPastLimit (h name) (limit_of request place)) same (subst (IsPastLimit (now name)) e (too_long refl));
+    }
+has_cause request names held now before between after place name contents Missing limit same e le named earlier failed too_long missing =
+    record { name = name; is_named = named; contents = contents; earlier = earlier; cause = subst (λ h. IsNotHeld (h name)) same (missing refl) }
+has_cause request names held now before between after place name contents Memory limit same e le named earlier failed too_long missing = tt

@@ -1,0 +1,37 @@
+use Rattle.std.proofs.Common.{◌∷◌, [], arith}
+use Rattle.jterm.specs.Outside.{Puts}
+use Rattle.jterm.specs.declared.verdict.Request.TheVariants.{Prove}
+use Rattle.jterm.proofs.Endings.{is_named, unclaimed, refused, unread, not_zero, headline, complete, prove_is_command}
+use Rattle.jterm.proofs.top.jterm.Goals as goal
+
+pub returns-in_default-clause-headline : goal.returns-in_default-clause-headline
+returns-in_default-clause-headline g c d cs desc classes prove told claims = absurd (unclaimed 4 _ (λ e. omega arith) claims)
+
+pub report-requires : goal.report-requires
+report-requires g c = is_named _ _ _ _ _ _ c.in-Err.ensures.cause
+
+pub returns-in-Err-clause-headline : goal.returns-in-Err-clause-headline
+returns-in-Err-clause-headline g c d cs desc classes prove told claims = absurd (unclaimed c.report.result _ (not_zero c.in-Err.stop c.report.result _ _ _ c.report.ensures) claims)
+
+pub returns-in-Err-clause-refused : goal.returns-in-Err-clause-refused
+returns-in-Err-clause-refused g c =
+    refused _ _ _ _ _ _ c.in-Err.stop c.report.result
+    (λ line. Puts (g.E.Sink.faults c.args.err.now) (g.E.Sink.faults c.report.new.err) (g.E.Sink.taken c.args.err.now) (g.E.Sink.taken c.report.new.err) line)
+    c.in-Some.ensures c.in-Err.ensures.cause c.report.ensures
+
+pub returns-in-Err-clause-read : goal.returns-in-Err-clause-read
+returns-in-Err-clause-read g c =
+    unread _ _ _ _ _ _ c.in-Err.stop c.report.result
+    (λ line. Puts (g.E.Sink.faults c.args.err.now) (g.E.Sink.faults c.report.new.err) (g.E.Sink.taken c.args.err.now) (g.E.Sink.taken c.report.new.err) line)
+    c.in-Some.ensures c.in-Err.ensures.cause c.report.ensures
+
+pub returns-in_default-clause-complete : goal.returns-in_default-clause-complete
+returns-in_default-clause-complete g c d class_word desc class line prove told within within' is_line plain files out =
+    absurd (c.in_default.ensures (Prove 4000) (d ∷ class_word ∷ []) (prove_is_command _ d (class_word ∷ []) prove))
+
+pub returns-in-Ok-clause-headline : goal.returns-in-Ok-clause-headline
+returns-in-Ok-clause-headline g c d cs desc classes prove told claims = headline _ _ _ _ _ d cs desc classes c.in-Some.ensures c.in-Ok.ensures.answered prove told
+
+pub returns-in-Err-clause-complete : goal.returns-in-Err-clause-complete
+returns-in-Err-clause-complete g c d class_word desc class line prove told within within' is_line plain files out =
+    complete _ _ _ _ _ _ c.in-Err.stop c.report.result _ _ _ d class_word desc class line c.in-Some.ensures c.in-Err.ensures.cause c.report.ensures prove told within within' is_line plain files

@@ -1,0 +1,91 @@
+-- What a call of the program comes to: the words, the files that they name, the output and the line of errors.
+use Rattle.std.specs.Prelude.{◌≡◌, ◌⊎◌, ℕ, ◌+◌, ◌≤◌, List, [], ◌∷◌, ◌++◌, length, map, take, slice_get, Option, Some, Result, ⊤}
+use Rattle.std.specs.Io.KnownBytes.{Appends}
+use Rattle.io_ports.specs.Count.{Rose}
+use Rattle.io_ports.specs.Taken.{AppendsPrefix}
+use Rattle.io_ports.specs.Told.{Told, IsContent, IsPastLimit, IsNotHeld}
+use Rattle.io_ports.specs.Told.Told.{Content}
+use Rattle.io_ports.specs.declared.files.FileFault.{FileFault}
+use Rattle.io_ports.specs.declared.files.FileFault.TheVariants.{Failed, TooLong, Missing, Memory}
+use Rattle.jterm.specs.declared.verdict.Request.{Request}
+use Rattle.jterm.specs.declared.verdict.Request.TheVariants.{Prove}
+use Rattle.jterm.specs.declared.verdict.Verdict.{Verdict}
+use Rattle.jterm.specs.declared.verdict.Refused.{Refused}
+use Rattle.jterm.specs.Words.{IsCommand}
+use Rattle.jterm.specs.Decision.{Answers, yes_line}
+
+-- ---- files
+
+-- what the files tell under these names is these contents
+abbrev pub AreTold : (List ℕ → Told) → List (List ℕ) → List (List ℕ) → Type 0
+AreTold held names contents = map held names ≡ map Content contents
+
+-- how many bytes the file at this place among the file words may have: 1 MiB
+abbrev pub limit_of : Request → ℕ → ℕ
+limit_of (Prove nodes) place = 1048576
+
+-- The contents under these names, each within its limit, are no others than those that are told. The first name
+-- stands at `place` among the file words.
+abbrev pub AreContents : Request → ℕ → (List ℕ → Told) → List (List ℕ) → List (List ℕ) → Type 0
+AreContents request place held [] [] = ⊤
+AreContents request place held (name ∷ names) (content ∷ contents) =
+    IsContent (held name) content × (length content ≤ limit_of request place) × AreContents request (place + 1) held names contents
+AreContents request place held [] (content ∷ contents) = ⊥
+AreContents request place held (name ∷ names) [] = ⊥
+
+-- why a file was not read: reading failed, and the count of the files' faults rose; or the content, where one is told,
+-- is past its limit; or none is held, where that is told
+abbrev pub ReadFails : FileFault → Told → ℕ → ℕ → ℕ → Type 0
+ReadFails Failed told limit before after = Rose before after
+ReadFails TooLong told limit before after = IsPastLimit told limit
+ReadFails Missing told limit before after = IsNotHeld told
+ReadFails Memory told limit before after = ⊥
+
+-- the file at this place among the file words is the first that was not read, for this cause
+pub record IsUnread (request : Request) (names : List (List ℕ)) (held : List ℕ → Told) (before after place : ℕ) (fault : FileFault) : Type 0 where
+  pub name : List ℕ
+  pub is_named : slice_get names place ≡ Some name
+  pub contents : List (List ℕ)
+  pub earlier : AreContents request 0 held (take place names) contents
+  pub cause : ReadFails fault (held name) (limit_of request place) before after
+
+-- reads of these names, in their order, lead from old files to new ones
+abbrev pub AreRead : {F : Type 0} → (F → List ℕ → F → Type 0) → List (List ℕ) → F → F → Type 0
+AreRead leaves [] old new = old ≡ new
+AreRead {F} leaves (name ∷ names) old new = (between : F) × leaves old name between × AreRead leaves names between new
+
+-- nothing but reads of the first of these names, in their order, changed the files
+abbrev pub FirstAreRead : {F : Type 0} → (F → List ℕ → F → Type 0) → List (List ℕ) → F → F → Type 0
+FirstAreRead leaves names old new = (count : ℕ) × AreRead leaves (take count names) old new
+
+-- ---- the answer
+
+-- this is the answer for the contents of the files that the words of a command name
+pub record Decided (words : List (List ℕ)) (held : List ℕ → Told) (result : Result Verdict Refused) : Type 0 where
+  pub request : Request
+  pub names : List (List ℕ)
+  pub is_command : IsCommand words request names
+  pub desc : List ℕ
+  pub class : List ℕ
+  pub read : AreContents request 0 held names (desc ∷ class ∷ [])
+  pub answer : Answers desc class result
+
+-- ---- outputs
+
+-- the line is put, unless the count of the sink's faults rose
+abbrev pub Puts : ℕ → ℕ → Option (List ℕ) → Option (List ℕ) → List ℕ → Type 0
+Puts before after old new line = (Rose before after → ⊥) → Appends old new line
+
+-- YES is claimed: the status is 0, or what the call put on the output begins with `YES` and a newline
+abbrev pub Claims : ℕ → Option (List ℕ) → Option (List ℕ) → Type 0
+Claims status old new = (status ≡ 0) ⊎ ((before rest : List ℕ) × (old ≡ Some before) × (new ≡ Some (before ++ yes_line ++ rest)))
+
+-- the statuses of a call without a verdict: refused input, no command, an unread file, want of memory
+abbrev pub IsWithoutVerdict : ℕ → Type 0
+IsWithoutVerdict status = (status ≡ 3) ⊎ (status ≡ 4) ⊎ (status ≡ 5) ⊎ (status ≡ 7)
+
+-- The output was written, and the status is the verdict's; or writing failed, and the status is 6: the count of the
+-- output's faults rose, and it took a prefix.
+abbrev pub IsWritten : Verdict → ℕ → ℕ → ℕ → Option (List ℕ) → Option (List ℕ) → Type 0
+IsWritten verdict status before after old new =
+    ((status ≡ verdict.status) × Appends old new verdict.out) ⊎ ((status ≡ 6) × Rose before after × AppendsPrefix old new verdict.out)

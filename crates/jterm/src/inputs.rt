@@ -1,0 +1,90 @@
+//! The files that a command names, read in the order of its words.
+ghost use Rattle.std.specs.Prelude.{◌≡◌, ◌≤◌, ◌^◌, map, string_bytes, IfOk, IfErr};
+ghost use Rattle.jterm.specs.Outside.{AreContents, FirstAreRead, limit_of};
+ghost use Rattle.jterm.specs.Stop.{HasCause, stopped_at};
+ghost use Rattle.jterm.specs.declared.inputs.Stop.TheVariants.{NoMemory};
+
+use crate::commands::Command;
+use crate::{Fault, Place, Request};
+use io_ports::{FileFault, Files};
+use std::alloc::{AllocError, AllocFailed, Global};
+
+/// Why a call ends without a verdict.
+#[derive(Clone, Copy)]
+pub(crate) enum Stop {
+    /// The file at this place among the file words was not read.
+    Unread {
+        /// Counted from 0.
+        place: usize,
+        /// Why.
+        fault: FileFault,
+    },
+    /// The input breaks a rule.
+    Broken {
+        /// The file or the step that has the fault.
+        place: Place,
+        /// What is wrong there.
+        fault: Fault,
+    },
+    /// Want of memory.
+    NoMemory,
+}
+
+impl From<AllocError> for Stop {
+    ghost from_gives = { λ _ stop. stop ≡ NoMemory };
+
+    fn from(_error: AllocError) -> Stop {
+        Stop::NoMemory
+    }
+}
+
+impl<T: Drop> From<AllocFailed<T>> for Stop {
+    ghost from_gives = { λ _ stop. stop ≡ NoMemory };
+
+    fn from(_failed: AllocFailed<T>) -> Stop {
+        Stop::NoMemory
+    }
+}
+
+// How many bytes the file at this place among the file words may have.
+fn limit(request: &Request, _place: usize) -> usize
+    ensures value { result ≡ limit_of request.now _place }
+    ensures small { result ≤ 2 ^ 31 }
+{
+    match request {
+        Request::Prove { nodes: _ } => 1 << 20,
+    }
+}
+
+// The call stops where the file at this place was not read.
+fn stop_at(place: usize, fault: FileFault) -> Stop
+    ensures { result ≡ stopped_at place fault }
+{
+    match fault {
+        FileFault::Memory => Stop::NoMemory,
+        fault => Stop::Unread { place, fault },
+    }
+}
+
+/// The contents of the files that a command names, in their order.
+pub(crate) fn read_inputs<F: Files>(
+    alloc: Global,
+    command: &Command<'_>,
+    files: &mut F,
+) -> Result<Vec<Vec<u8>>, Stop>
+    ensures contents { IfOk result (λ inputs. AreContents command.now.request 0 (F.held files.old)
+        (map string_bytes command.now.files.now) (map (λ file. file.items) inputs.items)) }
+    ensures cause { IfErr result (λ stop. HasCause command.now.request (map string_bytes command.now.files.now)
+        (F.held files.old) (F.faults files.old) (F.faults files.new) stop) }
+    ensures reads { FirstAreRead F.leaves (map string_bytes command.now.files.now) files.old files.new }
+{
+    let mut inputs = Vec::new(alloc);
+    for (place, name) in command.files.iter().enumerate() {
+        let limit = limit(&command.request, place);
+        match files.read(alloc, name.as_str(), limit) {
+            Ok(content) => inputs.push(content)?,
+            Err(fault) => return Err(stop_at(place, fault)),
+        }
+    }
+    Ok(inputs)
+}

@@ -1,0 +1,200 @@
+//! The call behind the program: from the words of the command line to the exit status.
+ghost use Rattle.std.specs.Prelude.{◌≡◌, ◌≢◌, ◌≤◌, ◌↔◌, ◌⊎◌, ℕ, List, [], ◌∷◌, length, All, map, string_bytes, Some, Ok, Err, IfOk, IfErr, IfSome, IfNone};
+ghost use Rattle.std.specs.Io.KnownBytes.{Appends};
+ghost use Rattle.io_ports.specs.Count.{Rose};
+ghost use Rattle.io_ports.specs.declared.files.FileFault.{FileFault};
+ghost use Rattle.jterm.specs.declared.line.Line.{Line};
+ghost use Rattle.jterm.specs.declared.verdict.Request.{Request};
+ghost use Rattle.jterm.specs.declared.verdict.Place.{Place};
+ghost use Rattle.jterm.specs.declared.verdict.Fault.{Fault};
+ghost use Rattle.jterm.specs.declared.verdict.Refused.TheVariants.{At};
+ghost use Rattle.jterm.specs.Words.{IsProve, IsCommand};
+ghost use Rattle.jterm.specs.Description.{IsLine};
+ghost use Rattle.jterm.specs.Plain.{IsPlainFile};
+ghost use Rattle.jterm.specs.Decision.{yes_line};
+ghost use Rattle.jterm.specs.Headline.{AllEnd};
+ghost use Rattle.jterm.specs.Lines.{usage_lines, memory_line, write_line, read_line, refusal_line};
+ghost use Rattle.jterm.specs.Outside.{AreTold, IsUnread, FirstAreRead, Decided, Puts, Claims, IsWithoutVerdict, IsWritten};
+ghost use Rattle.jterm.specs.Stop.{HasCause, AreOfCommand, IsAnswered, IsNamed, HasLine, status_of, line_of};
+
+use crate::commands::Command;
+use crate::inputs::{Stop, read_inputs};
+use crate::lines::{memory_text, read_text, refusal_text, usage_text, write_text};
+use crate::{Refused, Verdict, decide};
+use io_ports::{Files, Sink};
+use std::alloc::{AllocError, Global};
+
+/// What a call came to.
+#[derive(Drop)]
+pub struct Done {
+    /// The exit status.
+    pub status: u8,
+    /// What `decide` answered, where it answered.
+    pub verdict: Option<Verdict>,
+}
+
+// Reads the files of a command and decides over their contents.
+fn answer<F: Files>(alloc: Global, command: &Command<'_>, files: &mut F) -> Result<Verdict, Stop>
+    requires { AreOfCommand command.now.request (map string_bytes command.now.files.now) }
+    ensures answered { IfOk result (λ verdict. IsAnswered command.now.request (map string_bytes command.now.files.now) (F.held files.old) verdict) }
+    ensures cause { IfErr result (λ stop. HasCause command.now.request (map string_bytes command.now.files.now)
+        (F.held files.old) (F.faults files.old) (F.faults files.new) stop) }
+    ensures reads { FirstAreRead F.leaves (map string_bytes command.now.files.now) files.old files.new }
+{
+    let inputs = read_inputs(alloc, command, files)?;
+    match decide(alloc, &command.request, &inputs) {
+        Ok(verdict) => Ok(verdict),
+        Err(Refused::At { place, fault }) => Err(Stop::Broken { place, fault }),
+        Err(Refused::Memory) => Err(Stop::NoMemory),
+    }
+}
+
+// Puts a line. A failure changes nothing.
+fn put_line<E: Sink>(err: &mut E, line: &[u8])
+    ensures { Puts (E.faults err.old) (E.faults err.new) (E.taken err.old) (E.taken err.new) line.now }
+{
+    let _ = err.put(line);
+}
+
+// The line that says why a call has no verdict. Want of memory has none of its own.
+fn line(alloc: Global, names: &[String], stop: Stop) -> Result<String, AllocError>
+    requires { IsNamed (map string_bytes names.now) stop }
+    ensures text { IfOk result (λ line. string_bytes line ≡ line_of (map string_bytes names.now) stop) }
+    ensures has_line { IfOk result (λ line. HasLine stop) }
+{
+    match stop {
+        Stop::Unread { place, fault } => read_text(alloc, names[place].as_str(), fault),
+        Stop::Broken { place, fault } => refusal_text(alloc, place, fault),
+        Stop::NoMemory => Err(AllocError),
+    }
+}
+
+fn status(stop: Stop) -> u8
+    ensures { result ≡ status_of stop }
+{
+    match stop {
+        Stop::Unread { .. } => 5,
+        Stop::Broken { .. } => 3,
+        Stop::NoMemory => 7,
+    }
+}
+
+// Says why there is no verdict, and gives the exit status.
+fn report<E: Sink>(alloc: Global, names: &[String], stop: Stop, err: &mut E) -> u8
+    requires { IsNamed (map string_bytes names.now) stop }
+    ensures { ((result ≡ status_of stop) × HasLine stop × Puts (E.faults err.old) (E.faults err.new) (E.taken err.old) (E.taken err.new) (line_of (map string_bytes names.now) stop))
+        ⊎ ((result ≡ 7) × Puts (E.faults err.old) (E.faults err.new) (E.taken err.old) (E.taken err.new) memory_line) }
+{
+    match line(alloc, names, stop) {
+        Ok(line) => {
+            put_line(err, line.as_bytes());
+            status(stop)
+        }
+        Err(_) => {
+            put_line(err, memory_text());
+            7
+        }
+    }
+}
+
+// Writes the output of a verdict.
+fn write_out<O: Sink, E: Sink>(verdict: Verdict, out: &mut O, err: &mut E) -> Done
+    ensures verdict { result.verdict ≡ Some verdict }
+    ensures written { IsWritten verdict result.status (O.faults out.old) (O.faults out.new) (O.taken out.old) (O.taken out.new) }
+    ensures line { ((result.status ≡ verdict.status) × (err.new ≡ err.old))
+        ⊎ ((result.status ≡ 6) × Puts (E.faults err.old) (E.faults err.new) (E.taken err.old) (E.taken err.new) write_line) }
+{
+    let status = match out.put(verdict.out.as_slice()) {
+        Ok(()) => verdict.status,
+        Err(_) => {
+            put_line(err, write_text());
+            6
+        }
+    };
+    Done {
+        status,
+        verdict: Some(verdict),
+    }
+}
+
+/// Reads the words of the command line and the files that they name, decides over their contents, writes the output
+/// to `out` and a line for a call without one to `err`, and gives the exit status:
+///
+/// - 0: YES;
+/// - 3: the input is refused;
+/// - 4: the words are no command;
+/// - 5: a file was not read;
+/// - 6: writing to `out` failed;
+/// - 7: want of memory.
+///
+/// A failure of `err` changes no status.
+pub fn jterm<F: Files, O: Sink, E: Sink>(
+    alloc: Global,
+    words: &[String],
+    files: &mut F,
+    out: &mut O,
+    err: &mut E,
+) -> Done
+    // Where YES is claimed, every state that the description fits comes to an end, for the contents of the files.
+    ensures headline { (d : List ℕ) (cs : List (List ℕ)) (desc : List ℕ) (classes : List (List ℕ))
+        → IsProve (map string_bytes words.now) d cs → AreTold (F.held files.old) (d ∷ cs) (desc ∷ classes)
+        → Claims result.status (O.taken out.old) (O.taken out.new) → AllEnd classes desc }
+
+    // A verdict is the answer for the contents of the files. Its output is written, or writing failed.
+    ensures verdict { IfSome result.verdict (λ v. Decided (map string_bytes words.now) (F.held files.old) (Ok v)) }
+    ensures written { IfSome result.verdict (λ v.
+        IsWritten v result.status (O.faults out.old) (O.faults out.new) (O.taken out.old) (O.taken out.new)) }
+    ensures silent { IfNone result.verdict (IsWithoutVerdict result.status × (out.new ≡ out.old)) }
+
+    // Status 3: the input has this fault.
+    ensures refused { result.status ≡ 3 → (place : Place) × (fault : Fault)
+        × Decided (map string_bytes words.now) (F.held files.old) (Err (At place fault))
+        × Puts (E.faults err.old) (E.faults err.new) (E.taken err.old) (E.taken err.new) (refusal_line place fault) }
+
+    // Status 4: the words are no row of the commands that are built.
+    ensures usage { (result.status ≡ 4) ↔ ((request : Request) (names : List (List ℕ)) → ¬ IsCommand (map string_bytes words.now) request names) }
+    ensures usage_lines { result.status ≡ 4 → Puts (E.faults err.old) (E.faults err.new) (E.taken err.old) (E.taken err.new) usage_lines }
+
+    // Status 5: a file was not read, for a cause that the files show.
+    ensures read { result.status ≡ 5 → (request : Request) × (names : List (List ℕ)) × (place : ℕ) × (fault : FileFault)
+        × IsCommand (map string_bytes words.now) request names
+        × ((unread : IsUnread request names (F.held files.old) (F.faults files.old) (F.faults files.new) place fault)
+        × Puts (E.faults err.old) (E.faults err.new) (E.taken err.old) (E.taken err.new) (read_line unread.name fault)) }
+
+    // Status 6: the output was not taken.
+    ensures write { result.status ≡ 6 → Rose (O.faults out.old) (O.faults out.new)
+        × Puts (E.faults err.old) (E.faults err.new) (E.taken err.old) (E.taken err.new) write_line }
+
+    // Status 7: want of memory.
+    ensures memory_line { result.status ≡ 7 → Puts (E.faults err.old) (E.faults err.new) (E.taken err.old) (E.taken err.new) memory_line }
+
+    // Status 0: nothing is said on `err`.
+    ensures no_line { result.status ≡ 0 → err.new ≡ err.old }
+
+    // A line and a plain class for it give YES, or want of memory, where no count rose.
+    ensures complete { (d c desc class : List ℕ) (line : Line)
+        → IsProve (map string_bytes words.now) d (c ∷ []) → AreTold (F.held files.old) (d ∷ c ∷ []) (desc ∷ class ∷ [])
+        → length desc ≤ 1048576 → length class ≤ 1048576 → IsLine desc line → IsPlainFile line class
+        → ¬ Rose (F.faults files.old) (F.faults files.new) → ¬ Rose (O.faults out.old) (O.faults out.new)
+        → ((result.status ≡ 0) × Appends (O.taken out.old) (O.taken out.new) yes_line) ⊎ (result.status ≡ 7) }
+
+    // Nothing but reads of the file words, in their order, changes the files.
+    ensures reads { (request : Request) (names : List (List ℕ)) → IsCommand (map string_bytes words.now) request names
+        → FirstAreRead F.leaves names files.old files.new }
+    ensures reads_nothing { result.status ≡ 4 → files.new ≡ files.old }
+{
+    let Some(command) = Command::from_words(words) else {
+        put_line(err, usage_text());
+        return Done {
+            status: 4,
+            verdict: None,
+        };
+    };
+    match answer(alloc, &command, files) {
+        Ok(verdict) => write_out(verdict, out, err),
+        Err(stop) => Done {
+            status: report(alloc, command.files, stop, err),
+            verdict: None,
+        },
+    }
+}
