@@ -198,3 +198,6 @@ pub fn jterm<F: Files, O: Sink, E: Sink>(
         },
     }
 }
+
+#[cfg(test)]
+mod tests;
