@@ -46,8 +46,8 @@ is_named request names held before after (Broken place fault) cause = tt
 is_named request names held before after NoMemory cause = tt
 
 -- nothing is claimed where nothing is put
-pub unclaimed : (status : ℕ) (old : Option (List ℕ)) → (status ≡ 0 → ⊥) → Claims status old old → ⊥
-unclaimed status old more claims = elim claims [
+pub unclaimed : {S : Type 0} (taken : S → Option (List ℕ)) (sink : S) (status : ℕ) → (status ≡ 0 → ⊥) → Claims taken sink sink status → ⊥
+unclaimed taken sink status more claims = elim claims [
   | inl done ↦ more done
   | inr put ↦ let e : put.0 ≡ put.0 ++ yes_line ++ put.1 = cc in
       omega (arith, ap length e, length-append (put.0 ++ yes_line) put.1, length-append put.0 yes_line)

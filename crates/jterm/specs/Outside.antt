@@ -73,19 +73,21 @@ pub record Decided (words : List (List ℕ)) (held : List ℕ → Told) (result 
 -- ---- outputs
 
 -- the line is put, unless the count of the sink's faults rose
-abbrev pub Puts : ℕ → ℕ → Option (List ℕ) → Option (List ℕ) → List ℕ → Type 0
-Puts before after old new line = (Rose before after → ⊥) → Appends old new line
+abbrev pub Puts : {S : Type 0} → (S → ℕ) → (S → Option (List ℕ)) → S → S → List ℕ → Type 0
+Puts faults taken old new line = (Rose (faults old) (faults new) → ⊥) → Appends (taken old) (taken new) line
 
 -- YES is claimed: the status is 0, or what the call put on the output begins with `YES` and a newline
-abbrev pub Claims : ℕ → Option (List ℕ) → Option (List ℕ) → Type 0
-Claims status old new = (status ≡ 0) ⊎ ((before rest : List ℕ) × (old ≡ Some before) × (new ≡ Some (before ++ yes_line ++ rest)))
+abbrev pub Claims : {S : Type 0} → (S → Option (List ℕ)) → S → S → ℕ → Type 0
+Claims taken old new status =
+    (status ≡ 0) ⊎ ((before rest : List ℕ) × (taken old ≡ Some before) × (taken new ≡ Some (before ++ yes_line ++ rest)))
 
 -- the statuses of a call without a verdict: refused input, no command, an unread file, want of memory
 abbrev pub IsWithoutVerdict : ℕ → Type 0
 IsWithoutVerdict status = (status ≡ 3) ⊎ (status ≡ 4) ⊎ (status ≡ 5) ⊎ (status ≡ 7)
 
--- The output was written, and the status is the verdict's; or writing failed, and the status is 6: the count of the
--- output's faults rose, and it took a prefix.
-abbrev pub IsWritten : Verdict → ℕ → ℕ → ℕ → Option (List ℕ) → Option (List ℕ) → Type 0
-IsWritten verdict status before after old new =
-    ((status ≡ verdict.status) × Appends old new verdict.out) ⊎ ((status ≡ 6) × Rose before after × AppendsPrefix old new verdict.out)
+-- The output of a verdict was put, and the status is the verdict's; or writing failed, and the status is 6: the count
+-- of the sink's faults rose, and it took a prefix.
+abbrev pub IsWritten : {S : Type 0} → (S → ℕ) → (S → Option (List ℕ)) → S → S → Verdict → ℕ → Type 0
+IsWritten faults taken old new verdict status =
+    ((status ≡ verdict.status) × Appends (taken old) (taken new) verdict.out)
+    ⊎ ((status ≡ 6) × Rose (faults old) (faults new) × AppendsPrefix (taken old) (taken new) verdict.out)

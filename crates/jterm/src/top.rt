@@ -51,7 +51,7 @@ fn answer<F: Files>(alloc: Global, command: &Command<'_>, files: &mut F) -> Resu
 
 // Puts a line. A failure changes nothing.
 fn put_line<E: Sink>(err: &mut E, line: &[u8])
-    ensures { Puts (E.faults err.old) (E.faults err.new) (E.taken err.old) (E.taken err.new) line.now }
+    ensures { Puts E.faults E.taken err.old err.new line.now }
 {
     let _ = err.put(line);
 }
@@ -82,8 +82,8 @@ fn status(stop: Stop) -> u8
 // Says why there is no verdict, and gives the exit status.
 fn report<E: Sink>(alloc: Global, names: &[String], stop: Stop, err: &mut E) -> u8
     requires { IsNamed (map string_bytes names.now) stop }
-    ensures { ((result ≡ status_of stop) × HasLine stop × Puts (E.faults err.old) (E.faults err.new) (E.taken err.old) (E.taken err.new) (line_of (map string_bytes names.now) stop))
-        ⊎ ((result ≡ 7) × Puts (E.faults err.old) (E.faults err.new) (E.taken err.old) (E.taken err.new) memory_line) }
+    ensures { ((result ≡ status_of stop) × HasLine stop × Puts E.faults E.taken err.old err.new (line_of (map string_bytes names.now) stop))
+        ⊎ ((result ≡ 7) × Puts E.faults E.taken err.old err.new memory_line) }
 {
     match line(alloc, names, stop) {
         Ok(line) => {
@@ -100,9 +100,9 @@ fn report<E: Sink>(alloc: Global, names: &[String], stop: Stop, err: &mut E) -> 
 // Writes the output of a verdict.
 fn write_out<O: Sink, E: Sink>(verdict: Verdict, out: &mut O, err: &mut E) -> Done
     ensures verdict { result.verdict ≡ Some verdict }
-    ensures written { IsWritten verdict result.status (O.faults out.old) (O.faults out.new) (O.taken out.old) (O.taken out.new) }
+    ensures written { IsWritten O.faults O.taken out.old out.new verdict result.status }
     ensures line { ((result.status ≡ verdict.status) × (err.new ≡ err.old))
-        ⊎ ((result.status ≡ 6) × Puts (E.faults err.old) (E.faults err.new) (E.taken err.old) (E.taken err.new) write_line) }
+        ⊎ ((result.status ≡ 6) × Puts E.faults E.taken err.old err.new write_line) }
 {
     let status = match out.put(verdict.out.as_slice()) {
         Ok(()) => verdict.status,
@@ -138,40 +138,39 @@ pub fn jterm<F: Files, O: Sink, E: Sink>(
     // Where YES is claimed, every state that the description fits comes to an end, for the contents of the files.
     ensures headline { (d : List ℕ) (cs : List (List ℕ)) (desc : List ℕ) (classes : List (List ℕ))
         → IsProve (map string_bytes words.now) d cs → AreTold (F.held files.old) (d ∷ cs) (desc ∷ classes)
-        → Claims result.status (O.taken out.old) (O.taken out.new) → AllEnd classes desc }
+        → Claims O.taken out.old out.new result.status → AllEnd classes desc }
 
     // A verdict is the answer for the contents of the files. Its output is written, or writing failed.
     ensures verdict { IfSome result.verdict (λ v. Decided (map string_bytes words.now) (F.held files.old) (Ok v)) }
-    ensures written { IfSome result.verdict (λ v.
-        IsWritten v result.status (O.faults out.old) (O.faults out.new) (O.taken out.old) (O.taken out.new)) }
+    ensures written { IfSome result.verdict (λ v. IsWritten O.faults O.taken out.old out.new v result.status) }
     ensures silent { IfNone result.verdict (IsWithoutVerdict result.status × (out.new ≡ out.old)) }
 
     // Status 3: the input has this fault.
     ensures refused { result.status ≡ 3 → (place : Place) × (fault : Fault)
         × Decided (map string_bytes words.now) (F.held files.old) (Err (At place fault))
-        × Puts (E.faults err.old) (E.faults err.new) (E.taken err.old) (E.taken err.new) (refusal_line place fault) }
+        × Puts E.faults E.taken err.old err.new (refusal_line place fault) }
 
     // Status 4: the words are no row of the commands that are built.
     ensures usage { (result.status ≡ 4) ↔ ((request : Request) (names : List (List ℕ)) → ¬ IsCommand (map string_bytes words.now) request names) }
-    ensures usage_lines { result.status ≡ 4 → Puts (E.faults err.old) (E.faults err.new) (E.taken err.old) (E.taken err.new) usage_lines }
+    ensures says_usage { result.status ≡ 4 → Puts E.faults E.taken err.old err.new usage_lines }
 
     // Status 5: a file was not read, for a cause that the files show.
     ensures read { result.status ≡ 5 → (request : Request) × (names : List (List ℕ)) × (place : ℕ) × (fault : FileFault)
         × IsCommand (map string_bytes words.now) request names
         × ((unread : IsUnread request names (F.held files.old) (F.faults files.old) (F.faults files.new) place fault)
-        × Puts (E.faults err.old) (E.faults err.new) (E.taken err.old) (E.taken err.new) (read_line unread.name fault)) }
+        × Puts E.faults E.taken err.old err.new (read_line unread.name fault)) }
 
     // Status 6: the output was not taken.
     ensures write { result.status ≡ 6 → Rose (O.faults out.old) (O.faults out.new)
-        × Puts (E.faults err.old) (E.faults err.new) (E.taken err.old) (E.taken err.new) write_line }
+        × Puts E.faults E.taken err.old err.new write_line }
 
     // Status 7: want of memory.
-    ensures memory_line { result.status ≡ 7 → Puts (E.faults err.old) (E.faults err.new) (E.taken err.old) (E.taken err.new) memory_line }
+    ensures says_memory { result.status ≡ 7 → Puts E.faults E.taken err.old err.new memory_line }
 
     // Status 0: nothing is said on `err`.
-    ensures no_line { result.status ≡ 0 → err.new ≡ err.old }
+    ensures says_nothing { result.status ≡ 0 → err.new ≡ err.old }
 
-    // A line and a plain class for it give YES, or want of memory, where no count rose.
+    // A line and a plain class for it give YES, or want of memory, where no count rose. A file may have 1 MiB.
     ensures complete { (d c desc class : List ℕ) (line : Line)
         → IsProve (map string_bytes words.now) d (c ∷ []) → AreTold (F.held files.old) (d ∷ c ∷ []) (desc ∷ class ∷ [])
         → length desc ≤ 1048576 → length class ≤ 1048576 → IsLine desc line → IsPlainFile line class

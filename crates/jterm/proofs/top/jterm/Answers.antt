@@ -5,24 +5,24 @@ use Rattle.jterm.proofs.Endings.{is_named, unclaimed, refused, unread, not_zero,
 use Rattle.jterm.proofs.top.jterm.Goals as goal
 
 pub returns-in_default-clause-headline : goal.returns-in_default-clause-headline
-returns-in_default-clause-headline g c d cs desc classes prove told claims = absurd (unclaimed 4 _ (λ e. omega arith) claims)
+returns-in_default-clause-headline g c d cs desc classes prove told claims = absurd (unclaimed g.O.Sink.taken c.args.out.now 4 (λ e. omega arith) claims)
 
 pub report-requires : goal.report-requires
 report-requires g c = is_named _ _ _ _ _ _ c.in-Err.ensures.cause
 
 pub returns-in-Err-clause-headline : goal.returns-in-Err-clause-headline
-returns-in-Err-clause-headline g c d cs desc classes prove told claims = absurd (unclaimed c.report.result _ (not_zero c.in-Err.stop c.report.result _ _ _ c.report.ensures) claims)
+returns-in-Err-clause-headline g c d cs desc classes prove told claims = absurd (unclaimed g.O.Sink.taken c.args.out.now c.report.result (not_zero c.in-Err.stop c.report.result _ _ _ c.report.ensures) claims)
 
 pub returns-in-Err-clause-refused : goal.returns-in-Err-clause-refused
 returns-in-Err-clause-refused g c =
     refused _ _ _ _ _ _ c.in-Err.stop c.report.result
-    (λ line. Puts (g.E.Sink.faults c.args.err.now) (g.E.Sink.faults c.report.new.err) (g.E.Sink.taken c.args.err.now) (g.E.Sink.taken c.report.new.err) line)
+    (Puts g.E.Sink.faults g.E.Sink.taken c.args.err.now c.report.new.err)
     c.in-Some.ensures c.in-Err.ensures.cause c.report.ensures
 
 pub returns-in-Err-clause-read : goal.returns-in-Err-clause-read
 returns-in-Err-clause-read g c =
     unread _ _ _ _ _ _ c.in-Err.stop c.report.result
-    (λ line. Puts (g.E.Sink.faults c.args.err.now) (g.E.Sink.faults c.report.new.err) (g.E.Sink.taken c.args.err.now) (g.E.Sink.taken c.report.new.err) line)
+    (Puts g.E.Sink.faults g.E.Sink.taken c.args.err.now c.report.new.err)
     c.in-Some.ensures c.in-Err.ensures.cause c.report.ensures
 
 pub returns-in_default-clause-complete : goal.returns-in_default-clause-complete
