@@ -1,5 +1,6 @@
 -- One file more is read.
 use Rattle.std.proofs.Common.{◌≡◌, ℕ, suc, zero, ◌+◌, ◌<◌, ◌≤◌, List, [], ◌∷◌, ◌++◌, length, map, take, get_or, slice_get, Some, refl, sym, ap, ◌∙◌, subst, arith, inl, inr, IsErrOf, Err}
+use Rattle.std.proofs.lemmas.List.{map-append}
 use Rattle.io_ports.specs.Count.{Rose}
 use Rattle.io_ports.specs.Told.{Told, IsContent, IsPastLimit, IsNotHeld}
 use Rattle.io_ports.specs.declared.files.FileFault.{FileFault}
@@ -16,6 +17,10 @@ take_words_more f [] k x y less is named = absurd (omega (arith, less))
 take_words_more f (z ∷ xs) zero x y less is named = ap (λ l. l ∷ []) (ap f (sym is) ∙ sym named)
 take_words_more f (z ∷ xs) (suc k) x y less is named =
     ap (λ l. f z ∷ l) (take_words_more f xs k x y (omega (arith, less)) is named)
+
+-- one item more, as contents
+pub map_more : {A : Type 0} (f : A → List ℕ) (xs all : List A) (x : A) → all ≡ xs ++ x ∷ [] → map f all ≡ map f xs ++ f x ∷ []
+map_more f xs all x e = ap (map f) e ∙ map-append f xs (x ∷ [])
 
 pub get_word : {A : Type 0} (f : A → List ℕ) (xs : List A) (k : ℕ) (x : A) (y : List ℕ) → k < length xs → x ≡ get_or xs k x → y ≡ f x
     → slice_get (map f xs) k ≡ Some y

@@ -1,7 +1,6 @@
-use Rattle.std.proofs.Common.{◌∷◌, [], suc, map, add-one, string_bytes, ap, sym, subst, ◌∙◌, arith}
-use Rattle.std.proofs.lemmas.List.{map-append}
+use Rattle.std.proofs.Common.{suc, map, add-one, string_bytes, sym, subst, ◌∙◌, arith}
 use Rattle.jterm.specs.Stop.{HasCause}
-use Rattle.jterm.proofs.ReadingOrder.{take_words_more, get_word, first_read_more, first_contents_more, has_cause}
+use Rattle.jterm.proofs.ReadingOrder.{take_words_more, get_word, first_read_more, first_contents_more, map_more, has_cause}
 use Rattle.jterm.proofs.inputs.read_inputs.Goals as goal
 
 pub returns-in_err-push-in-Ok-clause-reads : goal.returns-in_err-push-in-Ok-clause-reads
@@ -28,7 +27,7 @@ pub loop-place-preserved : goal.loop-place-preserved
 loop-place-preserved g c =
     let files = c.args.command.now.files.now in
     let more = take_words_more string_bytes files c.loop-place.place c.name-item.result c.as_str.result.now (omega arith) c.name-item.is c.as_str.ensures.value in
-    let grown = ap (map (λ file. file.items)) c.in_ok-push-in-Ok.ensures.items ∙ map-append (λ file. file.items) c.loop-place.inputs.items (c.in-Ok.content ∷ []) in
+    let grown = map_more (λ file. file.items) c.loop-place.inputs.items c.push.new.self.items c.in-Ok.content c.in_ok-push-in-Ok.ensures.items in
     rw add-one (record {
       contents = first_contents_more c.args.command.now.request (g.F.Files.held c.args.files.now) (g.F.Files.held c.loop-place.files) (map string_bytes files) _ _ c.loop-place.place
           c.as_str.result.now c.in-Ok.content.items c.limit-limit.result c.loop-place.place more grown c.loop-place.invariant.contents c.loop-place.invariant.held
