@@ -128,3 +128,53 @@ fn a_failing_err_changes_no_status(rt: HostRuntime) -> Result<(), Fail> {
     assert_eq!(rt; outcome.err.bytes(), b"".as_slice());
     Ok(())
 }
+
+#[test]
+fn a_line_and_its_class_are_a_yes(rt: HostRuntime) -> Result<(), Fail> {
+    let files = [("d", LINE), ("c", CLASS)];
+    let outcome = call(rt.alloc(), &["prove", "d", "c"], &files, &NONE, 100)?;
+    assert_eq!(rt; outcome.status, 0);
+    assert_eq!(rt; outcome.out.bytes(), b"YES\n".as_slice());
+    assert_eq!(rt; outcome.err.bytes(), b"".as_slice());
+    Ok(())
+}
+
+#[test]
+fn a_class_without_its_last_byte_is_refused(rt: HostRuntime) -> Result<(), Fail> {
+    let files = [("d", LINE), ("c", &CLASS[..98])];
+    let outcome = call(rt.alloc(), &["prove", "d", "c"], &files, &NONE, 100)?;
+    assert_eq!(rt; outcome.status, 3);
+    assert_eq!(rt; outcome.out.bytes(), b"".as_slice());
+    assert_eq!(rt;
+        outcome.err.bytes(),
+        b"jterm: class 0: NotBuilt\n".as_slice()
+    );
+    Ok(())
+}
+
+#[test]
+fn a_line_without_a_descriptor_is_refused(rt: HostRuntime) -> Result<(), Fail> {
+    let files = [("d", b"A f\n".as_slice()), ("c", CLASS)];
+    let outcome = call(rt.alloc(), &["prove", "d", "c"], &files, &NONE, 100)?;
+    assert_eq!(rt; outcome.status, 3);
+    assert_eq!(rt; outcome.out.bytes(), b"".as_slice());
+    assert_eq!(rt;
+        outcome.err.bytes(),
+        b"jterm: description: NotBuilt\n".as_slice()
+    );
+    Ok(())
+}
+
+#[test]
+fn an_output_that_fails_keeps_a_prefix(rt: HostRuntime) -> Result<(), Fail> {
+    let files = [("d", LINE), ("c", CLASS)];
+    let failing = Failing { out: &[0], ..NONE };
+    let outcome = call(rt.alloc(), &["prove", "d", "c"], &files, &failing, 100)?;
+    assert_eq!(rt; outcome.status, 6);
+    assert_eq!(rt; outcome.out.bytes(), b"".as_slice());
+    assert_eq!(rt; outcome.err.bytes(), b"jterm: write: Failed\n".as_slice());
+    let outcome = call(rt.alloc(), &["prove", "d", "c"], &files, &NONE, 2)?;
+    assert_eq!(rt; outcome.status, 6);
+    assert_eq!(rt; outcome.out.bytes(), b"YE".as_slice());
+    Ok(())
+}
