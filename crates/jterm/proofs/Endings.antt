@@ -1,5 +1,5 @@
 -- From what stopped a call, or the verdict that it has, to what the call says.
-use Rattle.std.proofs.Common.{◌≡◌, ◌⊎◌, ◌≤◌, ◌<◌, ◌+◌, ◌++◌, ℕ, suc, zero, List, [], ◌∷◌, length, map, Option, Some, Ok, Err, refl, sym, ap, ◌∙◌, subst, arith, inl, inr, slice_get, append-nil, length-append}
+use Rattle.std.proofs.Common.{◌≡◌, ◌⊎◌, ◌≤◌, ◌<◌, ◌+◌, ◌++◌, ℕ, suc, zero, List, [], ◌∷◌, length, map, Option, Some, Ok, Err, refl, sym, ap, ◌∙◌, subst, arith, inl, inr, IfSome, slice_get, append-nil, length-append}
 use Rattle.std.specs.List.{slice_index_or}
 use Rattle.io_ports.specs.Count.{Rose}
 use Rattle.io_ports.specs.Told.{Told, IsContent, IsPastLimit, IsNotHeld}
@@ -189,3 +189,27 @@ complete words request names held before after (Broken place fault) status P Q R
     absurd (not_broken desc class line place fault is plain answer)
 complete words request names held before after NoMemory status P Q R d c desc class line command cause says prove tells small small' is plain none =
     elim says [ inl said ↦ absurd said.1 | inr said ↦ inr said.0 ]
+
+-- a verdict that was written is the answer for the contents of the files that the words name
+pub decided : (words : List (List ℕ)) (request : Request) (names : List (List ℕ)) (held : List ℕ → Told) (verdict : Verdict) (told : Option Verdict) → IsCommand words request names → IsAnswered request names held verdict → told ≡ Some verdict → IfSome told (λ v. Decided words held (Ok v))
+decided words request names held verdict told is answered same =
+    let P : Option Verdict → Type 0 = λ o. IfSome o (λ v. Decided words held (Ok v)) in
+    subst P (sym same) (record {
+      request = request;
+      names = names;
+      is_command = is;
+      desc = answered.desc;
+      class = answered.class;
+      read = answered.read;
+      answer = answered.answer;
+    })
+
+-- a verdict's status is 0
+pub status_of_answer : (request : Request) (names : List (List ℕ)) (held : List ℕ → Told) (verdict : Verdict) → IsAnswered request names held verdict → verdict.status ≡ 0
+status_of_answer request names held verdict answered = ap (λ v. v.status) answered.answer.0
+
+-- status 6 is that of an output that was not taken: the verdict's own is 0
+pub unwritten : {A B R P Q : Type 0} (status own : ℕ) → own ≡ 0 → ((status ≡ own) × A) ⊎ ((status ≡ 6) × R × B) → ((status ≡ own) × P) ⊎ ((status ≡ 6) × Q) → status ≡ 6 → R × Q
+unwritten status own none written (inl line) six = absurd (omega (arith, none, line.0, six))
+unwritten status own none (inl w) (inr line) six = absurd (omega (arith, none, w.0, six))
+unwritten status own none (inr w) (inr line) six = (w.1, line.1)

@@ -1,7 +1,7 @@
 use Rattle.std.proofs.Common.{◌∷◌, [], arith}
 use Rattle.jterm.specs.Outside.{Puts}
 use Rattle.jterm.specs.declared.verdict.Request.TheVariants.{Prove}
-use Rattle.jterm.proofs.Endings.{is_named, unclaimed, refused, unread, not_zero, headline, complete, prove_is_command}
+use Rattle.jterm.proofs.Endings.{is_named, unclaimed, refused, unread, not_zero, headline, complete, prove_is_command, decided, status_of_answer, unwritten}
 use Rattle.jterm.proofs.top.jterm.Goals as goal
 
 pub returns-in_default-clause-headline : goal.returns-in_default-clause-headline
@@ -35,3 +35,11 @@ returns-in-Ok-clause-headline g c d cs desc classes prove told claims = headline
 pub returns-in-Err-clause-complete : goal.returns-in-Err-clause-complete
 returns-in-Err-clause-complete g c d class_word desc class line prove told within within' is_line plain files out =
     complete _ _ _ _ _ _ c.in-Err.stop c.report.result _ _ _ d class_word desc class line c.in-Some.ensures c.in-Err.ensures.cause c.report.ensures prove told within within' is_line plain files
+
+pub returns-in-Ok-clause-verdict : goal.returns-in-Ok-clause-verdict
+returns-in-Ok-clause-verdict g c =
+    decided _ _ _ (g.F.Files.held c.args.files.now) _ _ c.in-Some.ensures c.in-Ok.ensures.answered c.write_out.ensures.verdict
+
+pub returns-in-Ok-clause-write : goal.returns-in-Ok-clause-write
+returns-in-Ok-clause-write g c =
+    unwritten _ _ (status_of_answer _ _ _ _ c.in-Ok.ensures.answered) c.write_out.ensures.written c.write_out.ensures.line
