@@ -1,0 +1,4 @@
+pub mod Parts
+pub mod Reading
+pub mod Shapes
+pub mod Texts

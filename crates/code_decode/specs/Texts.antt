@@ -1,0 +1,98 @@
+-- The bytes of an instruction, and what has bytes.
+-- JVM specification, section 6.5 (each instruction's format) and section 4.9 (switches, `invokeinterface`, `newarray`).
+use Rattle.std.specs.Prelude.{ℕ, ◌-◌, ◌%◌, ◌^◌, ◌<◌, ◌≤◌, ℤ, pos, ◌+ℤ◌, List, [], ◌∷◌, ◌++◌, length, Bool, true, ◌&&◌, IsTrue}
+use Rattle.std.specs.Int.{Width, w8, w16, w32, to_be_bytes, cast_unsigned}
+use Rattle.std.specs.Int.RustNames.{FitsSigned, int_lt}
+use Rattle.std.specs.List.{flat_map, AllByRecursion}
+use Rattle.std.proofs.Common.{◌-ℤ◌}
+use Rattle.code_decode.specs.declared.insn.Case.{Case}
+use Rattle.code_decode.specs.declared.insn.Insn.{Insn}
+use Rattle.code_decode.specs.Shapes.{Shape, Plain, Byte, Pair, SignedByte, SignedPair, Jump, FarJump, Increment, Table, Lookup, Interface, Array, WideLocal, WideIncrement, shape}
+
+-- the bytes of a signed number, in two's complement and big-endian
+abbrev pub signed : Width → ℤ → List ℕ
+signed w v = to_be_bytes w (cast_unsigned w v)
+
+-- A target stands in the bytes as its distance from the instruction's own place.
+abbrev pub distance : ℕ → ℕ → ℤ
+distance pc target = pos target -ℤ pos pc
+
+-- how many bytes of padding a switch at a place has, so that its default begins at a multiple of four
+abbrev pub padding_of : ℕ → ℕ
+padding_of pc = 3 - pc % 4
+
+abbrev pub case_text : ℕ → Case → List ℕ
+case_text pc c = signed w32 c.key ++ signed w32 (distance pc c.target)
+
+-- the bytes of a shape at a place; the padding counts in switches alone
+abbrev pub shape_text : ℕ → List ℕ → Shape → List ℕ
+shape_text pc padding (Plain op) = op ∷ []
+shape_text pc padding (Byte op n) = op ∷ n ∷ []
+shape_text pc padding (Pair op n) = op ∷ to_be_bytes w16 n
+shape_text pc padding (SignedByte op v) = op ∷ cast_unsigned w8 v ∷ []
+shape_text pc padding (SignedPair op v) = op ∷ signed w16 v
+shape_text pc padding (Jump op target) = op ∷ signed w16 (distance pc target)
+shape_text pc padding (FarJump op target) = op ∷ signed w32 (distance pc target)
+shape_text pc padding (Increment op n v) = op ∷ n ∷ cast_unsigned w8 v ∷ []
+shape_text pc padding (Table op default low targets) =
+    op ∷ (padding ++ (signed w32 (distance pc default) ++ (signed w32 low ++ (signed w32 (low +ℤ pos (length targets - 1)) ++ flat_map (λ target. signed w32 (distance pc target)) targets))))
+shape_text pc padding (Lookup op default cases) =
+    op ∷ (padding ++ (signed w32 (distance pc default) ++ (to_be_bytes w32 (length cases) ++ flat_map (case_text pc) cases)))
+shape_text pc padding (Interface op n count) = op ∷ (to_be_bytes w16 n ++ count ∷ 0 ∷ [])
+shape_text pc padding (Array op code) = op ∷ code ∷ []
+shape_text pc padding (WideLocal op n) = 196 ∷ op ∷ to_be_bytes w16 n
+shape_text pc padding (WideIncrement op n v) = 196 ∷ op ∷ (to_be_bytes w16 n ++ signed w16 v)
+
+-- the bytes of an instruction at a place
+abbrev pub text : ℕ → List ℕ → Insn → List ℕ
+text pc padding insn = shape_text pc padding (shape insn)
+
+-- a target of two bytes whose distance fits
+pub record Reaches (w : Width) (pc target : ℕ) : Type 0 where
+  pub place : target < 2 ^ 16
+  pub fits : FitsSigned w (distance pc target)
+
+abbrev pub rises_from : ℤ → List Case → Bool
+rises_from key [] = true
+rises_from key (c ∷ cs) = int_lt key c.key && rises_from c.key cs
+
+-- each key is above the one before it
+abbrev pub is_rising : List Case → Bool
+is_rising [] = true
+is_rising (c ∷ cs) = rises_from c.key cs
+
+-- A table has at least one key, and the highest fits.
+pub record IsTable (pc default : ℕ) (low : ℤ) (targets : List ℕ) : Type 0 where
+  pub otherwise : Reaches w32 pc default
+  pub lowest : FitsSigned w32 low
+  pub some : 0 < length targets
+  pub highest : FitsSigned w32 (low +ℤ pos (length targets - 1))
+  pub each : AllByRecursion (Reaches w32 pc) targets
+
+-- The cases' number fits, and their keys rise.
+pub record IsLookup (pc default : ℕ) (cases : List Case) : Type 0 where
+  pub otherwise : Reaches w32 pc default
+  pub few : length cases < 2 ^ 31
+  pub each : AllByRecursion (λ c. FitsSigned w32 c.key × Reaches w32 pc c.target) cases
+  pub rising : IsTrue (is_rising cases)
+
+-- Every number and distance fits its field, and the rules on switches and operands hold.
+abbrev pub FitsShape : ℕ → Shape → Type 0
+FitsShape pc (Plain op) = Unit {0}
+FitsShape pc (Byte op n) = n < 2 ^ 8
+FitsShape pc (Pair op n) = n < 2 ^ 16
+FitsShape pc (SignedByte op v) = FitsSigned w8 v
+FitsShape pc (SignedPair op v) = FitsSigned w16 v
+FitsShape pc (Jump op target) = Reaches w16 pc target
+FitsShape pc (FarJump op target) = Reaches w32 pc target
+FitsShape pc (Increment op n v) = (n < 2 ^ 8) × FitsSigned w8 v
+FitsShape pc (Table op default low targets) = IsTable pc default low targets
+FitsShape pc (Lookup op default cases) = IsLookup pc default cases
+FitsShape pc (Interface op n count) = (n < 2 ^ 16) × (count < 2 ^ 8)
+FitsShape pc (Array op code) = (4 ≤ code) × (code ≤ 11)
+FitsShape pc (WideLocal op n) = n < 2 ^ 16
+FitsShape pc (WideIncrement op n v) = (n < 2 ^ 16) × FitsSigned w16 v
+
+-- an instruction that has bytes at a place
+abbrev pub Fits : ℕ → Insn → Type 0
+Fits pc insn = FitsShape pc (shape insn)
