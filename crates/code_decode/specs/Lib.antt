@@ -1,3 +1,5 @@
+pub mod Codes
+pub mod Marks
 pub mod Parts
 pub mod Reading
 pub mod Shapes

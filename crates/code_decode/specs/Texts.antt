@@ -1,6 +1,6 @@
 -- The bytes of an instruction, and what has bytes.
 -- JVM specification, section 6.5 (each instruction's format) and section 4.9 (switches, `invokeinterface`, `newarray`).
-use Rattle.std.specs.Prelude.{ℕ, ◌-◌, ◌%◌, ◌^◌, ◌<◌, ◌≤◌, ℤ, pos, ◌+ℤ◌, List, [], ◌∷◌, ◌++◌, length, Bool, true, ◌&&◌, IsTrue}
+use Rattle.std.specs.Prelude.{ℕ, zero, suc, ◌-◌, ◌%◌, ◌^◌, ◌<◌, ◌≤◌, ℤ, pos, ◌+ℤ◌, List, [], ◌∷◌, ◌++◌, length, Bool, true, ◌&&◌, IsTrue}
 use Rattle.std.specs.Int.{Width, w8, w16, w32, to_be_bytes, cast_unsigned}
 use Rattle.std.specs.Int.RustNames.{FitsSigned, int_lt}
 use Rattle.std.specs.List.{flat_map, AllByRecursion}
@@ -96,3 +96,8 @@ FitsShape pc (WideIncrement op n v) = (n < 2 ^ 16) × FitsSigned w16 v
 -- an instruction that has bytes at a place
 abbrev pub Fits : ℕ → Insn → Type 0
 Fits pc insn = FitsShape pc (shape insn)
+
+-- padding of zero bytes
+abbrev pub zeros : ℕ → List ℕ
+zeros zero = []
+zeros (suc n) = 0 ∷ zeros n

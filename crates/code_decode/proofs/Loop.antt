@@ -1,0 +1,120 @@
+-- Reading the instructions of a code, as a loop does.
+use Rattle.std.proofs.Common.{◌≡◌, ℕ, zero, suc, ◌-◌, ◌+◌, ◌≤◌, ◌<◌, List, [], ◌∷◌, ◌++◌, length, Result, Ok, Err, refl, sym, ap, ◌∙◌, subst, append_assoc, arith}
+use Rattle.std.proofs.lemmas.List.{append-nil, length-append, nil_from_length}
+use Rattle.code_decode.specs.declared.fault.CodeFault.{CodeFault}
+use Rattle.code_decode.specs.declared.fault.CodeFault.TheVariants.{Truncated, UnsupportedOpcode, UnknownOpcode, BadSwitch, BadTarget, BadOperand, Memory}
+use Rattle.code_decode.specs.declared.insn.Insn.{Insn}
+use Rattle.code_decode.specs.Reading.{◌>>=◌, Fails, insn_at}
+use Rattle.code_decode.specs.Codes.{insns_from}
+use Rattle.code_decode.proofs.Fields.{IsBytes, IsBytes-rest}
+use Rattle.code_decode.proofs.Readings.{insn_takes}
+
+abbrev pub Insns : Type 0
+Insns = List (ℕ × Insn)
+
+-- what was read before, and what is still read
+abbrev pub behind : Insns → Result Insns CodeFault → Result Insns CodeFault
+behind front read = read >>= λ xs. Ok (front ++ xs)
+
+regroup : (front : Insns) (x : ℕ × Insn) (read : Result Insns CodeFault) → behind front (read >>= λ xs. Ok (x ∷ xs)) ≡ behind (front ++ x ∷ []) read
+regroup front x (Ok xs) = ap (λ (ns : Insns). Ok ns) (simp append_assoc)
+regroup front x (Err f) = refl
+
+-- the bytes of an instruction are passed over
+passes : (text rest : List ℕ) (pc : ℕ) → insns_from (length text) pc (text ++ rest) ≡ insns_from 0 (pc + length text) rest
+unfolding insns_from
+passes [] rest pc = let e : pc + 0 ≡ pc = omega arith in ap (λ (k : ℕ). insns_from 0 k rest) (sym e)
+passes (b ∷ text) rest pc =
+    let e : pc + 1 + length text ≡ pc + suc (length text) = omega arith in
+    passes text rest (pc + 1) ∙ ap (λ (k : ℕ). insns_from 0 k rest) e
+
+-- where the loop stands: what it has read and what it still reads is the whole
+pub record Goes (code : List ℕ) (front : Insns) (rest : List ℕ) : Type 0 where
+  pub short : length rest ≤ length code
+  pub fits : IsBytes rest
+  pub whole : behind front (insns_from 0 (length code - length rest) rest) ≡ insns_from 0 0 code
+
+nothing_before : (r : Result Insns CodeFault) → behind [] r ≡ r
+nothing_before (Ok xs) = refl
+nothing_before (Err f) = refl
+
+pub begins : (code : List ℕ) → IsBytes code → Goes code [] code
+begins code fits =
+    let e : length code - length code ≡ 0 = omega arith in
+    record { short = omega arith; fits = fits; whole = rw e (nothing_before (insns_from 0 0 code)) }
+
+-- what comes next is shorter
+pub shrinks : (pc op : ℕ) (bytes : List ℕ) (insn : Insn) (after : List ℕ) → IsBytes bytes → insn_at pc op bytes ≡ Ok (insn, after) → length after ≤ length bytes
+shrinks pc op bytes insn after fits e =
+    let t = insn_takes pc op bytes (insn, after) fits e in
+    omega (arith, ap length t.taken.parts, length-append t.text after)
+
+one_more : (pc op : ℕ) (bytes : List ℕ) (insn : Insn) (after : List ℕ) (front : Insns) → IsBytes bytes → insn_at pc op bytes ≡ Ok (insn, after)
+    → behind front (insns_from 0 pc (op ∷ bytes)) ≡ behind (front ++ (pc, insn) ∷ []) (insns_from 0 (pc + 1 + (length bytes - length after)) after)
+unfolding insns_from
+one_more pc op bytes insn after front fits e =
+    let t = insn_takes pc op bytes (insn, after) fits e in
+    let long : length bytes - length after ≡ length t.text = omega (arith, ap length t.taken.parts, length-append t.text after) in
+    let next : insns_from (length bytes - length after) (pc + 1) bytes ≡ insns_from 0 (pc + 1 + (length bytes - length after)) after =
+        ap (λ (k : ℕ). insns_from k (pc + 1) bytes) long ∙ ap (insns_from (length t.text) (pc + 1)) t.taken.parts ∙ passes t.text after (pc + 1) ∙ ap (λ (k : ℕ). insns_from 0 (pc + 1 + k) after) (sym long) in
+    rw (e, next) (regroup front (pc, insn) (insns_from 0 (pc + 1 + (length bytes - length after)) after))
+
+pub goes_on : (code : List ℕ) (front : Insns) (op : ℕ) (bytes : List ℕ) (insn : Insn) (after : List ℕ) → Goes code front (op ∷ bytes) → insn_at (length code - suc (length bytes)) op bytes ≡ Ok (insn, after)
+    → Goes code (front ++ (length code - suc (length bytes), insn) ∷ []) after
+goes_on code front op bytes insn after g e =
+    let fits = IsBytes-rest op bytes g.fits in
+    let t = insn_takes (length code - suc (length bytes)) op bytes (insn, after) fits e in
+    let small = shrinks (length code - suc (length bytes)) op bytes insn after fits e in
+    let place : length code - suc (length bytes) + 1 + (length bytes - length after) ≡ length code - length after = omega (arith, g.short) in
+    record {
+      short = omega (arith, g.short);
+      fits = t.taken.rest_fits;
+      whole = ap (λ (k : ℕ). behind (front ++ (length code - suc (length bytes), insn) ∷ []) (insns_from 0 k after)) (sym place)
+          ∙ sym (one_more (length code - suc (length bytes)) op bytes insn after front fits e)
+          ∙ g.whole;
+    }
+
+fault : (code : List ℕ) (front : Insns) (op : ℕ) (bytes : List ℕ) (f : CodeFault) → Goes code front (op ∷ bytes) → insn_at (length code - suc (length bytes)) op bytes ≡ Err f → insns_from 0 0 code ≡ Err f
+unfolding insns_from
+fault code front op bytes f g e = sym g.whole ∙ rw e refl
+
+pub ends : (code : List ℕ) (front : Insns) (op : ℕ) (bytes : List ℕ) (f : CodeFault) → Goes code front (op ∷ bytes) → Fails f (insn_at (length code - suc (length bytes)) op bytes) → Fails f (insns_from 0 0 code)
+ends code front op bytes f g h =
+    elim f as (λ (f : CodeFault). Fails f (insn_at (length code - suc (length bytes)) op bytes) → Fails f (insns_from 0 0 code)) [
+      | Truncated pc ↦ fault code front op bytes (Truncated pc) g
+      | UnsupportedOpcode pc o ↦ fault code front op bytes (UnsupportedOpcode pc o) g
+      | UnknownOpcode pc o ↦ fault code front op bytes (UnknownOpcode pc o) g
+      | BadSwitch pc ↦ fault code front op bytes (BadSwitch pc) g
+      | BadTarget pc ↦ fault code front op bytes (BadTarget pc) g
+      | BadOperand pc ↦ fault code front op bytes (BadOperand pc) g
+      | Memory ↦ λ _. tt
+    ] h
+
+pub is_done : (code : List ℕ) (front : Insns) → Goes code front [] → insns_from 0 0 code ≡ Ok front
+unfolding insns_from
+is_done code front g = sym g.whole ∙ ap (λ (ns : Insns). Ok ns) (append-nil front)
+
+-- ---- the same, as the loop has the rest
+
+pub loop_begins : (code : List ℕ) (front : Insns) → front ≡ [] → IsBytes code → Goes code front code
+loop_begins code front e fits = subst (λ (f : Insns). Goes code f code) (sym e) (begins code fits)
+
+pub loop_goes_on : (code : List ℕ) (front after_front : Insns) (rest : List ℕ) (op : ℕ) (bytes : List ℕ) (insn : Insn) (after : List ℕ) → rest ≡ op ∷ bytes → Goes code front rest → insn_at (length code - length rest) op bytes ≡ Ok (insn, after)
+    → after_front ≡ front ++ (length code - length rest, insn) ∷ [] → Goes code after_front after
+loop_goes_on code front after_front rest op bytes insn after r g e a =
+    subst (λ (f : Insns). Goes code f after) (sym a)
+    (subst (λ (k : ℕ). Goes code (front ++ (length code - k, insn) ∷ []) after) (sym (ap length r))
+    (goes_on code front op bytes insn after (subst (λ (s : List ℕ). Goes code front s) r g) (subst (λ (k : ℕ). insn_at (length code - k) op bytes ≡ Ok (insn, after)) (ap length r) e)))
+
+pub loop_shrinks : (code : List ℕ) (front : Insns) (rest : List ℕ) (op : ℕ) (bytes : List ℕ) (pc : ℕ) (insn : Insn) (after : List ℕ) → rest ≡ op ∷ bytes → Goes code front rest → insn_at pc op bytes ≡ Ok (insn, after) → length after < length rest
+loop_shrinks code front rest op bytes pc insn after r g e =
+    let f = IsBytes-rest op bytes (subst (λ (s : List ℕ). IsBytes s) r g.fits) in
+    let s = shrinks pc op bytes insn after f e in
+    omega (arith, ap length r)
+
+pub loop_ends : (code : List ℕ) (front : Insns) (rest : List ℕ) (op : ℕ) (bytes : List ℕ) (f : CodeFault) → rest ≡ op ∷ bytes → Goes code front rest → Fails f (insn_at (length code - length rest) op bytes) → Fails f (insns_from 0 0 code)
+loop_ends code front rest op bytes f r g h =
+    ends code front op bytes f (subst (λ (s : List ℕ). Goes code front s) r g) (subst (λ (k : ℕ). Fails f (insn_at (length code - k) op bytes)) (ap length r) h)
+
+pub loop_is_done : (code : List ℕ) (front : Insns) (rest : List ℕ) → length rest ≡ 0 → Goes code front rest → insns_from 0 0 code ≡ Ok front
+loop_is_done code front rest e g = is_done code front (subst (λ (s : List ℕ). Goes code front s) (nil_from_length rest e) g)

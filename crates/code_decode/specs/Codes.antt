@@ -1,0 +1,77 @@
+-- A code and its instructions.
+-- JVM specification, section 4.7.3 (the code array) and section 4.9.1 (targets stand at instructions).
+use Rattle.std.specs.Prelude.{ℕ, zero, suc, ◌+◌, ◌-◌, ◌≡◌, List, [], ◌∷◌, ◌++◌, length, map, Option, Some, None, Result, Ok, Err, Bool, ◌==◌, if◌then◌else◌}
+use Rattle.std.specs.List.{list_all, list_any}
+use Rattle.code_decode.specs.declared.fault.CodeFault.{CodeFault}
+use Rattle.code_decode.specs.declared.fault.CodeFault.TheVariants.{BadTarget}
+use Rattle.code_decode.specs.declared.insn.Insn.{Insn}
+use Rattle.code_decode.specs.Shapes.{Shape, Plain, Byte, Pair, SignedByte, SignedPair, Jump, FarJump, Increment, Table, Lookup, Interface, Array, WideLocal, WideIncrement, shape}
+use Rattle.code_decode.specs.Texts.{padding_of, text, Fits}
+use Rattle.code_decode.specs.Reading.{◌>>=◌, insn_at}
+
+-- ---- what a code's instructions are
+
+abbrev pub shape_targets : Shape → List ℕ
+shape_targets (Plain op) = []
+shape_targets (Byte op n) = []
+shape_targets (Pair op n) = []
+shape_targets (SignedByte op v) = []
+shape_targets (SignedPair op v) = []
+shape_targets (Jump op target) = target ∷ []
+shape_targets (FarJump op target) = target ∷ []
+shape_targets (Increment op n v) = []
+shape_targets (Table op default low targets) = default ∷ targets
+shape_targets (Lookup op default cases) = default ∷ map (λ c. c.target) cases
+shape_targets (Interface op n count) = []
+shape_targets (Array op code) = []
+shape_targets (WideLocal op n) = []
+shape_targets (WideIncrement op n v) = []
+
+-- where an instruction may jump to
+abbrev pub targets : Insn → List ℕ
+targets insn = shape_targets (shape insn)
+
+-- where the instructions begin
+abbrev pub starts : List (ℕ × Insn) → List ℕ
+starts insns = map (λ x. x.0) insns
+
+abbrev pub stands : List ℕ → ℕ → Bool
+stands places place = list_any (λ start. start == place) places
+
+-- the place of the first instruction that has a target which isn't good
+abbrev pub first_stray : (ℕ → Bool) → List (ℕ × Insn) → Option ℕ
+first_stray is_good [] = None
+first_stray is_good (x ∷ xs) = if list_all is_good (targets x.1) then first_stray is_good xs else Some x.0
+
+-- From a place on, the bytes are those of the instructions one behind the other, each at its own place. The bytes of a
+-- switch's padding may be any.
+abbrev pub Spells : ℕ → List (ℕ × Insn) → List ℕ → Type 0
+Spells pc [] bytes = bytes ≡ []
+Spells pc (x ∷ xs) bytes =
+    (padding : List ℕ) × (rest : List ℕ) × (x.0 ≡ pc) × (length padding ≡ padding_of pc) × Fits pc x.1 × (bytes ≡ text pc padding x.1 ++ rest) × Spells (pc + length (text pc padding x.1)) xs rest
+
+-- These are the code's instructions: its bytes are theirs, and each target is the place of one of them.
+pub record IsReading (code : List ℕ) (insns : List (ℕ × Insn)) : Type 0 where
+  pub spelled : Spells 0 insns code
+  pub targets : first_stray (stands (starts insns)) insns ≡ None
+
+-- ---- reading a whole code, with the first fault
+
+-- The instructions from a place on, where the given number of bytes is passed over first.
+unfoldable pub insns_from : ℕ → ℕ → List ℕ → Result (List (ℕ × Insn)) CodeFault
+insns_from passed pc [] = Ok []
+insns_from zero pc (op ∷ bytes) = do
+  x ← insn_at pc op bytes
+  rest ← insns_from (length bytes - length x.1) (pc + 1) bytes
+  Ok ((pc, x.0) ∷ rest)
+insns_from (suc passed) pc (b ∷ bytes) = insns_from passed (pc + 1) bytes
+
+abbrev pub with_targets : List (ℕ × Insn) → Option ℕ → Result (List (ℕ × Insn)) CodeFault
+with_targets insns None = Ok insns
+with_targets insns (Some pc) = Err (BadTarget pc)
+
+-- A stray target comes after all other faults.
+unfoldable pub decode_of : List ℕ → Result (List (ℕ × Insn)) CodeFault
+decode_of code = do
+  insns ← insns_from 0 0 code
+  with_targets insns (first_stray (stands (starts insns)) insns)

@@ -1,0 +1,72 @@
+//! Reading a whole code.
+ghost use Rattle.std.specs.Prelude.{◌≡◌, ◌≤◌, ◌^◌, ◌<◌, ℕ, List, length, IfOk, Ok, None};
+ghost use Rattle.code_decode.specs.declared.insn.Insn.{Insn};
+ghost use Rattle.code_decode.specs.Codes.{targets, first_stray, insns_from, decode_of, IsReading};
+ghost use Rattle.std.specs.List.{list_all};
+ghost use Rattle.code_decode.specs.Marks.{marked};
+ghost use Rattle.code_decode.specs.Reading.{Gives};
+
+use crate::fault::CodeFault;
+use crate::insn::{Case, Insn};
+use crate::parts::{Parts, parts_of};
+use crate::reading::insn_at;
+use crate::starts::Starts;
+use std::alloc::Global;
+
+/// The instructions of a code, one behind the other. Their targets are not looked at.
+fn insns_of(alloc: Global, code: &[u8]) -> Result<Vec<(u16, Insn)>, CodeFault>
+    requires { length code.now < 2 ^ 16 }
+    ensures { Gives (λ v. v.items) result (insns_from 0 0 code.now) }
+{
+    let mut insns = Vec::new(alloc);
+    let mut rest = code;
+    while let Some((op, bytes)) = rest.split_first() {
+        let pc = (code.len() - rest.len()) as u16;
+        let (insn, after) = insn_at(alloc, pc, *op, bytes)?;
+        insns.push((pc, insn))?;
+        rest = after;
+    }
+    Ok(insns)
+}
+
+fn all_stand(starts: &Starts, places: &[u16]) -> bool
+    ensures { result ≡ list_all (marked starts.now) places.now }
+{
+    places.iter().all(|place| starts.has(*place))
+}
+
+fn cases_stand(starts: &Starts, cases: &[Case]) -> bool
+    ensures { result ≡ list_all (λ c. marked starts.now c.target) cases.now }
+{
+    cases.iter().all(|case| starts.has(case.target))
+}
+
+/// Whether each target of the instruction is marked.
+#[tactic(auto, using(crate::proofs::Lists::all_of_map))]
+fn targets_stand(starts: &Starts, insn: &Insn) -> bool
+    ensures { result ≡ list_all (marked starts.now) (targets insn.now) }
+{
+    match parts_of(insn) {
+        Parts::Jump(_, target) => starts.has(target),
+        Parts::FarJump(_, target) => starts.has(target),
+        Parts::Table(_, default, _, targets) => {
+            starts.has(default) && all_stand(starts, targets.as_slice())
+        }
+        Parts::Lookup(_, default, cases) => {
+            starts.has(default) && cases_stand(starts, cases.as_slice())
+        }
+        _ => true,
+    }
+}
+
+/// The place of the first instruction that has a target where no instruction begins.
+fn first_stray(starts: &Starts, insns: &[(u16, Insn)]) -> Option<u16>
+    ensures { result ≡ first_stray (marked starts.now) insns.now }
+{
+    for insn in insns {
+        if !targets_stand(starts, &insn.1) {
+            return Some(insn.0);
+        }
+    }
+    None
+}
