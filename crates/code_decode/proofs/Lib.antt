@@ -1,6 +1,7 @@
 pub mod Again
 pub mod Choices
 pub mod Fields
+pub mod Laws
 pub mod Lists
 pub mod Loop
 pub mod Readings

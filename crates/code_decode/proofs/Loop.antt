@@ -21,7 +21,7 @@ regroup front x (Ok xs) = ap (λ (ns : Insns). Ok ns) (simp append_assoc)
 regroup front x (Err f) = refl
 
 -- the bytes of an instruction are passed over
-passes : (text rest : List ℕ) (pc : ℕ) → insns_from (length text) pc (text ++ rest) ≡ insns_from 0 (pc + length text) rest
+pub passes : (text rest : List ℕ) (pc : ℕ) → insns_from (length text) pc (text ++ rest) ≡ insns_from 0 (pc + length text) rest
 unfolding insns_from
 passes [] rest pc = let e : pc + 0 ≡ pc = omega arith in ap (λ (k : ℕ). insns_from 0 k rest) (sym e)
 passes (b ∷ text) rest pc =

@@ -1,7 +1,7 @@
 //! Instructions.
 #![tactic(auto)]
 
-mod decode;
+mod code;
 mod fault;
 mod forms;
 mod insn;
@@ -9,5 +9,6 @@ mod parts;
 mod reading;
 mod starts;
 
+pub use code::decode;
 pub use fault::CodeFault;
 pub use insn::{Case, Insn};

@@ -70,3 +70,34 @@ fn first_stray(starts: &Starts, insns: &[(u16, Insn)]) -> Option<u16>
     }
     None
 }
+
+#[tactic(auto, unfolding(crate::specs::Codes::decode_of))]
+fn whole(alloc: Global, code: &[u8]) -> Result<Vec<(u16, Insn)>, CodeFault>
+    requires { length code.now < 2 ^ 16 }
+    ensures { Gives (λ v. v.items) result (decode_of code.now) }
+{
+    let insns = insns_of(alloc, code)?;
+    let starts = Starts::of(alloc, &insns)?;
+    match first_stray(&starts, &insns) {
+        None => Ok(insns),
+        Some(pc) => Err(CodeFault::BadTarget { pc }),
+    }
+}
+
+/// The instructions of a code, each with its place.
+///
+/// # Errors
+///
+/// The first fault of the code by place, and at one place the one that stands first in [`CodeFault`]; a jump to a place
+/// where no instruction begins comes after all others. Want of memory.
+pub fn decode(alloc: Global, code: &[u8]) -> Result<Vec<(u16, Insn)>, CodeFault>
+    requires { length code.now < 2 ^ 16 }
+    // What is read are the code's instructions.
+    ensures found { IfOk result (λ v. IsReading code.now v.items) }
+    // A code that has instructions is read, unless memory runs out.
+    ensures only { (insns : List (ℕ × Insn)) → IsReading code.now insns → Gives (λ v. v.items) result (Ok insns) }
+    // Which fault it is.
+    ensures exact { Gives (λ v. v.items) result (decode_of code.now) }
+{
+    whole(alloc, code)
+}

@@ -1,7 +1,7 @@
 use Rattle.std.proofs.Common.{arith}
 use Rattle.std.proofs.lemmas.Result.{err_from_is_err_and}
 use Rattle.code_decode.proofs.Loop.{loop_begins, loop_goes_on, loop_shrinks, loop_ends, loop_is_done}
-use Rattle.code_decode.proofs.decode.insns_of.Goals as goal
+use Rattle.code_decode.proofs.code.insns_of.Goals as goal
 
 pub loop-op-init : goal.loop-op-init
 loop-op-init c = loop_begins c.args.code.now c.new-insns.result.items c.new-insns.ensures.items (λ i. omega (arith, c.type_inv.code i))

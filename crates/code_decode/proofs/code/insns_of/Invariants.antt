@@ -1,6 +1,6 @@
 use Rattle.std.proofs.Common.{length}
 use Rattle.code_decode.proofs.Loop.{Goes}
-use Rattle.code_decode.proofs.decode.insns_of.Given as goal
+use Rattle.code_decode.proofs.code.insns_of.Given as goal
 
 abbrev pub invariant-loop-op : goal.invariant-loop-op
 invariant-loop-op l = Goes l.code l.insns.items l.rest
