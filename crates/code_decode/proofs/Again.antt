@@ -166,16 +166,18 @@ table_again pc padding default low targets rest len h =
     let s3 = signed w32 low ++ (high ++ t) in
     let s2 = signed w32 (distance pc default) ++ s3 in
     let grouped : (padding ++ s2) ++ rest ≡ padding ++ (signed w32 (distance pc default) ++ (signed w32 low ++ (high ++ (t ++ rest)))) =
-        append_assoc padding s2 rest
-        ∙ ap (λ (u : List ℕ). padding ++ u) (append_assoc (signed w32 (distance pc default)) s3 rest
-        ∙ ap (λ (u : List ℕ). signed w32 (distance pc default) ++ u) (append_assoc (signed w32 low) (high ++ t) rest
-        ∙ ap (λ (u : List ℕ). signed w32 low ++ u) (append_assoc high t rest))) in
+    append_assoc padding s2 rest
+    ∙ ap (λ (u : List ℕ). padding ++ u) (append_assoc (signed w32 (distance pc default)) s3 rest
+    ∙ ap (λ (u : List ℕ). signed w32 (distance pc default) ++ u) (append_assoc (signed w32 low) (high ++ t) rest
+    ∙ ap (λ (u : List ℕ). signed w32 low ++ u) (append_assoc high t rest))) in
     ap (table_at pc) grouped
-    ∙ rw (skip_again (padding_of pc) pc padding (signed w32 (distance pc default) ++ (signed w32 low ++ (high ++ (t ++ rest)))) len,
-          target_again w32 (2 ^ 32) wide32 pc default (signed w32 low ++ (high ++ (t ++ rest))) h.otherwise,
-          signed_again w32 (2 ^ 32) wide32 pc low (high ++ (t ++ rest)) h.lowest,
-          signed_again w32 (2 ^ 32) wide32 pc (low +ℤ pos (length targets - 1)) (t ++ rest) h.highest,
-          table_targets_again pc low targets rest h.some h.each) refl
+    ∙ rw (
+      skip_again (padding_of pc) pc padding (signed w32 (distance pc default) ++ (signed w32 low ++ (high ++ (t ++ rest)))) len,
+      target_again w32 (2 ^ 32) wide32 pc default (signed w32 low ++ (high ++ (t ++ rest))) h.otherwise,
+      signed_again w32 (2 ^ 32) wide32 pc low (high ++ (t ++ rest)) h.lowest,
+      signed_again w32 (2 ^ 32) wide32 pc (low +ℤ pos (length targets - 1)) (t ++ rest) h.highest,
+      table_targets_again pc low targets rest h.some h.each,
+    ) refl
 
 counted_again : (pc : ℕ) (cases : List Case) (rest : List ℕ) → length cases < 2 ^ 31 → AllByRecursion (λ c. FitsSigned w32 c.key × Reaches w32 pc c.target) cases → counted_cases_at (length cases) pc (flat_map (case_text pc) cases ++ rest) ≡ Ok (cases, rest)
 unfolding counted_cases_at
@@ -190,16 +192,18 @@ lookup_again pc padding default cases rest len h =
     let t = flat_map (case_text pc) cases in
     let s2 = signed w32 (distance pc default) ++ (to_be_bytes w32 (length cases) ++ t) in
     let grouped : (padding ++ s2) ++ rest ≡ padding ++ (signed w32 (distance pc default) ++ (to_be_bytes w32 (length cases) ++ (t ++ rest))) =
-        append_assoc padding s2 rest
-        ∙ ap (λ (u : List ℕ). padding ++ u) (append_assoc (signed w32 (distance pc default)) (to_be_bytes w32 (length cases) ++ t) rest
-        ∙ ap (λ (u : List ℕ). signed w32 (distance pc default) ++ u) (append_assoc (to_be_bytes w32 (length cases)) t rest)) in
+    append_assoc padding s2 rest
+    ∙ ap (λ (u : List ℕ). padding ++ u) (append_assoc (signed w32 (distance pc default)) (to_be_bytes w32 (length cases) ++ t) rest
+    ∙ ap (λ (u : List ℕ). signed w32 (distance pc default) ++ u) (append_assoc (to_be_bytes w32 (length cases)) t rest)) in
     let small : length cases < 2 ^ 32 = omega (arith, h.few) in
     ap (lookup_at pc) grouped
-    ∙ rw (skip_again (padding_of pc) pc padding (signed w32 (distance pc default) ++ (to_be_bytes w32 (length cases) ++ (t ++ rest))) len,
-          target_again w32 (2 ^ 32) wide32 pc default (to_be_bytes w32 (length cases) ++ (t ++ rest)) h.otherwise,
-          number_again w32 (2 ^ 32) wide32 pc (length cases) (t ++ rest) small,
-          counted_again pc cases rest h.few h.each,
-          h.rising) refl
+    ∙ rw (
+      skip_again (padding_of pc) pc padding (signed w32 (distance pc default) ++ (to_be_bytes w32 (length cases) ++ (t ++ rest))) len,
+      target_again w32 (2 ^ 32) wide32 pc default (to_be_bytes w32 (length cases) ++ (t ++ rest)) h.otherwise,
+      number_again w32 (2 ^ 32) wide32 pc (length cases) (t ++ rest) small,
+      counted_again pc cases rest h.few h.each,
+      h.rising,
+    ) refl
 
 wide_again : (pc op : ℕ) (bytes : List ℕ) (r : Result (Insn × List ℕ) CodeFault) → wide_operand_at pc op (find_by wide_local op) bytes ≡ r → wide_at pc (op ∷ bytes) ≡ r
 unfolding wide_at

@@ -143,11 +143,11 @@ distance_is pc d h =
     omega (arith, ints, e)
 
 pub place_small : (s : ℤ) → place_of_sum s < 2 ^ 16
-place_small (pos n) = elim (cases_lt n 65535) [ | inl lt ↦ grind arith | inr le ↦ grind arith ]
+place_small (pos n) = elim (cases_lt n 65535) [ inl lt ↦ grind arith | inr le ↦ grind arith ]
 place_small (negsuc n) = omega arith
 
 place_again : (n : ℕ) → n < 2 ^ 16 → place_of_sum (pos n) ≡ n
-place_again n h = elim (cases_lt n 65535) [ | inl lt ↦ grind arith | inr le ↦ grind arith ]
+place_again n h = elim (cases_lt n 65535) [ inl lt ↦ grind arith | inr le ↦ grind arith ]
 
 -- the place at a distance
 pub place_is : (pc target : ℕ) → target < 2 ^ 16 → place_of pc (distance pc target) ≡ target

@@ -76,15 +76,15 @@ spelled (suc most) pc (op ∷ bytes) xs le fits e =
     let len = ap length t.taken.parts ∙ length-append t.text a.0.1 in
     let long : length bytes - length a.0.1 ≡ length t.text = omega (arith, len) in
     let next : insns_from 0 (pc + 1 + length t.text) a.0.1 ≡ Ok r.0 =
-        sym (passes t.text a.0.1 (pc + 1)) ∙ ap (insns_from (length t.text) (pc + 1)) (sym t.taken.parts) ∙ ap (λ (k : ℕ). insns_from k (pc + 1) bytes) (sym long) ∙ r.1 in
+    sym (passes t.text a.0.1 (pc + 1)) ∙ ap (insns_from (length t.text) (pc + 1)) (sym t.taken.parts) ∙ ap (λ (k : ℕ). insns_from k (pc + 1) bytes) (sym long) ∙ r.1 in
     let place : pc + 1 + length t.text ≡ pc + suc (length t.text) = omega arith in
     let small : length a.0.1 ≤ most = omega (arith, len) in
     subst (λ (ys : Insns). AllByRecursion (λ x. AreNear (targets x.1)) ys → Spells pc ys (op ∷ bytes)) (ok_is ((pc, a.0.0) ∷ r.0) xs r.2)
     (λ near.
-        let s = t.same near.0 in
-        let rest = spelled most (pc + 1 + length t.text) a.0.1 r.0 small t.taken.rest_fits next near.1 in
-        let moved = subst (λ (k : ℕ). Spells k r.0 a.0.1) (place ∙ ap (λ (b : List ℕ). pc + length b) s.is) rest in
-        (s.padding, a.0.1, refl, s.long, s.fits, ap (λ (b : List ℕ). op ∷ b) t.taken.parts ∙ ap (λ (b : List ℕ). b ++ a.0.1) s.is, moved))
+    let s = t.same near.0 in
+    let rest = spelled most (pc + 1 + length t.text) a.0.1 r.0 small t.taken.rest_fits next near.1 in
+    let moved = subst (λ (k : ℕ). Spells k r.0 a.0.1) (place ∙ ap (λ (b : List ℕ). pc + length b) s.is) rest in
+    (s.padding, a.0.1, refl, s.long, s.fits, ap (λ (b : List ℕ). op ∷ b) t.taken.parts ∙ ap (λ (b : List ℕ). b ++ a.0.1) s.is, moved))
 
 stray_checked : (xs ys : Insns) (o : Option ℕ) → with_targets xs o ≡ Ok ys → (o ≡ None) × (xs ≡ ys)
 stray_checked xs ys None e = (refl, ok_is xs ys e)
@@ -120,7 +120,7 @@ spelled_again pc (x ∷ xs) bytes h =
     let long : length (others ++ rest) - length rest ≡ length others = omega (arith, length-append others rest) in
     let place : pc + length (text pc padding x.1) ≡ pc + 1 + length others = ap (λ (t : List ℕ). pc + length t) is ∙ omega arith in
     let next : insns_from (length (others ++ rest) - length rest) (pc + 1) (others ++ rest) ≡ Ok xs =
-        ap (λ (k : ℕ). insns_from k (pc + 1) (others ++ rest)) long ∙ passes others rest (pc + 1) ∙ ap (λ (k : ℕ). insns_from 0 k rest) (sym place) ∙ spelled_again (pc + length (text pc padding x.1)) xs rest h.6 in
+    ap (λ (k : ℕ). insns_from k (pc + 1) (others ++ rest)) long ∙ passes others rest (pc + 1) ∙ ap (λ (k : ℕ). insns_from 0 k rest) (sym place) ∙ spelled_again (pc + length (text pc padding x.1)) xs rest h.6 in
     let one : insns_from 0 pc (first ∷ (others ++ rest)) ≡ Ok ((pc, x.1) ∷ xs) = rw (read, next) refl in
     ap (insns_from 0 pc) whole ∙ one ∙ ap (λ (k : ℕ). Ok ((k, x.1) ∷ xs)) (sym h.2)
 

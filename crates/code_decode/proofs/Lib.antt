@@ -1,4 +1,5 @@
 pub mod Again
+pub mod Boundaries
 pub mod Choices
 pub mod Fields
 pub mod Laws
@@ -7,3 +8,4 @@ pub mod Loop
 pub mod Readings
 pub mod Repeats
 pub mod Takes
+pub mod Written

@@ -56,7 +56,7 @@ one_more pc op bytes insn after front fits e =
     let t = insn_takes pc op bytes (insn, after) fits e in
     let long : length bytes - length after ≡ length t.text = omega (arith, ap length t.taken.parts, length-append t.text after) in
     let next : insns_from (length bytes - length after) (pc + 1) bytes ≡ insns_from 0 (pc + 1 + (length bytes - length after)) after =
-        ap (λ (k : ℕ). insns_from k (pc + 1) bytes) long ∙ ap (insns_from (length t.text) (pc + 1)) t.taken.parts ∙ passes t.text after (pc + 1) ∙ ap (λ (k : ℕ). insns_from 0 (pc + 1 + k) after) (sym long) in
+    ap (λ (k : ℕ). insns_from k (pc + 1) bytes) long ∙ ap (insns_from (length t.text) (pc + 1)) t.taken.parts ∙ passes t.text after (pc + 1) ∙ ap (λ (k : ℕ). insns_from 0 (pc + 1 + k) after) (sym long) in
     rw (e, next) (regroup front (pc, insn) (insns_from 0 (pc + 1 + (length bytes - length after)) after))
 
 pub goes_on : (code : List ℕ) (front : Insns) (op : ℕ) (bytes : List ℕ) (insn : Insn) (after : List ℕ) → Goes code front (op ∷ bytes) → insn_at (length code - suc (length bytes)) op bytes ≡ Ok (insn, after)

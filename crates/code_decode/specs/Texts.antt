@@ -24,6 +24,16 @@ padding_of pc = 3 - pc % 4
 abbrev pub case_text : ℕ → Case → List ℕ
 case_text pc c = signed w32 c.key ++ signed w32 (distance pc c.target)
 
+-- padding, default, low, high and the targets of the keys from low to high
+abbrev pub table_text : ℕ → List ℕ → ℕ → ℤ → List ℕ → List ℕ
+table_text pc padding default low targets =
+    padding ++ (signed w32 (distance pc default) ++ (signed w32 low ++ (signed w32 (low +ℤ pos (length targets - 1)) ++ flat_map (λ target. signed w32 (distance pc target)) targets)))
+
+-- padding, default, count and the cases
+abbrev pub lookup_text : ℕ → List ℕ → ℕ → List Case → List ℕ
+lookup_text pc padding default cases =
+    padding ++ (signed w32 (distance pc default) ++ (to_be_bytes w32 (length cases) ++ flat_map (case_text pc) cases))
+
 -- the bytes of a shape at a place; the padding counts in switches alone
 abbrev pub shape_text : ℕ → List ℕ → Shape → List ℕ
 shape_text pc padding (Plain op) = op ∷ []
@@ -34,10 +44,8 @@ shape_text pc padding (SignedPair op v) = op ∷ signed w16 v
 shape_text pc padding (Jump op target) = op ∷ signed w16 (distance pc target)
 shape_text pc padding (FarJump op target) = op ∷ signed w32 (distance pc target)
 shape_text pc padding (Increment op n v) = op ∷ n ∷ cast_unsigned w8 v ∷ []
-shape_text pc padding (Table op default low targets) =
-    op ∷ (padding ++ (signed w32 (distance pc default) ++ (signed w32 low ++ (signed w32 (low +ℤ pos (length targets - 1)) ++ flat_map (λ target. signed w32 (distance pc target)) targets))))
-shape_text pc padding (Lookup op default cases) =
-    op ∷ (padding ++ (signed w32 (distance pc default) ++ (to_be_bytes w32 (length cases) ++ flat_map (case_text pc) cases)))
+shape_text pc padding (Table op default low targets) = op ∷ table_text pc padding default low targets
+shape_text pc padding (Lookup op default cases) = op ∷ lookup_text pc padding default cases
 shape_text pc padding (Interface op n count) = op ∷ (to_be_bytes w16 n ++ count ∷ 0 ∷ [])
 shape_text pc padding (Array op code) = op ∷ code ∷ []
 shape_text pc padding (WideLocal op n) = 196 ∷ op ∷ to_be_bytes w16 n

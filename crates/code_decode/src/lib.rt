@@ -8,7 +8,11 @@ mod insn;
 mod parts;
 mod reading;
 mod starts;
+mod table;
+mod writing;
 
 pub use code::decode;
 pub use fault::CodeFault;
 pub use insn::{Case, Insn};
+pub use table::{Handler, check_table};
+pub use writing::encode;

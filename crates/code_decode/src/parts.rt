@@ -1,6 +1,7 @@
 //! What an instruction is in a code: its opcode and its operands.
 ghost use Rattle.std.specs.Prelude.{◌≡◌};
 ghost use Rattle.code_decode.specs.Shapes.{shape};
+ghost use Rattle.code_decode.specs.Texts.{padding_of};
 ghost use Rattle.code_decode.specs.Parts.{shown};
 
 use crate::insn::{Case, Insn};
@@ -23,6 +24,13 @@ pub enum Parts<'a> {
     Array(u8, u8),
     WideLocal(u8, u16),
     WideIncrement(u8, u16, i16),
+}
+
+/// How many bytes of padding a switch at a place has.
+pub fn padding_of(pc: u16) -> usize
+    ensures { result ≡ padding_of pc }
+{
+    3 - usize::from(pc % 4)
 }
 
 /// The opcode and the operands of an instruction.

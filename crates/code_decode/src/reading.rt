@@ -7,6 +7,7 @@ ghost use Rattle.code_decode.specs.Texts.{padding_of, is_rising};
 use crate::fault::CodeFault;
 use crate::forms::{plain, wide_local, with_byte, with_jump, with_pair};
 use crate::insn::{Case, Insn};
+use crate::parts::padding_of;
 use list_views::Seq;
 use std::alloc::Global;
 
@@ -177,7 +178,7 @@ fn table_targets_at<'a>(
 fn table_at(alloc: Global, pc: u16, bytes: &[u8]) -> Result<(Insn, &[u8]), CodeFault>
     ensures { Gives (λ x. (x.0, x.1.now)) result (table_at pc bytes.now) }
 {
-    let rest = skip_at(3 - usize::from(pc % 4), pc, bytes)?;
+    let rest = skip_at(padding_of(pc), pc, bytes)?;
     let (default, rest) = target_at(pc, rest)?;
     let (low, rest) = signed_word_at(pc, rest)?;
     let (high, rest) = signed_word_at(pc, rest)?;
@@ -211,7 +212,7 @@ fn counted_cases_at(
 fn lookup_at(alloc: Global, pc: u16, bytes: &[u8]) -> Result<(Insn, &[u8]), CodeFault>
     ensures { Gives (λ x. (x.0, x.1.now)) result (lookup_at pc bytes.now) }
 {
-    let rest = skip_at(3 - usize::from(pc % 4), pc, bytes)?;
+    let rest = skip_at(padding_of(pc), pc, bytes)?;
     let (default, rest) = target_at(pc, rest)?;
     let (count, rest) = word_at(pc, rest)?;
     let (cases, rest) = counted_cases_at(alloc, count, pc, rest)?;
