@@ -1,6 +1,7 @@
 pub mod Codes
 pub mod Encoding
 pub mod Marks
+pub mod Names
 pub mod Parts
 pub mod Reading
 pub mod Shapes
