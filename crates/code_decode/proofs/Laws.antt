@@ -1,19 +1,18 @@
 -- A code is read exactly where it is the instructions' own.
-use Rattle.std.proofs.Common.{◌≡◌, ℕ, zero, suc, ◌-◌, ◌+◌, ◌≤◌, ◌<◌, ◌^◌, Bool, true, false, cond, eqb, List, [], ◌∷◌, ◌++◌, length, map, Option, Some, None, Result, Ok, Err, refl, sym, ap, subst, ◌∙◌, append_assoc, arith}
+use Rattle.std.proofs.Common.{◌≡◌, ℕ, zero, suc, ◌-◌, ◌+◌, ◌≤◌, ◌<◌, ◌^◌, Bool, true, false, cond, eqb, List, [], ◌∷◌, ◌++◌, length, Option, Some, None, Result, Ok, Err, refl, sym, ap, subst, ◌∙◌, arith}
 use Rattle.std.specs.Prelude.{◌&&◌, ◌||◌, IfOk}
 use Rattle.std.specs.Global.{Vec}
-use Rattle.std.specs.List.{list_all, list_any, AllByRecursion}
+use Rattle.std.specs.List.{list_all, AllByRecursion}
 use Rattle.std.proofs.lemmas.Bool.{eqb-true, and_parts}
 use Rattle.std.proofs.lemmas.List.{length-append}
 use Rattle.code_decode.specs.declared.fault.CodeFault.{CodeFault}
-use Rattle.code_decode.specs.declared.fault.CodeFault.TheVariants.{BadTarget}
 use Rattle.code_decode.specs.declared.insn.Insn.{Insn}
-use Rattle.code_decode.specs.Shapes.{Shape, shape}
-use Rattle.code_decode.specs.Texts.{padding_of, shape_text, text, Fits}
+use Rattle.code_decode.specs.Shapes.{shape}
+use Rattle.code_decode.specs.Texts.{text}
 use Rattle.code_decode.specs.Reading.{◌>>=◌, Gives, insn_at}
 use Rattle.code_decode.specs.Codes.{targets, starts, stands, first_stray, Spells, IsReading, insns_from, with_targets, decode_of}
 use Rattle.code_decode.proofs.Fields.{IsBytes, IsBytes-rest, bind_ok, ok_is}
-use Rattle.code_decode.proofs.Takes.{AreNear, IsShapeText}
+use Rattle.code_decode.proofs.Takes.{AreNear}
 use Rattle.code_decode.proofs.Readings.{insn_takes}
 use Rattle.code_decode.proofs.Again.{first_byte, other_bytes, text_is, insn_again}
 use Rattle.code_decode.proofs.Loop.{Insns, passes}

@@ -1,6 +1,7 @@
 pub mod Again
 pub mod Boundaries
 pub mod Choices
+pub mod Encodable
 pub mod Fields
 pub mod Laws
 pub mod Lists

@@ -1,5 +1,5 @@
 -- Reading the instructions of a code, as a loop does.
-use Rattle.std.proofs.Common.{◌≡◌, ℕ, zero, suc, ◌-◌, ◌+◌, ◌≤◌, ◌<◌, List, [], ◌∷◌, ◌++◌, length, Result, Ok, Err, refl, sym, ap, ◌∙◌, subst, append_assoc, arith}
+use Rattle.std.proofs.Common.{◌≡◌, ℕ, suc, ◌-◌, ◌+◌, ◌≤◌, ◌<◌, List, [], ◌∷◌, ◌++◌, length, Result, Ok, Err, refl, sym, ap, ◌∙◌, subst, append_assoc, arith}
 use Rattle.std.proofs.lemmas.List.{append-nil, length-append, nil_from_length}
 use Rattle.code_decode.specs.declared.fault.CodeFault.{CodeFault}
 use Rattle.code_decode.specs.declared.fault.CodeFault.TheVariants.{Truncated, UnsupportedOpcode, UnknownOpcode, BadSwitch, BadTarget, BadOperand, Memory}

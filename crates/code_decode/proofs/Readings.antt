@@ -1,11 +1,10 @@
 -- What reading an instruction of any form takes from the bytes.
-use Rattle.std.proofs.Common.{◌≡◌, ℕ, Bool, true, false, cond, eqb, List, [], ◌∷◌, ◌++◌, Option, Some, None, Result, Ok, Err, refl, sym, ap, subst, ◌∙◌, ◌⊎◌, inl, inr}
+use Rattle.std.proofs.Common.{◌≡◌, ℕ, Bool, true, false, cond, eqb, List, [], ◌∷◌, Option, Some, None, Ok, refl, sym, ap, subst, ◌∙◌, inl, inr}
 use Rattle.std.specs.Prelude.{option_map}
 use Rattle.std.specs.List.{AllByRecursion}
 use Rattle.std.proofs.lemmas.Bool.{eqb-true}
-use Rattle.code_decode.specs.declared.fault.CodeFault.{CodeFault}
 use Rattle.code_decode.specs.declared.insn.Insn.{Insn}
-use Rattle.code_decode.specs.Shapes.{Shape, shape, Plain, Byte, Pair, Jump}
+use Rattle.code_decode.specs.Shapes.{shape, Plain, Byte, Pair, Jump}
 use Rattle.code_decode.specs.Reading as reading
 use Rattle.code_decode.specs.Reading.{opcode_of, find, find_by, plain_low, plain_high, with_byte, with_pair, with_jump, Form, first_of, single_form, operand_form, plain, form, operands_at, insn_at}
 use Rattle.code_decode.proofs.Fields.{IsBytes, ok_is}

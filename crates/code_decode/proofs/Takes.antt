@@ -1,7 +1,7 @@
 -- What reading an instruction takes from the bytes.
-use Rattle.std.proofs.Common.{◌≡◌, ℕ, zero, suc, ◌+◌, ◌-◌, ◌^◌, ◌<◌, ◌≤◌, Bool, true, false, cond, eqb, ltb, List, [], ◌∷◌, ◌++◌, length, take, drop, map, Option, Some, None, Result, Ok, Err, refl, sym, ap, subst, ◌∙◌, arith, ℤ, pos, negsuc, ◌+ℤ◌, ◌-ℤ◌, ◌⊎◌, inl, inr}
-use Rattle.std.specs.Prelude.{◌&&◌, option_map, IsTrue}
-use Rattle.std.specs.Int.{Width, w8, w16, w32, to_be_bytes, cast_signed, cast_unsigned}
+use Rattle.std.proofs.Common.{◌≡◌, ℕ, zero, suc, ◌+◌, ◌-◌, ◌^◌, ◌<◌, ◌≤◌, Bool, true, false, cond, eqb, ltb, List, [], ◌∷◌, ◌++◌, length, take, drop, map, Option, Some, None, Result, Ok, Err, refl, sym, ap, subst, ◌∙◌, arith, ℤ, pos, ◌+ℤ◌, ◌-ℤ◌, ◌⊎◌, inl, inr}
+use Rattle.std.specs.Prelude.{◌&&◌}
+use Rattle.std.specs.Int.{w8, w16, w32, to_be_bytes, cast_signed, cast_unsigned}
 use Rattle.std.specs.Int.RustNames.{FitsSigned, int_lt, unsigned_abs}
 use Rattle.std.specs.List.{flat_map, AllByRecursion}
 use Rattle.std.proofs.lemmas.Bool.{eqb-true, ltb-false, ltb-true, and_parts}
@@ -9,16 +9,15 @@ use Rattle.std.proofs.lemmas.Int.{ints, of_z-to_z}
 use Rattle.std.proofs.lemmas.List.{take-append-drop, length-take}
 use Rattle.std.proofs.lemmas.List.Concat.{flat_map-cons}
 use Rattle.code_decode.specs.declared.fault.CodeFault.{CodeFault}
-use Rattle.code_decode.specs.declared.fault.CodeFault.TheVariants.{Truncated, UnsupportedOpcode, UnknownOpcode, BadSwitch, BadOperand}
+use Rattle.code_decode.specs.declared.fault.CodeFault.TheVariants.{Truncated, BadSwitch, BadOperand}
 use Rattle.code_decode.specs.declared.insn.Case.{Case}
 use Rattle.code_decode.specs.declared.insn.Insn.{Insn}
 use Rattle.code_decode.specs.declared.insn.Insn.TheVariants as insns
 use Rattle.code_decode.specs.Shapes.{Shape, Plain, Byte, Pair, SignedByte, SignedPair, Jump, FarJump, Increment, Table, Lookup, Interface, Array, WideLocal, WideIncrement, shape}
-use Rattle.code_decode.specs.Texts.{signed, distance, padding_of, case_text, shape_text, Reaches, is_rising, IsTable, IsLookup, FitsShape, zeros}
-use Rattle.code_decode.specs.Reading as reading
-use Rattle.code_decode.specs.Reading.{◌>>=◌, byte_at, number_at, signed_at, target_at, skip_at, opcode_of, find, find_by, plain_low, plain_high, with_byte, with_pair, with_jump, wide_local, Form, first_of, single_form, operand_form, plain, form, repeat_at, case_at, table_targets_at, table_at, counted_cases_at, lookup_at, interface_at, array_at, wide_increment_at, wide_operand_at, wide_at, increment_at, signed_byte_at, sipush_at, far_jump_at, byte_operand_at, pair_operand_at, jump_operand_at, operands_at, insn_at}
-use Rattle.code_decode.specs.Codes.{shape_targets, targets}
-use Rattle.code_decode.proofs.Fields.{IsBytes, IsBytes-drop, bind_ok, guard_ok, guarded, ok_is, Takes, Takes-then, byte_takes, wide16, wide32, number_takes, signed_takes, TakesTarget, target_takes}
+use Rattle.code_decode.specs.Texts.{signed, distance, padding_of, case_text, shape_text, Reaches, is_rising, FitsShape, zeros}
+use Rattle.code_decode.specs.Reading.{◌>>=◌, byte_at, number_at, signed_at, target_at, skip_at, opcode_of, find_by, wide_local, repeat_at, case_at, table_targets_at, table_at, counted_cases_at, lookup_at, interface_at, array_at, wide_increment_at, wide_operand_at, wide_at, increment_at, signed_byte_at, sipush_at, far_jump_at, byte_operand_at, pair_operand_at, jump_operand_at}
+use Rattle.code_decode.specs.Codes.{shape_targets}
+use Rattle.code_decode.proofs.Fields.{IsBytes, IsBytes-drop, bind_ok, guard_ok, guarded, ok_is, Takes, Takes-then, byte_takes, wide16, wide32, number_takes, signed_takes, target_takes}
 
 -- ---- an instruction of a shape
 

@@ -1,6 +1,6 @@
 -- The bytes of a list of instructions, and which lists have bytes.
 -- JVM specification, section 4.7.3 (the code array) and section 4.9.1 (which instructions may stand in it).
-use Rattle.std.specs.Prelude.{ℕ, ◌+◌, ◌<◌, ◌^◌, ◌≡◌, List, [], ◌∷◌, length, Option, None}
+use Rattle.std.specs.Prelude.{ℕ, ◌+◌, ◌<◌, ◌^◌, ◌≡◌, List, [], ◌∷◌, length, None}
 use Rattle.std.specs.List.{flat_map, AllByRecursion}
 use Rattle.code_decode.specs.declared.insn.Insn.{Insn}
 use Rattle.code_decode.specs.Texts.{padding_of, zeros, text, Fits}

@@ -2,6 +2,7 @@
 ghost use Rattle.std.specs.Prelude.{◌≡◌, ◌≤◌, ◌^◌, ◌<◌, ℕ, List, length, IfOk, Ok, None};
 ghost use Rattle.code_decode.specs.declared.insn.Insn.{Insn};
 ghost use Rattle.code_decode.specs.Codes.{targets, first_stray, insns_from, decode_of, IsReading};
+ghost use Rattle.code_decode.specs.Encoding.{IsCode};
 ghost use Rattle.std.specs.List.{list_all};
 ghost use Rattle.code_decode.specs.Marks.{marked};
 ghost use Rattle.code_decode.specs.Reading.{Gives};
@@ -96,6 +97,8 @@ pub fn decode(alloc: Global, code: &[u8]) -> Result<Vec<(u16, Insn)>, CodeFault>
     ensures found { IfOk result (λ v. IsReading code.now v.items) }
     // A code that has instructions is read, unless memory runs out.
     ensures only { (insns : List (ℕ × Insn)) → IsReading code.now insns → Gives (λ v. v.items) result (Ok insns) }
+    // What is read can be written.
+    ensures again { IfOk result (λ v. IsCode v.items) }
     // Which fault it is.
     ensures exact { Gives (λ v. v.items) result (decode_of code.now) }
 {

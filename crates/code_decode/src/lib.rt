@@ -1,4 +1,7 @@
-//! Instructions.
+//! The instructions of a code, read and written exactly.
+//!
+//! [`decode`] gives a code's instructions, or the first fault; [`encode`] gives the code of a list of instructions. The
+//! table that ties each instruction to its opcode and operands stands once, in the definitions: both cite it.
 #![tactic(auto)]
 
 mod code;
@@ -16,5 +19,9 @@ pub use code::decode;
 pub use fault::CodeFault;
 pub use insn::{Case, Insn};
 pub use names::name;
+pub use parts::{Parts, parts_of};
 pub use table::{Handler, check_table};
 pub use writing::encode;
+
+#[cfg(test)]
+mod tests;

@@ -3,6 +3,7 @@
 #![tactic(auto)]
 
 mod case;
+mod code;
 mod json;
 
 use anyhow::{Result, bail};
@@ -25,7 +26,9 @@ fn main(rt: HostRuntime) -> Result<()> {
 fn answer(alloc: Global, line: &str) -> Result<String> {
     let case = Case::read(alloc, line)?;
     match case.table() {
+        "code" => code::answer(alloc, &case),
         "json" => json::answer(alloc, &case),
+        "table" => code::table_answer(alloc, &case),
         table => bail!("there is no table {table}"),
     }
 }

@@ -1,4 +1,4 @@
-use Rattle.std.proofs.Common.{◌≡◌, List, ℕ, ◌++◌, ◌∷◌, [], sym, ap, ◌∙◌}
+use Rattle.std.proofs.Common.{List, ℕ, ◌++◌, ◌∷◌, [], sym, ap, ◌∙◌}
 use Rattle.code_decode.specs.Texts.{zeros}
 use Rattle.code_decode.proofs.Written.{adds_then, zeros_push}
 use Rattle.code_decode.proofs.writing.put_zeros.Goals as goal
