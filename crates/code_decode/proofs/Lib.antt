@@ -4,6 +4,7 @@ pub mod Choices
 pub mod Encodable
 pub mod Fields
 pub mod Laws
+pub mod Lengths
 pub mod Lists
 pub mod Loop
 pub mod Readings

@@ -1,5 +1,6 @@
 pub mod Codes
 pub mod Encoding
+pub mod Flow
 pub mod Marks
 pub mod Names
 pub mod Parts

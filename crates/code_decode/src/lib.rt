@@ -6,6 +6,7 @@
 
 mod code;
 mod fault;
+mod flow;
 mod forms;
 mod insn;
 mod names;
@@ -17,6 +18,7 @@ mod writing;
 
 pub use code::decode;
 pub use fault::CodeFault;
+pub use flow::{falls_through, length, targets};
 pub use insn::{Case, Insn};
 pub use names::name;
 pub use parts::{Parts, parts_of};

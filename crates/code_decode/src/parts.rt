@@ -7,22 +7,36 @@ ghost use Rattle.code_decode.specs.Parts.{shown};
 use crate::insn::{Case, Insn};
 use list_views::Seq;
 
-/// The opcode of an instruction and its operands, by form.
+/// The opcode of an instruction and its operands. The first number of each form is the opcode.
 #[derive(Drop)]
 pub enum Parts<'a> {
+    /// No operands.
     Plain(u8),
+    /// A pool entry or a local, of one byte.
     Byte(u8, u8),
+    /// A pool entry, of two bytes.
     Pair(u8, u16),
+    /// A signed number of one byte.
     SignedByte(u8, i8),
+    /// A signed number of two bytes.
     SignedPair(u8, i16),
+    /// A target; its distance has two bytes.
     Jump(u8, u16),
+    /// A target; its distance has four bytes.
     FarJump(u8, u16),
+    /// A local of one byte and the signed number of one byte that is added to it.
     Increment(u8, u8, i8),
+    /// The default, the lowest key and the targets of the keys from there on.
     Table(u8, u16, i32, &'a Seq<u16>),
+    /// The default and the cases.
     Lookup(u8, u16, &'a Seq<Case>),
+    /// A pool entry and the count byte.
     Interface(u8, u16, u8),
+    /// The code of an element type.
     Array(u8, u8),
+    /// Behind `wide`: a local of two bytes.
     WideLocal(u8, u16),
+    /// Behind `wide`: a local of two bytes and the signed number of two bytes that is added to it.
     WideIncrement(u8, u16, i16),
 }
 
