@@ -1,22 +1,17 @@
 -- The reading of a class file is exact: the class that is read is the one that the bytes spell.
 use Rattle.std.proofs.Common.{◌≡◌, ℕ, zero, suc, ◌+◌, ◌-◌, ◌^◌, ◌<◌, ◌≤◌, Bool, true, false, cond, eqb, List, [], ◌∷◌, ◌++◌, length, map, get_or, Option, Some, None, Result, Ok, Err, refl, sym, ap, subst, ◌∙◌, append_assoc, arith}
 use Rattle.std.specs.Prelude.{IsSome}
-use Rattle.std.specs.Int.{bytes_high_first}
 use Rattle.std.specs.List.{flat_map, AllByRecursion}
 use Rattle.std.specs.Option.{option_and_then, option_map_or}
 use Rattle.std.proofs.lemmas.Bool.{eqb-true, eq-eqb}
-use Rattle.std.proofs.lemmas.List.{append-nil, length-append, nil_from_length}
+use Rattle.std.proofs.lemmas.List.{append-nil, drop_at, length-append, nil_from_length}
 use Rattle.class_pool.specs.declared.entry.PoolEntry.{PoolEntry}
 use Rattle.class_pool.specs.declared.fault.PoolFault.{PoolFault}
 use Rattle.class_pool.specs.declared.fault.PoolFault.TheVariants.{BadIndex}
 use Rattle.class_pool.specs.Entry.{is_wide, entry_bytes}
-use Rattle.class_pool.specs.Text as pools
-use Rattle.class_pool.specs.Text.{slots_of, places_of, first_bad_index, IsPool, counted_bytes, pool_bytes, class_name_at}
-use Rattle.class_pool.specs.Reading as pool_reading
-use Rattle.class_pool.specs.Reading.{Unread, number_at, entries_at, pool_at}
-use Rattle.class_pool.proofs.Fields.{Takes, Takes-then, back_2, number_takes, number_again}
-use Rattle.class_pool.proofs.Fields as pool_fields
-use Rattle.class_pool.proofs.PoolLaws.{taken, entries_take, entries_again}
+use Rattle.class_pool.specs.Text.{slots_of, places_of, first_bad_index, IsPool, Unread, counted_bytes, pool_bytes, class_name_at}
+use Rattle.class_pool.specs.Reading.{pool_at}
+use Rattle.class_pool.proofs.PoolLaws.{pool_found, pool_again}
 use Rattle.class_read.specs.declared.fault.ClassFault.{ClassFault}
 use Rattle.class_read.specs.declared.fault.ClassFault.TheVariants.{BadMagic, Version, TrailingBytes}
 use Rattle.class_read.specs.declared.text.AttrText.{AttrText}
@@ -27,18 +22,11 @@ use Rattle.class_read.specs.Reading.{Read, and_then, ◌>>=◌, pure, place, pas
 use Rattle.class_read.specs.Text.{u2, u4, counted, attr_text, member_text, magic_number, class_bytes}
 use Rattle.class_read.specs.Rules.{IsClass, name_of, WellFormed, is_read_major, field_of, method_of, skipped_of, skipped_in, content_of, Spells}
 use Rattle.class_read.specs.FirstFault.{interfaces_at, pool_read, pool_field_at, end_at, body_at, magic_at, major_at, file_at, whole_at, without_rest, class_in}
-use Rattle.class_read.proofs.Exact.{IsBytes, Taken, Exact, then_exact, made_exact, told_exact, ruled_exact, passing_exact, u2_exact, u4_exact, listed_exact, bind_ok, tested_ok, parts_of}
+use Rattle.class_read.proofs.Exact.{IsBytes, IsBytes-drop, Taken, Exact, then_exact, made_exact, told_exact, ruled_exact, passing_exact, u2_exact, u4_exact, listed_exact, bind_ok, tested_ok, parts_of}
 use Rattle.class_read.proofs.AttributeLaws.{class_exact, AreOthers, others_exact}
 use Rattle.class_read.proofs.MemberLaws.{AreFields, AreMethods, fields_exact, methods_exact}
 
 -- ---- the pool
-
-abbrev pool_done : List PoolEntry × Unread → Result (List PoolEntry × Unread) PoolFault
-pool_done x = Ok x
-
-names_ok : (o : Option ℕ) (y x : List PoolEntry × Unread) → option_map_or (λ i. Err (BadIndex i)) o (pool_done y) ≡ pool_done x → (o ≡ None) × (y ≡ x)
-names_ok None y x e = (refl, pool_fields.ok_is y x e)
-names_ok (Some i) y x e = absurd cc
 
 -- a pool under a count
 abbrev Counted : Type 0
@@ -50,56 +38,25 @@ IsCounted p = (p.0 < 2 ^ 16) × IsPool p.1 × (length (places_of p.1) ≡ p.0 - 
 abbrev counted_text : Counted → List ℕ
 counted_text p = counted_bytes p.0 p.1
 
-pool_takes : (u : Unread) (x : List PoolEntry × Unread) → IsBytes u.bytes → pool_at u ≡ pool_done x → (count : ℕ) × IsCounted (count, x.0) × Takes u (counted_bytes count x.0) x.1
-unfolding pool_at
-pool_takes u x fits e =
-    let check : List PoolEntry × Unread → Result (List PoolEntry × Unread) PoolFault = λ es. option_map_or (λ i. Err (BadIndex i)) (first_bad_index es.0) (Ok es) in
-    let a = pool_fields.bind_ok (number_at 2 u) (λ count. pool_reading.◌>>=◌ (entries_at (count.0 - 1) count.1) check) x e in
-    let b = pool_fields.bind_ok (entries_at (a.0.0 - 1) a.0.1) check x a.2 in
-    let g = names_ok (first_bad_index b.0.0) b.0 x b.2 in
-    let s = number_takes 2 back_2 u a.0 fits a.1 in
-    let ts = entries_take (a.0.0 - 1) a.0.1 b.0 s.0.fits b.1 in
-    let all = Takes-then u _ a.0.1 (flat_map entry_bytes b.0.0) b.0.1 s.0 ts.0 in
-    let good : IsPool b.0.0 = record { fit = ts.2; count = omega (arith, ts.1, s.1); names = g.0 } in
-    let P : List PoolEntry × Unread → Type 0 = λ y. IsCounted (a.0.0, y.0) × Takes u (counted_bytes a.0.0 y.0) y.1 in
-    let h = subst P g.1 ((s.1, good, omega (arith, ts.1)), all) in
-    (a.0.0, h.0, h.1)
-
-pool_again : (at : ℕ) (p : Counted) (rest : List ℕ) → IsCounted p → pool_read (pool_at (record { at = at; bytes = counted_text p ++ rest })) ≡ Ok (p.1, rest)
-unfolding pool_at
-pool_again at p rest h =
-    let es : List PoolEntry = p.1 in
-    let tail : List ℕ = flat_map entry_bytes p.1 ++ rest in
-    let n : p.0 - 1 ≡ taken p.1 = omega (arith, h.2) in
-    let check : Result (List PoolEntry × Unread) PoolFault → Result (List PoolEntry × Unread) PoolFault = λ r. pool_reading.◌>>=◌ r (λ es. option_map_or (λ i. Err (BadIndex i)) (first_bad_index es.0) (Ok es)) in
-    let whole : Result (ℕ × Unread) PoolFault → Result (List PoolEntry × Unread) PoolFault = λ r. pool_reading.◌>>=◌ r (λ count. check (entries_at (count.0 - 1) count.1)) in
-    let end : Unread = record { at = at + 2 + length (flat_map entry_bytes p.1); bytes = rest } in
-    ap pool_read (
-    ap (λ (b : List ℕ). pool_at (record { at = at; bytes = b })) (append_assoc (bytes_high_first 2 p.0) (flat_map entry_bytes p.1) rest)
-    ∙ ap whole (number_again 2 at p.0 tail h.0)
-    ∙ ap (λ (k : ℕ). check (entries_at k (record { at = at + 2; bytes = tail }))) n
-    ∙ ap check (entries_again p.1 (at + 2) rest h.1.fit)
-    ∙ ap (λ (o : Option ℕ). option_map_or (λ i. Err (BadIndex i)) o (pool_done (p.1, end))) h.1.names
-    )
-
 pool_ok : (r : Result (List PoolEntry × Unread) PoolFault) (v : List PoolEntry) (rest : List ℕ) → pool_read r ≡ Ok (v, rest) → (x : List PoolEntry × Unread) × (r ≡ Ok x) × (x.0 ≡ v) × (x.1.bytes ≡ rest)
 pool_ok (Ok x) v rest e = let p = parts_of x.0 v x.1.bytes rest e in (x, refl, p.0, p.1)
 pool_ok (Err f) v rest e = absurd cc
+
+IsBytes-behind : (front rest : List ℕ) → IsBytes (front ++ rest) → IsBytes rest
+IsBytes-behind front rest fits = subst IsBytes (drop_at front rest (length front) refl) (IsBytes-drop (length front) (front ++ rest) fits)
 
 pool_exact : (total : ℕ) → Exact (pool_field_at total) counted_text IsCounted (λ p. p.1)
 pool_exact total = record {
   takes = λ bytes v rest fits e.
       let u : Unread = record { at = place total bytes; bytes = bytes } in
       let o = pool_ok (pool_at u) v rest e in
-      let t = pool_takes u o.0 fits o.1 in
-      record {
-        it = (t.0, o.0.0);
-        fits = t.1;
-        parts = t.2.parts ∙ ap (λ (r : List ℕ). counted_bytes t.0 o.0.0 ++ r) o.3;
-        seen = o.2;
-        rest_fits = subst IsBytes o.3 t.2.fits;
-      };
-  again = λ p rest h. pool_again (place total (counted_text p ++ rest)) p rest h;
+      let s = pool_found u o.0.0 o.0.1 fits o.1 in
+      let parts : bytes ≡ counted_bytes s.count o.0.0 ++ rest = s.text ∙ ap (λ (r : List ℕ). counted_bytes s.count o.0.0 ++ r) o.3 in
+      record { it = (s.count, o.0.0); fits = (s.count_fits, s.pool, s.places); parts = parts; seen = o.2; rest_fits = IsBytes-behind (counted_bytes s.count o.0.0) rest (subst IsBytes parts fits) };
+  again = λ p rest h.
+      let u : Unread = record { at = place total (counted_text p ++ rest); bytes = counted_text p ++ rest } in
+      let v : Unread = record { at = place total (counted_text p ++ rest) + length (counted_text p); bytes = rest } in
+      ap pool_read (pool_again u p.1 v (record { pool = h.1; count = p.0; count_fits = h.0; places = h.2; text = refl; place = refl }));
 }
 
 -- ---- what follows the pool

@@ -7,3 +7,5 @@ pub mod AttributeLaws
 pub mod MemberLaws
 pub mod ClassLaws
 pub mod Outcome
+pub mod WritingLaws
+pub mod Keys

@@ -17,6 +17,7 @@ use Rattle.class_read.specs.Text.{u2, counted, attr_text, member_text}
 use Rattle.class_read.specs.Rules.{text_of, IsText, has_code, IsMember, IsField, IsMethod, key_of, same_key, AreDistinct, codes_in, first_of, skipped_in, skipped_of, field_of, method_of}
 use Rattle.class_read.specs.FirstFault.{Key, Found, is_new, descriptor_at, new_descriptor_at, head_at, field_at, method_at, field_keys, method_keys, more_fields_at, more_methods_at, fields_at, methods_at}
 use Rattle.class_read.proofs.Exact.{Exact, then_exact, made_exact, told_exact, ruled_exact, passing_exact, u2_exact, FitAll, next_all, counted_exact}
+use Rattle.class_read.proofs.Keys.{same_swapped}
 use Rattle.class_read.proofs.Types.{descriptor_found, descriptor_again}
 use Rattle.class_read.proofs.AttributeLaws.{text_exact, AreOthers, others_exact, HasCodes, method_attributes_exact}
 
@@ -101,20 +102,22 @@ abbrev grown : {X : Type 0} → (MemberText → X) → List X × ℕ → MemberT
 grown item made m = (made.0 ++ item m ∷ [], made.1 + skipped_in m.attributes)
 
 abbrev Fresh : List Key → Key → Type 0
-Fresh earlier k = list_any (λ e. same_key e k) earlier ≡ false
+Fresh earlier k = list_any (same_key k) earlier ≡ false
 
 fresh_split : (earlier : List Key) (k : Key) (ks : List Key) → AllByRecursion (Fresh (earlier ++ k ∷ [])) ks → AllByRecursion (Fresh earlier) ks × AllByRecursion (λ j. same_key k j ≡ false) ks
 fresh_split earlier k [] h = (tt, tt)
 fresh_split earlier k (j ∷ ks) h =
-    let p = or_parts (list_any (λ e. same_key e j) earlier) (same_key k j || false) (sym (list_any-append (λ e. same_key e j) earlier (k ∷ [])) ∙ h.0) in
-    let q = or_parts (same_key k j) false p.1 in
+    let p = or_parts (list_any (same_key j) earlier) (same_key j k || false) (sym (list_any-append (same_key j) earlier (k ∷ [])) ∙ h.0) in
+    let q = or_parts (same_key j k) false p.1 in
     let r = fresh_split earlier k ks h.1 in
-    ((p.0, r.0), (q.0, r.1))
+    ((p.0, r.0), (same_swapped k j ∙ q.0, r.1))
 
 fresh_join : (earlier : List Key) (k : Key) (ks : List Key) → AllByRecursion (Fresh earlier) ks → AllByRecursion (λ j. same_key k j ≡ false) ks → AllByRecursion (Fresh (earlier ++ k ∷ [])) ks
 fresh_join earlier k [] h g = tt
-fresh_join earlier k (j ∷ ks) h g =
-    (list_any-append (λ e. same_key e j) earlier (k ∷ []) ∙ or_from (list_any (λ e. same_key e j) earlier) (same_key k j || false) h.0 (or_from (same_key k j) false g.0 refl), fresh_join earlier k ks h.1 g.1)
+fresh_join earlier k (j ∷ ks) h g = (
+  list_any-append (same_key j) earlier (k ∷ []) ∙ or_from (list_any (same_key j) earlier) (same_key j k || false) h.0 (or_from (same_key j k) false (same_swapped j k ∙ g.0) refl),
+  fresh_join earlier k ks h.1 g.1,
+)
 
 members_to : {X : Type 0} (item : MemberText → X) (key : X → Key) (of : MemberText → Key) (Rule : MemberText → Type 0) → ((m : MemberText) → key (item m) ≡ of m)
     → (made : List X × ℕ) (ms : List MemberText) → FitAll (Stands key of Rule) (grown item) made ms
@@ -125,7 +128,7 @@ members_to item key of Rule same made (m ∷ ms) h =
     let r = members_to item key of Rule same (grown item made m) ms h.1 in
     let more : map key (made.0 ++ item m ∷ []) ≡ map key made.0 ++ of m ∷ [] = map-append key made.0 (item m ∷ []) ∙ ap (λ (k : Key). map key made.0 ++ k ∷ []) (same m) in
     let s = fresh_split (map key made.0) (of m) (map of ms) (subst (λ (ks : List Key). AllByRecursion (Fresh ks) (map of ms)) more r.1) in
-    let new : Fresh (map key made.0) (of m) = not-true (list_any (λ e. same_key e (of m)) (map key made.0)) h.0.1 in
+    let new : Fresh (map key made.0) (of m) = not-true (list_any (same_key (of m)) (map key made.0)) h.0.1 in
     ((h.0.0, r.0), (new, s.0), (s.1, r.2))
 
 members_from : {X : Type 0} (item : MemberText → X) (key : X → Key) (of : MemberText → Key) (Rule : MemberText → Type 0) → ((m : MemberText) → key (item m) ≡ of m)
@@ -136,7 +139,7 @@ members_from item key of Rule same made [] rules fresh distinct = tt
 members_from item key of Rule same made (m ∷ ms) rules fresh distinct =
     let more : map key (made.0 ++ item m ∷ []) ≡ map key made.0 ++ of m ∷ [] = map-append key made.0 (item m ∷ []) ∙ ap (λ (k : Key). map key made.0 ++ k ∷ []) (same m) in
     let joined = fresh_join (map key made.0) (of m) (map of ms) fresh.1 distinct.0 in (
-      (rules.0, not_from_false (list_any (λ e. same_key e (of m)) (map key made.0)) fresh.0),
+      (rules.0, not_from_false (list_any (same_key (of m)) (map key made.0)) fresh.0),
       members_from item key of Rule same (grown item made m) ms rules.1 (subst (λ (ks : List Key). AllByRecursion (Fresh ks) (map of ms)) (sym more) joined) distinct.1,
     )
 

@@ -8,7 +8,8 @@ use Rattle.class_pool.specs.Text.{utf8_at, class_name_at}
 use Rattle.class_pool.specs.declared.entry.PoolEntry.{PoolEntry}
 use Rattle.class_pool.specs.declared.fault.PoolFault.{PoolFault}
 use Rattle.class_pool.specs.declared.fault.PoolFault.TheVariants as pools
-use Rattle.class_pool.specs.Reading.{Unread, pool_at}
+use Rattle.class_pool.specs.Text.{Unread}
+use Rattle.class_pool.specs.Reading.{pool_at}
 use Rattle.class_read.specs.declared.fault.ClassFault.{ClassFault}
 use Rattle.class_read.specs.declared.fault.ClassFault.TheVariants.{BadMagic, Version, Pool, Truncated, BadDescriptor, DuplicateMember, CodeLength, MissingCode, ExtraCode, TrailingBytes, Memory}
 use Rattle.class_read.specs.declared.names.MemberKind.{MemberKind}
@@ -133,7 +134,7 @@ abbrev pub Key : Type 0
 Key = List ℕ × List ℕ
 
 abbrev pub is_new : List Key → Key → Bool
-is_new earlier key = not (list_any (λ e. same_key e key) earlier)
+is_new earlier key = not (list_any (same_key key) earlier)
 
 abbrev pub descriptor_at : ℕ → List PoolEntry → MemberKind → ℕ → List ℕ → Read (List ℕ)
 descriptor_at total pool kind flags = passing (is_descriptor kind flags) (λ _. BadDescriptor) total (named_at (utf8_at pool) total)

@@ -5,3 +5,4 @@ pub mod Text
 pub mod Rules
 pub mod FirstFault
 pub mod View
+pub mod Writing

@@ -12,8 +12,13 @@ mod reading;
 mod seen;
 mod text;
 mod view;
+mod writing;
 
 pub use fault::ClassFault;
 pub use reading::one_class;
 pub use text::{AttrText, ClassText, MemberText};
 pub use view::{ClassView, CodeView, FieldView, MethodView};
+pub use writing::{write_class, written_is_spelled};
+
+#[cfg(test)]
+mod tests;

@@ -2,11 +2,12 @@ use Rattle.std.proofs.Common.{◌≡◌, ◌≤◌, ◌-◌, ◌*◌, ◌^◌, [
 use Rattle.class_read.specs.Reading.{repeated}
 use Rattle.class_read.specs.View.{field_content}
 use Rattle.class_read.specs.FirstFault.{more_fields_at, field_keys}
+use Rattle.class_read.proofs.Members.{SameKeys}
 use Rattle.class_read.proofs.member.field_times.Given as goal
 
 abbrev pub invariant-fields : goal.invariant-fields
 invariant-fields l = record {
   small : l.skipped ≤ 2 ^ 32 * l.counter;
-  keys : l.seen ≡ field_keys (map field_content l.fields);
+  keys : SameKeys l.seen (field_keys (map field_content l.fields));
   same : repeated (more_fields_at l.total l.pool) (l.count - l.counter) (map field_content l.fields, l.skipped) l.rest ≡ repeated (more_fields_at l.total l.pool) l.count ([], 0) l.bytes;
 }

@@ -2,11 +2,12 @@ use Rattle.std.proofs.Common.{◌≡◌, ◌≤◌, ◌-◌, ◌*◌, ◌^◌, [
 use Rattle.class_read.specs.Reading.{repeated}
 use Rattle.class_read.specs.View.{method_content}
 use Rattle.class_read.specs.FirstFault.{more_methods_at, method_keys}
+use Rattle.class_read.proofs.Members.{SameKeys}
 use Rattle.class_read.proofs.member.method_times.Given as goal
 
 abbrev pub invariant-methods : goal.invariant-methods
 invariant-methods l = record {
   small : l.skipped ≤ 2 ^ 32 * l.counter;
-  keys : l.seen ≡ method_keys (map method_content l.methods);
+  keys : SameKeys l.seen (method_keys (map method_content l.methods));
   same : repeated (more_methods_at l.total l.pool) (l.count - l.counter) (map method_content l.methods, l.skipped) l.rest ≡ repeated (more_methods_at l.total l.pool) l.count ([], 0) l.bytes;
 }
