@@ -15,7 +15,7 @@ use Rattle.jterm.specs.declared.line.Line.{Line}
 use Rattle.class_read.specs.Content.{ClassContent, MethodContent, CodeContent}
 use Rattle.jterm.specs.Code.{IsCode}
 use Rattle.jterm.specs.World.{World, built_in, built_in_init, built_ins, world_of}
-use Rattle.jterm.specs.Machine.{Method}
+use Rattle.jterm.specs.Machine.{Method, Program}
 use Rattle.jterm.specs.Typing.{PlaceType, UnsetPlace, entry_types, type_of_slot}
 use Rattle.jterm.specs.Description.{IsLine}
 use Rattle.jterm.specs.Headline.{slot_text, IsSlot, IsSuperclass, itself, above, Means, FitsDescription, AllEnd}
@@ -149,7 +149,10 @@ head_of : (is before : List (ℕ × Form)) (last : ℕ × Form) → is ≡ befor
 head_of is [] last e = record { first = last; rest = []; split = e }
 head_of is (i ∷ before) last e = record { first = i; rest = before ++ last ∷ []; split = e }
 
-stands : (line : Line) (class : ClassContent) (p : IsPlain line class) (state : State) → FitsDescription line (the_method line class p) state → (place : ℕ) → place ≡ 0 → Stands (world_of (class ∷ [])) (the_method line class p ∷ []) (the_method line class p) p.is_code.typed.0 place state
+abbrev the_program : (line : Line) (class : ClassContent) (p : IsPlain line class) → Program
+the_program line class p = record { world = world_of (class ∷ []); methods = the_method line class p ∷ [] }
+
+stands : (line : Line) (class : ClassContent) (p : IsPlain line class) (state : State) → FitsDescription line (the_method line class p) state → (place : ℕ) → place ≡ 0 → Stands (world_of (class ∷ [])) (the_program line class p) (the_method line class p) p.is_code.typed.0 place state
 stands line class p state f place z =
     let world : World = world_of (class ∷ []) in
     let entry = p.is_code.typed.1.entry in
@@ -171,11 +174,11 @@ stands line class p state f place z =
       };
     }
 
-finishes : (line : Line) (class : ClassContent) (p : IsPlain line class) (state : State) → FitsDescription line (the_method line class p) state → Finishes (the_method line class p ∷ []) state
+finishes : (line : Line) (class : ClassContent) (p : IsPlain line class) (state : State) → FitsDescription line (the_method line class p) state → Finishes (the_program line class p) state
 finishes line class p state f =
     let head = head_of p.is_code.instructions p.is_code.returns.before (p.is_code.returns.place, Ireturn) p.is_code.returns.last in
     let first : IsCode 0 (head.first ∷ head.rest) p.code.code = subst (λ (is : List (ℕ × Form)). IsCode 0 is p.code.code) head.split p.is_code.reading in
-    finishes_from (world_of (class ∷ [])) (the_method line class p ∷ []) (the_method line class p) p.is_code.typed.0 p.code.code head.rest [] head.first p.is_code.typed.1 p.is_code.reading head.split state
+    finishes_from (world_of (class ∷ [])) (the_program line class p) (the_method line class p) p.is_code.typed.0 p.code.code head.rest [] head.first p.is_code.typed.1 p.is_code.reading head.split state
     (stands line class p state f head.first.0 first.0)
 
 -- a line and a plain class for it: every state that the line fits ends
@@ -188,8 +191,8 @@ AllEnd-plain desc file line l f = record {
   described = l;
   entry = the_method line f.class f.plain;
   meant = means line f.class l.class.some l.plain_name f.plain;
-  methods = the_method line f.class f.plain ∷ [];
-  reached = refl;
+  program = the_program line f.class f.plain;
+  reached = (refl, refl);
   ends = λ state fits. (finishes line f.class f.plain state fits).ends;
   never_stuck = λ state fits. (finishes line f.class f.plain state fits).never_stuck;
 }

@@ -11,7 +11,7 @@ use Rattle.jterm.specs.declared.form.Form.{Form}
 use Rattle.jterm.specs.declared.form.Form.TheVariants.{Iconst, Iload, Istore, Iadd, Ireturn}
 use Rattle.jterm.specs.Code.{IsCode}
 use Rattle.jterm.specs.World.{World}
-use Rattle.jterm.specs.Machine.{Method, Outcome, Going, Returned, Stuck, instruction_at, perform, going, returned, top_int, normal_step, step}
+use Rattle.jterm.specs.Machine.{Method, Program, Outcome, Going, Returned, Stuck, instruction_at, perform, going, returned, top_int, normal_step, step}
 use Rattle.jterm.specs.Typing.{PlaceType, UnsetPlace, IntPlace, NullPlace, RefPlace, FrameType, IsWithin, AreWithin, Types, LeadsTo, IsTyped, IsTyping, types_after, places_after, ireturn_types, top_int_place}
 use Rattle.jterm.proofs.Runs.{Finishes, Finishes-going, Finishes-returned}
 use Rattle.jterm.proofs.Forms.{Fills, FillLocals, FillStack, FillFrame, Makes, take_int, and_then-some, iconst_makes, iload_makes, istore_makes, iadd_makes}
@@ -48,39 +48,39 @@ FillStack-within world (a ∷ narrow) (b ∷ wide) [] w f = absurd f
 FillStack-within world (a ∷ narrow) (b ∷ wide) (v ∷ stack) w f = (Fills-within world a b (Some v) w.0 f.0, FillStack-within world narrow wide stack w.1 f.1)
 
 -- one frame of the method stands at a place in normal mode, with what the typing says there
-pub record Stands (world : World) (methods : List Method) (method : Method) (typing : Types) (place : ℕ) (state : State) : Type 0 where
+pub record Stands (world : World) (program : Program) (method : Method) (typing : Types) (place : ℕ) (state : State) : Type 0 where
   pub frame : Frame
   pub alone : state.frames ≡ frame ∷ []
   pub normal : state.mode ≡ Normal
-  pub runs : slice_get methods frame.method ≡ Some method
+  pub runs : slice_get program.methods frame.method ≡ Some method
   pub here : frame.pc ≡ place
   pub types : FrameType
   pub typed : typing place ≡ Some types
   pub fits : FillFrame types frame
 
 -- the step of such a state is the form that stands there
-step-stands : (methods : List Method) (method : Method) (state : State) (frame : Frame) (form : Form) (next : Option ℕ) → state.frames ≡ frame ∷ [] → state.mode ≡ Normal → slice_get methods frame.method ≡ Some method → instruction_at method.instructions frame.pc ≡ Some (form, next) → step methods state ≡ unwrap_or (perform methods form next state frame []) Stuck
+step-stands : (program : Program) (method : Method) (state : State) (frame : Frame) (form : Form) (next : Option ℕ) → state.frames ≡ frame ∷ [] → state.mode ≡ Normal → slice_get program.methods frame.method ≡ Some method → instruction_at method.instructions frame.pc ≡ Some (form, next) → step program state ≡ unwrap_or (perform program form next state frame []) Stuck
 unfolding step normal_step
-step-stands methods method state frame form next alone normal runs found = rw (normal, alone, runs, found)
+step-stands program method state frame form next alone normal runs found = rw (normal, alone, runs, found)
 
 -- every state that stands at the next place finishes
-abbrev NextFinishes : World → List Method → Method → Types → Option ℕ → Type 0
-NextFinishes world methods method typing next =
-    (place : ℕ) → next ≡ Some place → (state : State) → Stands world methods method typing place state → Finishes methods state
+abbrev NextFinishes : World → Program → Method → Types → Option ℕ → Type 0
+NextFinishes world program method typing next =
+    (place : ℕ) → next ≡ Some place → (state : State) → Stands world program method typing place state → Finishes program state
 
 going-makes : (state : State) (n : ℕ) (made : Option Frame) (after : Frame) → made ≡ Some after → going state [] (Some n) made ≡ Some (Going (record state { frames = record after { pc = n } ∷ [] }))
 unfolding going
 going-makes state n made after e = rw e
 
 -- a form that made a frame and leads to the next place finishes
-moves : (world : World) (methods : List Method) (method : Method) (typing : Types) (place : ℕ) (state : State) (s : Stands world methods method typing place state) (form : Form) (next : Option ℕ) (after : FrameType) (made : Option Frame) → instruction_at method.instructions place ≡ Some (form, next) → perform methods form next state s.frame [] ≡ going state [] next made → Makes after s.frame made → LeadsTo world typing after next → NextFinishes world methods method typing next → Finishes methods state
-moves world methods method typing place state s form None after made found runs m leads go = absurd leads
-moves world methods method typing place state s form (Some n) after made found runs m leads go =
+moves : (world : World) (program : Program) (method : Method) (typing : Types) (place : ℕ) (state : State) (s : Stands world program method typing place state) (form : Form) (next : Option ℕ) (after : FrameType) (made : Option Frame) → instruction_at method.instructions place ≡ Some (form, next) → perform program form next state s.frame [] ≡ going state [] next made → Makes after s.frame made → LeadsTo world typing after next → NextFinishes world program method typing next → Finishes program state
+moves world program method typing place state s form None after made found runs m leads go = absurd leads
+moves world program method typing place state s form (Some n) after made found runs m leads go =
     let found' : instruction_at method.instructions s.frame.pc ≡ Some (form, Some n) = rw s.here found in
     let goes : going state [] (Some n) made ≡ Some (Going (record state { frames = record m.after { pc = n } ∷ [] })) = going-makes state n made m.after m.made_is in
-    let one : step methods state ≡ Going (record state { frames = record m.after { pc = n } ∷ [] }) =
-    step-stands methods method state s.frame form (Some n) s.alone s.normal s.runs found' ∙ ap (λ (o : Option Outcome). unwrap_or o Stuck) (runs ∙ goes) in
-    Finishes-going methods state _ one (go n refl (record state { frames = record m.after { pc = n } ∷ [] }) (record {
+    let one : step program state ≡ Going (record state { frames = record m.after { pc = n } ∷ [] }) =
+    step-stands program method state s.frame form (Some n) s.alone s.normal s.runs found' ∙ ap (λ (o : Option Outcome). unwrap_or o Stuck) (runs ∙ goes) in
+    Finishes-going program state _ one (go n refl (record state { frames = record m.after { pc = n } ∷ [] }) (record {
       frame = record m.after { pc = n };
       alone = refl;
       normal = s.normal;
@@ -101,19 +101,19 @@ returned_int (Some (Num kind)) types after e = let first = and_then-some _ _ _ e
 returned_int (Some (Ref t)) types after e = absurd (cc)
 returned_int None types after e = absurd (cc)
 
-ireturn-returns : (methods : List Method) (state : State) (frame : Frame) (int : ℤ) (under : List Value) (next : Option ℕ) → top_int frame.stack ≡ Some (int, under) → unwrap_or (perform methods Ireturn next state frame []) Stuck ≡ Returned (Some (Int int))
+ireturn-returns : (program : Program) (state : State) (frame : Frame) (int : ℤ) (under : List Value) (next : Option ℕ) → top_int frame.stack ≡ Some (int, under) → unwrap_or (perform program Ireturn next state frame []) Stuck ≡ Returned (Some (Int int))
 unfolding returned
-ireturn-returns methods state frame int under next e = rw e
+ireturn-returns program state frame int under next e = rw e
 
 -- an int that is returned ends the run
-returns : (world : World) (methods : List Method) (method : Method) (typing : Types) (place : ℕ) (state : State) (s : Stands world methods method typing place state) (next : Option ℕ) (result : Option Slot) (after : FrameType) → instruction_at method.instructions place ≡ Some (Ireturn, next) → ireturn_types result s.types ≡ Some after → Finishes methods state
-returns world methods method typing place state s next result after found e =
+returns : (world : World) (program : Program) (method : Method) (typing : Types) (place : ℕ) (state : State) (s : Stands world program method typing place state) (next : Option ℕ) (result : Option Slot) (after : FrameType) → instruction_at method.instructions place ≡ Some (Ireturn, next) → ireturn_types result s.types ≡ Some after → Finishes program state
+returns world program method typing place state s next result after found e =
     let found' : instruction_at method.instructions s.frame.pc ≡ Some (Ireturn, next) = rw s.here found in
     let top = returned_int result s.types after e in
     let taken = take_int s.types.stack top.0 s.frame.stack top.1 s.fits.stack in
-    let one : step methods state ≡ Returned (Some (Int taken.int)) =
-    step-stands methods method state s.frame Ireturn next s.alone s.normal s.runs found' ∙ ireturn-returns methods state s.frame taken.int taken.under next taken.taken in
-    Finishes-returned methods state _ one
+    let one : step program state ≡ Returned (Some (Int taken.int)) =
+    step-stands program method state s.frame Ireturn next s.alone s.normal s.runs found' ∙ ireturn-returns program state s.frame taken.int taken.under next taken.taken in
+    Finishes-returned program state _ one
 
 -- what stands at a place does what the typing says of it
 pub record Turn (world : World) (method : Method) (typing : Types) (types : FrameType) (form : Form) (next : Option ℕ) : Type 0 where
@@ -144,29 +144,29 @@ turn world method typing place types form next t found =
     }
 
 -- a state at a form finishes where every state at the next place does
-finishes_at : (world : World) (methods : List Method) (method : Method) (typing : Types) (place : ℕ) (state : State) (form : Form) (next : Option ℕ) → (s : Stands world methods method typing place state) → Turn world method typing s.types form next → instruction_at method.instructions place ≡ Some (form, next) → NextFinishes world methods method typing next → Finishes methods state
-finishes_at world methods method typing place state (Iconst v) next s t found go =
-    moves world methods method typing place state s (Iconst v) next t.after _ found refl (iconst_makes v s.types t.after s.frame t.runs s.fits) (t.leads 0 next (omega arith)) go
-finishes_at world methods method typing place state (Iload n) next s t found go =
-    moves world methods method typing place state s (Iload n) next t.after _ found refl (iload_makes n s.types t.after s.frame t.runs s.fits) (t.leads 0 next (omega arith)) go
-finishes_at world methods method typing place state (Istore n) next s t found go =
-    moves world methods method typing place state s (Istore n) next t.after _ found refl (istore_makes n s.types t.after s.frame t.runs s.fits) (t.leads 0 next (omega arith)) go
-finishes_at world methods method typing place state Iadd next s t found go =
-    moves world methods method typing place state s Iadd next t.after _ found refl (iadd_makes s.types t.after s.frame t.runs s.fits) (t.leads 0 next (omega arith)) go
-finishes_at world methods method typing place state Ireturn next s t found go =
-    returns world methods method typing place state s next method.result t.after found t.runs
+finishes_at : (world : World) (program : Program) (method : Method) (typing : Types) (place : ℕ) (state : State) (form : Form) (next : Option ℕ) → (s : Stands world program method typing place state) → Turn world method typing s.types form next → instruction_at method.instructions place ≡ Some (form, next) → NextFinishes world program method typing next → Finishes program state
+finishes_at world program method typing place state (Iconst v) next s t found go =
+    moves world program method typing place state s (Iconst v) next t.after _ found refl (iconst_makes v s.types t.after s.frame t.runs s.fits) (t.leads 0 next (omega arith)) go
+finishes_at world program method typing place state (Iload n) next s t found go =
+    moves world program method typing place state s (Iload n) next t.after _ found refl (iload_makes n s.types t.after s.frame t.runs s.fits) (t.leads 0 next (omega arith)) go
+finishes_at world program method typing place state (Istore n) next s t found go =
+    moves world program method typing place state s (Istore n) next t.after _ found refl (istore_makes n s.types t.after s.frame t.runs s.fits) (t.leads 0 next (omega arith)) go
+finishes_at world program method typing place state Iadd next s t found go =
+    moves world program method typing place state s Iadd next t.after _ found refl (iadd_makes s.types t.after s.frame t.runs s.fits) (t.leads 0 next (omega arith)) go
+finishes_at world program method typing place state Ireturn next s t found go =
+    returns world program method typing place state s next method.result t.after found t.runs
 
 -- every state that stands at an instruction of a typed code without jumps finishes
-pub finishes_from : (world : World) (methods : List Method) (method : Method) (typing : Types) (code : List ℕ) (rest done : List (ℕ × Form)) (i : ℕ × Form) → IsTyping world method typing → IsCode 0 method.instructions code → method.instructions ≡ done ++ i ∷ rest → (state : State) → Stands world methods method typing i.0 state → Finishes methods state
-finishes_from world methods method typing code [] done i typed spelled split state s =
+pub finishes_from : (world : World) (program : Program) (method : Method) (typing : Types) (code : List ℕ) (rest done : List (ℕ × Form)) (i : ℕ × Form) → IsTyping world method typing → IsCode 0 method.instructions code → method.instructions ≡ done ++ i ∷ rest → (state : State) → Stands world program method typing i.0 state → Finishes program state
+finishes_from world program method typing code [] done i typed spelled split state s =
     let found : instruction_at method.instructions i.0 ≡ Some (i.1, None) =
     rw split (instruction_at-place 0 done i [] code (subst (λ (is : List (ℕ × Form)). IsCode 0 is code) split spelled)) in
-    finishes_at world methods method typing i.0 state i.1 None s (turn world method typing i.0 s.types i.1 None (typed.each i.0 s.types s.typed) found) found (λ place e. absurd (cc))
-finishes_from world methods method typing code (j ∷ rest) done i typed spelled split state s =
+    finishes_at world program method typing i.0 state i.1 None s (turn world method typing i.0 s.types i.1 None (typed.each i.0 s.types s.typed) found) found (λ place e. absurd (cc))
+finishes_from world program method typing code (j ∷ rest) done i typed spelled split state s =
     let found : instruction_at method.instructions i.0 ≡ Some (i.1, Some j.0) =
     rw split (instruction_at-place 0 done i (j ∷ rest) code (subst (λ (is : List (ℕ × Form)). IsCode 0 is code) split spelled)) in
-    finishes_at world methods method typing i.0 state i.1 (Some j.0) s (turn world method typing i.0 s.types i.1 (Some j.0) (typed.each i.0 s.types s.typed) found) found
+    finishes_at world program method typing i.0 state i.1 (Some j.0) s (turn world method typing i.0 s.types i.1 (Some j.0) (typed.each i.0 s.types s.typed) found) found
     (λ place e next there.
     let same : j.0 ≡ place = cc in
-    finishes_from world methods method typing code rest (done ++ i ∷ []) j typed spelled (split ∙ sym (append_assoc done (i ∷ []) (j ∷ rest))) next
-    (subst (λ (p : ℕ). Stands world methods method typing p next) (sym same) there))
+    finishes_from world program method typing code rest (done ++ i ∷ []) j typed spelled (split ∙ sym (append_assoc done (i ∷ []) (j ∷ rest))) next
+    (subst (λ (p : ℕ). Stands world program method typing p next) (sym same) there))

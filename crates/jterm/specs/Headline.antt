@@ -17,7 +17,7 @@ use Rattle.class_read.specs.Content.{ClassContent, MethodContent, CodeContent}
 use Rattle.class_read.specs.Rules.{Spells}
 use Rattle.jterm.specs.World.{World, world_of, Links, IsReference, class_type, has_flag, STATIC_FLAG, NATIVE_FLAG, SYNCHRONIZED_FLAG}
 use Rattle.jterm.specs.Code.{IsCode}
-use Rattle.jterm.specs.Machine.{Method, Ends, IsNeverStuck}
+use Rattle.jterm.specs.Machine.{Method, Program, Ends, IsNeverStuck}
 use Rattle.jterm.specs.Description.{IsLine, int_descriptor}
 
 -- ---- the method that is meant
@@ -92,9 +92,10 @@ pub record IsMethod (world : World) (method : Method) : Type 0 where
   pub instructions : IsCode 0 method.instructions code.code
   pub no_table : code.table ≡ []
 
--- the methods that a run from the entry can come to, the entry first; none of the forms calls another
-abbrev pub Reached : World → Method → List Method → Type 0
-Reached world entry methods = methods ≡ entry ∷ []
+-- the program of a world and an entry: the entry method, and then the methods that calls lead to; none of the forms
+-- calls
+abbrev pub Reached : World → Method → Program → Type 0
+Reached world entry program = (program.world ≡ world) × (program.methods ≡ entry ∷ [])
 
 -- the line means this method
 pub record Means (world : World) (line : Line) (method : Method) : Type 0 where
@@ -141,7 +142,7 @@ pub record AllEnd (files : List (List ℕ)) (desc : List ℕ) : Type 0 where
   pub described : IsLine desc line
   pub entry : Method
   pub meant : Means (world_of classes) line entry
-  pub methods : List Method
-  pub reached : Reached (world_of classes) entry methods
-  pub ends : (state : State) → FitsDescription line entry state → Ends methods state
-  pub never_stuck : (state : State) → FitsDescription line entry state → IsNeverStuck methods state
+  pub program : Program
+  pub reached : Reached (world_of classes) entry program
+  pub ends : (state : State) → FitsDescription line entry state → Ends program state
+  pub never_stuck : (state : State) → FitsDescription line entry state → IsNeverStuck program state

@@ -14,6 +14,7 @@ use Rattle.jvm_values.specs.declared.state.Mode.{Mode}
 use Rattle.jvm_values.specs.declared.state.State.{State}
 use Rattle.jterm.specs.declared.form.Form.{Form}
 use Rattle.jterm.specs.declared.form.Form.TheVariants.{Iconst, Iload, Istore, Iadd, Ireturn}
+use Rattle.jterm.specs.World.{World}
 use Rattle.jterm.specs.Options.{◌>>=◌}
 
 -- a reached method: the class that declares it, what it takes and gives, the limits of its frame and its instructions,
@@ -27,6 +28,11 @@ pub record Method : Type 0 where
   pub max_stack : ℕ
   pub max_locals : ℕ
   pub instructions : List (ℕ × Form)
+
+-- the classes, and the methods that a run can come to, the entry method first
+pub record Program : Type 0 where
+  pub world : World
+  pub methods : List Method
 
 -- the place of the first of these instructions; there is none at the code's end
 abbrev pub first_place : List (ℕ × Form) → Option ℕ
@@ -93,30 +99,30 @@ going state below next changed = do
 
 -- a call has returned a value: its caller goes on after its invoke instruction with the value on its stack, and
 -- without a caller the run has returned
-unfoldable pub returned : List Method → State → Value → List Frame → Option Outcome
-returned methods state v [] = Some (Returned (Some v))
-returned methods state v (caller ∷ below) = do
-  method ← slice_get methods caller.method
+unfoldable pub returned : Program → State → Value → List Frame → Option Outcome
+returned program state v [] = Some (Returned (Some v))
+returned program state v (caller ∷ below) = do
+  method ← slice_get program.methods caller.method
   call ← instruction_at method.instructions caller.pc
   going state below call.1 (Some (record caller { stack = v ∷ caller.stack }))
 
 -- one form, run in the frame `frame` over the frames `below`; every form that is not said to jump goes on at `next`
-abbrev pub perform : List Method → Form → Option ℕ → State → Frame → List Frame → Option Outcome
-perform methods (Iconst v) next state frame below = going state below next (iconst_of v frame)
-perform methods (Iload n) next state frame below = going state below next (iload_of n frame)
-perform methods (Istore n) next state frame below = going state below next (istore_of n frame)
-perform methods Iadd next state frame below = going state below next (iadd_of frame)
-perform methods Ireturn next state frame below = do
+abbrev pub perform : Program → Form → Option ℕ → State → Frame → List Frame → Option Outcome
+perform program (Iconst v) next state frame below = going state below next (iconst_of v frame)
+perform program (Iload n) next state frame below = going state below next (iload_of n frame)
+perform program (Istore n) next state frame below = going state below next (istore_of n frame)
+perform program Iadd next state frame below = going state below next (iadd_of frame)
+perform program Ireturn next state frame below = do
   taken ← top_int frame.stack
-  returned methods state (Int taken.0) below
+  returned program state (Int taken.0) below
 
 -- normal mode: the instruction at the top frame's place
-unfoldable pub normal_step : List Method → State → List Frame → Option Outcome
-normal_step methods state [] = None
-normal_step methods state (frame ∷ below) = do
-  method ← slice_get methods frame.method
+unfoldable pub normal_step : Program → State → List Frame → Option Outcome
+normal_step program state [] = None
+normal_step program state (frame ∷ below) = do
+  method ← slice_get program.methods frame.method
   here ← instruction_at method.instructions frame.pc
-  perform methods here.0 here.1 state frame below
+  perform program here.0 here.1 state frame below
 
 -- throwing mode: no method has a handler yet, so the top frame goes and its caller's stack is emptied; with one frame
 -- left the run ends with the throw
@@ -125,25 +131,25 @@ throwing_step state thrown [] = None
 throwing_step state thrown (frame ∷ []) = Some (Threw thrown)
 throwing_step state thrown (frame ∷ caller ∷ below) = Some (Going (record state { frames = record caller { stack = [] } ∷ below }))
 
-abbrev pub step_in : List Method → State → Mode → Option Outcome
-step_in methods state Normal = normal_step methods state state.frames
-step_in methods state (Throwing thrown) = throwing_step state thrown state.frames
+abbrev pub step_in : Program → State → Mode → Option Outcome
+step_in program state Normal = normal_step program state state.frames
+step_in program state (Throwing thrown) = throwing_step state thrown state.frames
 
 -- one step of the machine
-unfoldable pub step : List Method → State → Outcome
-step methods state = unwrap_or (step_in methods state state.mode) Stuck
+unfoldable pub step : Program → State → Outcome
+step program state = unwrap_or (step_in program state state.mode) Stuck
 
 -- an ended run stays as it is
-unfoldable pub step_on : List Method → Outcome → Outcome
-step_on methods (Going state) = step methods state
-step_on methods (Returned v) = Returned v
-step_on methods (Threw r) = Threw r
-step_on methods Stuck = Stuck
+unfoldable pub step_on : Program → Outcome → Outcome
+step_on program (Going state) = step program state
+step_on program (Returned v) = Returned v
+step_on program (Threw r) = Threw r
+step_on program Stuck = Stuck
 
 -- the result of `count` steps
-abbrev pub run : List Method → ℕ → State → Outcome
-run methods zero state = Going state
-run methods (suc count) state = step_on methods (run methods count state)
+abbrev pub run : Program → ℕ → State → Outcome
+run program zero state = Going state
+run program (suc count) state = step_on program (run program count state)
 
 -- the run has ended, by a return or by a throw that nothing catches
 abbrev pub IsEnd : Outcome → Type 0
@@ -153,9 +159,9 @@ IsEnd (Threw r) = Unit {0}
 IsEnd Stuck = ⊥
 
 -- some number of steps ends the run
-abbrev pub Ends : List Method → State → Type 0
-Ends methods state = (count : ℕ) × IsEnd (run methods count state)
+abbrev pub Ends : Program → State → Type 0
+Ends program state = (count : ℕ) × IsEnd (run program count state)
 
 -- no number of steps makes the run stuck
-abbrev pub IsNeverStuck : List Method → State → Type 0
-IsNeverStuck methods state = (count : ℕ) → run methods count state ≡ Stuck → ⊥
+abbrev pub IsNeverStuck : Program → State → Type 0
+IsNeverStuck program state = (count : ℕ) → run program count state ≡ Stuck → ⊥
