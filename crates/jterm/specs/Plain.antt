@@ -1,4 +1,4 @@
--- The classes that the first stage decides.
+-- The classes that are decided so far.
 use Rattle.std.specs.Prelude.{◌<◌, length, ◌≡◌, ◌≢◌, ℕ, ◌⊎◌, List, [], ◌∷◌, ◌++◌, All, replicate, codes, Option, Some, IsTrue, IsFalse}
 use Rattle.jvm_values.specs.declared.types.Kind.TheVariants as kinds
 use Rattle.jvm_values.specs.declared.types.Slot.TheVariants as slots

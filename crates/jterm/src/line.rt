@@ -1,4 +1,4 @@
-//! The description of the first stage: one line that names a method.
+//! The description: one line that names a method.
 ghost use Rattle.std.specs.Prelude.{◌≡◌, ◌≤◌, ◌∷◌, [], ◌++◌, ◌==◌, ℕ, List, MatchOption, IsTrue, ◌↔◌};
 ghost use Rattle.std.specs.List.{position, list_all};
 ghost use Rattle.jterm.specs.declared.line.Line.{Line};

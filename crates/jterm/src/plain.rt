@@ -1,4 +1,4 @@
-//! Plain classes: those that the line describes and this stage decides.
+//! Plain classes: those that a line describes and that are decided so far.
 ghost use Rattle.std.specs.Prelude.{◌≡◌, ◌≢◌, ◌↔◌, ◌<◌, ◌⊎◌, ◌++◌, ℕ, List, [], ◌∷◌, length, Some, None, All, IsTrue, IsFalse, IfOk, MatchBool};
 ghost use Rattle.std.specs.List.{list_any};
 ghost use Rattle.std.specs.Str.{bytes_eq};
