@@ -1,5 +1,5 @@
 -- Runs of the machine from their first step.
-use Rattle.std.proofs.Common.{◌≡◌, ℕ, zero, suc, List, Option, ap, sym, ◌∙◌, subst}
+use Rattle.std.proofs.Common.{◌≡◌, ℕ, zero, suc, Option, ap, sym, ◌∙◌, subst}
 use Rattle.jvm_values.specs.declared.heap.Value.{Value}
 use Rattle.jvm_values.specs.declared.state.State.{State}
 use Rattle.jterm.specs.Machine.{Program, Going, Returned, Stuck, step, step_on, run, IsEnd, Ends, IsNeverStuck}
