@@ -10,9 +10,11 @@ mod pile;
 mod shape;
 mod state;
 mod types;
+mod world_types;
 
 pub use heap::{Heap, Object, Value};
 pub use pile::Pile;
 pub use shape::{Shape, Term};
 pub use state::{Frame, Mode, State};
 pub use types::{Base, Kind, Slot, Ty};
+pub use world_types::Types;
