@@ -60,7 +60,7 @@ pub record SubtypeLaws (sub : Ty → Ty → Bool) (erase : Ty → Ty) (classes :
   -- erasure goes up, and what it gives is erased
   pub erase_up : (a : Ty) → IsReference classes a → IsTrue (sub a (erase a))
   pub erase_erased : (a : Ty) → IsReference classes a → IsErased erase (erase a)
-  pub erase_outside : (a : Ty) → (IsReference classes a → ⊥) → erase a ≡ a
+  pub erase_outside : (a : Ty) → a.dims ≤ 255 → (IsReference classes a → ⊥) → erase a ≡ a
   -- erasure works under array dimensions, and leaves arrays of numbers alone
   pub erase_array : (a : Ty) → IsReference classes a → IsReference classes (array_of a) → erase (array_of a) ≡ array_of (erase a)
   pub erase_numbers : (kind : Kind) → IsErased erase (array_of_numbers kind)

@@ -1,0 +1,11 @@
+pub mod Walks
+pub mod Classes
+pub mod Subtypes
+pub mod Linked
+pub mod Least
+pub mod Maps
+pub mod Marking
+pub mod Tables
+pub mod Rules
+pub mod RulesAt
+pub mod Rows

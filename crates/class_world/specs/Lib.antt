@@ -1,0 +1,5 @@
+pub mod World
+pub mod Types
+pub mod Linking
+pub mod Marking
+pub mod Tables

@@ -1,0 +1,100 @@
+-- When classes make a world, and else the first rule that they break: rule by rule, and of a rule the first class by
+-- its number (JVM specification, sections 5.3 and 5.3.5).
+use Rattle.std.specs.Prelude.{◌≡◌, ◌⊎◌, ℕ, zero, suc, ◌+◌, ◌==◌, ◌||◌, ◌&&◌, not, Bool, true, false, if◌then◌else◌, List, [], ◌∷◌, ◌++◌, length, slice_get, Option, Some, None, is_none, IsTrue, Result, Ok, Err, option_and_then}
+use Rattle.std.specs.List.{list_any}
+use Rattle.std.specs.Option.{option_map_or, option_or}
+use Rattle.class_world.specs.declared.fault.LinkFault.{LinkFault}
+use Rattle.class_world.specs.declared.fault.LinkFault.TheVariants.{DuplicateClass, MissingClass, CyclicHierarchy, BadSuper, DefaultMethod, Memory}
+use Rattle.class_world.specs.declared.linking.LinkRule.{LinkRule}
+use Rattle.class_world.specs.declared.linking.LinkRule.TheVariants as rules
+use Rattle.class_read.specs.Content.{ClassContent, MethodContent}
+use Rattle.class_world.specs.World.{World, class_of, super_of, interfaces_of, is_interface_class, is_above, is_interface, is_abstract, is_static}
+
+-- what a rule says of a class and its number
+abbrev pub Rule : Type 0
+Rule = ℕ → ClassContent → Option LinkFault
+
+-- the first class that breaks a rule, of classes that are numbered from `n` on
+abbrev pub first_broken : Rule → ℕ → List ClassContent → Option LinkFault
+first_broken rule n [] = None
+first_broken rule n (c ∷ cs) = option_or (rule n c) (first_broken rule (suc n) cs)
+
+-- no earlier class has its name
+unfoldable pub duplicate_class : World → Rule
+duplicate_class world n c =
+    if option_map_or (λ first. first == n) (class_of world c.name) false then None else Some (DuplicateClass c.name)
+
+-- the names of the superclass, which class 0 has none of, and of the superinterfaces
+abbrev pub named_supers : ℕ → ClassContent → List (List ℕ)
+named_supers n c = if n == 0 then c.interfaces else c.super_name ∷ c.interfaces
+
+-- no class has the name
+abbrev pub missing_name : World → List ℕ → Option LinkFault
+missing_name world name = if is_none (class_of world name) then Some (MissingClass name) else None
+
+-- the first of the names that no class has
+abbrev pub first_missing : World → List (List ℕ) → Option LinkFault
+first_missing world [] = None
+first_missing world (name ∷ names) = option_or (missing_name world name) (first_missing world names)
+
+-- its superclass and superinterfaces are there
+unfoldable pub missing_super : World → Rule
+missing_super world n c = first_missing world (named_supers n c)
+
+-- it is not above itself
+unfoldable pub cyclic_hierarchy : World → Rule
+cyclic_hierarchy world n c = if is_above world n n then Some (CyclicHierarchy c.name) else None
+
+-- the superclass is an interface, or another than Object over an interface
+abbrev pub is_bad_superclass : World → ℕ → ℕ → Bool
+is_bad_superclass world flags super = is_interface_class world super || (is_interface flags && not (super == 0))
+
+-- its superclass and superinterfaces are of the right kind
+unfoldable pub bad_super : World → Rule
+bad_super world n c =
+    if option_map_or (is_bad_superclass world c.flags) (super_of world n) false
+    || list_any (λ i. not (is_interface_class world i)) (interfaces_of world n)
+    then Some (BadSuper c.name) else None
+
+-- a method of an interface that is neither abstract nor static
+abbrev pub is_default : MethodContent → Bool
+is_default m = not (is_abstract m.flags || is_static m.flags)
+
+-- an interface has no default method
+unfoldable pub default_method : World → Rule
+default_method world n c =
+    if is_interface c.flags && list_any is_default c.methods then Some (DefaultMethod c.name) else None
+
+-- the first rule that the classes of a world break
+unfoldable pub link_fault : World → Option LinkFault
+link_fault world =
+    option_or (first_broken (duplicate_class world) 0 world)
+    (option_or (first_broken (missing_super world) 0 world)
+    (option_or (first_broken (cyclic_hierarchy world) 0 world)
+    (option_or (first_broken (bad_super world) 0 world)
+    (first_broken (default_method world) 0 world))))
+
+-- class 0 is a class that implements nothing, as Object is
+abbrev pub is_rooted : World → Bool
+is_rooted world = option_map_or (λ c. not (is_interface c.flags) && (length c.interfaces == 0)) (slice_get world 0) false
+
+-- the classes make a world
+unfoldable pub is_linked : World → Bool
+is_linked world = is_none (link_fault world) && is_rooted world
+
+-- ---- answers
+
+-- an answer says what the rules say; want of memory says nothing
+abbrev pub Refuses : {A : Type 0} → Result A LinkFault → Option LinkFault → Type 0
+Refuses (Ok value) fault = fault ≡ None
+Refuses (Err found) fault = (found ≡ Memory) ⊎ (fault ≡ Some found)
+
+-- what a rule says of the class of a number
+abbrev pub rule_at : Rule → World → ℕ → Option LinkFault
+rule_at rule world n = option_and_then (rule n) (slice_get world n)
+
+abbrev pub rule_of : LinkRule → World → Rule
+rule_of rules.MissingSuper = missing_super
+rule_of rules.CyclicHierarchy = cyclic_hierarchy
+rule_of rules.BadSuper = bad_super
+rule_of rules.DefaultMethod = default_method

@@ -1,0 +1,131 @@
+-- A world: the classes that a program can speak of, each under its number.
+--
+-- The built-in classes have the numbers 0 to 14. They are the classes of `java.lang` that instructions throw, with
+-- those above them (Java SE 6). Given classes are numbered from 15 on, in their order. A world is the list of its
+-- classes; nothing here knows of an index of names.
+use Rattle.std.specs.Prelude.{◌≡◌, ℕ, zero, suc, ◌==◌, ◌||◌, ◌&&◌, not, Bool, true, false, if◌then◌else◌, List, [], ◌∷◌, ◌++◌, length, slice_get, position, map, reverse, Option, Some, None, option_and_then, codes, bit_and, filter_map}
+use Rattle.std.specs.List.{list_any}
+use Rattle.std.specs.Option.{option_map_or}
+use Rattle.std.specs.Str.{bytes_eq}
+use Rattle.class_read.specs.Content.{ClassContent, FieldContent, MethodContent, CodeContent}
+
+-- ---- access flags (JVM specification, tables 4.1, 4.4 and 4.5)
+
+abbrev pub has_flag : ℕ → ℕ → Bool
+has_flag flags flag = not (bit_and flags flag == 0)
+
+abbrev pub is_private : ℕ → Bool
+is_private flags = has_flag flags 0x0002
+
+abbrev pub is_static : ℕ → Bool
+is_static flags = has_flag flags 0x0008
+
+abbrev pub is_synchronized : ℕ → Bool
+is_synchronized flags = has_flag flags 0x0020
+
+abbrev pub is_native : ℕ → Bool
+is_native flags = has_flag flags 0x0100
+
+abbrev pub is_interface : ℕ → Bool
+is_interface flags = has_flag flags 0x0200
+
+abbrev pub is_abstract : ℕ → Bool
+is_abstract flags = has_flag flags 0x0400
+
+-- ---- the built-in classes
+
+-- `<init>()V` of a built-in class: `return` alone, for one local, the receiver
+abbrev pub built_in_init : MethodContent
+built_in_init = record {
+  flags = 0x0001;
+  name = codes "<init>";
+  desc = codes "()V";
+  code = Some (record { max_stack = 0; max_locals = 1; code = 177 ∷ []; table = [] });
+}
+
+-- A built-in class and its superclass. It is public, has no interfaces and no fields, and one method.
+abbrev pub built_in : List ℕ → List ℕ → ClassContent
+built_in name super_name = record {
+  major = 50;
+  flags = 0x0021;
+  name = name;
+  super_name = super_name;
+  interfaces = [];
+  fields = [];
+  methods = built_in_init ∷ [];
+  pool = [];
+  skipped = 0;
+}
+
+-- the built-in classes, from 0 to 14; Object has no superclass
+unfoldable pub built_ins : List ClassContent
+built_ins =
+    built_in (codes "java/lang/Object") []
+    ∷ built_in (codes "java/lang/Throwable") (codes "java/lang/Object")
+    ∷ built_in (codes "java/lang/Exception") (codes "java/lang/Throwable")
+    ∷ built_in (codes "java/lang/RuntimeException") (codes "java/lang/Exception")
+    ∷ built_in (codes "java/lang/NullPointerException") (codes "java/lang/RuntimeException")
+    ∷ built_in (codes "java/lang/ArithmeticException") (codes "java/lang/RuntimeException")
+    ∷ built_in (codes "java/lang/IndexOutOfBoundsException") (codes "java/lang/RuntimeException")
+    ∷ built_in (codes "java/lang/ArrayIndexOutOfBoundsException") (codes "java/lang/IndexOutOfBoundsException")
+    ∷ built_in (codes "java/lang/NegativeArraySizeException") (codes "java/lang/RuntimeException")
+    ∷ built_in (codes "java/lang/ClassCastException") (codes "java/lang/RuntimeException")
+    ∷ built_in (codes "java/lang/ArrayStoreException") (codes "java/lang/RuntimeException")
+    ∷ built_in (codes "java/lang/Error") (codes "java/lang/Throwable")
+    ∷ built_in (codes "java/lang/LinkageError") (codes "java/lang/Error")
+    ∷ built_in (codes "java/lang/IncompatibleClassChangeError") (codes "java/lang/LinkageError")
+    ∷ built_in (codes "java/lang/AbstractMethodError") (codes "java/lang/IncompatibleClassChangeError")
+    ∷ []
+
+-- ---- worlds
+
+abbrev pub World : Type 0
+World = List ClassContent
+
+-- the world of the given classes
+abbrev pub world_of : List ClassContent → World
+world_of given = built_ins ++ given
+
+-- the number of the class of a name, the first of that name
+abbrev pub class_of : World → List ℕ → Option ℕ
+class_of world name = position (λ class. bytes_eq name class.name) world
+
+abbrev pub listed : Option ℕ → List ℕ
+listed (Some class) = class ∷ []
+listed None = []
+
+-- the direct superclass of a class; class 0, Object, has none
+abbrev pub super_of : World → ℕ → Option ℕ
+super_of world class =
+    if class == 0 then None else option_and_then (λ c. class_of world c.super_name) (slice_get world class)
+
+-- the direct superinterfaces of a class, in their order
+abbrev pub interfaces_of : World → ℕ → List ℕ
+interfaces_of world class = option_map_or (λ c. filter_map (class_of world) c.interfaces) (slice_get world class) []
+
+-- what a class directly extends or implements: its superclass and its superinterfaces
+unfoldable pub supers_of : World → ℕ → List ℕ
+supers_of world class = listed (super_of world class) ++ interfaces_of world class
+
+-- whether a class is an interface
+unfoldable pub is_interface_class : World → ℕ → Bool
+is_interface_class world class = option_map_or (λ c. is_interface c.flags) (slice_get world class) false
+
+-- some way of at most so many steps up, and at least one, leads from class `a` to class `b`
+abbrev pub leads_up : (ℕ → List ℕ) → ℕ → ℕ → ℕ → Bool
+leads_up up zero a b = false
+leads_up up (suc steps) a b = list_any (λ c. (b == c) || leads_up up steps c b) (up a)
+
+-- Class `b` is a superclass or superinterface of class `a`, over one or more steps. A way that comes to no class twice
+-- has at most as many steps as there are classes.
+unfoldable pub is_above : World → ℕ → ℕ → Bool
+is_above world a b = leads_up (supers_of world) (length world) a b
+
+-- a class, its superclass, and so on, up to so many classes
+abbrev pub line_from : (ℕ → Option ℕ) → ℕ → ℕ → List ℕ
+line_from super zero class = []
+line_from super (suc most) class = class ∷ option_map_or (line_from super most) (super class) []
+
+-- the superclass chain of a class, itself first
+unfoldable pub line_of : World → ℕ → List ℕ
+line_of world class = line_from (super_of world) (length world) class

@@ -1,0 +1,109 @@
+//! Why classes make no world, or an entry no program.
+ghost use Rattle.std.specs.Prelude.{◌≡◌};
+ghost use Rattle.class_world.specs.declared.fault.LinkFault.TheVariants.{Memory};
+
+use list_views::Seq;
+use std::alloc::{AllocError, AllocFailed};
+
+/// A method by its class, its name and its descriptor.
+#[derive(Debug, Drop)]
+pub struct MethodName {
+    /// The class that declares it.
+    pub class: Seq<u8>,
+    /// The method's name.
+    pub name: Seq<u8>,
+    /// The method's descriptor.
+    pub desc: Seq<u8>,
+}
+
+/// The first rule that classes break as a world, or that the methods reached from an entry break.
+#[derive(Debug, Drop)]
+pub enum LinkFault {
+    /// Two classes have this name, or a given class has the name of a built-in one (JVM specification, section 5.3).
+    DuplicateClass {
+        /// The name.
+        name: Seq<u8>,
+    },
+    /// A class is needed that is neither built in nor given (section 5.3).
+    MissingClass {
+        /// Its name.
+        name: Seq<u8>,
+    },
+    /// A class is its own superclass or superinterface, over one or more steps (section 5.3.5).
+    CyclicHierarchy {
+        /// The class's name.
+        name: Seq<u8>,
+    },
+    /// A class is under an interface, an interface under another class than Object, or what a class names as an
+    /// interface is none (section 5.3.5).
+    BadSuper {
+        /// The name of the class that has the superclass or the interface.
+        name: Seq<u8>,
+    },
+    /// An interface has a method that is neither abstract nor static.
+    DefaultMethod {
+        /// The interface's name.
+        name: Seq<u8>,
+    },
+    /// A class that would be initialised has a static initialiser (section 5.5).
+    StaticInit {
+        /// The name of the first class with one, from the tested class up.
+        name: Seq<u8>,
+    },
+    /// A reached method is native.
+    Native {
+        /// The method.
+        method: MethodName,
+    },
+    /// A reached method is synchronized.
+    Synchronized {
+        /// The method.
+        method: MethodName,
+    },
+    /// Reached code uses a type or a constant that is not supported.
+    UnsupportedType {
+        /// The method.
+        method: MethodName,
+        /// The place of the instruction, or 0 for the method's own descriptor.
+        pc: u16,
+    },
+    /// An operand of reached code names nothing of the right kind (section 5.4.3).
+    Unresolved {
+        /// The method.
+        method: MethodName,
+        /// The place of the instruction.
+        pc: u16,
+    },
+    /// The target of an `invokevirtual` is private.
+    PrivateVirtual {
+        /// The method.
+        method: MethodName,
+        /// The place of the instruction.
+        pc: u16,
+    },
+    /// Reached code names a static field.
+    StaticField {
+        /// The method.
+        method: MethodName,
+        /// The place of the instruction.
+        pc: u16,
+    },
+    /// Want of memory.
+    Memory,
+}
+
+impl From<AllocError> for LinkFault {
+    ghost from_gives = { λ _ fault. fault ≡ Memory };
+
+    fn from(_error: AllocError) -> LinkFault {
+        LinkFault::Memory
+    }
+}
+
+impl<T: Drop> From<AllocFailed<T>> for LinkFault {
+    ghost from_gives = { λ _ fault. fault ≡ Memory };
+
+    fn from(_failed: AllocFailed<T>) -> LinkFault {
+        LinkFault::Memory
+    }
+}
