@@ -9,3 +9,7 @@ pub mod Tables
 pub mod Rules
 pub mod RulesAt
 pub mod Rows
+pub mod FieldLemmas
+pub mod SlotLaws
+pub mod WorldLaws
+pub mod Links

@@ -12,7 +12,7 @@ use Rattle.class_world.specs.declared.fault.LinkFault.{LinkFault}
 use Rattle.class_world.specs.declared.fault.LinkFault.TheVariants.{CyclicHierarchy, BadSuper}
 use Rattle.class_world.specs.World.{World, built_in, class_of, super_of, interfaces_of, supers_of, listed, is_interface_class, is_above, is_interface, leads_up}
 use Rattle.class_world.specs.Types.{is_class_below}
-use Rattle.class_world.specs.Linking.{Rule, first_broken, duplicate_class, missing_super, cyclic_hierarchy, bad_super, default_method, is_bad_superclass, link_fault, is_rooted, is_linked}
+use Rattle.class_world.specs.Linking.{Rule, first_broken, duplicate_class, missing_super, cyclic_hierarchy, bad_super, default_method, is_bad_superclass, link_fault, later_fault, is_rooted, is_linked}
 use Rattle.class_world.proofs.Walks.{IsIn}
 use Rattle.class_world.proofs.Classes.{IsHierarchy, below_root, below_same, below_trans, below_antisym, below_chain, root_below}
 use Rattle.class_world.proofs.Subtypes.{IsClassOrder}
@@ -43,7 +43,7 @@ pub record IsLinked (world : World) : Type 0 where
   pub rooted : is_rooted world ≡ true
 
 pub linked_from : (world : World) → is_linked world ≡ true → IsLinked world
-unfolding is_linked link_fault
+unfolding is_linked link_fault later_fault
 linked_from world e =
     let p = and_parts (is_none (link_fault world)) (is_rooted world) e in
     let all = none_from (link_fault world) p.0 in

@@ -203,3 +203,19 @@ pub get_or_twice : {A : Type 0} (xs : List A) (i : ℕ) (d : A) → get_or xs i 
 get_or_twice [] i d = refl
 get_or_twice (x ∷ xs) zero d = refl
 get_or_twice (x ∷ xs) (suc i) d = get_or_twice xs i d
+
+-- ---- one rule after another
+
+pub first_says : (a b : Option LinkFault) (fault : LinkFault) → (fault ≡ Memory) ⊎ (a ≡ Some fault) → (fault ≡ Memory) ⊎ (option_or a b ≡ Some fault)
+first_says a b fault (inl m) = inl m
+first_says a b fault (inr s) = inr (ap (λ o. option_or o b) s)
+
+pub says_along : (a b : Option LinkFault) (fault : LinkFault) → a ≡ b → (fault ≡ Memory) ⊎ (b ≡ Some fault) → (fault ≡ Memory) ⊎ (a ≡ Some fault)
+says_along a b fault e (inl m) = inl m
+says_along a b fault e (inr s) = inr (e ∙ s)
+
+pub after_none : (a b : Option LinkFault) → a ≡ None → option_or a b ≡ b
+after_none a b e = ap (λ o. option_or o b) e
+
+pub refuses_along : {A : Type 0} (r : Result A LinkFault) (a b : Option LinkFault) → a ≡ b → Refuses r b → Refuses r a
+refuses_along r a b e h = subst (λ (o : Option LinkFault). Refuses r o) (sym e) h

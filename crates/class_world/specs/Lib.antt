@@ -3,3 +3,7 @@ pub mod Types
 pub mod Linking
 pub mod Marking
 pub mod Tables
+pub mod Descriptors
+pub mod Fields
+pub mod Reads
+pub mod Worlds

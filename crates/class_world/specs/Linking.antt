@@ -65,14 +65,17 @@ unfoldable pub default_method : World → Rule
 default_method world n c =
     if is_interface c.flags && list_any is_default c.methods then Some (DefaultMethod c.name) else None
 
--- the first rule that the classes of a world break
-unfoldable pub link_fault : World → Option LinkFault
-link_fault world =
-    option_or (first_broken (duplicate_class world) 0 world)
-    (option_or (first_broken (missing_super world) 0 world)
+-- the first rule that the classes of a world break, after that of the names
+unfoldable pub later_fault : World → Option LinkFault
+later_fault world =
+    option_or (first_broken (missing_super world) 0 world)
     (option_or (first_broken (cyclic_hierarchy world) 0 world)
     (option_or (first_broken (bad_super world) 0 world)
-    (first_broken (default_method world) 0 world))))
+    (first_broken (default_method world) 0 world)))
+
+-- the first rule that the classes of a world break
+unfoldable pub link_fault : World → Option LinkFault
+link_fault world = option_or (first_broken (duplicate_class world) 0 world) (later_fault world)
 
 -- class 0 is a class that implements nothing, as Object is
 abbrev pub is_rooted : World → Bool

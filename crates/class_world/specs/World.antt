@@ -57,25 +57,29 @@ built_in name super_name = record {
   skipped = 0;
 }
 
--- the built-in classes, from 0 to 14; Object has no superclass
-unfoldable pub built_ins : List ClassContent
-built_ins =
-    built_in (codes "java/lang/Object") []
-    ∷ built_in (codes "java/lang/Throwable") (codes "java/lang/Object")
-    ∷ built_in (codes "java/lang/Exception") (codes "java/lang/Throwable")
-    ∷ built_in (codes "java/lang/RuntimeException") (codes "java/lang/Exception")
-    ∷ built_in (codes "java/lang/NullPointerException") (codes "java/lang/RuntimeException")
-    ∷ built_in (codes "java/lang/ArithmeticException") (codes "java/lang/RuntimeException")
-    ∷ built_in (codes "java/lang/IndexOutOfBoundsException") (codes "java/lang/RuntimeException")
-    ∷ built_in (codes "java/lang/ArrayIndexOutOfBoundsException") (codes "java/lang/IndexOutOfBoundsException")
-    ∷ built_in (codes "java/lang/NegativeArraySizeException") (codes "java/lang/RuntimeException")
-    ∷ built_in (codes "java/lang/ClassCastException") (codes "java/lang/RuntimeException")
-    ∷ built_in (codes "java/lang/ArrayStoreException") (codes "java/lang/RuntimeException")
-    ∷ built_in (codes "java/lang/Error") (codes "java/lang/Throwable")
-    ∷ built_in (codes "java/lang/LinkageError") (codes "java/lang/Error")
-    ∷ built_in (codes "java/lang/IncompatibleClassChangeError") (codes "java/lang/LinkageError")
-    ∷ built_in (codes "java/lang/AbstractMethodError") (codes "java/lang/IncompatibleClassChangeError")
+-- the names of the built-in classes, from 0 to 14, and of their superclasses; Object has none
+unfoldable pub built_in_names : List (List ℕ × List ℕ)
+built_in_names =
+    (codes "java/lang/Object", [])
+    ∷ (codes "java/lang/Throwable", codes "java/lang/Object")
+    ∷ (codes "java/lang/Exception", codes "java/lang/Throwable")
+    ∷ (codes "java/lang/RuntimeException", codes "java/lang/Exception")
+    ∷ (codes "java/lang/NullPointerException", codes "java/lang/RuntimeException")
+    ∷ (codes "java/lang/ArithmeticException", codes "java/lang/RuntimeException")
+    ∷ (codes "java/lang/IndexOutOfBoundsException", codes "java/lang/RuntimeException")
+    ∷ (codes "java/lang/ArrayIndexOutOfBoundsException", codes "java/lang/IndexOutOfBoundsException")
+    ∷ (codes "java/lang/NegativeArraySizeException", codes "java/lang/RuntimeException")
+    ∷ (codes "java/lang/ClassCastException", codes "java/lang/RuntimeException")
+    ∷ (codes "java/lang/ArrayStoreException", codes "java/lang/RuntimeException")
+    ∷ (codes "java/lang/Error", codes "java/lang/Throwable")
+    ∷ (codes "java/lang/LinkageError", codes "java/lang/Error")
+    ∷ (codes "java/lang/IncompatibleClassChangeError", codes "java/lang/LinkageError")
+    ∷ (codes "java/lang/AbstractMethodError", codes "java/lang/IncompatibleClassChangeError")
     ∷ []
+
+-- the built-in classes
+abbrev pub built_ins : List ClassContent
+built_ins = map (λ n. built_in n.0 n.1) built_in_names
 
 -- ---- worlds
 

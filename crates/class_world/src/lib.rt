@@ -1,11 +1,16 @@
 //! The classes that a program can speak of, and the methods that an entry reaches.
 #![tactic(auto)]
 
+mod built_in;
+mod descriptor;
 mod fault;
+mod fields;
 mod flags;
 mod hierarchy;
 mod linking;
 mod names;
 mod roster;
+mod world;
 
 pub use fault::{LinkFault, MethodName};
+pub use world::World;

@@ -24,6 +24,7 @@ pub(crate) enum LinkRule {
 }
 
 /// The classes, and for each the marks of those above it.
+#[derive(Drop)]
 pub(crate) struct Hierarchy<'w, 'a> {
     pub(crate) roster: &'w Roster<'a>,
     pub(crate) above: &'w [Seq<bool>],

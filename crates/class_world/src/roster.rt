@@ -61,13 +61,12 @@ impl<'a> Roster<'a> {
 
     /// The direct superclass of a class; class 0 has none.
     pub(crate) fn super_of(&self, class: usize) -> Option<u32>
-        requires { class < length self.now.classes }
         ensures { result ≡ super_of self.now.classes class }
     {
         if class == 0 {
             return None;
         }
-        let view = self.classes.at(class);
+        let view = self.classes.get(class)?;
         self.number_of(view.super_name)
     }
 
