@@ -3,6 +3,7 @@
 #![tactic(auto)]
 
 mod case;
+mod classes;
 mod code;
 mod json;
 
@@ -26,6 +27,7 @@ fn main(rt: HostRuntime) -> Result<()> {
 fn answer(alloc: Global, line: &str) -> Result<String> {
     let case = Case::read(alloc, line)?;
     match case.table() {
+        "classes-50" => classes::answer(alloc, &case),
         "code" => code::answer(alloc, &case),
         "json" => json::answer(alloc, &case),
         "table" => code::table_answer(alloc, &case),
