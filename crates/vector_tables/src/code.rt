@@ -50,7 +50,10 @@ fn write_operands(line: &mut String, insn: &Insn) -> Result<()> {
         Parts::FarJump(_, target) => write!(line, " {target}")?,
         Parts::Increment(_, local, value) => write!(line, " {local} {value}")?,
         Parts::Table(_, default, low, targets) => {
-            let high = i64::from(low) + (targets.len() as i64 - 1);
+            let Ok(count) = u32::try_from(targets.len()) else {
+                bail!("a switch has too many targets");
+            };
+            let high = i64::from(low) + i64::from(count) - 1;
             write!(line, " {default} {low} {high}")?;
             for target in targets.as_slice() {
                 write!(line, " {target}")?;
