@@ -1,12 +1,12 @@
 -- Superclass chains and the fields of objects.
-use Rattle.std.proofs.Common.{◌≡◌, ◌++◌, ◌-◌, ℕ, zero, suc, ◌+◌, ◌<◌, ◌≤◌, List, [], ◌∷◌, length, get_or, Option, Some, None, sym, refl, ap, ◌∙◌, subst, arith, append_assoc, append-nil}
-use Rattle.std.specs.Prelude.{map, slice_get, reverse}
+use Rattle.std.proofs.Common.{◌≡◌, ◌++◌, ◌-◌, ℕ, suc, ◌+◌, ◌<◌, ◌≤◌, List, [], ◌∷◌, length, get_or, Option, Some, None, sym, refl, ap, ◌∙◌, arith, append_assoc, append-nil}
+use Rattle.std.specs.Prelude.{map, reverse}
 use Rattle.std.specs.List.{filter_map, flat_map}
 use Rattle.std.proofs.lemmas.List.{reverse-append}
 use Rattle.std.proofs.lemmas.List.Concat.{flat_map-cons}
 use Rattle.std.proofs.lemmas.Option.{slice_get_past}
 use Rattle.std.specs.Option.{option_map_or}
-use Rattle.class_read.specs.Content.{ClassContent, FieldContent}
+use Rattle.class_read.specs.Content.{ClassContent}
 use Rattle.class_read.specs.declared.view.FieldView.{FieldView}
 use Rattle.class_read.specs.View.{field_content}
 use Rattle.jvm_values.specs.declared.types.Slot.{Slot}
@@ -70,7 +70,7 @@ own_none world own class e l =
 pub slots_more : (own : ℕ → List Slot) (slots more : List Slot) (line rest : List ℕ) (here : ℕ) (added all : List Slot) → slots ++ flat_map own (reverse line) ≡ all → line ≡ rest ++ here ∷ [] → added ≡ own here → more ≡ slots ++ added → more ++ flat_map own (reverse rest) ≡ all
 slots_more own slots more line rest here added all e l a m =
     let r : flat_map own (reverse line) ≡ own here ++ flat_map own (reverse rest) =
-        ap (λ xs. flat_map own (reverse xs)) l ∙ ap (flat_map own) (reverse-append rest (here ∷ [])) ∙ flat_map-cons own here (reverse rest) in
+    ap (λ xs. flat_map own (reverse xs)) l ∙ ap (flat_map own) (reverse-append rest (here ∷ [])) ∙ flat_map-cons own here (reverse rest) in
     ap (λ xs. xs ++ flat_map own (reverse rest)) m
     ∙ append_assoc slots added (flat_map own (reverse rest))
     ∙ ap (λ xs. slots ++ (xs ++ flat_map own (reverse rest))) a

@@ -1,20 +1,19 @@
 -- The test of subtypes answers the least relation.
-use Rattle.std.proofs.Common.{◌≡◌, ℕ, zero, suc, ◌+◌, ◌<◌, ◌≤◌, Bool, true, false, List, [], ◌∷◌, length, sym, refl, ap, ◌∙◌, subst, inl, inr, ◌⊎◌, arith, add-one}
+use Rattle.std.proofs.Common.{◌≡◌, ℕ, zero, suc, ◌+◌, ◌<◌, ◌≤◌, true, List, [], ◌∷◌, length, sym, refl, subst, inl, inr, ◌⊎◌, arith, add-one}
 use Rattle.std.proofs.lemmas.Bool.{false≢true}
 use Rattle.jvm_values.specs.declared.types.Ty.{Ty}
 use Rattle.jvm_values.specs.declared.types.Kind.{Kind}
 use Rattle.jvm_values.specs.declared.types.Base.{Base}
 use Rattle.jvm_values.specs.declared.types.Base.TheVariants.{Class, Num}
-use Rattle.jvm_values.specs.declared.types.Slot.{Slot}
-use Rattle.jvm_values.specs.Subtyping.{class_type, object_type, array_of, IsReference, IsReferenceBase, SubtypeLaws}
+use Rattle.jvm_values.specs.Subtyping.{class_type, IsReference, IsReferenceBase, SubtypeLaws}
 use Rattle.class_world.specs.World.{World, supers_of, is_above, is_interface_class, leads_up}
-use Rattle.class_world.specs.Types.{Sub, Extends, is_base_below, is_sub, is_sub_by, is_class_below, erase_by}
+use Rattle.class_world.specs.Types.{Sub, Extends, is_base_below, is_sub, is_class_below, erase_by}
 use Rattle.class_world.specs.Types.Sub.{same, follows, up, items, top}
 use Rattle.class_world.specs.Linking.{is_linked}
-use Rattle.class_world.proofs.Walks.{IsIn, Walk, Walk-from_leads, leads-from_any_Walk, IsIn-from_any, any-from_IsIn}
-use Rattle.class_world.proofs.Classes.{below_up, below_cases}
-use Rattle.class_world.proofs.Subtypes.{IsClassOrder, ty_eq, laws_of, stands_from, stands_to, same_kind}
-use Rattle.class_world.proofs.Linked.{hierarchy, linked_from, class_order}
+use Rattle.class_world.specs.Walks.{Walk, Walk-from_leads, leads-from_any_Walk, IsIn-from_any, any-from_IsIn}
+use Rattle.class_world.specs.Classes.{below_up, below_cases}
+use Rattle.class_world.specs.Subtypes.{ty_eq, laws_of, stands_from, stands_to, same_kind}
+use Rattle.class_world.specs.Linked.{hierarchy, linked_from, class_order}
 
 module _ (world : World) (linked : is_linked world ≡ true) where
   abbrev n : ℕ

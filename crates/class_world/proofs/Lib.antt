@@ -1,7 +1,3 @@
-pub mod Walks
-pub mod Classes
-pub mod Subtypes
-pub mod Linked
 pub mod Least
 pub mod Maps
 pub mod Marking
@@ -10,6 +6,5 @@ pub mod Rules
 pub mod RulesAt
 pub mod Rows
 pub mod FieldLemmas
-pub mod SlotLaws
-pub mod WorldLaws
 pub mod Links
+pub mod Few

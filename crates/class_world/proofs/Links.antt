@@ -1,5 +1,5 @@
 -- Linking, from its steps.
-use Rattle.std.proofs.Common.{◌≡◌, ◌++◌, ℕ, ◌+◌, ◌<◌, ◌≤◌, ◌^◌, ◌-◌, Bool, true, false, ◌&&◌, List, length, Option, Some, None, sym, refl, ap, ◌∙◌, subst, inl, inr, ◌⊎◌, arith, length-append}
+use Rattle.std.proofs.Common.{◌≡◌, ◌+◌, ◌<◌, ◌≤◌, ◌^◌, ◌-◌, true, List, length, Some, None, sym, refl, ap, ◌∙◌, subst, ◌⊎◌, arith, length-append}
 use Rattle.std.specs.Prelude.{is_none}
 use Rattle.std.proofs.lemmas.Bool.{and_from}
 use Rattle.class_read.specs.Content.{ClassContent}
@@ -28,7 +28,7 @@ pub link_later : (given : List ClassContent) (all world : World) (fault : LinkFa
 unfolding link_fault
 link_later given all world fault e s n h =
     says_along _ _ fault (after_none _ _ (subst (λ (w : World). first_broken (duplicate_class w) 0 w ≡ None) e n))
-      (subst (λ (w : World). (fault ≡ Memory) ⊎ (later_fault w ≡ Some fault)) (s ∙ e) h)
+    (subst (λ (w : World). (fault ≡ Memory) ⊎ (later_fault w ≡ Some fault)) (s ∙ e) h)
 
 pub link_none : (given : List ClassContent) (all world : World) → all ≡ world_of given → world ≡ all → first_broken (duplicate_class all) 0 all ≡ None → later_fault world ≡ None → link_fault (world_of given) ≡ None
 unfolding link_fault

@@ -1,9 +1,9 @@
 -- Searches in a mapped list.
 use Rattle.std.specs.Option.{option_to_list}
 use Rattle.std.proofs.Math.Seq.{drop-cons}
-use Rattle.std.proofs.Common.{◌<◌, ◌++◌, drop, get_or, sym, add-one, append_assoc, ◌≡◌, ℕ, suc, ◌||◌, Some, None, ◌+◌, Bool, true, false, not, cond, ltb, List, [], ◌∷◌, length, Option, refl, ap, ◌∙◌}
+use Rattle.std.proofs.Common.{◌<◌, ◌++◌, drop, get_or, sym, add-one, append_assoc, ◌≡◌, ℕ, suc, ◌||◌, Some, None, ◌+◌, Bool, not, cond, ltb, List, [], ◌∷◌, length, Option, refl, ap, ◌∙◌}
 use Rattle.std.specs.Prelude.{map, position}
-use Rattle.std.specs.List.{list_any, position_or_len, prefix_len, filter_map, cons_option}
+use Rattle.std.specs.List.{list_any, prefix_len, filter_map, cons_option}
 
 pub any-map : {A B : Type 0} (p : B → Bool) (f : A → B) (xs : List A) → list_any p (map f xs) ≡ list_any (λ x. p (f x)) xs
 any-map p f [] = refl

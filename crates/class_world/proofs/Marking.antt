@@ -1,12 +1,12 @@
 -- Marking what is above a class comes to the end with the classes above it marked, and no others.
-use Rattle.std.proofs.Common.{◌≡◌, ◌≢◌, ℕ, zero, suc, ◌+◌, ◌-◌, ◌<◌, ◌≤◌, Bool, true, false, cond, eqb, List, [], ◌∷◌, ◌++◌, length, get_or, set, sum_by, replicate, sym, refl, ap, ◌∙◌, subst, inl, inr, ◌⊎◌, arith, eq-eqb, length-append}
+use Rattle.std.proofs.Common.{◌≡◌, ◌≢◌, ℕ, zero, suc, ◌+◌, ◌<◌, Bool, true, false, cond, eqb, List, [], ◌∷◌, ◌++◌, length, get_or, set, sum_by, replicate, sym, refl, ap, ◌∙◌, subst, inl, inr, ◌⊎◌, arith, eq-eqb, length-append}
 use Rattle.std.proofs.Math.ListN.{length-set, length-replicate}
 use Rattle.std.proofs.lemmas.List.{get_or-set_same, get_or-set_other, get_or_past, get_or-replicate, get_or_default}
 use Rattle.std.proofs.lemmas.List.Sums.{sum_by-set}
 use Rattle.std.proofs.lemmas.Bool.{false≢true, eqb-true, cases_lt}
 use Rattle.class_world.specs.World.{leads_up}
 use Rattle.class_world.specs.Marking.{marks_after, todo_after, open_count, listed_at, IsRow, IsClosed}
-use Rattle.class_world.proofs.Walks.{IsIn, Walk, Walk-append, Walk-from_leads, leads-from_any_Walk}
+use Rattle.class_world.specs.Walks.{IsIn, Walk, Walk-append, Walk-from_leads, leads-from_any_Walk}
 
 abbrev pub AllBelow : List ℕ → ℕ → Type 0
 AllBelow bs n = (x : ℕ) → IsIn x bs → x < n

@@ -1,5 +1,5 @@
 -- The rows of marks are the test of what is above.
-use Rattle.std.proofs.Common.{◌≡◌, ◌||◌, ℕ, zero, suc, ◌+◌, ◌<◌, ◌≤◌, Bool, true, false, eqb, List, [], ◌∷◌, length, get_or, sym, refl, ap, ◌∙◌, subst, inl, inr, ◌⊎◌, arith}
+use Rattle.std.proofs.Common.{◌≡◌, ◌||◌, ℕ, zero, suc, ◌<◌, Bool, false, eqb, List, [], ◌∷◌, length, get_or, sym, refl, ap, ◌∙◌, subst, inl, inr, arith}
 use Rattle.std.specs.List.{list_any}
 use Rattle.std.proofs.lemmas.Bool.{cases_lt}
 use Rattle.std.proofs.lemmas.List.{get_or_past, same_lists, get_or_default}
@@ -8,7 +8,7 @@ use Rattle.class_world.specs.World.{World, supers_of, is_above, leads_up}
 use Rattle.class_world.specs.Marking.{listed_at, IsRow, IsClosed}
 use Rattle.class_world.specs.Tables.{values_to}
 use Rattle.class_world.proofs.Tables.{length-values, get_or-values}
-use Rattle.class_world.proofs.Linked.{supers_closed, no_supers}
+use Rattle.class_world.specs.Linked.{supers_closed, no_supers}
 use Rattle.class_world.proofs.Marking.{In-get}
 
 any_cong : (p q : ℕ → Bool) (xs : List ℕ) → ((x : ℕ) → p x ≡ q x) → list_any p xs ≡ list_any q xs

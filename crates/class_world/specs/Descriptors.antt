@@ -1,15 +1,13 @@
 -- What a descriptor says (JVM specification, section 4.3), and what a type means in a world.
-use Rattle.std.specs.Prelude.{◌≡◌, ℕ, ◌+◌, ◌==◌, ◌<◌, if◌then◌else◌, List, [], ◌∷◌, take, drop, position, Option, Some, None, option_and_then, nat_lt, Bool}
-use Rattle.std.specs.Option.{option_map, option_map_or}
+use Rattle.std.specs.Prelude.{ℕ, ◌+◌, ◌==◌, if◌then◌else◌, List, [], ◌∷◌, take, drop, position, Option, Some, None, option_and_then, nat_lt}
 use Rattle.class_read.specs.Names.{FieldType, Element, is_primitive, is_class_name, array_depth}
 use Rattle.class_read.specs.Names.Element.{Primitive, Object}
-use Rattle.class_read.specs.Content.{ClassContent, FieldContent}
 use Rattle.jvm_values.specs.declared.types.Kind.{Kind}
 use Rattle.jvm_values.specs.declared.types.Kind.TheVariants.{Boolean, Char, Byte, Short, Int}
 use Rattle.jvm_values.specs.declared.types.Base.TheVariants as bases
 use Rattle.jvm_values.specs.declared.types.Slot.{Slot}
 use Rattle.jvm_values.specs.declared.types.Slot.TheVariants.{Num, Ref}
-use Rattle.class_world.specs.World.{World, class_of, is_static}
+use Rattle.class_world.specs.World.{World, class_of}
 
 -- ---- reading
 

@@ -3,7 +3,7 @@ use Rattle.std.specs.Prelude.{ℕ, ◌&&◌, not, Bool, false, if◌then◌else�
 use Rattle.std.specs.List.{filter_map, flat_map}
 use Rattle.std.specs.Option.{option_map_or}
 use Rattle.jvm_values.specs.declared.types.Slot.{Slot}
-use Rattle.class_read.specs.Content.{ClassContent, FieldContent}
+use Rattle.class_read.specs.Content.{FieldContent}
 use Rattle.class_world.specs.World.{World, line_of, is_static, is_abstract, is_interface}
 use Rattle.class_world.specs.Descriptors.{slot_of}
 

@@ -7,3 +7,10 @@ pub mod Descriptors
 pub mod Fields
 pub mod Reads
 pub mod Worlds
+pub mod Members
+pub mod WorldLaws
+pub mod Walks
+pub mod Classes
+pub mod Subtypes
+pub mod Linked
+pub mod SlotLaws

@@ -1,12 +1,13 @@
 -- When classes make a world, and else the first rule that they break: rule by rule, and of a rule the first class by
 -- its number (JVM specification, sections 5.3 and 5.3.5).
-use Rattle.std.specs.Prelude.{◌≡◌, ◌⊎◌, ℕ, zero, suc, ◌+◌, ◌==◌, ◌||◌, ◌&&◌, not, Bool, true, false, if◌then◌else◌, List, [], ◌∷◌, ◌++◌, length, slice_get, Option, Some, None, is_none, IsTrue, Result, Ok, Err, option_and_then}
+use Rattle.std.specs.Prelude.{◌≡◌, ◌⊎◌, ℕ, suc, ◌==◌, ◌||◌, ◌&&◌, not, Bool, false, if◌then◌else◌, List, [], ◌∷◌, length, slice_get, Option, Some, None, is_none, nat_lt, Result, Ok, Err, option_and_then}
 use Rattle.std.specs.List.{list_any}
 use Rattle.std.specs.Option.{option_map_or, option_or}
 use Rattle.class_world.specs.declared.fault.LinkFault.{LinkFault}
 use Rattle.class_world.specs.declared.fault.LinkFault.TheVariants.{DuplicateClass, MissingClass, CyclicHierarchy, BadSuper, DefaultMethod, Memory}
 use Rattle.class_world.specs.declared.linking.LinkRule.{LinkRule}
 use Rattle.class_world.specs.declared.linking.LinkRule.TheVariants as rules
+use Rattle.class_read.specs.Rules.{Spells}
 use Rattle.class_read.specs.Content.{ClassContent, MethodContent}
 use Rattle.class_world.specs.World.{World, class_of, super_of, interfaces_of, is_interface_class, is_above, is_interface, is_abstract, is_static}
 
@@ -84,6 +85,16 @@ is_rooted world = option_map_or (λ c. not (is_interface c.flags) && (length c.i
 -- the classes make a world
 unfoldable pub is_linked : World → Bool
 is_linked world = is_none (link_fault world) && is_rooted world
+
+-- ---- classes that are read
+
+-- a class that some class file spells
+abbrev pub CanBeRead : ClassContent → Type 0
+CanBeRead class = (bytes : List ℕ) × Spells bytes class
+
+-- a class has fewer than 65,536 fields and as many methods, as a class file counts them in 16 bits
+abbrev pub has_few_members : ClassContent → Bool
+has_few_members class = nat_lt (length class.fields) 65536 && nat_lt (length class.methods) 65536
 
 -- ---- answers
 

@@ -1,5 +1,5 @@
 -- Answers of a reader of descriptors, seen as what the definitions read.
-use Rattle.std.specs.Prelude.{◌≡◌, ℕ, List, Option, Some, None}
+use Rattle.std.specs.Prelude.{◌≡◌, Option, Some, None}
 use Rattle.class_read.specs.Names.{FieldType, Element}
 use Rattle.class_read.specs.Names.Element.{Primitive as PrimitiveElement, Object as ObjectElement}
 use Rattle.class_world.specs.declared.descriptor.ElementText.{ElementText}

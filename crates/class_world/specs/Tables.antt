@@ -1,6 +1,5 @@
 -- Tables by number.
 use Rattle.std.specs.Prelude.{Bool, ℕ, zero, suc, List, [], ◌∷◌, ◌++◌, length, map}
-use Rattle.class_read.specs.Content.{ClassContent}
 use Rattle.class_world.specs.World.{World, is_above}
 
 -- the values of a function at the numbers below `n`, in order

@@ -1,5 +1,5 @@
 -- Types over a world: which are below which, and what assignments see of them.
-use Rattle.std.specs.Prelude.{◌≡◌, ℕ, ◌==◌, ◌||◌, ◌&&◌, ◌<◌, Bool, true, false, if◌then◌else◌, List, [], ◌∷◌, ◌++◌, length, nat_le, nat_lt, nat_eq, IsTrue}
+use Rattle.std.specs.Prelude.{ℕ, ◌==◌, ◌||◌, ◌&&◌, ◌<◌, Bool, true, false, if◌then◌else◌, length, nat_le, nat_lt, nat_eq, IsTrue}
 use Rattle.std.specs.List.{list_any}
 use Rattle.jvm_values.specs.declared.types.Ty.{Ty}
 use Rattle.jvm_values.specs.declared.types.Kind.{Kind}

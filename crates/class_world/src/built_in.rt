@@ -13,17 +13,44 @@ static NAMES: [(&[u8], &[u8]); 15] = [
     (b"java/lang/Throwable", b"java/lang/Object"),
     (b"java/lang/Exception", b"java/lang/Throwable"),
     (b"java/lang/RuntimeException", b"java/lang/Exception"),
-    (b"java/lang/NullPointerException", b"java/lang/RuntimeException"),
-    (b"java/lang/ArithmeticException", b"java/lang/RuntimeException"),
-    (b"java/lang/IndexOutOfBoundsException", b"java/lang/RuntimeException"),
-    (b"java/lang/ArrayIndexOutOfBoundsException", b"java/lang/IndexOutOfBoundsException"),
-    (b"java/lang/NegativeArraySizeException", b"java/lang/RuntimeException"),
-    (b"java/lang/ClassCastException", b"java/lang/RuntimeException"),
-    (b"java/lang/ArrayStoreException", b"java/lang/RuntimeException"),
+    (
+        b"java/lang/NullPointerException",
+        b"java/lang/RuntimeException",
+    ),
+    (
+        b"java/lang/ArithmeticException",
+        b"java/lang/RuntimeException",
+    ),
+    (
+        b"java/lang/IndexOutOfBoundsException",
+        b"java/lang/RuntimeException",
+    ),
+    (
+        b"java/lang/ArrayIndexOutOfBoundsException",
+        b"java/lang/IndexOutOfBoundsException",
+    ),
+    (
+        b"java/lang/NegativeArraySizeException",
+        b"java/lang/RuntimeException",
+    ),
+    (
+        b"java/lang/ClassCastException",
+        b"java/lang/RuntimeException",
+    ),
+    (
+        b"java/lang/ArrayStoreException",
+        b"java/lang/RuntimeException",
+    ),
     (b"java/lang/Error", b"java/lang/Throwable"),
     (b"java/lang/LinkageError", b"java/lang/Error"),
-    (b"java/lang/IncompatibleClassChangeError", b"java/lang/LinkageError"),
-    (b"java/lang/AbstractMethodError", b"java/lang/IncompatibleClassChangeError"),
+    (
+        b"java/lang/IncompatibleClassChangeError",
+        b"java/lang/LinkageError",
+    ),
+    (
+        b"java/lang/AbstractMethodError",
+        b"java/lang/IncompatibleClassChangeError",
+    ),
 ];
 
 /// The pool without entries.

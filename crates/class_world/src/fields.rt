@@ -112,7 +112,12 @@ impl<'a> Roster<'a> {
     }
 
     /// What the fields of an instance hold, those of the topmost superclass first, from what each class adds.
-    fn fields_of(&self, alloc: Global, own: &[Seq<Slot>], class: u32) -> Result<Seq<Slot>, AllocError>
+    fn fields_of(
+        &self,
+        alloc: Global,
+        own: &[Seq<Slot>],
+        class: u32,
+    ) -> Result<Seq<Slot>, AllocError>
         requires own { own.now ≡ values_to (own_slots self.now.classes) (length self.now.classes) }
         requires within { class < length self.now.classes }
         ensures { IfOk result (λ slots. slots ≡ fields_of self.now.classes class) }

@@ -7,10 +7,13 @@ mod fault;
 mod fields;
 mod flags;
 mod hierarchy;
+mod laws;
 mod linking;
 mod names;
 mod roster;
+mod types;
 mod world;
 
 pub use fault::{LinkFault, MethodName};
-pub use world::World;
+pub use laws::sub_is_least;
+pub use world::{MethodRef, World};

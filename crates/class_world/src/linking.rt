@@ -33,23 +33,12 @@ pub(crate) struct Hierarchy<'w, 'a> {
 
 impl<'w, 'a> Hierarchy<'w, 'a> {
     /// Whether class `b` is above class `a`.
-    fn is_above(&self, a: usize, b: usize) -> bool
+    pub(crate) fn is_above(&self, a: usize, b: usize) -> bool
         requires a { a < length self.now.roster.now.classes }
         requires b { b < length self.now.roster.now.classes }
         ensures { result ≡ is_above self.now.roster.now.classes a b }
     {
         *self.above[a].at(b)
-    }
-
-    /// Whether a class of that number is an interface.
-    #[tactic(auto, unfolding(crate::specs::World::is_interface_class))]
-    fn is_interface(&self, class: u32) -> bool
-        ensures { result ≡ is_interface_class self.now.roster.now.classes class }
-    {
-        match self.roster.classes.get(class as usize) {
-            Some(view) => has_flag(view.flags, INTERFACE),
-            None => false,
-        }
     }
 
     /// The name is that of a class.
@@ -105,7 +94,8 @@ impl<'w, 'a> Hierarchy<'w, 'a> {
         ensures { result ≡ option_map_or (is_bad_superclass self.now.roster.now.classes flags) over false }
     {
         match over {
-            Some(class) => self.is_interface(class) || (has_flag(flags, INTERFACE) && class != 0),
+            Some(class) => self.roster.is_interface(class)
+                || (has_flag(flags, INTERFACE) && class != 0),
             None => false,
         }
     }
@@ -115,7 +105,7 @@ impl<'w, 'a> Hierarchy<'w, 'a> {
         ensures { result ≡ list_any (λ k. not (is_interface_class self.now.roster.now.classes k)) classes.now }
     {
         for class in classes {
-            if !self.is_interface(*class) {
+            if !self.roster.is_interface(*class) {
                 return true;
             }
         }

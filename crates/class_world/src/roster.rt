@@ -1,10 +1,11 @@
 //! The classes of a world with the index of their names.
 ghost use Rattle.std.specs.Prelude.{◌≡◌, ℕ, ◌<◌, ◌^◌, length, IfOk, filter_map};
-ghost use Rattle.class_world.specs.World.{class_of, super_of, interfaces_of, supers_of};
+ghost use Rattle.class_world.specs.World.{class_of, super_of, interfaces_of, supers_of, is_interface_class};
 ghost use Rattle.class_world.specs.Linking.{Refuses, first_broken, duplicate_class};
 ghost use Rattle.class_world.specs.Tables.{names_of, values_to};
 
 use crate::fault::LinkFault;
+use crate::flags::{INTERFACE, has_flag};
 use crate::names::ClassNames;
 use class_read::ClassView;
 use list_views::Seq;
@@ -90,6 +91,17 @@ impl<'a> Roster<'a> {
     {
         let view = self.classes.at(class);
         self.numbers_of(alloc, view.interfaces.as_slice())
+    }
+
+    /// Whether a class of that number is an interface.
+    #[tactic(auto, unfolding(crate::specs::World::is_interface_class))]
+    pub(crate) fn is_interface(&self, class: u32) -> bool
+        ensures { result ≡ is_interface_class self.now.classes class }
+    {
+        match self.classes.get(class as usize) {
+            Some(view) => has_flag(view.flags, INTERFACE),
+            None => false,
+        }
     }
 
     /// What a class directly extends or implements.

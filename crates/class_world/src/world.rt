@@ -1,8 +1,11 @@
 //! Worlds: linked classes.
-ghost use Rattle.std.specs.Prelude.{◌≡◌, ℕ, ◌+◌, ◌-◌, ◌<◌, ◌≤◌, ◌^◌, length, IfOk, IsTrue};
-ghost use Rattle.class_world.specs.World.{world_of, class_of, is_interface_class};
-ghost use Rattle.class_world.specs.Linking.{Refuses, link_fault, later_fault, is_linked};
-ghost use Rattle.class_world.specs.Fields.{fields_of, can_be_made};
+ghost use Rattle.std.specs.Prelude.{◌≡◌, ℕ, ◌+◌, ◌-◌, ◌<◌, ◌≤◌, ◌^◌, length, position, slice_get, IfOk, IfSome, IsTrue};
+ghost use Rattle.class_world.specs.World.{world_of, class_of, is_above};
+ghost use Rattle.class_world.specs.Linking.{Refuses, CanBeRead, has_few_members, link_fault, later_fault, is_linked};
+ghost use Rattle.std.specs.List.{list_all, AllByRecursion};
+ghost use Rattle.class_world.specs.Fields.{fields_of};
+ghost use Rattle.class_read.specs.View.{method_content};
+ghost use Rattle.class_world.specs.Members.{is_method_named, declared_method, find_method};
 ghost use Rattle.class_world.specs.Tables.{above_table, values_to};
 
 use crate::built_in::with_built_ins;
@@ -10,10 +13,19 @@ use crate::fault::LinkFault;
 use crate::hierarchy::above_table;
 use crate::linking::{Hierarchy, LinkRule};
 use crate::roster::Roster;
-use class_read::ClassView;
+use class_read::{ClassView, MethodView};
 use jvm_values::Slot;
 use list_views::Seq;
 use std::alloc::Global;
+
+/// A method by its class's number and its place among the class's methods, from 0.
+#[derive(Clone, Copy, Debug, PartialEq, Eq)]
+pub struct MethodRef {
+    /// The class's number.
+    pub class: u32,
+    /// The method's place in its class file.
+    pub index: u32,
+}
 
 /// The built-in classes and given ones that keep the rules of linking, each under its number.
 ///
@@ -23,8 +35,9 @@ use std::alloc::Global;
 pub struct World<'a> {
     pub(crate) roster: Roster<'a>,
     above: Seq<Seq<bool>>,
-    slots: Seq<Seq<Slot>>,
+    pub(crate) slots: Seq<Seq<Slot>>,
     ghost linked: { IsTrue (is_linked roster.classes) },
+    ghost few: { IsTrue (list_all has_few_members roster.classes) },
     ghost marked: { above ≡ above_table roster.classes },
     ghost laid_out: { slots ≡ values_to (fields_of roster.classes) (length roster.classes) },
 }
@@ -47,7 +60,8 @@ impl<'a> World<'a> {
     /// The first rule that the classes break, rule by rule in the order of [`LinkFault`], and of a rule the first class
     /// by its number; or want of memory.
     pub fn link(alloc: Global, classes: Vec<ClassView<'a>>) -> Result<World<'a>, LinkFault>
-        requires { length classes.items + 15 ≤ 2 ^ 32 - 16 }
+        requires count { length classes.items + 15 ≤ 2 ^ 32 - 16 }
+        requires read { AllByRecursion CanBeRead classes.items }
         ensures fault { Refuses result (link_fault (world_of classes.entry.items)) }
         ensures world { IfOk result (λ world. world.roster.classes ≡ world_of classes.entry.items) }
     {
@@ -67,4 +81,70 @@ impl<'a> World<'a> {
             slots,
         })
     }
+
+    /// Whether class `b` is above class `a`.
+    pub(crate) fn is_above(&self, a: usize, b: usize) -> bool
+        requires a { a < length self.now.roster.classes }
+        requires b { b < length self.now.roster.classes }
+        ensures { result ≡ is_above self.now.roster.classes a b }
+    {
+        let hierarchy = Hierarchy {
+            roster: &self.roster,
+            above: self.above.as_slice(),
+        };
+        hierarchy.is_above(a, b)
+    }
+
+    /// The number of the class of that name; None exactly where no class has it.
+    pub fn class_of(&self, name: &[u8]) -> Option<u32>
+        ensures { result ≡ class_of self.now.roster.classes name.now }
+    {
+        self.roster.number_of(name)
+    }
+
+    /// The class's name.
+    pub fn name_of(&self, class: u32) -> &'a [u8]
+        requires { class < length self.now.roster.classes }
+        ensures { IfSome (slice_get self.now.roster.classes class) (λ c. result.now ≡ c.name) }
+    {
+        let view = self.roster.classes.at(class as usize);
+        view.name
+    }
+
+    /// The method that the class of a name declares with that name and descriptor; None exactly where no class of that
+    /// name declares it, or its name is `<clinit>`.
+    #[tactic(auto, unfolding(crate::specs::Members::find_method))]
+    pub fn find(&self, class: &[u8], name: &[u8], desc: &[u8]) -> Option<MethodRef>
+        ensures { result ≡ find_method self.now.roster.classes class.now name.now desc.now }
+    {
+        if name == b"<clinit>".as_slice() {
+            return None;
+        }
+        let class = self.roster.number_of(class)?;
+        let index = self.declared_method(class, name, desc)?;
+        Some(MethodRef {
+            class,
+            index: index as u32,
+        })
+    }
+
+    /// The place of the method that a class declares with that name and descriptor.
+    fn declared_method(&self, class: u32, name: &[u8], desc: &[u8]) -> Option<usize>
+        ensures place { result ≡ declared_method self.now.roster.classes class name.now desc.now }
+        ensures within { IfSome result (λ index. index < 65536) }
+    {
+        match self.roster.classes.get(class as usize) {
+            Some(view) => place_of(view.methods.as_slice(), name, desc),
+            None => None,
+        }
+    }
+}
+
+/// The place of the method with that name and descriptor.
+fn place_of(methods: &[MethodView<'_>], name: &[u8], desc: &[u8]) -> Option<usize>
+    ensures { result ≡ position (λ m. is_method_named name.now desc.now (method_content m)) methods.now }
+{
+    methods
+        .iter()
+        .position(|m| name == m.name && desc == m.desc)
 }

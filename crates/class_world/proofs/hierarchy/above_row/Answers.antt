@@ -1,4 +1,4 @@
-use Rattle.std.proofs.Common.{◌≡◌, length, [], arith}
+use Rattle.std.proofs.Common.{◌≡◌, length, arith}
 use Rattle.class_world.proofs.Marking.{may_mark, next_within, Closing-first_at, Closing-more_at, less_work, Closing-end_at, no_items}
 use Rattle.class_world.proofs.hierarchy.above_row.Goals as goal
 

@@ -1,4 +1,4 @@
-use Rattle.std.proofs.Common.{◌≡◌, ◌+◌, length}
+use Rattle.std.proofs.Common.{◌+◌, length}
 use Rattle.class_world.specs.Marking.{open_count}
 use Rattle.class_world.proofs.Marking.{Closing}
 use Rattle.class_world.proofs.hierarchy.above_row.Given as goal

@@ -1,4 +1,4 @@
-use Rattle.std.proofs.Common.{ap, sym, ◌∙◌, inr, Some, ◌≡◌, ◌||◌, Bool, true, false, not}
+use Rattle.std.proofs.Common.{ap, sym, ◌∙◌, inr, Some, ◌≡◌, ◌||◌, true, false, not}
 use Rattle.std.specs.List.{list_any}
 use Rattle.std.specs.Option.{option_map_or}
 use Rattle.std.proofs.lemmas.Bool.{or_left, or_right, or_from}

@@ -1,4 +1,4 @@
-use Rattle.std.proofs.Common.{ap, sym, ◌∙◌, inr, Some, ◌≡◌, ◌&&◌, Bool, true, false}
+use Rattle.std.proofs.Common.{ap, sym, ◌∙◌, inr, Some}
 use Rattle.std.specs.Prelude.{map}
 use Rattle.std.specs.List.{list_any}
 use Rattle.std.proofs.lemmas.Bool.{and_from, and_left, and_right}

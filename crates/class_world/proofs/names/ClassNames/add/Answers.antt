@@ -1,6 +1,5 @@
-use Rattle.std.proofs.Common.{Bool, true, false, not, cond, ◌≡◌, ◌∙◌, sym, refl, ap}
+use Rattle.std.proofs.Common.{Bool, true, false, not, cond, ◌≡◌, ◌∙◌, refl}
 use Rattle.std.specs.Str.{bytes_eq}
-use Rattle.std.specs.List.{list_any}
 use Rattle.class_world.proofs.Maps.{any-map}
 use Rattle.class_world.proofs.names.ClassNames.add.Goals as goal
 

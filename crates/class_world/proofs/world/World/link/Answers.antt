@@ -1,10 +1,11 @@
 use Rattle.std.proofs.Common.{◌∙◌}
 use Rattle.class_world.proofs.Rules.{passed_on}
 use Rattle.class_world.proofs.Links.{enrol_fits, link_first, link_later, link_none, linked_is}
+use Rattle.class_world.proofs.Few.{few_world}
 use Rattle.class_world.proofs.world.World.link.Goals as goal
 
 pub enrol-requires : goal.enrol-requires
-enrol-requires c = enrol_fits c.args.classes.items c.in_ok-with_built_ins.field-0 c.in_ok-with_built_ins.ensures c.requires
+enrol-requires c = enrol_fits c.args.classes.items c.in_ok-with_built_ins.field-0 c.in_ok-with_built_ins.ensures c.requires.count
 
 pub returns-in_err-roster-clause-fault : goal.returns-in_err-roster-clause-fault
 returns-in_err-roster-clause-fault c = passed_on _ _ _ c.from_residual-in_err-roster.ensures.1 (link_first c.args.classes.items c.in_ok-with_built_ins.field-0 _ c.in_ok-with_built_ins.ensures c.in_err-roster.ensures.fault)
@@ -12,10 +13,13 @@ returns-in_err-roster-clause-fault c = passed_on _ _ _ c.from_residual-in_err-ro
 pub returns-in_err-keep_rules-clause-fault : goal.returns-in_err-keep_rules-clause-fault
 returns-in_err-keep_rules-clause-fault c =
     passed_on _ _ _ c.from_residual-in_err-keep_rules.ensures.1
-      (link_later c.args.classes.items c.in_ok-with_built_ins.field-0 c.in_ok-roster.roster.classes _ c.in_ok-with_built_ins.ensures c.in_ok-roster.ensures.classes c.in_ok-roster.ensures.fault c.in_err-keep_rules.ensures)
+    (link_later c.args.classes.items c.in_ok-with_built_ins.field-0 c.in_ok-roster.roster.classes _ c.in_ok-with_built_ins.ensures c.in_ok-roster.ensures.classes c.in_ok-roster.ensures.fault c.in_err-keep_rules.ensures)
 
 pub invariant_of-result-clause-linked : goal.invariant_of-result-clause-linked
 invariant_of-result-clause-linked c = linked_is c.args.classes.items c.in_ok-with_built_ins.field-0 c.in_ok-roster.roster.classes c.in_ok-with_built_ins.ensures c.in_ok-roster.ensures.classes c.in_ok-roster.ensures.fault c.in_ok-keep_rules.ensures
+
+pub invariant_of-result-clause-few : goal.invariant_of-result-clause-few
+invariant_of-result-clause-few c = few_world c.args.classes.items c.in_ok-roster.roster.classes (c.in_ok-roster.ensures.classes ∙ c.in_ok-with_built_ins.ensures) c.requires.read
 
 pub returns-clause-fault : goal.returns-clause-fault
 returns-clause-fault c = link_none c.args.classes.items c.in_ok-with_built_ins.field-0 c.in_ok-roster.roster.classes c.in_ok-with_built_ins.ensures c.in_ok-roster.ensures.classes c.in_ok-roster.ensures.fault c.in_ok-keep_rules.ensures

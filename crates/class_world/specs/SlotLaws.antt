@@ -1,6 +1,6 @@
 -- What fields hold is of the world.
-use Rattle.std.proofs.Common.{◌≡◌, ◌++◌, ℕ, zero, suc, ◌+◌, ◌<◌, ◌≤◌, Bool, true, false, cond, eqb, ltb, List, [], ◌∷◌, length, get_or, drop, Option, Some, None, sym, refl, ap, ◌∙◌, subst, inl, inr, ◌⊎◌, arith}
-use Rattle.std.specs.Prelude.{option_and_then, slice_get, reverse, All}
+use Rattle.std.proofs.Common.{◌≡◌, ◌++◌, ℕ, zero, suc, ◌≤◌, Bool, true, false, cond, ltb, List, [], ◌∷◌, length, drop, Option, Some, None, sym, refl, ap, subst, arith}
+use Rattle.std.specs.Prelude.{option_and_then, slice_get, All}
 use Rattle.std.specs.List.{filter_map, flat_map, cons_option}
 use Rattle.std.specs.Option.{option_map_or}
 use Rattle.std.proofs.lemmas.Bool.{ltb-false, ne_eqb}
@@ -11,11 +11,11 @@ use Rattle.jvm_values.specs.declared.types.Kind.{Kind}
 use Rattle.jvm_values.specs.declared.types.Slot.{Slot}
 use Rattle.jvm_values.specs.declared.types.Slot.TheVariants.{Num, Ref}
 use Rattle.jvm_values.specs.declared.types.Base.TheVariants as bases
-use Rattle.jvm_values.specs.Subtyping.{IsSlot, IsReference}
+use Rattle.jvm_values.specs.Subtyping.{IsSlot}
 use Rattle.class_world.specs.World.{World, class_of, is_static}
 use Rattle.class_world.specs.Descriptors.{type_at, element_at, kind_of, number_slot, class_slot, primitive_meaning, object_meaning, meaning_of, known_slot, slot_of}
 use Rattle.class_world.specs.Fields.{field_slot, own_slots, fields_of}
-use Rattle.class_world.proofs.Linked.{class_of_within}
+use Rattle.class_world.specs.Linked.{class_of_within}
 
 abbrev Every : {A : Type 0} → (A → Type 0) → List A → Type 0
 Every P [] = Unit {0}

@@ -1,9 +1,9 @@
 -- The order of the classes of a world without cycles, in which interfaces are under Object and interfaces alone.
-use Rattle.std.proofs.Common.{◌≡◌, ℕ, zero, suc, ◌+◌, ◌<◌, ◌≤◌, Bool, true, false, ◌||◌, eqb, List, [], ◌∷◌, ◌++◌, length, Option, Some, None, sym, refl, ap, ◌∙◌, subst, inl, inr, ◌⊎◌, arith, eq-eqb}
+use Rattle.std.proofs.Common.{◌≡◌, ℕ, zero, suc, ◌<◌, Bool, true, false, ◌||◌, eqb, List, [], ◌∷◌, length, Option, Some, None, sym, refl, ap, ◌∙◌, subst, inl, inr, ◌⊎◌, eq-eqb}
 use Rattle.std.specs.Prelude.{option_and_then}
 use Rattle.std.proofs.lemmas.Bool.{false≢true, eqb-true, or_left, or_right}
 use Rattle.class_world.specs.World.{leads_up}
-use Rattle.class_world.proofs.Walks.{IsIn, Walk, Walk-from_leads, leads-from_any_Walk, leads_trans, leads_antisym}
+use Rattle.class_world.specs.Walks.{IsIn, Walk, Walk-from_leads, leads-from_any_Walk, leads_trans, leads_antisym}
 
 pub record IsHierarchy (n : ℕ) (super : ℕ → Option ℕ) (up : ℕ → List ℕ) (interface : ℕ → Bool) : Type 0 where
   pub some : 0 < n

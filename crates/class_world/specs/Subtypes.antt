@@ -1,14 +1,14 @@
 -- The laws of subtypes and erasure, from those of the order of classes.
-use Rattle.std.proofs.Common.{◌≡◌, ℕ, zero, suc, ◌+◌, ◌<◌, ◌≤◌, Bool, true, false, ◌||◌, ◌&&◌, cond, eqb, ltb, leb, List, sym, refl, ap, ◌∙◌, subst, inl, inr, ◌⊎◌, arith, eq-eqb, add-one}
+use Rattle.std.proofs.Common.{◌≡◌, ℕ, zero, suc, ◌+◌, ◌<◌, Bool, true, false, ◌&&◌, cond, eqb, ltb, leb, List, sym, refl, ap, ◌∙◌, subst, inl, inr, ◌⊎◌, arith, eq-eqb}
 use Rattle.std.specs.Prelude.{All}
-use Rattle.std.proofs.lemmas.Bool.{false≢true, eqb-true, eqb-false, ltb-true, leb-true, lt-ltb, le-leb, and_parts, and_from, ne_eqb, cases_lt}
+use Rattle.std.proofs.lemmas.Bool.{false≢true, eqb-true, ltb-true, leb-true, lt-ltb, le-leb, and_parts, and_from, ne_eqb, cases_lt}
 use Rattle.jvm_values.specs.declared.types.Ty.{Ty}
 use Rattle.jvm_values.specs.declared.types.Kind.{Kind}
 use Rattle.jvm_values.specs.declared.types.Kind.TheVariants.{Boolean, Char, Byte, Short, Int}
 use Rattle.jvm_values.specs.declared.types.Base.{Base}
 use Rattle.jvm_values.specs.declared.types.Base.TheVariants.{Class, Num}
 use Rattle.jvm_values.specs.declared.types.Slot.{Slot}
-use Rattle.jvm_values.specs.Subtyping.{class_type, object_type, array_of, array_of_numbers, IsReference, IsReferenceBase, IsSlot, IsErased, IsArrayAbove, SubtypeLaws}
+use Rattle.jvm_values.specs.Subtyping.{class_type, object_type, array_of, array_of_numbers, IsReference, IsReferenceBase, IsSlot, IsArrayAbove, SubtypeLaws}
 use Rattle.class_world.specs.Types.{is_reference, is_reference_base, is_same_kind, is_base_below, is_object, is_sub_by, erased_base, erase_by}
 
 pub record IsClassOrder (n : ℕ) (below : ℕ → ℕ → Bool) (interface : ℕ → Bool) : Type 0 where

@@ -1,21 +1,21 @@
 -- What linking gives: the hierarchy of a linked world, and the order of its classes.
-use Rattle.std.proofs.Common.{◌≡◌, ℕ, zero, suc, ◌+◌, ◌<◌, ◌≤◌, Bool, true, false, not, ◌||◌, ◌&&◌, cond, eqb, List, [], ◌∷◌, ◌++◌, length, Option, Some, None, sym, refl, ap, ◌∙◌, subst, inl, inr, ◌⊎◌, arith, eq-eqb, zero-add, add-zero}
-use Rattle.std.specs.Prelude.{option_and_then, slice_get, is_none, position, filter_map, find}
+use Rattle.std.proofs.Common.{◌≡◌, ℕ, zero, suc, ◌+◌, ◌<◌, Bool, true, false, not, ◌||◌, ◌&&◌, cond, eqb, List, [], ◌∷◌, ◌++◌, length, Option, Some, None, sym, refl, ap, ◌∙◌, subst, inl, inr, ◌⊎◌, arith, zero-add}
+use Rattle.std.specs.Prelude.{option_and_then, slice_get, is_none, filter_map}
 use Rattle.std.specs.List.{list_any, cons_option}
-use Rattle.std.specs.Option.{option_map, option_map_or, option_or}
+use Rattle.std.specs.Option.{option_map_or, option_or}
 use Rattle.std.specs.Str.{bytes_eq}
-use Rattle.std.proofs.lemmas.Bool.{false≢true, eqb-true, and_parts, or_parts, and_cases, cases_lt}
+use Rattle.std.proofs.lemmas.Bool.{false≢true, eqb-true, and_parts, or_parts, and_cases}
 use Rattle.std.proofs.lemmas.List.Quantifiers.{position-Some}
-use Rattle.std.proofs.lemmas.Option.{slice_get_within, slice_get_past}
+use Rattle.std.proofs.lemmas.Option.{slice_get_within}
 use Rattle.class_read.specs.Content.{ClassContent}
 use Rattle.class_world.specs.declared.fault.LinkFault.{LinkFault}
 use Rattle.class_world.specs.declared.fault.LinkFault.TheVariants.{CyclicHierarchy, BadSuper}
 use Rattle.class_world.specs.World.{World, built_in, class_of, super_of, interfaces_of, supers_of, listed, is_interface_class, is_above, is_interface, leads_up}
 use Rattle.class_world.specs.Types.{is_class_below}
-use Rattle.class_world.specs.Linking.{Rule, first_broken, duplicate_class, missing_super, cyclic_hierarchy, bad_super, default_method, is_bad_superclass, link_fault, later_fault, is_rooted, is_linked}
-use Rattle.class_world.proofs.Walks.{IsIn}
-use Rattle.class_world.proofs.Classes.{IsHierarchy, below_root, below_same, below_trans, below_antisym, below_chain, root_below}
-use Rattle.class_world.proofs.Subtypes.{IsClassOrder}
+use Rattle.class_world.specs.Linking.{Rule, first_broken, duplicate_class, missing_super, cyclic_hierarchy, bad_super, is_bad_superclass, link_fault, later_fault, is_rooted, is_linked}
+use Rattle.class_world.specs.Walks.{IsIn}
+use Rattle.class_world.specs.Classes.{IsHierarchy, below_root, below_same, below_trans, below_antisym, below_chain, root_below}
+use Rattle.class_world.specs.Subtypes.{IsClassOrder}
 
 or_none : {A : Type 0} (x y : Option A) → option_or x y ≡ None → (x ≡ None) × (y ≡ None)
 or_none None y e = (refl, e)
