@@ -17,3 +17,6 @@ mod world;
 pub use fault::{LinkFault, MethodName};
 pub use laws::sub_is_least;
 pub use world::{MethodRef, World};
+
+#[cfg(test)]
+mod tests;
