@@ -19,11 +19,12 @@ mod writing;
 pub use code::decode;
 pub use fault::CodeFault;
 pub use flow::{falls_through, length, targets};
+pub use forms::{plain, wide_local, with_byte, with_jump, with_pair};
 pub use insn::{Case, Insn};
 pub use names::name;
 pub use parts::{Parts, parts_of};
 pub use table::{Handler, check_table};
-pub use writing::encode;
+pub use writing::{encode, put_insn};
 
 #[cfg(test)]
 mod tests;

@@ -225,7 +225,12 @@ fn put_parts(out: &mut Vec<u8>, pc: u16, parts: Parts<'_>) -> Result<(), AllocEr
     Ok(())
 }
 
-fn put_insn(out: &mut Vec<u8>, pc: u16, insn: &Insn) -> Result<(), AllocError>
+/// Puts the bytes of one instruction, which stands at `pc`, behind those in `out`; padding is zero bytes.
+///
+/// # Errors
+///
+/// Want of memory.
+pub fn put_insn(out: &mut Vec<u8>, pc: u16, insn: &Insn) -> Result<(), AllocError>
     requires { Fits pc insn.now }
     ensures { OnOk result (out.new.items ≡ out.old.items ++ plain_text pc insn.now) }
 {

@@ -1,0 +1,4 @@
+pub mod Cases
+pub mod Digits
+pub mod Divided
+pub mod Opcodes
