@@ -5,3 +5,4 @@ pub mod Firsts
 pub mod ClassLines
 pub mod Operations
 pub mod Items
+pub mod Listings

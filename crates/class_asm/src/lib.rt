@@ -5,6 +5,7 @@ mod class_line;
 mod fault;
 mod first;
 mod item;
+mod listing;
 mod number;
 mod operation;
 mod parts;

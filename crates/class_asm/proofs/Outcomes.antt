@@ -1,0 +1,14 @@
+-- What a call that answers a fault other than want of memory was to say.
+use Rattle.std.proofs.Common.{◌≡◌, Result, Err, refl}
+use Rattle.class_asm.specs.declared.fault.AsmFault.{AsmFault}
+use Rattle.class_asm.specs.declared.fault.AsmFault.TheVariants.{Syntax, UnknownOpcode, UnknownLabel, DuplicateLabel, OutOfRange, NoEnd, Memory}
+use Rattle.class_asm.specs.Statements.{Fails}
+
+pub fails_is : {Y : Type 0} (fault : AsmFault) (said : Result Y AsmFault) → (fault ≡ Memory → ⊥) → Fails fault said → said ≡ Err fault
+fails_is (Syntax line) said differs h = h
+fails_is (UnknownOpcode line) said differs h = h
+fails_is (UnknownLabel line) said differs h = h
+fails_is (DuplicateLabel line) said differs h = h
+fails_is (OutOfRange line) said differs h = h
+fails_is (NoEnd line) said differs h = h
+fails_is Memory said differs h = absurd (differs refl)
