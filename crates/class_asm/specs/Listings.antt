@@ -1,5 +1,5 @@
 -- The lines of a listing, sorted by what they are part of.
-use Rattle.std.specs.Prelude.{ℕ, ◌+◌, Bool, true, false, ◌&&◌, List, [], ◌∷◌, ◌++◌, Option, Some, None, is_some, Ok, Err, codes, if◌then◌else◌}
+use Rattle.std.specs.Prelude.{ℕ, ◌+◌, Bool, true, false, ◌&&◌, List, [], ◌∷◌, ◌++◌, Option, Some, None, is_some, Ok, Err, codes, if◌then◌else◌, ◌-◌, ◌==◌, not}
 use Rattle.std.specs.Option.{option_map_or}
 use Rattle.std.specs.Str.{bytes_eq}
 use Rattle.class_asm.specs.declared.fault.AsmFault.{AsmFault}
@@ -132,3 +132,12 @@ ended listing last = option_map_or (λ method. with_unended listing method last)
 unfoldable pub class_said : ℕ → Words → Said ClassLine
 class_said line [] = Err (Syntax line)
 class_said line (word ∷ words) = if bytes_eq word (codes "class") then class_line line words else Err (Syntax line)
+
+-- The first line that isn't skipped: its number, and what it says. A listing without such a line is faulty at its last
+-- line, one without lines at line 1.
+abbrev pub first_line : ℕ → List (List ℕ) → Said (ℕ × ClassLine)
+first_line line [] = Err (Syntax (if line == 1 then 1 else line - 1))
+first_line line (text ∷ texts) =
+    if not (is_plain text) then Err (Syntax line)
+    else (if is_skipped (words_of text) then first_line (line + 1) texts
+    else (class_said line (words_of text) >>= λ class. Ok (line, class)))

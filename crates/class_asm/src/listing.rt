@@ -1,8 +1,8 @@
 //! A listing's lines, sorted by what they are part of.
 
-ghost use Rattle.std.specs.Prelude.{◌≡◌, ◌+◌, ◌<◌, ◌^◌, length, map, IfOk, option_map};
+ghost use Rattle.std.specs.Prelude.{◌≡◌, ◌+◌, ◌<◌, ◌^◌, length, map, IfOk, option_map, ◌-◌, ◌==◌, if◌then◌else◌};
 ghost use Rattle.class_asm.specs.Statements.{Gives};
-ghost use Rattle.class_asm.specs.Listings.{is_skipped, outside_of, with_outside, labelled, is_end, read_item, item_in, with_said, with_first, with_code, plain_outside, outside_line, method_of_line, with_line, with_lines, no_lines, ended, class_said};
+ghost use Rattle.class_asm.specs.Listings.{is_skipped, outside_of, with_outside, labelled, is_end, read_item, item_in, with_said, with_first, with_code, plain_outside, outside_line, method_of_line, with_line, with_lines, no_lines, ended, class_said, first_line};
 
 use crate::class_line::class_line;
 use crate::fault::AsmFault;
@@ -362,4 +362,34 @@ fn class_said(alloc: Global, line: usize, words: &[Seq<u8>]) -> Result<ClassLine
     } else {
         Err(AsmFault::Syntax { line })
     }
+}
+
+/// The number of a listing's last line, where `line` is the number behind it.
+fn last_before(line: usize) -> usize
+    requires { 0 < line }
+    ensures { result ≡ (if line == 1 then 1 else line - 1) }
+{
+    if line == 1 { 1 } else { line - 1 }
+}
+
+/// The first line that isn't skipped: its number and what it says.
+fn first_line(alloc: Global, texts: &[&[u8]]) -> Result<(usize, ClassLine), AsmFault>
+    requires { length texts.now < 2 ^ 63 }
+    ensures { Gives (λ x. x) result (first_line 1 (map (λ t. t.now) texts.now)) }
+{
+    let mut line = 1;
+    for text in texts {
+        if !is_plain(text) {
+            return Err(AsmFault::Syntax { line });
+        }
+        let words = words(alloc, text)?;
+        if !is_skipped(words.as_slice()) {
+            let class = class_said(alloc, line, words.as_slice())?;
+            return Ok((line, class));
+        }
+        line += 1;
+    }
+    Err(AsmFault::Syntax {
+        line: last_before(line),
+    })
 }
