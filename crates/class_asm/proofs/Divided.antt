@@ -1,5 +1,5 @@
 -- The first of the parts, and those behind it.
-use Rattle.std.proofs.Common.{◌≡◌, ℕ, zero, suc, ◌+◌, ◌<◌, ◌≤◌, true, false, cond, ltb, eqb, not, List, [], ◌∷◌, length, take, drop, Some, None, refl, sym, ap, ◌∙◌, arith, inl, inr}
+use Rattle.std.proofs.Common.{◌≡◌, ℕ, zero, suc, ◌+◌, ◌<◌, ◌≤◌, true, false, cond, ltb, eqb, not, List, [], ◌∷◌, length, take, drop, Some, None, refl, sym, ap, ◌∙◌, arith, inl, inr, min, map}
 use Rattle.std.specs.Prelude.{position}
 use Rattle.std.specs.List.{position_or_len}
 use Rattle.std.proofs.lemmas.Bool.{cases_Bool, ltb-false}
@@ -53,3 +53,9 @@ one_part at bytes h p =
     let all : take (length bytes) bytes ≡ bytes = take-length bytes in
     let none : drop (length bytes) bytes ≡ [] = grind (arith, common_steps) in
     first at bytes h ∙ rw (front, rest, all, none) refl
+
+pub behind_is : {A B : Type 0} (f : A → B) (xs : List A) (n k : ℕ) → k ≡ min n (length xs) → map f (drop k xs) ≡ drop n (map f xs)
+behind_is f [] n k h = let e : k ≡ 0 = omega (arith, h) in rw e (grind (arith, common_steps))
+behind_is f (x ∷ xs) zero k h = let e : k ≡ 0 = omega (arith, h) in rw e refl
+behind_is f (x ∷ xs) (suc n) zero h = absurd (omega (arith, h))
+behind_is f (x ∷ xs) (suc n) (suc k) h = behind_is f xs n k (omega (arith, h))

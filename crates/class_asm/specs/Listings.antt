@@ -1,5 +1,5 @@
 -- The lines of a listing, sorted by what they are part of.
-use Rattle.std.specs.Prelude.{ℕ, ◌+◌, Bool, true, false, ◌&&◌, List, [], ◌∷◌, ◌++◌, Option, Some, None, is_some, Ok, Err, codes, if◌then◌else◌, ◌-◌, ◌==◌, not}
+use Rattle.std.specs.Prelude.{ℕ, ◌+◌, Bool, true, false, ◌&&◌, List, [], ◌∷◌, ◌++◌, Option, Some, None, is_some, Ok, Err, codes, if◌then◌else◌, ◌-◌, ◌==◌, not, length, drop}
 use Rattle.std.specs.Option.{option_map_or}
 use Rattle.std.specs.Str.{bytes_eq}
 use Rattle.class_asm.specs.declared.fault.AsmFault.{AsmFault}
@@ -12,11 +12,12 @@ use Rattle.class_asm.specs.declared.listing.MethodLines.{MethodLines}
 use Rattle.class_asm.specs.declared.listing.Outside.{Outside}
 use Rattle.class_asm.specs.declared.listing.Outside.TheVariants.{Constant, Field, Attribute, Method}
 use Rattle.class_asm.specs.declared.listing.Listing.{Listing}
-use Rattle.class_asm.specs.Parts.{is_plain, words_of}
+use Rattle.class_asm.specs.Parts.{is_plain, lines_of, words_of}
 use Rattle.class_asm.specs.Firsts.{with_fault}
 use Rattle.class_asm.specs.Statements.{Said, ◌>>=◌, Words, constant_line, field_line, attribute_line, method_line}
 use Rattle.class_asm.specs.declared.statement.ClassLine.{ClassLine}
 use Rattle.class_asm.specs.ClassLines.{class_line}
+use Rattle.class_asm.specs.Operations.{all_names}
 use Rattle.class_asm.specs.Items.{Names, label_of, item_of}
 
 -- A line without words, and one whose first word is `#`, say nothing.
@@ -141,3 +142,11 @@ first_line line (text ∷ texts) =
     if not (is_plain text) then Err (Syntax line)
     else (if is_skipped (words_of text) then first_line (line + 1) texts
     else (class_said line (words_of text) >>= λ class. Ok (line, class)))
+
+-- ---- a listing
+
+-- The line that begins it, its number, and all lines behind it.
+unfoldable pub listing_of : List ℕ → Said (ℕ × ClassLine × Listing)
+listing_of text =
+    let lines = lines_of text in
+    first_line 1 lines >>= λ begin. Ok (begin.0, begin.1, ended (with_lines all_names (begin.0 + 1) (drop begin.0 lines) no_lines) (length lines))

@@ -1,15 +1,15 @@
 //! A listing's lines, sorted by what they are part of.
 
-ghost use Rattle.std.specs.Prelude.{◌≡◌, ◌+◌, ◌<◌, ◌^◌, length, map, IfOk, option_map, ◌-◌, ◌==◌, if◌then◌else◌};
+ghost use Rattle.std.specs.Prelude.{◌≡◌, ◌+◌, ◌<◌, ◌^◌, length, map, drop, IfOk, option_map, ◌-◌, ◌==◌, if◌then◌else◌};
 ghost use Rattle.class_asm.specs.Statements.{Gives};
-ghost use Rattle.class_asm.specs.Listings.{is_skipped, outside_of, with_outside, labelled, is_end, read_item, item_in, with_said, with_first, with_code, plain_outside, outside_line, method_of_line, with_line, with_lines, no_lines, ended, class_said, first_line};
+ghost use Rattle.class_asm.specs.Listings.{is_skipped, outside_of, with_outside, labelled, is_end, read_item, item_in, with_said, with_first, with_code, plain_outside, outside_line, method_of_line, with_line, with_lines, no_lines, ended, class_said, first_line, listing_of};
 
 use crate::class_line::class_line;
 use crate::fault::AsmFault;
 use crate::first::First;
 use crate::item::{Item, item_of, label_of};
 use crate::operation::Names;
-use crate::parts::{is_plain, words};
+use crate::parts::{is_plain, lines, words};
 use crate::statement::{
     AttributeLine, ClassLine, Constant, FieldLine, MethodLine, attribute_line, constant_line,
     field_line, is, method_line,
@@ -392,4 +392,35 @@ fn first_line(alloc: Global, texts: &[&[u8]]) -> Result<(usize, ClassLine), AsmF
     Err(AsmFault::Syntax {
         line: last_before(line),
     })
+}
+
+/// What stands behind the first `count`.
+#[tactic(auto, using(crate::proofs::Divided::behind_is))]
+fn behind<'a>(lines: &'a [&'a [u8]], count: usize) -> &'a [&'a [u8]]
+    ensures { map (λ t. t.now) result.now ≡ drop count (map (λ t. t.now) lines.now) }
+{
+    let (_, rest) = lines.split_at(count.min(lines.len()));
+    rest
+}
+
+/// The line that begins the listing, its number, and all lines behind it. A text of 2^62 lines and more, which no memory
+/// holds, is answered by want of memory.
+#[tactic(auto, unfolding(crate::specs::Listings::listing_of))]
+pub(crate) fn read(alloc: Global, text: &[u8]) -> Result<(usize, ClassLine, Listing), AsmFault>
+    ensures { Gives (λ x. x) result (listing_of text.now) }
+{
+    let names = Names::new(alloc)?;
+    let lines = lines(alloc, text)?;
+    let count = lines.len();
+    if count >= 0x4000_0000_0000_0000 {
+        return Err(AsmFault::Memory);
+    }
+    let (line, class) = first_line(alloc, lines.as_slice())?;
+    if line >= 0x4000_0000_0000_0000 {
+        return Err(AsmFault::Memory);
+    }
+    let rest = behind(lines.as_slice(), line);
+    let listing = with_lines(alloc, &names, line + 1, rest, no_lines(alloc))?;
+    let listing = ended(listing, count)?;
+    Ok((line, class, listing))
 }
