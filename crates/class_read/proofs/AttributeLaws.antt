@@ -1,26 +1,24 @@
 -- The readings of attributes are exact for their texts.
-use Rattle.std.proofs.Common.{◌≡◌, ◌≢◌, ℕ, zero, suc, ◌+◌, ◌-◌, ◌^◌, ◌<◌, ◌≤◌, Bool, true, false, cond, ltb, leb, eqb, ◌&&◌, ◌||◌, not, List, [], ◌∷◌, ◌++◌, length, map, Option, Some, None, Result, Ok, Err, refl, sym, ap, subst, ◌∙◌, append_assoc, arith, inl, inr, ◌⊎◌}
-use Rattle.std.specs.Prelude.{IsSome, unwrap_or, is_some, is_none, if◌then◌else◌}
+use Rattle.std.proofs.Common.{◌≡◌, ◌≢◌, ℕ, suc, ◌+◌, ◌^◌, ◌<◌, ◌≤◌, Bool, true, false, cond, ltb, leb, eqb, ◌&&◌, ◌||◌, not, List, [], ◌∷◌, ◌++◌, length, map, Option, Some, None, Ok, refl, sym, ap, subst, ◌∙◌, append_assoc, arith, inl, inr, ◌⊎◌}
+use Rattle.std.specs.Prelude.{IsSome, unwrap_or, is_some, is_none}
 use Rattle.std.specs.List.{flat_map, AllByRecursion}
 use Rattle.std.specs.Option.{option_map_or}
-use Rattle.std.specs.Str.{bytes_eq}
-use Rattle.std.proofs.lemmas.Bool.{cases_Bool, ltb-true, lt-ltb, leb-true, le-leb, eqb-true, eq-eqb, and_parts, and_from, or_cases, or_left, or_right, false_from_ne_true, not-true, not_from_true, not_from_false}
+use Rattle.std.proofs.lemmas.Bool.{ltb-true, lt-ltb, leb-true, le-leb, eqb-true, eq-eqb, and_parts, and_from, or_cases, or_left, or_right, false_from_ne_true, not-true, not_from_false}
 use Rattle.std.proofs.lemmas.Slice.Eq.{bytes_eq-Decides}
 use Rattle.std.proofs.lemmas.List.{append-nil, length-append, nil_from_length}
 use Rattle.std.proofs.lemmas.List.Concat.{flat_map-cons}
 use Rattle.class_pool.specs.declared.entry.PoolEntry.{PoolEntry}
 use Rattle.class_pool.specs.Text.{utf8_at, class_name_at}
-use Rattle.class_read.specs.declared.fault.ClassFault.{ClassFault}
 use Rattle.class_read.specs.declared.fault.ClassFault.TheVariants.{BadDescriptor, CodeLength, MissingCode, ExtraCode}
 use Rattle.class_read.specs.declared.text.AttrText.{AttrText}
 use Rattle.class_read.specs.declared.text.AttrText.TheVariants.{Skipped, Code}
-use Rattle.class_read.specs.Reading.{Read, and_then, ◌>>=◌, pure, place, passing, holding, u2_at, u4_at, bytes_at, named_at, sized_at, repeated, collected}
+use Rattle.class_read.specs.Reading.{Read, and_then, ◌>>=◌, named_at}
 use Rattle.class_read.specs.Content.{Handler, CodeContent}
 use Rattle.class_read.specs.Names.{is_class_name}
 use Rattle.class_read.specs.Text.{u2, u4, counted, attribute_text, handler_text, code_text, attr_text}
-use Rattle.class_read.specs.Rules.{text_of, name_of, IsText, IsClass, code_name, IsAttribute, IsHandler, IsCode, IsMethodAttribute, IsOtherAttribute, codes_in, first_of, skipped_in}
-use Rattle.class_read.specs.FirstFault.{class_index_at, is_catch, catch_at, attribute_name_at, content_at, skipped_at, attributes_at, handler_at, table_at, is_code_length, code_length_at, code_at, is_code_name, Found, may_stand, method_name_at, code_found_at, one_more_at, method_attribute_at, method_attributes_at}
-use Rattle.class_read.proofs.Exact.{IsBytes, Taken, Exact, then_exact, made_exact, told_exact, ruled_exact, passing_exact, u2_exact, u4_exact, bytes_exact, named_exact, sized_exact, FitAll, next_all, held_exact, true_not_false, repeated_exact, counted_exact, adds, collected_exact, listed_exact, bind_ok, tested_ok}
+use Rattle.class_read.specs.Rules.{text_of, name_of, IsText, IsClass, code_name, IsAttribute, IsHandler, IsMethodAttribute, IsOtherAttribute, codes_in, first_of, skipped_in}
+use Rattle.class_read.specs.FirstFault.{class_index_at, is_catch, content_at, skipped_at, attributes_at, handler_at, table_at, is_code_length, code_at, is_code_name, Found, may_stand, method_name_at, code_found_at, one_more_at, method_attribute_at, method_attributes_at}
+use Rattle.class_read.proofs.Exact.{Taken, Exact, then_exact, made_exact, told_exact, ruled_exact, passing_exact, u2_exact, u4_exact, bytes_exact, named_exact, sized_exact, FitAll, next_all, held_exact, true_not_false, repeated_exact, listed_exact, bind_ok}
 
 -- ---- options
 

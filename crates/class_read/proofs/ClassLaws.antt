@@ -1,15 +1,12 @@
 -- The reading of a class file is exact: the class that is read is the one that the bytes spell.
-use Rattle.std.proofs.Common.{◌≡◌, ℕ, zero, suc, ◌+◌, ◌-◌, ◌^◌, ◌<◌, ◌≤◌, Bool, true, false, cond, eqb, List, [], ◌∷◌, ◌++◌, length, map, get_or, Option, Some, None, Result, Ok, Err, refl, sym, ap, subst, ◌∙◌, append_assoc, arith}
+use Rattle.std.proofs.Common.{◌≡◌, ℕ, zero, suc, ◌+◌, ◌-◌, ◌^◌, ◌<◌, ◌≤◌, true, eqb, List, [], ◌∷◌, ◌++◌, length, map, Result, Ok, Err, refl, sym, ap, subst, ◌∙◌, arith}
 use Rattle.std.specs.Prelude.{IsSome}
 use Rattle.std.specs.List.{flat_map, AllByRecursion}
-use Rattle.std.specs.Option.{option_and_then, option_map_or}
-use Rattle.std.proofs.lemmas.Bool.{eqb-true, eq-eqb}
+use Rattle.std.proofs.lemmas.Bool.{eqb-true}
 use Rattle.std.proofs.lemmas.List.{append-nil, drop_at, length-append, nil_from_length}
 use Rattle.class_pool.specs.declared.entry.PoolEntry.{PoolEntry}
 use Rattle.class_pool.specs.declared.fault.PoolFault.{PoolFault}
-use Rattle.class_pool.specs.declared.fault.PoolFault.TheVariants.{BadIndex}
-use Rattle.class_pool.specs.Entry.{is_wide, entry_bytes}
-use Rattle.class_pool.specs.Text.{slots_of, places_of, first_bad_index, IsPool, Unread, counted_bytes, pool_bytes, class_name_at}
+use Rattle.class_pool.specs.Text.{slots_of, places_of, IsPool, Unread, counted_bytes, class_name_at}
 use Rattle.class_pool.specs.Reading.{pool_at}
 use Rattle.class_pool.proofs.PoolLaws.{pool_found, pool_again}
 use Rattle.class_read.specs.declared.fault.ClassFault.{ClassFault}
@@ -17,12 +14,12 @@ use Rattle.class_read.specs.declared.fault.ClassFault.TheVariants.{BadMagic, Ver
 use Rattle.class_read.specs.declared.text.AttrText.{AttrText}
 use Rattle.class_read.specs.declared.text.MemberText.{MemberText}
 use Rattle.class_read.specs.declared.text.ClassText.{ClassText}
-use Rattle.class_read.specs.Content.{FieldContent, MethodContent, ClassContent}
-use Rattle.class_read.specs.Reading.{Read, and_then, ◌>>=◌, pure, place, passing, holding, u2_at, u4_at}
-use Rattle.class_read.specs.Text.{u2, u4, counted, attr_text, member_text, magic_number, class_bytes}
+use Rattle.class_read.specs.Content.{ClassContent}
+use Rattle.class_read.specs.Reading.{Read, ◌>>=◌, pure, place}
+use Rattle.class_read.specs.Text.{u2, counted, attr_text, member_text, magic_number, class_bytes}
 use Rattle.class_read.specs.Rules.{IsClass, name_of, WellFormed, is_read_major, field_of, method_of, skipped_of, skipped_in, content_of, Spells}
-use Rattle.class_read.specs.FirstFault.{interfaces_at, pool_read, pool_field_at, end_at, body_at, magic_at, major_at, file_at, whole_at, without_rest, class_in}
-use Rattle.class_read.proofs.Exact.{IsBytes, IsBytes-drop, Taken, Exact, then_exact, made_exact, told_exact, ruled_exact, passing_exact, u2_exact, u4_exact, listed_exact, bind_ok, tested_ok, parts_of}
+use Rattle.class_read.specs.FirstFault.{interfaces_at, pool_read, pool_field_at, end_at, body_at, file_at, whole_at, without_rest, class_in}
+use Rattle.class_read.proofs.Exact.{IsBytes, IsBytes-drop, Exact, then_exact, made_exact, told_exact, passing_exact, u2_exact, u4_exact, listed_exact, bind_ok, tested_ok, parts_of}
 use Rattle.class_read.proofs.AttributeLaws.{class_exact, AreOthers, others_exact}
 use Rattle.class_read.proofs.MemberLaws.{AreFields, AreMethods, fields_exact, methods_exact}
 

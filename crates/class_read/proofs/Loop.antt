@@ -1,8 +1,8 @@
 -- One more step of a repeated reading.
-use Rattle.std.proofs.Common.{◌≡◌, ℕ, zero, suc, ◌+◌, ◌-◌, ◌<◌, ◌≤◌, List, [], ◌∷◌, ◌++◌, Result, Ok, Err, refl, sym, ap, ◌∙◌, arith}
+use Rattle.std.proofs.Common.{◌≡◌, ℕ, suc, ◌+◌, ◌-◌, ◌<◌, ◌≤◌, List, [], ◌∷◌, ◌++◌, Result, Ok, Err, refl, sym, ◌∙◌, arith}
 use Rattle.class_read.specs.declared.fault.ClassFault.{ClassFault}
 use Rattle.class_read.specs.declared.fault.ClassFault.TheVariants as faults
-use Rattle.class_read.specs.Reading.{Read, and_then, ◌>>=◌, repeated, collected, Fails, Gives}
+use Rattle.class_read.specs.Reading.{Read, repeated, collected, Fails, Gives}
 
 -- a fault of a part is the fault of the whole
 pub fails_along : {X Y : Type 0} (e : ClassFault) (f : Result X ClassFault) (g : Result Y ClassFault) → (f ≡ Err e → g ≡ Err e) → Fails e f → Fails e g

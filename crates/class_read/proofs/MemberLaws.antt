@@ -1,5 +1,5 @@
 -- The readings of fields and methods are exact for their texts.
-use Rattle.std.proofs.Common.{◌≡◌, ℕ, zero, suc, ◌+◌, ◌^◌, ◌<◌, ◌≤◌, Bool, true, false, cond, ◌&&◌, ◌||◌, not, List, [], ◌∷◌, ◌++◌, length, map, Option, Some, None, refl, sym, ap, subst, ◌∙◌, append_assoc, arith}
+use Rattle.std.proofs.Common.{◌≡◌, ℕ, ◌+◌, ◌^◌, ◌<◌, true, false, ◌||◌, List, [], ◌∷◌, ◌++◌, length, map, refl, sym, ap, subst, ◌∙◌, append_assoc, arith}
 use Rattle.std.specs.List.{AllByRecursion, IsDistinct, list_any}
 use Rattle.std.proofs.lemmas.Bool.{not-true, not_from_false, or_parts, or_from}
 use Rattle.std.proofs.lemmas.List.{append-nil, map-append}
@@ -10,16 +10,15 @@ use Rattle.class_read.specs.declared.text.AttrText.{AttrText}
 use Rattle.class_read.specs.declared.text.MemberText.{MemberText}
 use Rattle.class_read.specs.declared.names.MemberKind.{MemberKind}
 use Rattle.class_read.specs.declared.names.MemberKind.TheVariants.{Field, Method}
-use Rattle.class_read.specs.Reading.{Read, and_then, ◌>>=◌, pure, passing, u2_at, named_at, repeated}
-use Rattle.class_read.specs.Content.{FieldContent, MethodContent, CodeContent}
-use Rattle.class_read.specs.Names.{IsDescriptor, is_descriptor}
-use Rattle.class_read.specs.Text.{u2, counted, attr_text, member_text}
-use Rattle.class_read.specs.Rules.{text_of, IsText, has_code, IsMember, IsField, IsMethod, key_of, same_key, AreDistinct, codes_in, first_of, skipped_in, skipped_of, field_of, method_of}
-use Rattle.class_read.specs.FirstFault.{Key, Found, is_new, descriptor_at, new_descriptor_at, head_at, field_at, method_at, field_keys, method_keys, more_fields_at, more_methods_at, fields_at, methods_at}
-use Rattle.class_read.proofs.Exact.{Exact, then_exact, made_exact, told_exact, ruled_exact, passing_exact, u2_exact, FitAll, next_all, counted_exact}
+use Rattle.class_read.specs.Content.{FieldContent, MethodContent}
+use Rattle.class_read.specs.Names.{is_descriptor}
+use Rattle.class_read.specs.Text.{u2, counted, member_text}
+use Rattle.class_read.specs.Rules.{text_of, IsText, has_code, IsField, IsMethod, key_of, same_key, AreDistinct, skipped_in, skipped_of, field_of, method_of}
+use Rattle.class_read.specs.FirstFault.{Key, Found, is_new, head_at, field_at, method_at, field_keys, method_keys, more_fields_at, more_methods_at, fields_at, methods_at}
+use Rattle.class_read.proofs.Exact.{Exact, then_exact, made_exact, told_exact, passing_exact, u2_exact, FitAll, next_all, counted_exact}
 use Rattle.class_read.proofs.Keys.{same_swapped}
 use Rattle.class_read.proofs.Types.{descriptor_found, descriptor_again}
-use Rattle.class_read.proofs.AttributeLaws.{text_exact, AreOthers, others_exact, HasCodes, method_attributes_exact}
+use Rattle.class_read.proofs.AttributeLaws.{text_exact, others_exact, method_attributes_exact}
 
 -- ---- a member up to its attributes
 

@@ -1,5 +1,5 @@
 -- One more field or method of a class.
-use Rattle.std.proofs.Common.{◌≡◌, ◌||◌, not, cond, Bool, true, false, ℕ, ◌+◌, List, [], ◌∷◌, ◌++◌, map, Result, Ok, Err, refl, sym, ap, ◌∙◌}
+use Rattle.std.proofs.Common.{◌≡◌, ◌||◌, not, cond, Bool, true, false, ℕ, ◌+◌, List, [], ◌∷◌, ◌++◌, map, Ok, Err, refl, sym, ap, ◌∙◌}
 use Rattle.std.specs.List.{list_any}
 use Rattle.std.proofs.lemmas.List.{map-append}
 use Rattle.std.proofs.lemmas.List.Folds.{list_any-append}
@@ -14,8 +14,8 @@ use Rattle.class_read.specs.declared.view.MethodView.{MethodView}
 use Rattle.class_read.specs.Content.{FieldContent, MethodContent}
 use Rattle.class_read.specs.View.{field_content, method_content}
 use Rattle.class_read.specs.Rules.{same_key, has_code}
-use Rattle.class_read.specs.Reading.{Read, and_then, ◌>>=◌, pure, place, passing, u2_at, named_at, Fails}
-use Rattle.class_read.specs.FirstFault.{Key, is_new, descriptor_at, new_descriptor_at, head_at, attributes_at, method_attributes_at, field_keys, method_keys, field_at, method_at, more_fields_at, more_methods_at}
+use Rattle.class_read.specs.Reading.{Read, and_then, ◌>>=◌, pure, place, u2_at, named_at, Fails}
+use Rattle.class_read.specs.FirstFault.{Key, descriptor_at, new_descriptor_at, head_at, attributes_at, method_attributes_at, field_keys, method_keys, field_at, method_at, more_fields_at, more_methods_at}
 use Rattle.class_read.proofs.Loop.{fails_along}
 
 -- two lists have the same keys

@@ -1,5 +1,5 @@
 -- The two directions of a reading's contract, for what a call returned.
-use Rattle.std.proofs.Common.{◌≡◌, ℕ, List, Result, Ok, Err, refl, sym, ap, ◌∙◌, arith}
+use Rattle.std.proofs.Common.{ℕ, List, Result, Ok, Err}
 use Rattle.std.specs.Prelude.{IfOk}
 use Rattle.class_read.specs.declared.fault.ClassFault.{ClassFault}
 use Rattle.class_read.specs.Content.{ClassContent}

@@ -1,18 +1,18 @@
 -- The tests of descriptors pass exactly the texts of types.
-use Rattle.std.proofs.Common.{◌≡◌, ◌≢◌, ℕ, zero, suc, ◌+◌, ◌-◌, ◌*◌, ◌<◌, ◌≤◌, Bool, true, false, cond, ltb, eqb, ◌&&◌, not, List, [], ◌∷◌, ◌++◌, length, get_or, take, drop, Option, Some, None, refl, sym, ap, subst, ◌∙◌, append_assoc, arith, inl, inr, ◌⊎◌}
-use Rattle.std.specs.Prelude.{position, replicate, nat_le, nat_lt}
+use Rattle.std.proofs.Common.{◌≡◌, ℕ, zero, suc, ◌+◌, ◌-◌, ◌<◌, ◌≤◌, Bool, true, false, cond, ltb, eqb, ◌&&◌, List, [], ◌∷◌, ◌++◌, length, get_or, take, drop, Option, Some, None, refl, sym, ap, subst, ◌∙◌, append_assoc, arith, inl, inr}
+use Rattle.std.specs.Prelude.{position, replicate, nat_le}
 use Rattle.std.specs.List.{flat_map, list_all, position_or_len, AllByRecursion}
 use Rattle.std.specs.Option.{option_and_then, option_map_or}
 use Rattle.std.specs.Str.{is_utf8}
-use Rattle.std.proofs.lemmas.Bool.{cases_Bool, ltb-false, ltb-true, lt-ltb, le-ltb, leb-true, le-leb, eqb-true, eqb-false, ne_eqb, eq-eqb}
+use Rattle.std.proofs.lemmas.Bool.{cases_Bool, ltb-false, lt-ltb, le-ltb, leb-true, le-leb, eqb-true}
 use Rattle.std.proofs.lemmas.Option.{cond_some}
-use Rattle.std.proofs.lemmas.List.{take_at, drop_at, take-append-drop, length-append, length-drop, append-nil, length-replicate, nil_from_length}
+use Rattle.std.proofs.lemmas.List.{take_at, drop_at, take-append-drop, length-append, append-nil, length-replicate, nil_from_length}
 use Rattle.std.proofs.lemmas.List.Concat.{flat_map-cons}
 use Rattle.std.proofs.lemmas.List.Quantifiers.{position-Some}
 use Rattle.std.proofs.Math.Seq.{drop-cons}
 use Rattle.class_read.specs.declared.names.MemberKind.{MemberKind}
 use Rattle.class_read.specs.declared.names.MemberKind.TheVariants.{Field, Method}
-use Rattle.class_read.specs.Names.{is_name_byte, is_class_name, Element, Primitive, Object, FieldType, is_primitive, IsElement, IsType, element_text, type_text, element_words, type_words, result_text, IsResult, method_text, words_of, is_static, receiver_words, IsFieldDescriptor, IsMethodDescriptor, IsDescriptor, array_depth, object_at, element_at, type_at, params_at, ends_type, is_field_descriptor, is_result, method_words, is_descriptor}
+use Rattle.class_read.specs.Names.{is_name_byte, is_class_name, Element, Primitive, Object, FieldType, is_primitive, IsElement, IsType, element_text, type_text, element_words, type_words, result_text, IsResult, method_text, words_of, is_static, receiver_words, IsFieldDescriptor, IsDescriptor, HasParameters, array_depth, object_at, element_at, type_at, params_at, ends_type, is_field_descriptor, is_result, method_words, is_descriptor}
 
 -- ---- options
 
@@ -356,6 +356,12 @@ few_words words flags h = elim (cases_Bool (is_static flags)) [
       let n : receiver_words flags ≡ 1 = rw other refl in
       omega (arith, n, leb-true _ _ h)
 ]
+
+pub parameters_found : (d : List ℕ) (w : ℕ) → method_words d ≡ Some w → HasParameters d w
+parameters_found d w e = let m = method_found d w e in record { params = m.0; returned = m.1; good = m.2; good_result = m.3; words_are = m.5; text = m.4 }
+
+pub parameters_again : (d : List ℕ) (w : ℕ) → HasParameters d w → method_words d ≡ Some w
+parameters_again d w h = ap method_words h.text ∙ method_read h.params h.returned h.good h.good_result ∙ ap (λ (n : ℕ). Some n) h.words_are
 
 pub descriptor_found : (kind : MemberKind) (flags : ℕ) (d : List ℕ) → is_descriptor kind flags d ≡ true → IsDescriptor kind flags d
 unfolding is_descriptor

@@ -1,11 +1,10 @@
 -- A class that keeps the rules has a text.
-use Rattle.std.proofs.Common.{◌≡◌, ℕ, ◌<◌, ◌^◌, List, [], ◌∷◌, ◌++◌, length, Result, ap, subst, ◌∙◌, arith}
+use Rattle.std.proofs.Common.{◌≡◌, ℕ, List, [], ◌∷◌, ◌++◌, Result, ap, subst, ◌∙◌, arith}
 use Rattle.std.specs.Prelude.{OnOk}
 use Rattle.class_read.specs.Content.{Handler}
 use Rattle.class_read.specs.Text.{code_text}
 use Rattle.std.specs.List.{AllByRecursion}
 use Rattle.class_pool.specs.declared.entry.PoolEntry.{PoolEntry}
-use Rattle.class_pool.specs.Text.{IsPool, HasTexts}
 use Rattle.class_pool.proofs.PoolLaws.{texts_from_pool}
 use Rattle.class_read.specs.declared.text.AttrText.{AttrText}
 use Rattle.class_read.specs.declared.text.AttrText.TheVariants.{Skipped, Code}

@@ -1,7 +1,7 @@
 -- Names of classes and descriptors (JVM specification, SE 8, sections 4.2.1 and 4.3).
-use Rattle.std.specs.Prelude.{◌≡◌, ◌≢◌, ◌&&◌, ◌||◌, ◌==◌, not, ℕ, zero, suc, ◌+◌, ◌-◌, ◌≤◌, ◌<◌, Bool, true, false, IsTrue, bit_and, List, [], ◌∷◌, ◌++◌, length, take, drop, position, replicate, Option, Some, None, nat_lt, nat_le, if◌then◌else◌}
+use Rattle.std.specs.Prelude.{◌≡◌, ◌&&◌, ◌||◌, ◌==◌, not, ℕ, zero, suc, ◌+◌, ◌-◌, ◌≤◌, Bool, true, false, bit_and, List, [], ◌∷◌, ◌++◌, length, take, drop, position, replicate, Option, Some, None, nat_lt, nat_le, if◌then◌else◌}
 use Rattle.std.specs.Borrow.{Bor}
-use Rattle.std.specs.List.{flat_map, list_all, list_any, AllByRecursion}
+use Rattle.std.specs.List.{flat_map, list_all, AllByRecursion}
 use Rattle.std.specs.Option.{option_and_then, option_map_or}
 use Rattle.std.specs.Str.{is_utf8}
 use Rattle.class_read.specs.declared.names.MemberKind.{MemberKind}
@@ -99,6 +99,15 @@ pub record IsFieldDescriptor (descriptor : List ℕ) : Type 0 where
   pub type_is : FieldType
   pub good : IsType type_is
   pub text : descriptor ≡ type_text type_is
+
+-- The text of a method's parameters, which have so many words, and its result.
+pub record HasParameters (descriptor : List ℕ) (words : ℕ) : Type 0 where
+  pub params : List FieldType
+  pub returned : Option FieldType
+  pub good : AllByRecursion IsType params
+  pub good_result : IsResult returned
+  pub words_are : words_of params ≡ words
+  pub text : descriptor ≡ method_text params returned
 
 -- A method's descriptor is the text of its parameters and its result. With the receiver the parameters have at most
 -- 255 words.

@@ -1,5 +1,5 @@
 -- The rules that a class file keeps, and the class that it spells (JVM specification, SE 8, chapter 4).
-use Rattle.std.specs.Prelude.{◌≡◌, ◌≢◌, ◌&&◌, ◌||◌, ℕ, ◌+◌, ◌<◌, ◌≤◌, ◌^◌, ◌⊎◌, not, Bool, true, List, [], ◌∷◌, length, map, Option, Some, None, IsSome, unwrap_or, nat_le, if◌then◌else◌}
+use Rattle.std.specs.Prelude.{◌≡◌, ◌≢◌, ◌&&◌, ◌||◌, ℕ, ◌+◌, ◌<◌, ◌^◌, ◌⊎◌, not, Bool, true, List, [], ◌∷◌, length, map, Option, Some, None, IsSome, unwrap_or, nat_le, if◌then◌else◌}
 use Rattle.std.specs.List.{AllByRecursion, IsDistinct}
 use Rattle.std.specs.Str.{bytes_eq}
 use Rattle.class_pool.specs.Text.{IsPool, utf8_at, class_name_at}

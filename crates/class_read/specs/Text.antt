@@ -1,5 +1,5 @@
 -- The bytes of a class file (JVM specification, SE 8, sections 4.1, 4.5, 4.6, 4.7 and 4.7.3).
-use Rattle.std.specs.Prelude.{ℕ, List, [], ◌∷◌, ◌++◌, length}
+use Rattle.std.specs.Prelude.{ℕ, List, ◌++◌, length}
 use Rattle.std.specs.List.{flat_map}
 use Rattle.std.specs.Int.{w16, w32, to_be_bytes}
 use Rattle.class_pool.specs.Text.{pool_bytes}

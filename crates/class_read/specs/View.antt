@@ -1,6 +1,5 @@
 -- Members and codes where they stand in the file are seen as their contents.
-use Rattle.std.specs.Prelude.{ℕ, List, Option, Some, None}
-use Rattle.std.specs.Option.{option_map}
+use Rattle.std.specs.Prelude.{ℕ, Option, Some, None}
 use Rattle.class_read.specs.declared.view.FieldView.{FieldView}
 use Rattle.class_read.specs.declared.view.MethodView.{MethodView}
 use Rattle.class_read.specs.declared.view.CodeView.{CodeView}

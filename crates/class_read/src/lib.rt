@@ -15,10 +15,11 @@ mod view;
 mod writing;
 
 pub use fault::ClassFault;
+pub use names::{MemberKind, is_class_name, is_descriptor, method_words};
 pub use reading::one_class;
 pub use text::{AttrText, ClassText, MemberText};
 pub use view::{ClassView, CodeView, FieldView, MethodView};
-pub use writing::{write_class, written_is_spelled};
+pub use writing::{class_has_text, write_class, written_is_spelled};
 
 #[cfg(test)]
 mod tests;

@@ -1,15 +1,17 @@
 //! Class names and descriptors (JVM specification, SE 8, sections 4.2.1 and 4.3).
 
-ghost use Rattle.std.specs.Prelude.{◌≡◌, ◌≤◌, ◌<◌, ◌+◌, ◌*◌, ◌==◌, position, IfSome, length, Option, Some, None};
+ghost use Rattle.std.specs.Prelude.{◌≡◌, ◌↔◌, ℕ, IsTrue, ◌≤◌, ◌<◌, ◌+◌, ◌*◌, ◌==◌, position, IfSome, length, Option, Some, None};
 ghost use Rattle.std.specs.List.{list_all};
 ghost use Rattle.std.specs.Str.{is_utf8};
 ghost use Rattle.std.specs.Option.{option_map};
-ghost use Rattle.class_read.specs.Names.{Reads, ReadsAll, is_name_byte, is_class_name, is_primitive, array_depth, object_at, element_at, type_at, params_at, is_field_descriptor, is_result, method_words, is_descriptor, is_static, is_native, is_abstract, receiver_words};
+ghost use Rattle.class_read.specs.Names.{Reads, ReadsAll, is_name_byte, is_class_name, is_primitive, array_depth, object_at, element_at, type_at, params_at, is_field_descriptor, is_result, method_words, is_descriptor, is_static, is_native, is_abstract, receiver_words, HasParameters, IsDescriptor};
 
-/// What a member is.
+/// What a member of a class is.
 #[derive(Clone, Copy, Debug, PartialEq, Eq)]
-pub(crate) enum MemberKind {
+pub enum MemberKind {
+    /// A field.
     Field,
+    /// A method, `<init>` and `<clinit>` included.
     Method,
 }
 
@@ -61,8 +63,8 @@ fn is_text(bytes: &[u8]) -> bool
     }
 }
 
-/// Whether the bytes are the name of a class.
-pub(crate) fn is_class_name(name: &[u8]) -> bool
+/// Whether the bytes are the name of a class: UTF-8, at least one byte, and none of `.`, `;` and `[`.
+pub fn is_class_name(name: &[u8]) -> bool
     ensures { result ≡ is_class_name name.now }
 {
     name.len() > 0 && has_name_bytes(name) && is_text(name)
@@ -185,9 +187,8 @@ fn is_result(bytes: &[u8]) -> bool
     }
 }
 
-/// The words of a method's parameters, where the bytes are a method's descriptor.
 #[tactic(auto, unfolding(crate::specs::Names::method_words))]
-fn method_words(descriptor: &[u8]) -> Option<usize>
+fn words_in(descriptor: &[u8]) -> Option<usize>
     ensures { result ≡ method_words descriptor.now }
 {
     let (first, rest) = descriptor.split_first()?;
@@ -201,22 +202,40 @@ fn method_words(descriptor: &[u8]) -> Option<usize>
     Some(words)
 }
 
+/// The words of a method's parameters, without the receiver: two for a long and a double, one for every other type. None
+/// exactly where the bytes are no method's descriptor. That the parameters have at most 255 words isn't tested.
+pub fn method_words(descriptor: &[u8]) -> Option<usize>
+    ensures computed { result ≡ method_words descriptor.now }
+    ensures exact { (words : ℕ) → (result ≡ Some words) ↔ HasParameters descriptor.now words }
+{
+    words_in(descriptor)
+}
+
 fn receiver_words(flags: u16) -> usize
     ensures { result ≡ receiver_words flags }
 {
     if is_static(flags) { 0 } else { 1 }
 }
 
-/// Whether the bytes are the descriptor of such a member, with these flags.
 #[tactic(auto, unfolding(crate::specs::Names::is_descriptor))]
-pub(crate) fn is_descriptor(kind: MemberKind, flags: u16, descriptor: &[u8]) -> bool
+fn describes(kind: MemberKind, flags: u16, descriptor: &[u8]) -> bool
     ensures { result ≡ is_descriptor kind flags descriptor.now }
 {
     match kind {
         MemberKind::Field => is_field_descriptor(descriptor),
-        MemberKind::Method => match method_words(descriptor) {
+        MemberKind::Method => match words_in(descriptor) {
             Some(words) => words <= 255 - receiver_words(flags),
             None => false,
         },
     }
+}
+
+/// Whether the bytes are the descriptor of such a member of a class, with these access flags. An array has at most 255
+/// dimensions. A method's parameters have at most 255 words with the receiver, which is there unless the flags have STATIC.
+/// A field's flags play no part.
+pub fn is_descriptor(kind: MemberKind, flags: u16, descriptor: &[u8]) -> bool
+    ensures computed { result ≡ is_descriptor kind flags descriptor.now }
+    ensures exact { IsTrue result ↔ IsDescriptor kind flags descriptor.now }
+{
+    describes(kind, flags, descriptor)
 }

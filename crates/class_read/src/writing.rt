@@ -243,19 +243,27 @@ fn put_class(alloc: Global, out: &mut Seq<u8>, class: &ClassText) -> Result<(), 
     put_lists(alloc, out, class)
 }
 
-/// The bytes of a class file. They spell the class where its major version is one that is read.
+/// The bytes of a class file, by its text alone: what the text's indexes name plays no part, so a class that breaks a
+/// rule has its bytes too. Of a class that keeps the rules they spell the class, where its major version is one that is read.
+///
+/// Lists fit their counts and contents their lengths. [`class_has_text`] says that a class that keeps the rules does so.
 ///
 /// # Errors
 ///
 /// Want of memory.
 pub fn write_class(alloc: Global, class: &ClassText) -> Result<Vec<u8>, AllocError>
-    requires { WellFormed class.now }
+    requires { HasClassText class.now }
     ensures { IfOk result (λ v. v.items ≡ class_bytes class.now) }
 {
     let mut out = Seq::new(alloc);
     put_class(alloc, &mut out, class)?;
     Ok(out.into_vec())
 }
+
+/// A class that keeps the rules has a text: what [`write_class`] asks.
+pub fn class_has_text()
+    ensures { (text : ClassText) → WellFormed text → HasClassText text }
+{}
 
 /// What [`write_class`] writes spells the class that the text says, where its major version is one that is read.
 pub fn written_is_spelled()

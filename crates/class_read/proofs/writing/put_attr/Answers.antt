@@ -1,5 +1,5 @@
-use Rattle.std.proofs.Common.{◌≡◌, ◌++◌, ℕ, List, sym, ap, ◌∙◌}
-use Rattle.class_read.specs.Text.{attr_text, attribute_text, code_text}
+use Rattle.std.proofs.Common.{ℕ, List, sym, ap, ◌∙◌}
+use Rattle.class_read.specs.Text.{attr_text, attribute_text}
 use Rattle.class_read.proofs.WritingLaws.{written_as, code_texts}
 use Rattle.class_read.proofs.writing.put_attr.Goals as goal
 

@@ -1,4 +1,4 @@
-use Rattle.std.proofs.Common.{◌≡◌, ◌||◌, ℕ, List, Bor, map, ◌∙◌, ap}
+use Rattle.std.proofs.Common.{◌||◌, List, map, ◌∙◌, ap}
 use Rattle.std.specs.List.{list_any}
 use Rattle.class_read.specs.Rules.{same_key}
 use Rattle.class_read.specs.FirstFault.{Key}
