@@ -2,6 +2,7 @@
 ghost use Rattle.std.specs.Prelude.{◌≡◌};
 ghost use Rattle.class_world.specs.declared.fault.LinkFault.TheVariants.{Memory};
 
+use code_decode::CodeFault;
 use list_views::Seq;
 use std::alloc::{AllocError, AllocFailed};
 
@@ -87,6 +88,13 @@ pub enum LinkFault {
         method: MethodName,
         /// The place of the instruction.
         pc: u16,
+    },
+    /// The code of a reached method breaks a rule on codes or exception tables.
+    Code {
+        /// The method.
+        method: MethodName,
+        /// The rule, with its place in the code.
+        fault: CodeFault,
     },
     /// Want of memory.
     Memory,

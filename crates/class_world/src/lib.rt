@@ -10,12 +10,16 @@ mod hierarchy;
 mod laws;
 mod linking;
 mod names;
+mod op;
+mod program;
 mod roster;
 mod types;
 mod world;
 
 pub use fault::{LinkFault, MethodName};
 pub use laws::sub_is_least;
+pub use op::{Call, FieldUse, Op};
+pub use program::{CatchRange, Method, Program, StaticField};
 pub use world::{MethodRef, World};
 
 #[cfg(test)]
