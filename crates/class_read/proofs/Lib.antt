@@ -9,3 +9,4 @@ pub mod ClassLaws
 pub mod Outcome
 pub mod WritingLaws
 pub mod Keys
+pub mod RuleLaws

@@ -1,5 +1,5 @@
 -- The rules that a class file keeps, and the class that it spells (JVM specification, SE 8, chapter 4).
-use Rattle.std.specs.Prelude.{◌≡◌, ◌≢◌, ◌&&◌, ◌||◌, ℕ, ◌+◌, ◌<◌, ◌^◌, ◌⊎◌, not, Bool, true, List, [], ◌∷◌, length, map, Option, Some, None, IsSome, unwrap_or, nat_le, if◌then◌else◌}
+use Rattle.std.specs.Prelude.{◌≡◌, ◌≢◌, ◌&&◌, ◌||◌, ℕ, ◌+◌, ◌<◌, ◌^◌, ◌⊎◌, not, Bool, true, false, List, [], ◌∷◌, length, map, Option, Some, None, IsSome, unwrap_or, nat_le, if◌then◌else◌}
 use Rattle.std.specs.List.{AllByRecursion, IsDistinct}
 use Rattle.std.specs.Str.{bytes_eq}
 use Rattle.class_pool.specs.Text.{IsPool, utf8_at, class_name_at}
@@ -74,6 +74,10 @@ IsMethodAttribute pool (Code name max_stack max_locals code table attributes) = 
 abbrev pub IsOtherAttribute : List PoolEntry → AttrText → Type 0
 IsOtherAttribute pool (Skipped name content) = IsAttribute pool (name, content)
 IsOtherAttribute pool (Code name max_stack max_locals code table attributes) = ⊥
+
+abbrev pub is_code_attribute : AttrText → Bool
+is_code_attribute (Skipped name content) = false
+is_code_attribute (Code name max_stack max_locals code table attributes) = true
 
 -- the codes among a method's attributes
 abbrev pub codes_in : List AttrText → List CodeContent

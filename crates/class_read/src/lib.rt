@@ -9,9 +9,11 @@ mod member;
 mod method;
 mod names;
 mod reading;
+mod rules;
 mod seen;
 mod text;
 mod view;
+mod well_formed;
 mod writing;
 
 pub use fault::ClassFault;

@@ -90,7 +90,7 @@ fn field<'a>(
     Ok(((field, u64::from(skipped)), rest))
 }
 
-fn has_code(flags: u16) -> bool
+pub(crate) fn has_code(flags: u16) -> bool
     ensures { result ≡ has_code flags }
 {
     !(is_abstract(flags) || is_native(flags))

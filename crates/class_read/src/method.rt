@@ -42,7 +42,7 @@ fn name<'a>(
     Ok((name, rest))
 }
 
-fn is_code_name(name: &[u8]) -> bool
+pub(crate) fn is_code_name(name: &[u8]) -> bool
     ensures { result ≡ is_code_name name.now }
 {
     name == b"Code".as_slice()

@@ -1,0 +1,158 @@
+-- What the tests of a text's rules answer, as the rules themselves.
+use Rattle.std.proofs.Common.{◌≡◌, ℕ, suc, ◌+◌, ◌*◌, ◌<◌, ◌^◌, Bool, true, false, ◌||◌, List, [], ◌∷◌, ◌++◌, length, get_or, take, drop, map, Result, Ok, Err, refl, sym, ap, subst, ◌∙◌, arith}
+use Rattle.std.specs.Prelude.{IfOk}
+use Rattle.std.specs.List.{flat_map, list_any, AllByRecursion, IsDistinct}
+use Rattle.std.proofs.lemmas.Bool.{or_parts, or_from, false≢true}
+use Rattle.std.proofs.lemmas.List.{append-nil, length-append, map-append, take_more, take-append-drop}
+use Rattle.std.proofs.Math.Seq.{drop-cons}
+use Rattle.class_pool.specs.declared.entry.PoolEntry.{PoolEntry}
+use Rattle.class_pool.specs.Text.{HasTexts, IsPool, pool_bytes, Unread, unread, Spells}
+use Rattle.class_pool.proofs.PoolLaws.{same_pool}
+use Rattle.class_read.specs.declared.text.MemberText.{MemberText}
+use Rattle.class_read.specs.declared.text.ClassText.{ClassText}
+use Rattle.class_read.specs.Content.{Handler}
+use Rattle.class_read.specs.Text.{counted, attribute_text, handler_text, code_text}
+use Rattle.class_read.specs.Rules.{text_of, IsClass, IsOtherAttribute, IsField, IsMethod, key_of, same_key, AreDistinct, WellFormed}
+use Rattle.class_read.specs.FirstFault.{Key}
+use Rattle.class_read.proofs.Keys.{or_swap, same_swapped}
+use Rattle.class_read.proofs.Members.{SameKeys}
+
+-- ---- the length of a Code's content
+
+handlers_length : (table : List Handler) → length (flat_map handler_text table) ≡ 8 * length table
+handlers_length [] = refl
+handlers_length (h ∷ table) = omega (arith, handlers_length table)
+
+pub content_length : (max_stack max_locals : ℕ) (code : List ℕ) (table : List Handler) (attributes : List (ℕ × List ℕ))
+    → length (code_text max_stack max_locals code table attributes) ≡ 12 + length code + 8 * length table + length (flat_map attribute_text attributes)
+content_length max_stack max_locals code table attributes =
+    omega (
+      arith,
+      length-append code (counted handler_text table ++ counted attribute_text attributes),
+      length-append (flat_map handler_text table) (counted attribute_text attributes),
+      handlers_length table,
+    )
+
+-- ---- members with distinct names and descriptors
+
+all_more : (P : Key → Type 0) (ks : List Key) (k : Key) → AllByRecursion P ks → P k → AllByRecursion P (ks ++ k ∷ [])
+all_more P [] k all last = (last, tt)
+all_more P (j ∷ ks) k all last = (all.0, all_more P ks k all.1 last)
+
+all_within : (P : Key → Type 0) (ks : List Key) (k : Key) (more : List Key) → AllByRecursion P (ks ++ k ∷ more) → P k
+all_within P [] k more all = all.0
+all_within P (j ∷ ks) k more all = all_within P ks k more all.1
+
+distinct_more : (ks : List Key) (k : Key) → IsDistinct same_key ks → list_any (same_key k) ks ≡ false → IsDistinct same_key (ks ++ k ∷ [])
+unfolding IsDistinct
+distinct_more [] k distinct new = (tt, tt)
+distinct_more (j ∷ ks) k distinct new =
+    let p = or_parts (same_key k j) (list_any (same_key k) ks) new in
+    (all_more (λ y. same_key j y ≡ false) ks k distinct.0 (same_swapped j k ∙ p.0), distinct_more ks k distinct.1 p.1)
+
+distinct_new : (ks : List Key) (k : Key) (more : List Key) → IsDistinct same_key (ks ++ k ∷ more) → list_any (same_key k) ks ≡ false
+unfolding IsDistinct
+distinct_new [] k more distinct = refl
+distinct_new (j ∷ ks) k more distinct =
+    or_from (same_key k j) (list_any (same_key k) ks) (same_swapped k j ∙ all_within (λ y. same_key j y ≡ false) ks k more distinct.0) (distinct_new ks k more distinct.1)
+
+abbrev pair : List ℕ → List ℕ → Key
+pair name desc = (name, desc)
+
+-- one more member, and what comes after it
+split_at : (members : List MemberText) (i : ℕ) (m : MemberText) → i < length members → get_or members i m ≡ m → members ≡ take i members ++ m ∷ drop (suc i) members
+split_at members i m lt is =
+    sym (take-append-drop i members) ∙ ap (λ (r : List MemberText). take i members ++ r) (drop-cons members i m lt ∙ ap (λ (x : MemberText). x ∷ drop (suc i) members) is)
+
+keys_more : (pool : List PoolEntry) (members : List MemberText) (i : ℕ) (m : MemberText) → i < length members → get_or members i m ≡ m
+    → map (key_of pool) (take (i + 1) members) ≡ map (key_of pool) (take i members) ++ key_of pool m ∷ []
+keys_more pool members i m lt is =
+    ap (map (key_of pool)) (take_more members i m lt ∙ ap (λ (x : MemberText). take i members ++ x ∷ []) is) ∙ map-append (key_of pool) (take i members) (m ∷ [])
+
+key_of_texts : (pool : List PoolEntry) (m : MemberText) (name desc : List ℕ) → name ≡ text_of pool m.name → desc ≡ text_of pool m.desc → pair name desc ≡ key_of pool m
+key_of_texts pool m name desc n d = ap (λ (x : List ℕ). pair x desc) n ∙ ap (pair (text_of pool m.name)) d
+
+pub of_texts : (pool : List PoolEntry) (m : MemberText) (name desc : List ℕ) (seen : List Key) (b : Bool) → name ≡ text_of pool m.name → desc ≡ text_of pool m.desc
+    → list_any (same_key (name, desc)) seen ≡ b → list_any (same_key (key_of pool m)) seen ≡ b
+of_texts pool m name desc seen b n d found = ap (λ (k : Key). list_any (same_key k) seen) (sym (key_of_texts pool m name desc n d)) ∙ found
+
+pub added_texts : (pool : List PoolEntry) (m : MemberText) (name desc : List ℕ) (seen more : List Key) → name ≡ text_of pool m.name → desc ≡ text_of pool m.desc
+    → ((k : Key) → list_any (same_key k) more ≡ (same_key k (name, desc) || list_any (same_key k) seen))
+    → (k : Key) → list_any (same_key k) more ≡ (same_key k (key_of pool m) || list_any (same_key k) seen)
+added_texts pool m name desc seen more n d added k = added k ∙ ap (λ (j : Key). same_key k j || list_any (same_key k) seen) (key_of_texts pool m name desc n d)
+
+pub still_distinct : (pool : List PoolEntry) (members : List MemberText) (i : ℕ) (m : MemberText) (seen : List Key) → i < length members → get_or members i m ≡ m
+    → SameKeys seen (map (key_of pool) (take i members)) → IsDistinct same_key (map (key_of pool) (take i members)) → list_any (same_key (key_of pool m)) seen ≡ false
+    → IsDistinct same_key (map (key_of pool) (take (i + 1) members))
+still_distinct pool members i m seen lt is same distinct new =
+    subst (IsDistinct same_key) (sym (keys_more pool members i m lt is)) (distinct_more (map (key_of pool) (take i members)) (key_of pool m) distinct (sym (same (key_of pool m)) ∙ new))
+
+pub not_distinct : (pool : List PoolEntry) (members : List MemberText) (i : ℕ) (m : MemberText) (seen : List Key) → i < length members → get_or members i m ≡ m
+    → SameKeys seen (map (key_of pool) (take i members)) → list_any (same_key (key_of pool m)) seen ≡ true → AreDistinct pool members → ⊥
+not_distinct pool members i m seen lt is same found distinct =
+    let parts : map (key_of pool) members ≡ map (key_of pool) (take i members) ++ key_of pool m ∷ map (key_of pool) (drop (suc i) members) =
+    ap (map (key_of pool)) (split_at members i m lt is) ∙ map-append (key_of pool) (take i members) (m ∷ drop (suc i) members) in
+    let new = distinct_new (map (key_of pool) (take i members)) (key_of pool m) (map (key_of pool) (drop (suc i) members)) (subst (IsDistinct same_key) parts distinct) in
+    false≢true (sym new ∙ sym (same (key_of pool m)) ∙ found)
+
+one_more : (p : Key → Bool) (k : Key) (ks : List Key) → (p k || list_any p ks) ≡ list_any p (ks ++ k ∷ [])
+one_more p k [] = refl
+one_more p k (j ∷ ks) = or_swap (p k) (p j) (list_any p ks) ∙ ap (λ (b : Bool). p j || b) (one_more p k ks)
+
+pub seen_more : (pool : List PoolEntry) (members : List MemberText) (i : ℕ) (m : MemberText) (seen more : List Key) → i < length members → get_or members i m ≡ m
+    → SameKeys seen (map (key_of pool) (take i members)) → ((k : Key) → list_any (same_key k) more ≡ (same_key k (key_of pool m) || list_any (same_key k) seen))
+    → SameKeys more (map (key_of pool) (take (i + 1) members))
+seen_more pool members i m seen more lt is same added k =
+    added k ∙ ap (λ (b : Bool). same_key k (key_of pool m) || b) (same k) ∙ one_more (same_key k) (key_of pool m) (map (key_of pool) (take i members))
+    ∙ ap (list_any (same_key k)) (sym (keys_more pool members i m lt is))
+
+-- ---- the pool
+
+pub pool_is : (text : List ℕ) (entries others : List PoolEntry) (v : Unread) → text ≡ pool_bytes entries → HasTexts entries → Spells (unread text 0) others v → entries ≡ others
+pool_is text entries others v same texts s =
+    let whole : pool_bytes entries ++ [] ≡ text = append-nil (pool_bytes entries) ∙ sym same in
+    sym (same_pool 0 entries others [] v texts (subst (λ (bytes : List ℕ). Spells (record { at = 0; bytes = bytes }) others v) (sym whole) s))
+
+-- ---- the class
+
+pub if_ok : {E : Type 0} (r : Result Bool E) (P Q : Bool → Type 0) → ((b : Bool) → P b → Q b) → IfOk r P → IfOk r Q
+if_ok (Ok b) P Q all holds = all b holds
+if_ok (Err e) P Q all holds = tt
+
+-- the rules on a class whose entries are these
+pub record Holds (pool : List PoolEntry) (c : ClassText) : Type 0 where
+  pub minor : c.minor < 2 ^ 16
+  pub major : c.major < 2 ^ 16
+  pub is_pool : IsPool pool
+  pub flags : c.flags < 2 ^ 16
+  pub names : IsClass pool c.this_index × IsClass pool c.super_index
+  pub interfaces : (length c.interfaces < 2 ^ 16) × AllByRecursion (IsClass pool) c.interfaces
+  pub fields : (length c.fields < 2 ^ 16) × AllByRecursion (IsField pool) c.fields × AreDistinct pool c.fields
+  pub methods : (length c.methods < 2 ^ 16) × AllByRecursion (IsMethod pool) c.methods × AreDistinct pool c.methods
+  pub attributes : (length c.attributes < 2 ^ 16) × AllByRecursion (IsOtherAttribute pool) c.attributes
+
+pub formed : (pool : List PoolEntry) (c : ClassText) → c.pool ≡ pool → Holds pool c → WellFormed c
+formed pool c same holds =
+    let h = subst (λ (p : List PoolEntry). Holds p c) (sym same) holds in
+    record {
+      minor_fits = h.minor;
+      major_fits = h.major;
+      pool = h.is_pool;
+      flags_fit = h.flags;
+      this_class = h.names.0;
+      super_class = h.names.1;
+      interfaces_fit = h.interfaces.0;
+      interfaces = h.interfaces.1;
+      fields_fit = h.fields.0;
+      fields = h.fields.1;
+      fields_differ = h.fields.2;
+      methods_fit = h.methods.0;
+      methods = h.methods.1;
+      methods_differ = h.methods.2;
+      attributes_fit = h.attributes.0;
+      attributes = h.attributes.1;
+    }
+
+pub methods_of : (pool : List PoolEntry) (c : ClassText) → c.pool ≡ pool → WellFormed c → (length c.methods < 2 ^ 16) × AllByRecursion (IsMethod pool) c.methods × AreDistinct pool c.methods
+methods_of pool c same w =
+    subst (λ (p : List PoolEntry). (length c.methods < 2 ^ 16) × AllByRecursion (IsMethod p) c.methods × AreDistinct p c.methods) same (w.methods_fit, w.methods, w.methods_differ)
