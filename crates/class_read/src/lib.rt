@@ -25,3 +25,5 @@ pub use writing::{class_has_text, write_class, written_is_spelled};
 
 #[cfg(test)]
 mod tests;
+#[cfg(test)]
+mod text_tests;
