@@ -14,3 +14,5 @@ pub mod Classes
 pub mod Subtypes
 pub mod Linked
 pub mod SlotLaws
+pub mod Resolve
+pub mod Select

@@ -1,0 +1,94 @@
+-- Resolution: which member an instruction's class, name and descriptor stand for (JVM specification, sections 5.4.3.2
+-- to 5.4.3.4), and the place of a field in objects.
+--
+-- Members are sought class by class; the first class that declares one of that name and descriptor decides.
+use Rattle.std.specs.Prelude.{ℕ, zero, suc, ◌+◌, ◌&&◌, Bool, false, List, [], ◌∷◌, ◌++◌, length, take, drop, slice_get, position, Option, None, option_and_then}
+use Rattle.std.specs.List.{find, filter_map, flat_map, list_any}
+use Rattle.std.specs.Option.{option_map, option_map_or, option_or}
+use Rattle.std.specs.Str.{bytes_eq}
+use Rattle.jvm_values.specs.declared.types.Slot.{Slot}
+use Rattle.class_read.specs.Content.{ClassContent, FieldContent, MethodContent}
+use Rattle.class_world.specs.declared.world.MethodRef.{MethodRef}
+use Rattle.class_world.specs.World.{World, interfaces_of, line_of}
+use Rattle.class_world.specs.Fields.{field_slot, own_slots}
+use Rattle.class_world.specs.Members.{declared_method, initialiser_name}
+
+-- ---- the first class that has what is sought
+
+-- the first class in which a place is found, and that place
+abbrev pub first_found : (ℕ → Option ℕ) → List ℕ → Option (ℕ × ℕ)
+first_found place [] = None
+first_found place (class ∷ more) = option_or (option_map (λ i. (class, i)) (place class)) (first_found place more)
+
+-- ---- fields
+
+abbrev pub is_field_named : List ℕ → List ℕ → FieldContent → Bool
+is_field_named name desc f = bytes_eq name f.name && bytes_eq desc f.desc
+
+-- the place in its file of the field that a class declares with that name and descriptor
+unfoldable pub declared_field : World → ℕ → List ℕ → List ℕ → Option ℕ
+declared_field world class name desc = option_and_then (λ c. position (is_field_named name desc) c.fields) (slice_get world class)
+
+-- Field look-up along the superclass chain of the named class: the class that declares the field, and the field's place
+-- in that class's file. Superinterfaces are not looked at: what interfaces declare is no part of objects.
+unfoldable pub resolve_field : World → ℕ → List ℕ → List ℕ → Option (ℕ × ℕ)
+resolve_field world class name desc = first_found (λ c. declared_field world c name desc) (line_of world class)
+
+-- the field at a place of a class's file
+abbrev pub field_at : World → ℕ → ℕ → Option FieldContent
+field_at world class i = option_and_then (λ c. slice_get c.fields i) (slice_get world class)
+
+-- What stands in objects before a field: what the classes above its class add, and what the earlier fields of its own
+-- class add. It is the same in the objects of each class below.
+unfoldable pub slots_above : World → ℕ → List Slot
+slots_above world class = flat_map (own_slots world) (drop 1 (line_of world class))
+
+unfoldable pub own_slots_before : World → ℕ → ℕ → List Slot
+own_slots_before world class i = option_map_or (λ c. filter_map (field_slot world) (take i c.fields)) (slice_get world class) []
+
+-- The place of a field among the fields of objects, `fields_of`, and what it holds there; a field that is no part of
+-- objects has none.
+unfoldable pub field_place : World → ℕ → ℕ → Option (ℕ × Slot)
+field_place world class i =
+    option_map (λ slot. (length (slots_above world class) + length (own_slots_before world class i), slot))
+    (option_and_then (field_slot world) (field_at world class i))
+
+-- ---- methods
+
+-- a class or interface and then, in turn, each of its own superinterfaces in the same way, up to so many steps up
+abbrev pub with_interfaces : (ℕ → List ℕ) → ℕ → ℕ → List ℕ
+with_interfaces up zero interface = []
+with_interfaces up (suc most) interface = interface ∷ flat_map (with_interfaces up most) (up interface)
+
+-- The superinterfaces of a class in the order in which they are sought: from the class up its superclass chain, each
+-- class's interfaces in order, an interface before its own superinterfaces. In a world without cycles no way up has more
+-- steps than there are classes.
+unfoldable pub superinterfaces_of : World → ℕ → List ℕ
+superinterfaces_of world class =
+    flat_map (with_interfaces (interfaces_of world) (length world)) (flat_map (interfaces_of world) (line_of world class))
+
+abbrev pub method_ref : ℕ × ℕ → MethodRef
+method_ref found = record { class = found.0; index = found.1 }
+
+-- Method look-up from the named class or interface: along its superclass chain, then in its superinterfaces.
+unfoldable pub resolve_method : World → ℕ → List ℕ → List ℕ → Option MethodRef
+resolve_method world class name desc =
+    option_map method_ref (first_found (λ c. declared_method world c name desc) (line_of world class ++ superinterfaces_of world class))
+
+-- the method that a reference stands for
+unfoldable pub method_at : World → MethodRef → Option MethodContent
+method_at world ref = option_and_then (λ c. slice_get c.methods ref.index) (slice_get world ref.class)
+
+-- ---- static initialisers
+
+-- a class declares a method `<clinit>`
+abbrev pub has_initialiser : ClassContent → Bool
+has_initialiser c = list_any (λ m. bytes_eq initialiser_name m.name) c.methods
+
+unfoldable pub is_initialised : World → ℕ → Bool
+is_initialised world class = option_map_or has_initialiser (slice_get world class) false
+
+-- the name of the first class with a method `<clinit>`, from the class up its superclass chain
+unfoldable pub first_static_init : World → ℕ → Option (List ℕ)
+first_static_init world class =
+    option_and_then (λ c. option_map (λ x. x.name) (slice_get world c)) (find (is_initialised world) (line_of world class))
