@@ -8,3 +8,4 @@ pub mod Rows
 pub mod FieldLemmas
 pub mod Links
 pub mod Few
+pub mod Keys

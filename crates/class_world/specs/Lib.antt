@@ -16,3 +16,4 @@ pub mod Linked
 pub mod SlotLaws
 pub mod Resolve
 pub mod Select
+pub mod Index

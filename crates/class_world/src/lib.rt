@@ -8,6 +8,7 @@ mod fields;
 mod flags;
 mod hierarchy;
 mod laws;
+mod members;
 mod linking;
 mod names;
 mod op;
