@@ -9,3 +9,4 @@ pub mod FieldLemmas
 pub mod Links
 pub mod Few
 pub mod Keys
+pub mod Indexes

@@ -1,9 +1,17 @@
--- Tables by which a world finds members: the names and descriptors of each class's members.
-use Rattle.std.specs.Prelude.{ℕ, List, [], map, slice_get}
+-- Tables by which a world finds members: for each class the names and descriptors of its members, whether it has a static
+-- initialiser, and how many of its first fields are part of objects.
+use Rattle.std.specs.Prelude.{◌≡◌, ℕ, ◌+◌, List, [], map, take, length, slice_get}
+use Rattle.std.specs.List.{filter_map, IsDistinct}
 use Rattle.std.specs.Option.{option_map_or}
 use Rattle.class_read.specs.declared.view.FieldView.{FieldView}
 use Rattle.class_read.specs.declared.view.MethodView.{MethodView}
+use Rattle.class_read.specs.Content.{ClassContent, FieldContent, MethodContent}
+use Rattle.class_read.specs.Rules.{same_key}
+use Rattle.class_world.specs.declared.index.MemberIndex.{MemberIndex}
 use Rattle.class_world.specs.World.{World}
+use Rattle.class_world.specs.Fields.{field_slot}
+use Rattle.class_world.specs.Resolve.{is_initialised}
+use Rattle.class_world.specs.Tables.{values_to}
 
 -- a name and a descriptor
 abbrev pub Key : Type 0
@@ -15,9 +23,39 @@ field_key f = (f.name.now, f.desc.now)
 abbrev pub method_key : MethodView → Key
 method_key m = (m.name.now, m.desc.now)
 
+abbrev pub field_content_key : FieldContent → Key
+field_content_key f = (f.name, f.desc)
+
+abbrev pub method_content_key : MethodContent → Key
+method_content_key m = (m.name, m.desc)
+
+-- no two methods of a class, and no two of its fields, have the same name and descriptor
+pub record HasDistinctMembers (class : ClassContent) : Type 0 where
+  pub methods : IsDistinct same_key (map method_content_key class.methods)
+  pub fields : IsDistinct same_key (map field_content_key class.fields)
+
 -- the names and descriptors of the methods that a class declares
 unfoldable pub method_keys : World → ℕ → List Key
-method_keys world class = option_map_or (λ c. map (λ m. (m.name, m.desc)) c.methods) (slice_get world class) []
+method_keys world class = option_map_or (λ c. map method_content_key c.methods) (slice_get world class) []
 
+-- the same of its fields
 unfoldable pub field_keys : World → ℕ → List Key
-field_keys world class = option_map_or (λ c. map (λ f. (f.name, f.desc)) c.fields) (slice_get world class) []
+field_keys world class = option_map_or (λ c. map field_content_key c.fields) (slice_get world class) []
+
+-- how many of the first i of these fields are part of objects
+unfoldable pub kept_before : World → List FieldContent → ℕ → ℕ
+kept_before world fields i = length (filter_map (field_slot world) (take i fields))
+
+-- the same for each i from 0 to all
+abbrev pub kept_counts : World → List FieldContent → List ℕ
+kept_counts world fields = values_to (kept_before world fields) (length fields + 1)
+
+unfoldable pub kept_row : World → ℕ → List ℕ
+kept_row world class = option_map_or (λ c. kept_counts world c.fields) (slice_get world class) []
+
+-- the tables are those of the world
+pub record IsIndex (world : World) (index : MemberIndex) : Type 0 where
+  pub methods : index.methods ≡ values_to (method_keys world) (length world)
+  pub fields : index.fields ≡ values_to (field_keys world) (length world)
+  pub initialised : index.initialised ≡ values_to (is_initialised world) (length world)
+  pub kept : index.kept ≡ values_to (kept_row world) (length world)

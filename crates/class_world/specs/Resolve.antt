@@ -7,7 +7,7 @@ use Rattle.std.specs.List.{find, filter_map, flat_map, list_any}
 use Rattle.std.specs.Option.{option_map, option_map_or, option_or}
 use Rattle.std.specs.Str.{bytes_eq}
 use Rattle.jvm_values.specs.declared.types.Slot.{Slot}
-use Rattle.class_read.specs.Content.{ClassContent, FieldContent, MethodContent}
+use Rattle.class_read.specs.Content.{FieldContent, MethodContent}
 use Rattle.class_world.specs.declared.world.MethodRef.{MethodRef}
 use Rattle.class_world.specs.World.{World, interfaces_of, line_of}
 use Rattle.class_world.specs.Fields.{field_slot, own_slots}
@@ -81,12 +81,12 @@ method_at world ref = option_and_then (λ c. slice_get c.methods ref.index) (sli
 
 -- ---- static initialisers
 
--- a class declares a method `<clinit>`
-abbrev pub has_initialiser : ClassContent → Bool
-has_initialiser c = list_any (λ m. bytes_eq initialiser_name m.name) c.methods
+abbrev pub is_initialiser : MethodContent → Bool
+is_initialiser m = bytes_eq m.name initialiser_name
 
+-- a class declares a method `<clinit>`
 unfoldable pub is_initialised : World → ℕ → Bool
-is_initialised world class = option_map_or has_initialiser (slice_get world class) false
+is_initialised world class = option_map_or (λ c. list_any is_initialiser c.methods) (slice_get world class) false
 
 -- the name of the first class with a method `<clinit>`, from the class up its superclass chain
 unfoldable pub first_static_init : World → ℕ → Option (List ℕ)

@@ -54,7 +54,7 @@ impl<'a> Roster<'a> {
     }
 
     /// What a field adds to objects.
-    fn field_slot(&self, field: &FieldView<'_>) -> Option<Slot>
+    pub(crate) fn field_slot(&self, field: &FieldView<'_>) -> Option<Slot>
         ensures { result ≡ field_slot self.now.classes (field_content field.now) }
     {
         if has_flag(field.flags, STATIC) {

@@ -1,0 +1,123 @@
+-- The tables of members, class by class.
+use Rattle.std.proofs.Common.{◌≡◌, ℕ, zero, suc, ◌+◌, ◌<◌, ◌≤◌, false, List, [], ◌∷◌, ◌++◌, length, get_or, take, Option, Some, None, sym, refl, ap, ap₂, ◌∙◌, subst, arith, add-one, length-append}
+use Rattle.std.specs.Prelude.{map, slice_get}
+use Rattle.std.specs.List.{filter_map, cons_option, list_any, IsDistinct, AllByRecursion}
+use Rattle.std.specs.Option.{option_map_or, option_len}
+use Rattle.std.proofs.Math.Seq.{take-suc}
+use Rattle.class_read.specs.Content.{ClassContent, FieldContent}
+use Rattle.class_read.specs.Rules.{same_key}
+use Rattle.class_read.specs.View.{field_content, method_content}
+use Rattle.class_read.specs.declared.view.FieldView.{FieldView}
+use Rattle.class_read.specs.declared.view.MethodView.{MethodView}
+use Rattle.class_world.specs.World.{World}
+use Rattle.class_world.specs.Fields.{field_slot}
+use Rattle.class_world.specs.Resolve.{is_initialiser, is_initialised}
+use Rattle.class_world.specs.Tables.{values_to}
+use Rattle.class_world.specs.Index.{field_key, method_key, field_content_key, method_content_key, HasDistinctMembers, method_keys, field_keys, kept_before, kept_counts, kept_row}
+use Rattle.class_world.proofs.Maps.{length_mapped}
+use Rattle.class_world.proofs.Tables.{class_at, values_more}
+
+pub map_map : {A B C : Type 0} (f : B → C) (g : A → B) (xs : List A) → map f (map g xs) ≡ map (λ x. f (g x)) xs
+map_map f g [] = refl
+map_map f g (x ∷ xs) = ap (λ ys. f (g x) ∷ ys) (map_map f g xs)
+
+differ_at : (world : World) (class : ℕ) (c : ClassContent) → AllByRecursion HasDistinctMembers world → slice_get world class ≡ Some c → HasDistinctMembers c
+differ_at [] class c h s = cc
+differ_at (x ∷ xs) zero c h s = let same : x ≡ c = cc in subst HasDistinctMembers same h.0
+differ_at (x ∷ xs) (suc n) c h s = differ_at xs n c h.1 s
+
+method_keys_are : (c : ClassContent) (inside methods : List MethodView) → map method_content inside ≡ c.methods → methods ≡ inside → map method_key methods ≡ map method_content_key c.methods
+method_keys_are c inside methods p q = ap (map method_key) q ∙ sym (map_map method_content_key method_content inside) ∙ ap (map method_content_key) p
+
+field_keys_are : (c : ClassContent) (inside fields : List FieldView) → map field_content inside ≡ c.fields → fields ≡ inside → map field_key fields ≡ map field_content_key c.fields
+field_keys_are c inside fields p q = ap (map field_key) q ∙ sym (map_map field_content_key field_content inside) ∙ ap (map field_content_key) p
+
+pub methods_differ : (world : World) (class : ℕ) (c : ClassContent) (inside methods : List MethodView) → AllByRecursion HasDistinctMembers world → class < length world → c ≡ get_or world class c → map method_content inside ≡ c.methods → methods ≡ inside → IsDistinct same_key (map method_key methods)
+methods_differ world class c inside methods h l e p q = subst (IsDistinct same_key) (sym (method_keys_are c inside methods p q)) (differ_at world class c h (class_at world class c l e)).methods
+
+pub fields_differ : (world : World) (class : ℕ) (c : ClassContent) (inside fields : List FieldView) → AllByRecursion HasDistinctMembers world → class < length world → c ≡ get_or world class c → map field_content inside ≡ c.fields → fields ≡ inside → IsDistinct same_key (map field_key fields)
+fields_differ world class c inside fields h l e p q = subst (IsDistinct same_key) (sym (field_keys_are c inside fields p q)) (differ_at world class c h (class_at world class c l e)).fields
+
+pub methods_from : (world : World) (class : ℕ) (c : ClassContent) (inside methods : List MethodView) → class < length world → c ≡ get_or world class c → map method_content inside ≡ c.methods → methods ≡ inside → map method_key methods ≡ method_keys world class
+unfolding method_keys
+methods_from world class c inside methods l e p q =
+    method_keys_are c inside methods p q ∙ ap (λ o. option_map_or (λ x. map method_content_key x.methods) o []) (sym (class_at world class c l e))
+
+pub fields_from : (world : World) (class : ℕ) (c : ClassContent) (inside fields : List FieldView) → class < length world → c ≡ get_or world class c → map field_content inside ≡ c.fields → fields ≡ inside → map field_key fields ≡ field_keys world class
+unfolding field_keys
+fields_from world class c inside fields l e p q =
+    field_keys_are c inside fields p q ∙ ap (λ o. option_map_or (λ x. map field_content_key x.fields) o []) (sym (class_at world class c l e))
+
+pub initialised_from : (world : World) (class : ℕ) (c : ClassContent) (inside methods : List MethodView) → class < length world → c ≡ get_or world class c → map method_content inside ≡ c.methods → methods ≡ inside → list_any is_initialiser (map method_content methods) ≡ is_initialised world class
+unfolding is_initialised
+initialised_from world class c inside methods l e p q =
+    ap (λ ms. list_any is_initialiser (map method_content ms)) q ∙ ap (list_any is_initialiser) p
+    ∙ ap (λ o. option_map_or (λ x. list_any is_initialiser x.methods) o false) (sym (class_at world class c l e))
+
+pub kept_from : (world : World) (class : ℕ) (c : ClassContent) (inside fields : List FieldView) → class < length world → c ≡ get_or world class c → map field_content inside ≡ c.fields → fields ≡ inside → kept_counts world (map field_content fields) ≡ kept_row world class
+unfolding kept_row
+kept_from world class c inside fields l e p q =
+    ap (λ fs. kept_counts world (map field_content fs)) q ∙ ap (kept_counts world) p
+    ∙ ap (λ o. option_map_or (λ x. kept_counts world x.fields) o []) (sym (class_at world class c l e))
+
+-- ---- counting
+
+filter_map-append : {A B : Type 0} (f : A → Option B) (xs ys : List A) → filter_map f (xs ++ ys) ≡ filter_map f xs ++ filter_map f ys
+filter_map-append f [] ys = refl
+filter_map-append {B} f (x ∷ xs) ys = go (f x) (filter_map-append f xs ys)
+  where
+    go : (o : Option B) → filter_map f (xs ++ ys) ≡ filter_map f xs ++ filter_map f ys → cons_option o (filter_map f (xs ++ ys)) ≡ cons_option o (filter_map f xs) ++ filter_map f ys
+    go None e = e
+    go (Some y) e = ap (λ zs. y ∷ zs) e
+
+length-cons : {B : Type 0} (o : Option B) → length (cons_option o []) ≡ option_len o
+length-cons None = refl
+length-cons (Some y) = refl
+
+pub length-filtered : {A B : Type 0} (f : A → Option B) (xs : List A) → length (filter_map f xs) ≤ length xs
+length-filtered f [] = omega arith
+length-filtered {B} f (x ∷ xs) = go (f x) (length-filtered f xs)
+  where
+    go : (o : Option B) → length (filter_map f xs) ≤ length xs → length (cons_option o (filter_map f xs)) ≤ suc (length xs)
+    go None l = omega (arith, l)
+    go (Some y) l = omega (arith, l)
+
+pub kept_none : (world : World) (fields : List FieldContent) → kept_before world fields 0 ≡ 0
+unfolding kept_before
+kept_none world fields = refl
+
+pub kept_more : (world : World) (fields : List FieldView) (i : ℕ) (d : FieldView) → i < length fields → kept_before world (map field_content fields) (i + 1) ≡ kept_before world (map field_content fields) i + option_len (field_slot world (field_content (get_or fields i d)))
+unfolding kept_before
+kept_more world fields i d l =
+    let f = field_slot world in
+    let fs = map field_content fields in
+    let e : take (i + 1) fs ≡ take i fs ++ get_or fs i (field_content d) ∷ [] = rw (add-one) (take-suc fs i (field_content d) (omega (arith, l, length_mapped field_content fields))) in
+    ap (λ xs. length (filter_map f xs)) e
+    ∙ ap length (filter_map-append f (take i fs) (get_or fs i (field_content d) ∷ []))
+    ∙ length-append (filter_map f (take i fs)) (cons_option (f (get_or fs i (field_content d))) [])
+    ∙ ap (λ n. length (filter_map f (take i fs)) + n) (length-cons (f (get_or fs i (field_content d))))
+    ∙ ap (λ x. length (filter_map f (take i fs)) + option_len (f x)) (get_or-map field_content fields i d)
+  where
+    get_or-map : {A B : Type 0} (g : A → B) (xs : List A) (j : ℕ) (x : A) → get_or (map g xs) j (g x) ≡ g (get_or xs j x)
+    get_or-map g [] j x = refl
+    get_or-map g (y ∷ ys) zero x = refl
+    get_or-map g (y ∷ ys) (suc j) x = get_or-map g ys j x
+
+length-take_le : {A : Type 0} (i : ℕ) (xs : List A) → length (take i xs) ≤ i
+length-take_le zero xs = omega arith
+length-take_le (suc i) [] = omega arith
+length-take_le (suc i) (x ∷ xs) = omega (arith, length-take_le i xs)
+
+pub kept_most : (world : World) (fields : List FieldContent) (i : ℕ) → kept_before world fields i ≤ i
+unfolding kept_before
+kept_most world fields i = omega (arith, length-filtered (field_slot world) (take i fields), length-take_le i fields)
+
+pub kept_step : (world : World) (fields : List FieldView) (i kept more : ℕ) (d : FieldView) → i < length fields → kept ≡ kept_before world (map field_content fields) i → more ≡ kept + option_len (field_slot world (field_content (get_or fields i d))) → more ≡ kept_before world (map field_content fields) (i + 1)
+kept_step world fields i kept more d l e m = m ∙ ap (λ n. n + option_len (field_slot world (field_content (get_or fields i d)))) e ∙ sym (kept_more world fields i d l)
+
+pub counts_first : (g : ℕ → ℕ) (start counts : List ℕ) → start ≡ [] → counts ≡ start ++ 0 ∷ [] → g 0 ≡ 0 → counts ≡ values_to g 1
+unfolding values_to
+counts_first g start counts e m z = m ∙ ap (λ xs. xs ++ 0 ∷ []) e ∙ ap (λ n. n ∷ []) (sym z)
+
+pub counts_more : (g : ℕ → ℕ) (i x : ℕ) (counts more : List ℕ) → counts ≡ values_to g i → more ≡ counts ++ x ∷ [] → x ≡ g i → more ≡ values_to g (i + 1)
+counts_more g i x counts more e m h = m ∙ ap₂ (λ xs y. xs ++ y ∷ []) e h ∙ sym (values_more g i)
