@@ -44,18 +44,6 @@ few_methods (x ∷ xs) (suc n) c e s = few_methods xs n c (and_parts (has_few_me
 
 -- ---- methods by name
 
-pub declared_from : (world : World) (class : ℕ) (c : ClassContent) (inside methods : List MethodView) (name desc : List ℕ) (r : Option ℕ) → class < length world → c ≡ get_or world class c → map method_content inside ≡ c.methods → methods ≡ inside → r ≡ position (λ m. is_method_named name desc (method_content m)) methods → r ≡ declared_method world class name desc
-unfolding declared_method
-declared_from world class c inside methods name desc r l e p q a =
-    a ∙ ap (position (λ m. is_method_named name desc (method_content m))) q
-    ∙ sym (position-map (is_method_named name desc) method_content inside)
-    ∙ ap (position (is_method_named name desc)) p
-    ∙ ap (option_and_then (λ x. position (is_method_named name desc) x.methods)) (sym (class_at world class c l e))
-
-pub declared_past : (world : World) (class : ℕ) (name desc : List ℕ) → length world ≤ class → None ≡ declared_method world class name desc
-unfolding declared_method
-declared_past world class name desc l = ap (option_and_then (λ x. position (is_method_named name desc) x.methods)) (sym (slice_get_past world class l))
-
 pub declared_within : (world : World) (class : ℕ) (name desc : List ℕ) (r : Option ℕ) → list_all has_few_members world ≡ true → r ≡ declared_method world class name desc → IfSome r (λ i. i < 65536)
 unfolding declared_method
 declared_within world class name desc None few e = tt

@@ -1,21 +1,25 @@
 -- The tables of members, class by class.
-use Rattle.std.proofs.Common.{◌≡◌, ℕ, zero, suc, ◌+◌, ◌<◌, ◌≤◌, false, List, [], ◌∷◌, ◌++◌, length, get_or, take, Option, Some, None, sym, refl, ap, ap₂, ◌∙◌, subst, arith, add-one, length-append}
-use Rattle.std.specs.Prelude.{map, slice_get}
-use Rattle.std.specs.List.{filter_map, cons_option, list_any, IsDistinct, AllByRecursion}
+use Rattle.std.proofs.Common.{◌≡◌, ℕ, zero, suc, ◌+◌, ◌<◌, ◌≤◌, Bool, true, false, List, [], ◌∷◌, ◌++◌, length, get_or, take, Option, Some, None, sym, refl, ap, ap₂, ◌∙◌, subst, arith, add-one, length-append}
+use Rattle.std.specs.Prelude.{map, position, slice_get, option_and_then}
+use Rattle.std.specs.List.{filter_map, cons_option, list_any, list_all, IsDistinct, AllByRecursion}
 use Rattle.std.specs.Option.{option_map_or, option_len}
 use Rattle.std.proofs.Math.Seq.{take-suc}
+use Rattle.std.proofs.lemmas.Option.{slice_get_past}
 use Rattle.class_read.specs.Content.{ClassContent, FieldContent}
-use Rattle.class_read.specs.Rules.{same_key}
+use Rattle.class_read.specs.Rules.{same_key, key_of, field_of, method_of}
 use Rattle.class_read.specs.View.{field_content, method_content}
 use Rattle.class_read.specs.declared.view.FieldView.{FieldView}
 use Rattle.class_read.specs.declared.view.MethodView.{MethodView}
-use Rattle.class_world.specs.World.{World}
+use Rattle.jvm_values.specs.declared.types.Slot.{Slot}
+use Rattle.class_world.specs.World.{World, built_in, built_ins, built_in_names, world_of}
+use Rattle.class_world.specs.Linking.{CanBeRead}
+use Rattle.class_world.specs.Members.{is_method_named, declared_method}
 use Rattle.class_world.specs.Fields.{field_slot}
 use Rattle.class_world.specs.Resolve.{is_initialiser, is_initialised}
 use Rattle.class_world.specs.Tables.{values_to}
-use Rattle.class_world.specs.Index.{field_key, method_key, field_content_key, method_content_key, HasDistinctMembers, method_keys, field_keys, kept_before, kept_counts, kept_row}
-use Rattle.class_world.proofs.Maps.{length_mapped}
-use Rattle.class_world.proofs.Tables.{class_at, values_more}
+use Rattle.class_world.specs.Index.{Key, has_places, field_key, method_key, field_content_key, method_content_key, HasDistinctMembers, method_keys, field_keys, kept_before, kept_counts, kept_row}
+use Rattle.class_world.proofs.Maps.{length_mapped, position-map}
+use Rattle.class_world.proofs.Tables.{class_at, values_more, length-values, get_or-values}
 
 pub map_map : {A B C : Type 0} (f : B → C) (g : A → B) (xs : List A) → map f (map g xs) ≡ map (λ x. f (g x)) xs
 map_map f g [] = refl
@@ -121,3 +125,53 @@ counts_first g start counts e m z = m ∙ ap (λ xs. xs ++ 0 ∷ []) e ∙ ap (�
 
 pub counts_more : (g : ℕ → ℕ) (i x : ℕ) (counts more : List ℕ) → counts ≡ values_to g i → more ≡ counts ++ x ∷ [] → x ≡ g i → more ≡ values_to g (i + 1)
 counts_more g i x counts more e m h = m ∙ ap₂ (λ xs y. xs ++ y ∷ []) e h ∙ sym (values_more g i)
+
+-- ---- classes that are read have members that differ
+
+distinct_read : (c : ClassContent) → CanBeRead c → HasDistinctMembers c
+distinct_read c r =
+    let s = r.1 in
+    let methods : map method_content_key c.methods ≡ map (key_of s.text.pool) s.text.methods = ap (λ x. map method_content_key x.methods) (sym s.content) ∙ map_map method_content_key (method_of s.text.pool) s.text.methods in
+    let fields : map field_content_key c.fields ≡ map (key_of s.text.pool) s.text.fields = ap (λ x. map field_content_key x.fields) (sym s.content) ∙ map_map field_content_key (field_of s.text.pool) s.text.fields in
+    record {
+      methods = subst (IsDistinct same_key) (sym methods) s.rules.methods_differ;
+      fields = subst (IsDistinct same_key) (sym fields) s.rules.fields_differ;
+    }
+
+all_distinct_read : (cs : List ClassContent) → AllByRecursion CanBeRead cs → AllByRecursion HasDistinctMembers cs
+all_distinct_read [] h = tt
+all_distinct_read (c ∷ cs) h = (distinct_read c h.0, all_distinct_read cs h.1)
+
+distinct_built : (names : List (List ℕ × List ℕ)) → AllByRecursion HasDistinctMembers (map (λ n. built_in n.0 n.1) names)
+unfolding IsDistinct
+distinct_built [] = tt
+distinct_built (n ∷ names) = (record { methods = (tt, tt); fields = tt }, distinct_built names)
+
+all_both : (P : ClassContent → Type 0) (xs ys : List ClassContent) → AllByRecursion P xs → AllByRecursion P ys → AllByRecursion P (xs ++ ys)
+all_both P [] ys e f = f
+all_both P (x ∷ xs) ys e f = (e.0, all_both P xs ys e.1 f)
+
+pub distinct_world : (given : List ClassContent) (world : World) → world ≡ world_of given → AllByRecursion CanBeRead given → AllByRecursion HasDistinctMembers world
+distinct_world given world e h = subst (λ (w : World). AllByRecursion HasDistinctMembers w) (sym e) (all_both HasDistinctMembers built_ins given (distinct_built built_in_names) (all_distinct_read given h))
+
+-- ---- looking members up
+
+pub declared_found : (world : World) (table : List (List Key)) (class : ℕ) (keys : List Key) (name desc : List ℕ) (r : Option ℕ) → table ≡ values_to (method_keys world) (length world) → class < length table → keys ≡ get_or table class keys → r ≡ position (same_key (name, desc)) keys → r ≡ declared_method world class name desc
+unfolding declared_method method_keys
+declared_found world table class keys name desc r t l k e =
+    let m : length table ≡ length world = ap length t ∙ length-values (method_keys world) (length world) in
+    let here : keys ≡ method_keys world class = k ∙ ap (λ x. get_or x class keys) t ∙ get_or-values (method_keys world) (length world) class keys (omega (arith, l, m)) in
+    e ∙ ap (position (same_key (name, desc))) here ∙ go (slice_get world class)
+  where
+    go : (o : Option ClassContent) → position (same_key (name, desc)) (option_map_or (λ c. map method_content_key c.methods) o []) ≡ option_and_then (λ c. position (is_method_named name desc) c.methods) o
+    go None = refl
+    go (Some c) = position-map (same_key (name, desc)) method_content_key c.methods
+
+pub declared_past : (world : World) (table : List (List Key)) (class : ℕ) (name desc : List ℕ) → table ≡ values_to (method_keys world) (length world) → length table ≤ class → None ≡ declared_method world class name desc
+unfolding declared_method
+declared_past world table class name desc t l =
+    let m : length table ≡ length world = ap length t ∙ length-values (method_keys world) (length world) in
+    ap (option_and_then (λ x. position (is_method_named name desc) x.methods)) (sym (slice_get_past world class (omega (arith, l, m))))
+
+pub placed_from : (slots seen : List (List Slot)) (all : Bool) → seen ≡ slots → all ≡ list_all has_places seen → all ≡ true → list_all has_places slots ≡ true
+placed_from slots seen all e a n = ap (list_all has_places) (sym e) ∙ sym a ∙ n

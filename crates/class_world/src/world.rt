@@ -1,19 +1,20 @@
 //! Worlds: linked classes.
-ghost use Rattle.std.specs.Prelude.{◌≡◌, ℕ, ◌+◌, ◌-◌, ◌<◌, ◌≤◌, ◌^◌, length, position, slice_get, IfOk, IfSome, IsTrue};
+ghost use Rattle.std.specs.Prelude.{◌≡◌, ℕ, ◌+◌, ◌-◌, ◌<◌, ◌≤◌, ◌^◌, length, slice_get, IfOk, IfSome, IsTrue};
 ghost use Rattle.class_world.specs.World.{world_of, class_of, is_above};
 ghost use Rattle.class_world.specs.Linking.{Refuses, CanBeRead, has_few_members, link_fault, later_fault, is_linked};
 ghost use Rattle.std.specs.List.{list_all, AllByRecursion};
 ghost use Rattle.class_world.specs.Fields.{fields_of};
-ghost use Rattle.class_read.specs.View.{method_content};
-ghost use Rattle.class_world.specs.Members.{is_method_named, declared_method, find_method};
+ghost use Rattle.class_world.specs.Members.{declared_method, find_method};
+ghost use Rattle.class_world.specs.Index.{IsIndex, has_places};
 ghost use Rattle.class_world.specs.Tables.{above_table, values_to};
 
 use crate::built_in::with_built_ins;
 use crate::fault::LinkFault;
 use crate::hierarchy::above_table;
+use crate::index::MemberIndex;
 use crate::linking::{Hierarchy, LinkRule};
 use crate::roster::Roster;
-use class_read::{ClassView, MethodView};
+use class_read::ClassView;
 use jvm_values::Slot;
 use list_views::Seq;
 use std::alloc::Global;
@@ -36,10 +37,31 @@ pub struct World<'a> {
     pub(crate) roster: Roster<'a>,
     above: Seq<Seq<bool>>,
     pub(crate) slots: Seq<Seq<Slot>>,
+    pub(crate) index: MemberIndex<'a>,
     ghost linked: { IsTrue (is_linked roster.classes) },
     ghost few: { IsTrue (list_all has_few_members roster.classes) },
     ghost marked: { above ≡ above_table roster.classes },
     ghost laid_out: { slots ≡ values_to (fields_of roster.classes) (length roster.classes) },
+    ghost placed: { IsTrue (list_all has_places slots) },
+    ghost indexed: { IsIndex roster.classes index },
+}
+
+/// The places of so many fields are numbers of 32 bits.
+fn has_places(row: &Seq<Slot>) -> bool
+    ensures { result ≡ has_places row.now }
+{
+    row.len() < 1 << 32
+}
+
+fn all_have_places(slots: &[Seq<Slot>]) -> bool
+    ensures { result ≡ list_all has_places slots.now }
+{
+    for row in slots {
+        if !has_places(row) {
+            return false;
+        }
+    }
+    true
 }
 
 /// Every class keeps the rules beside that of the names.
@@ -58,7 +80,7 @@ impl<'a> World<'a> {
     /// # Errors
     ///
     /// The first rule that the classes break, rule by rule in the order of [`LinkFault`], and of a rule the first class
-    /// by its number; or want of memory.
+    /// by its number; or want of memory, of which instances with 2^32 and more fields are one case.
     pub fn link(alloc: Global, classes: Vec<ClassView<'a>>) -> Result<World<'a>, LinkFault>
         requires count { length classes.items + 15 ≤ 2 ^ 32 - 16 }
         requires read { AllByRecursion CanBeRead classes.items }
@@ -75,10 +97,15 @@ impl<'a> World<'a> {
             },
         )?;
         let slots = roster.fields_table(alloc)?;
+        if !all_have_places(slots.as_slice()) {
+            return Err(LinkFault::Memory);
+        }
+        let index = MemberIndex::of(alloc, &roster)?;
         Ok(World {
             roster,
             above,
             slots,
+            index,
         })
     }
 
@@ -129,22 +156,13 @@ impl<'a> World<'a> {
     }
 
     /// The place of the method that a class declares with that name and descriptor.
-    fn declared_method(&self, class: u32, name: &[u8], desc: &[u8]) -> Option<usize>
+    pub(crate) fn declared_method(&self, class: u32, name: &[u8], desc: &[u8]) -> Option<usize>
         ensures place { result ≡ declared_method self.now.roster.classes class name.now desc.now }
         ensures within { IfSome result (λ index. index < 65536) }
     {
-        match self.roster.classes.get(class as usize) {
-            Some(view) => place_of(view.methods.as_slice(), name, desc),
+        match self.index.methods.get(class as usize) {
+            Some(names) => names.find(name, desc),
             None => None,
         }
     }
-}
-
-/// The place of the method with that name and descriptor.
-fn place_of(methods: &[MethodView<'_>], name: &[u8], desc: &[u8]) -> Option<usize>
-    ensures { result ≡ position (λ m. is_method_named name.now desc.now (method_content m)) methods.now }
-{
-    methods
-        .iter()
-        .position(|m| name == m.name && desc == m.desc)
 }
