@@ -1,10 +1,12 @@
 -- The tables of members, class by class.
 use Rattle.std.proofs.Common.{◌≡◌, ℕ, zero, suc, ◌+◌, ◌<◌, ◌≤◌, Bool, true, false, List, [], ◌∷◌, ◌++◌, length, get_or, take, Option, Some, None, sym, refl, ap, ap₂, ◌∙◌, subst, arith, add-one, length-append}
-use Rattle.std.specs.Prelude.{map, position, slice_get, option_and_then}
+use Rattle.std.specs.Prelude.{map, position, slice_get, option_and_then, IfSome}
 use Rattle.std.specs.List.{filter_map, cons_option, list_any, list_all, IsDistinct, AllByRecursion}
 use Rattle.std.specs.Option.{option_map_or, option_len}
 use Rattle.std.proofs.Math.Seq.{take-suc}
 use Rattle.std.proofs.lemmas.Option.{slice_get_past}
+use Rattle.std.proofs.lemmas.Bool.{and_parts, ltb-true}
+use Rattle.std.proofs.lemmas.List.Quantifiers.{position-Some}
 use Rattle.class_read.specs.Content.{ClassContent, FieldContent}
 use Rattle.class_read.specs.Rules.{same_key, key_of, field_of, method_of}
 use Rattle.class_read.specs.View.{field_content, method_content}
@@ -12,10 +14,10 @@ use Rattle.class_read.specs.declared.view.FieldView.{FieldView}
 use Rattle.class_read.specs.declared.view.MethodView.{MethodView}
 use Rattle.jvm_values.specs.declared.types.Slot.{Slot}
 use Rattle.class_world.specs.World.{World, built_in, built_ins, built_in_names, world_of}
-use Rattle.class_world.specs.Linking.{CanBeRead}
+use Rattle.class_world.specs.Linking.{CanBeRead, has_few_members}
 use Rattle.class_world.specs.Members.{is_method_named, declared_method}
 use Rattle.class_world.specs.Fields.{field_slot}
-use Rattle.class_world.specs.Resolve.{is_initialiser, is_initialised}
+use Rattle.class_world.specs.Resolve.{is_field_named, declared_field, is_initialiser, is_initialised}
 use Rattle.class_world.specs.Tables.{values_to}
 use Rattle.class_world.specs.Index.{Key, has_places, field_key, method_key, field_content_key, method_content_key, HasDistinctMembers, method_keys, field_keys, kept_before, kept_counts, kept_row}
 use Rattle.class_world.proofs.Maps.{length_mapped, position-map}
@@ -175,3 +177,50 @@ declared_past world table class name desc t l =
 
 pub placed_from : (slots seen : List (List Slot)) (all : Bool) → seen ≡ slots → all ≡ list_all has_places seen → all ≡ true → list_all has_places slots ≡ true
 placed_from slots seen all e a n = ap (list_all has_places) (sym e) ∙ sym a ∙ n
+
+pub field_found : (world : World) (table : List (List Key)) (class : ℕ) (keys : List Key) (name desc : List ℕ) (r : Option ℕ) → table ≡ values_to (field_keys world) (length world) → class < length table → keys ≡ get_or table class keys → r ≡ position (same_key (name, desc)) keys → r ≡ declared_field world class name desc
+unfolding declared_field field_keys
+field_found world table class keys name desc r t l k e =
+    let m : length table ≡ length world = ap length t ∙ length-values (field_keys world) (length world) in
+    let here : keys ≡ field_keys world class = k ∙ ap (λ x. get_or x class keys) t ∙ get_or-values (field_keys world) (length world) class keys (omega (arith, l, m)) in
+    e ∙ ap (position (same_key (name, desc))) here ∙ go (slice_get world class)
+  where
+    go : (o : Option ClassContent) → position (same_key (name, desc)) (option_map_or (λ c. map field_content_key c.fields) o []) ≡ option_and_then (λ c. position (is_field_named name desc) c.fields) o
+    go None = refl
+    go (Some c) = position-map (same_key (name, desc)) field_content_key c.fields
+
+pub field_past : (world : World) (table : List (List Key)) (class : ℕ) (name desc : List ℕ) → table ≡ values_to (field_keys world) (length world) → length table ≤ class → None ≡ declared_field world class name desc
+unfolding declared_field
+field_past world table class name desc t l =
+    let m : length table ≡ length world = ap length t ∙ length-values (field_keys world) (length world) in
+    ap (option_and_then (λ x. position (is_field_named name desc) x.fields)) (sym (slice_get_past world class (omega (arith, l, m))))
+
+few_fields : (world : World) (n : ℕ) (c : ClassContent) → list_all has_few_members world ≡ true → slice_get world n ≡ Some c → length c.fields < 65536
+few_fields [] n c e s = cc
+few_fields (x ∷ xs) zero c e s =
+    let same : x ≡ c = cc in
+    let r = and_parts (has_few_members x) (list_all has_few_members xs) e in
+    subst (λ (y : ClassContent). length y.fields < 65536) same (ltb-true (length x.fields) 65536 (and_parts _ _ r.0).0)
+few_fields (x ∷ xs) (suc n) c e s = few_fields xs n c (and_parts (has_few_members x) (list_all has_few_members xs) e).1 s
+
+pub field_within : (world : World) (class : ℕ) (name desc : List ℕ) (r : Option ℕ) → list_all has_few_members world ≡ true → r ≡ declared_field world class name desc → IfSome r (λ i. i < 65536)
+unfolding declared_field
+field_within world class name desc None few e = tt
+field_within world class name desc (Some i) few e = go (slice_get world class) refl e
+  where
+    go : (o : Option ClassContent) → slice_get world class ≡ o → Some i ≡ option_and_then (λ x. position (is_field_named name desc) x.fields) o → i < 65536
+    go None s f = cc
+    go (Some c) s f =
+        let here = (position-Some (is_field_named name desc) c.fields i (record { flags = 0; name = []; desc = [] }) (sym f)).0 in
+        omega (arith, here, few_fields world class c few s)
+
+pub initialised_found : (world : World) (table : List Bool) (class : ℕ) (r : Bool) → table ≡ values_to (is_initialised world) (length world) → class < length table → r ≡ get_or table class r → r ≡ is_initialised world class
+initialised_found world table class r t l k =
+    let m : length table ≡ length world = ap length t ∙ length-values (is_initialised world) (length world) in
+    k ∙ ap (λ x. get_or x class r) t ∙ get_or-values (is_initialised world) (length world) class r (omega (arith, l, m))
+
+pub initialised_past : (world : World) (table : List Bool) (class : ℕ) → table ≡ values_to (is_initialised world) (length world) → length table ≤ class → false ≡ is_initialised world class
+unfolding is_initialised
+initialised_past world table class t l =
+    let m : length table ≡ length world = ap length t ∙ length-values (is_initialised world) (length world) in
+    ap (λ o. option_map_or (λ c. list_any is_initialiser c.methods) o false) (sym (slice_get_past world class (omega (arith, l, m))))

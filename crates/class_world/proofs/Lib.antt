@@ -10,3 +10,5 @@ pub mod Links
 pub mod Few
 pub mod Keys
 pub mod Indexes
+pub mod Chain
+pub mod Seeking

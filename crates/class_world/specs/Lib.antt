@@ -17,3 +17,4 @@ pub mod SlotLaws
 pub mod Resolve
 pub mod Select
 pub mod Index
+pub mod Seeking

@@ -8,13 +8,16 @@ mod fields;
 mod flags;
 mod hierarchy;
 mod index;
+mod interfaces;
 mod laws;
 mod linking;
 mod members;
 mod names;
 mod op;
 mod program;
+mod resolve;
 mod roster;
+mod select;
 mod types;
 mod world;
 

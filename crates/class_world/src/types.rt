@@ -45,7 +45,7 @@ impl<'a> World<'a> {
 
     /// Whether class `a` is class `b` or below it.
     #[tactic(auto, unfolding(crate::specs::Types::is_class_below))]
-    fn is_class_below(&self, a: u32, b: u32) -> bool
+    pub(crate) fn is_class_below(&self, a: u32, b: u32) -> bool
         requires a { a < length self.now.roster.classes }
         requires b { b < length self.now.roster.classes }
         ensures { result ≡ is_class_below self.now.roster.classes a b }
