@@ -18,3 +18,8 @@ pub mod Resolve
 pub mod Select
 pub mod Index
 pub mod Seeking
+pub mod Refusals
+pub mod Signatures
+pub mod Operands
+pub mod Ops
+pub mod Runs

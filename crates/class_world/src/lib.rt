@@ -14,10 +14,14 @@ mod linking;
 mod members;
 mod names;
 mod op;
+mod operand;
 mod program;
 mod resolve;
 mod roster;
 mod select;
+mod refusal;
+mod roster;
+mod signature;
 mod types;
 mod world;
 

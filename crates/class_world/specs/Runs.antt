@@ -1,0 +1,42 @@
+-- The methods that an instruction can run (JVM specification, section 6.5: invokestatic, invokespecial, invokevirtual and
+-- invokeinterface).
+use Rattle.std.specs.Prelude.{ℕ, Bool, true, if◌then◌else◌, List, [], ◌∷◌, Option, Some, None}
+use Rattle.std.specs.List.{flat_map}
+use Rattle.std.specs.Option.{option_map_or}
+use Rattle.class_read.specs.Content.{MethodContent}
+use Rattle.class_world.specs.declared.op.Op.{Op}
+use Rattle.class_world.specs.declared.op.Op.TheVariants.{Invokevirtual, Invokespecial, Invokestatic, Invokeinterface}
+use Rattle.class_world.specs.declared.op.Call.{Call}
+use Rattle.class_world.specs.declared.world.MethodRef.{MethodRef}
+use Rattle.class_world.specs.World.{World, is_abstract}
+use Rattle.class_world.specs.Resolve.{method_at}
+use Rattle.class_world.specs.Select.{select, receivers}
+
+-- a method that isn't there has no body either
+abbrev pub has_no_body : World → MethodRef → Bool
+has_no_body world ref = option_map_or (λ m. is_abstract m.flags) (method_at world ref) true
+
+-- a method, unless it is abstract
+unfoldable pub with_body : World → MethodRef → List MethodRef
+with_body world ref = if has_no_body world ref then [] else ref ∷ []
+
+abbrev pub selection_with_body : World → Option MethodRef → List MethodRef
+selection_with_body world (Some ref) = with_body world ref
+selection_with_body world None = []
+
+-- what each class that a receiver can be of selects, class by class
+unfoldable pub selections : World → ℕ → MethodContent → List MethodRef
+selections world named m = flat_map (λ class. selection_with_body world (select world m.name m.desc class)) (receivers world named)
+
+-- the name and the descriptor are those of the method that resolution gave
+unfoldable pub call_selections : World → Call → List MethodRef
+call_selections world call = option_map_or (selections world call.class) (method_at world call.method) []
+
+-- The methods that an instruction can run, in order: for a call that selects by the receiver's class, what each class
+-- selects, by the class's number.
+unfoldable pub runs : World → Op → List MethodRef
+runs world (Invokestatic call) = with_body world call.method
+runs world (Invokespecial call) = with_body world call.method
+runs world (Invokevirtual call) = call_selections world call
+runs world (Invokeinterface call) = call_selections world call
+runs world _ = []
