@@ -80,19 +80,28 @@ returned_slot world returned = option_and_then (λ t. known_slot (meaning_of wor
 abbrev pub signature : World → MethodType → Signature
 signature world m = record { params = slots_of world m.params; result = returned_slot world m.returned }
 
-abbrev pub refused_type : Option (List ℕ) → Bool → Option Refusal
-refused_type (Some name) unsupported = Some (MissingClass name)
-refused_type None true = Some UnsupportedType
-refused_type None false = None
+abbrev pub missing_refusal : Option (List ℕ) → Option Refusal
+missing_refusal missing = option_map MissingClass missing
 
--- a class that isn't there comes before a type that isn't supported
-abbrev pub type_refusal : World → List FieldType → Option Refusal
-type_refusal world types = refused_type (first_missing_class world types) (has_unsupported world types)
+abbrev pub unsupported_refusal : Bool → Option Refusal
+unsupported_refusal unsupported = if unsupported then Some UnsupportedType else None
 
 abbrev pub unless_refused : {A : Type 0} → Option Refusal → A → Result A Refusal
 unless_refused (Some refusal) x = Err refusal
 unless_refused None x = Ok x
 
+-- where an instruction names a method, a class that isn't there comes before a type that isn't supported
+abbrev pub named_refusal : World → List FieldType → Option Refusal
+named_refusal world types = option_or (missing_refusal (first_missing_class world types)) (unsupported_refusal (has_unsupported world types))
+
+-- where a method declares them, it is the other way round
+abbrev pub declared_refusal : World → List FieldType → Option Refusal
+declared_refusal world types = option_or (unsupported_refusal (has_unsupported world types)) (missing_refusal (first_missing_class world types))
+
 -- What a method descriptor means where an instruction names it. One that can't be read is as good as not there.
 unfoldable pub signature_of : World → List ℕ → Result Signature Refusal
-signature_of world desc = option_map_or (λ m. unless_refused (type_refusal world (types_of m)) (signature world m)) (method_type desc) (Err Unresolved)
+signature_of world desc = option_map_or (λ m. unless_refused (named_refusal world (types_of m)) (signature world m)) (method_type desc) (Err Unresolved)
+
+-- What the descriptor of a method means that a class declares. It can be read.
+unfoldable pub declared_signature : World → List ℕ → Result Signature Refusal
+declared_signature world desc = option_map_or (λ m. unless_refused (declared_refusal world (types_of m)) (signature world m)) (method_type desc) (Err Unresolved)
