@@ -12,3 +12,5 @@ pub mod Keys
 pub mod Indexes
 pub mod Chain
 pub mod Seeking
+pub mod Turns
+pub mod TypeLists

@@ -1,5 +1,6 @@
 -- Answers of a reader of descriptors, seen as what the definitions read.
-use Rattle.std.specs.Prelude.{◌≡◌, Option, Some, None}
+use Rattle.std.specs.Prelude.{◌≡◌, map, Option, Some, None}
+use Rattle.std.specs.Option.{option_map}
 use Rattle.class_read.specs.Names.{FieldType, Element}
 use Rattle.class_read.specs.Names.Element.{Primitive as PrimitiveElement, Object as ObjectElement}
 use Rattle.class_world.specs.declared.descriptor.ElementText.{ElementText}
@@ -9,6 +10,8 @@ use Rattle.class_world.specs.declared.descriptor.Sense.{Sense}
 use Rattle.class_world.specs.declared.descriptor.Sense.TheVariants.{Known as KnownSense, Unsupported as UnsupportedSense, Missing as MissingSense}
 use Rattle.class_world.specs.Descriptors.{Meaning}
 use Rattle.class_world.specs.Descriptors.Meaning.{Known, Unsupported, Missing}
+use Rattle.class_world.specs.declared.signature.MethodText.{MethodText}
+use Rattle.class_world.specs.Signatures.{MethodType}
 
 abbrev pub element_seen : ElementText → Element
 element_seen (Primitive letter) = PrimitiveElement letter
@@ -26,3 +29,6 @@ meaning_seen (MissingSense name) = Missing name.now
 abbrev pub Reads : {X Y : Type 0} → (X → Y) → Option X → Option Y → Type 0
 Reads seen (Some x) read = read ≡ Some (seen x)
 Reads seen None read = read ≡ None
+
+abbrev pub method_seen : MethodText → MethodType
+method_seen m = record { params = map type_seen m.params; returned = option_map type_seen m.returned }

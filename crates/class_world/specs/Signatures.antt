@@ -1,13 +1,14 @@
 -- Method descriptors (JVM specification, section 4.3.3): what they say, and what that is in a world.
 use Rattle.std.specs.Prelude.{ℕ, zero, suc, ◌==◌, ◌++◌, Bool, true, false, if◌then◌else◌, List, [], ◌∷◌, length, Option, Some, None, option_and_then, Result, Ok, Err}
 use Rattle.std.specs.List.{list_any, filter_map}
-use Rattle.std.specs.Option.{option_map, option_map_or, option_or, option_to_list}
+use Rattle.std.specs.Option.{option_map, option_or, option_to_list}
 use Rattle.class_read.specs.Names.{FieldType}
 use Rattle.jvm_values.specs.declared.types.Slot.{Slot}
 use Rattle.class_world.specs.declared.refusal.Refusal.{Refusal}
 use Rattle.class_world.specs.declared.refusal.Refusal.TheVariants.{MissingClass, UnsupportedType, Unresolved}
 use Rattle.class_world.specs.declared.signature.Signature.{Signature}
 use Rattle.class_world.specs.World.{World}
+use Rattle.class_world.specs.Refusals.{◌>>=◌, wanted}
 use Rattle.class_world.specs.Descriptors.{type_at, Meaning, meaning_of, known_slot}
 use Rattle.class_world.specs.Descriptors.Meaning.{Known, Unsupported, Missing}
 
@@ -80,28 +81,32 @@ returned_slot world returned = option_and_then (λ t. known_slot (meaning_of wor
 abbrev pub signature : World → MethodType → Signature
 signature world m = record { params = slots_of world m.params; result = returned_slot world m.returned }
 
-abbrev pub missing_refusal : Option (List ℕ) → Option Refusal
-missing_refusal missing = option_map MissingClass missing
+-- each class among the types is there, else the first one that isn't
+abbrev pub absent : Option (List ℕ) → Result (Unit {0}) Refusal
+absent (Some name) = Err (MissingClass name)
+absent None = Ok tt
 
-abbrev pub unsupported_refusal : Bool → Option Refusal
-unsupported_refusal unsupported = if unsupported then Some UnsupportedType else None
+unfoldable pub all_there : World → List FieldType → Result (Unit {0}) Refusal
+all_there world types = absent (first_missing_class world types)
 
-abbrev pub unless_refused : {A : Type 0} → Option Refusal → A → Result A Refusal
-unless_refused (Some refusal) x = Err refusal
-unless_refused None x = Ok x
+-- each type is supported
+unfoldable pub all_supported : World → List FieldType → Result (Unit {0}) Refusal
+all_supported world types = if has_unsupported world types then Err UnsupportedType else Ok tt
 
--- where an instruction names a method, a class that isn't there comes before a type that isn't supported
-abbrev pub named_refusal : World → List FieldType → Option Refusal
-named_refusal world types = option_or (missing_refusal (first_missing_class world types)) (unsupported_refusal (has_unsupported world types))
-
--- where a method declares them, it is the other way round
-abbrev pub declared_refusal : World → List FieldType → Option Refusal
-declared_refusal world types = option_or (unsupported_refusal (has_unsupported world types)) (missing_refusal (first_missing_class world types))
-
--- What a method descriptor means where an instruction names it. One that can't be read is as good as not there.
+-- What a method descriptor means where an instruction names it. One that can't be read is as good as not there; a class
+-- that isn't there comes before a type that isn't supported.
 unfoldable pub signature_of : World → List ℕ → Result Signature Refusal
-signature_of world desc = option_map_or (λ m. unless_refused (named_refusal world (types_of m)) (signature world m)) (method_type desc) (Err Unresolved)
+signature_of world desc = do
+  m ← wanted (method_type desc)
+  there ← all_there world (types_of m)
+  supported ← all_supported world (types_of m)
+  Ok (signature world m)
 
--- What the descriptor of a method means that a class declares. It can be read.
+-- What the descriptor of a method means that a class declares: it can be read, and a type that isn't supported comes
+-- before a class that isn't there.
 unfoldable pub declared_signature : World → List ℕ → Result Signature Refusal
-declared_signature world desc = option_map_or (λ m. unless_refused (declared_refusal world (types_of m)) (signature world m)) (method_type desc) (Err Unresolved)
+declared_signature world desc = do
+  m ← wanted (method_type desc)
+  supported ← all_supported world (types_of m)
+  there ← all_there world (types_of m)
+  Ok (signature world m)

@@ -1,10 +1,10 @@
 //! Why classes make no world, or an entry no program.
-ghost use Rattle.std.specs.Prelude.{◌≡◌};
+ghost use Rattle.std.specs.Prelude.{◌≡◌, IfOk};
 ghost use Rattle.class_world.specs.declared.fault.LinkFault.TheVariants.{Memory};
 
 use code_decode::CodeFault;
 use list_views::Seq;
-use std::alloc::{AllocError, AllocFailed};
+use std::alloc::{AllocError, AllocFailed, Global};
 
 /// A method by its class, its name and its descriptor.
 #[derive(Debug, Drop)]
@@ -15,6 +15,19 @@ pub struct MethodName {
     pub name: Seq<u8>,
     /// The method's descriptor.
     pub desc: Seq<u8>,
+}
+
+impl MethodName {
+    /// The same names once more.
+    pub(crate) fn copy(&self, alloc: Global) -> Result<MethodName, AllocError>
+        ensures { IfOk result (λ name. name ≡ self.now) }
+    {
+        Ok(MethodName {
+            class: Seq::from_slice(alloc, self.class.as_slice())?,
+            name: Seq::from_slice(alloc, self.name.as_slice())?,
+            desc: Seq::from_slice(alloc, self.desc.as_slice())?,
+        })
+    }
 }
 
 /// The first rule that classes break as a world, or that the methods reached from an entry break.
