@@ -14,3 +14,6 @@ pub mod Chain
 pub mod Seeking
 pub mod Turns
 pub mod TypeLists
+pub mod Calls
+pub mod Refused
+pub mod Receivers

@@ -1,4 +1,5 @@
 -- What each instruction takes from the constant pool (JVM specification, section 6.5).
+use Rattle.std.specs.Prelude.{ℕ, List}
 use Rattle.code_decode.specs.declared.insn.Insn.{Insn}
 use Rattle.code_decode.specs.declared.insn.Insn.TheVariants.{Ldc, LdcW, Getstatic, Putstatic, Getfield, Putfield, Invokevirtual, Invokespecial, Invokestatic, Invokeinterface, New, Newarray, Anewarray, Checkcast, Instanceof}
 use Rattle.class_world.specs.declared.operand.Operand.{Operand}
@@ -25,3 +26,9 @@ operand_of (Anewarray entry) = Class classes.Anewarray entry
 operand_of (Checkcast entry) = Class classes.Checkcast entry
 operand_of (Instanceof entry) = Class classes.Instanceof entry
 operand_of _ = Nothing
+
+-- what a Fieldref, Methodref or InterfaceMethodref entry names
+pub record Member : Type 0 where
+  pub class : List ℕ
+  pub name : List ℕ
+  pub desc : List ℕ

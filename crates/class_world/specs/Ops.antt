@@ -4,6 +4,7 @@
 -- An instruction that has several faults has the one that stands first in the order of faults. What is said last of an
 -- instruction below has no fault that stands before one of an earlier part, so the parts can be asked in turn.
 use Rattle.std.specs.Prelude.{ℕ, ◌==◌, ◌&&◌, ◌||◌, not, Bool, true, false, if◌then◌else◌, List, [], slice_get, nat_lt, Option, Some, None, is_none, codes, Result, Ok, Err}
+use Rattle.std.specs.List.{list_any}
 use Rattle.std.specs.Option.{option_map, option_map_or}
 use Rattle.std.specs.Str.{bytes_eq}
 use Rattle.class_pool.specs.declared.entry.PoolEntry.{PoolEntry}
@@ -31,16 +32,17 @@ use Rattle.class_world.specs.declared.operand.FieldForm.TheVariants as fields
 use Rattle.class_world.specs.declared.operand.CallForm.{CallForm}
 use Rattle.class_world.specs.declared.operand.CallForm.TheVariants as calls
 use Rattle.class_world.specs.declared.op.Op.{Op}
+use Rattle.class_world.specs.declared.signature.Signature.{Signature}
 use Rattle.class_world.specs.declared.op.Op.TheVariants.{Plain, Constant, Getfield, Putfield, Invokevirtual, Invokespecial, Invokestatic, Invokeinterface, New, Anewarray, Checkcast, Instanceof}
 use Rattle.class_world.specs.declared.op.Call.{Call}
 use Rattle.class_world.specs.declared.op.FieldUse.{FieldUse}
 use Rattle.class_world.specs.declared.world.MethodRef.{MethodRef}
-use Rattle.class_world.specs.World.{World, class_of, super_of, is_above, is_interface_class, is_static, is_private, is_abstract}
+use Rattle.class_world.specs.World.{World, class_of, super_of, line_of, is_interface_class, is_static, is_private, is_abstract}
 use Rattle.class_world.specs.Descriptors.{Meaning, meaning_of, slot_of}
 use Rattle.class_world.specs.Descriptors.Meaning.{Known, Unsupported, Missing}
 use Rattle.class_world.specs.Fields.{can_be_made}
 use Rattle.class_world.specs.Members.{declared_method, initialiser_name}
-use Rattle.class_world.specs.Operands.{operand_of}
+use Rattle.class_world.specs.Operands.{Member, operand_of}
 use Rattle.class_world.specs.Refusals.{◌>>=◌, wanted, required, together, with_fault}
 use Rattle.class_world.specs.Resolve.{resolve_field, resolve_method, field_place, method_at, first_static_init}
 use Rattle.class_world.specs.Signatures.{whole_type, signature_of}
@@ -107,12 +109,6 @@ class_op world classes.Instanceof t = Ok (Instanceof t)
 
 -- ---- members (section 4.4.2)
 
--- what a Fieldref, Methodref or InterfaceMethodref entry names
-pub record Member : Type 0 where
-  pub class : List ℕ
-  pub name : List ℕ
-  pub desc : List ℕ
-
 -- the member that an entry of that tag names; an entry of another tag names nothing, whatever it says
 unfoldable pub member_operand : List PoolEntry → ℕ → ℕ → Result Member Refusal
 member_operand pool tag entry = do
@@ -176,21 +172,21 @@ abbrev pub constructor_of : World → ℕ → List ℕ → Option MethodRef
 constructor_of world class desc = option_map (λ i. record { class = class; index = i }) (declared_method world class constructor_name desc)
 
 -- Where `invokespecial` looks from: for a superclass of the current class, from the direct superclass of the current
--- class on, else from the named class on. The named class, which is no interface, is above the current one only as a
--- superclass. The standard asks first that the named class itself has the method, and lets the rule depend on the flag
--- SUPER; here every class counts as having it.
+-- class on, else from the named class on. The standard asks first that the named class itself has the method, and lets
+-- the rule depend on the flag SUPER; here every class counts as having it.
 unfoldable pub special_start : World → ℕ → ℕ → ℕ
-special_start world current class = if is_above world current class then option_map_or (λ super. super) (super_of world current) class else class
+special_start world current class =
+    option_map_or (λ super. if list_any (λ c. c == class) (line_of world super) then super else class) (super_of world current) class
+
+unfoldable pub special_sought : World → ℕ → ℕ → List ℕ → List ℕ → Option MethodRef
+special_sought world current class name desc =
+    if bytes_eq name constructor_name then constructor_of world class desc
+    else resolve_method world (special_start world current class) name desc
 
 -- where a call looks for its method
 unfoldable pub method_sought : World → ℕ → CallForm → ℕ → List ℕ → List ℕ → Option MethodRef
-method_sought world current calls.Special class name desc =
-    if bytes_eq name constructor_name then constructor_of world class desc
-    else resolve_method world (special_start world current class) name desc
+method_sought world current calls.Special class name desc = special_sought world current class name desc
 method_sought world current _ class name desc = resolve_method world class name desc
-
-abbrev pub is_static_method : MethodContent → Bool
-is_static_method m = is_static m.flags
 
 -- a static method has a body, and it is no interface's
 abbrev pub is_fit_static : World → ℕ → MethodContent → Bool
@@ -207,19 +203,28 @@ method_fit world calls.Virtual class m = virtual_fit m
 method_fit world calls.Special class m = required (not (is_static m.flags))
 method_fit world calls.Interface class m = required (not (is_static m.flags))
 
+-- what was found is a method, of the kind that a call runs
+unfoldable pub found_fit : World → CallForm → Option MethodRef → Result MethodRef Refusal
+found_fit world form found = do
+  ref ← wanted found
+  method ← wanted (method_at world ref)
+  fit ← method_fit world form ref.class method
+  Ok ref
+
 -- the method that a call of the named class resolves to
 unfoldable pub method_called : World → ℕ → CallForm → ℕ → List ℕ → List ℕ → Result MethodRef Refusal
-method_called world current form class name desc = do
-  fit ← required (may_call form name && is_fit_class world form class)
-  ref ← wanted (method_sought world current form class name desc)
-  method ← wanted (method_at world ref)
-  kind ← method_fit world form ref.class method
-  Ok ref
+method_called world current form class name desc =
+    required (may_call form name && is_fit_class world form class) >>= λ _.
+    found_fit world form (method_sought world current form class name desc)
+
+-- the named type and what the descriptor means, or the first of their refusals
+abbrev pub named_parts : World → Member → Result (Ty × Signature) Refusal
+named_parts world m = together (type_named world m.class) (signature_of world m.desc)
 
 -- A call. Its number among the reached methods is put in where those are known.
 unfoldable pub call_of : World → ℕ → CallForm → Member → Result Call Refusal
 call_of world current form m = do
-  named ← together (type_named world m.class) (signature_of world m.desc)
+  named ← named_parts world m
   class ← class_number named.0
   ref ← method_called world current form class m.name m.desc
   Ok (record { class = class; method = ref; params = named.1.params; result = named.1.result; target = None })
@@ -236,21 +241,33 @@ call_op calls.Interface call = Invokeinterface call
 abbrev pub is_unsupported_code : ℕ → Bool
 is_unsupported_code code = (code == 6) || (code == 7) || (code == 11)
 
--- the instruction of a class with that pool, by what it takes from the pool; static fields are not supported
-unfoldable pub op_with : World → ℕ → List PoolEntry → Insn → Operand → Result Op Refusal
-op_with world current pool insn operands.Nothing = Ok (Plain insn)
-op_with world current pool insn (operands.Numbers code) = if is_unsupported_code code then Err UnsupportedType else Ok (Plain insn)
-op_with world current pool insn (operands.Constant entry) = constant_of pool entry
-op_with world current pool insn operands.StaticField = Err refusals.StaticField
-op_with world current pool insn (operands.Field form entry) = do
+unfoldable pub numbers_op : Insn → ℕ → Result Op Refusal
+numbers_op insn code = if is_unsupported_code code then Err UnsupportedType else Ok (Plain insn)
+
+unfoldable pub field_operand : World → List PoolEntry → FieldForm → ℕ → Result Op Refusal
+field_operand world pool form entry = do
   m ← member_operand pool 9 entry
   used ← field_of world m
   Ok (field_op form used)
-op_with world current pool insn (operands.Class form entry) = type_operand world pool entry >>= class_op world form
-op_with world current pool insn (operands.Call form entry) = do
+
+unfoldable pub class_operand : World → List PoolEntry → ClassForm → ℕ → Result Op Refusal
+class_operand world pool form entry = type_operand world pool entry >>= class_op world form
+
+unfoldable pub call_operand : World → ℕ → List PoolEntry → CallForm → ℕ → Result Op Refusal
+call_operand world current pool form entry = do
   m ← member_operand pool (member_tag form) entry
   call ← call_of world current form m
   Ok (call_op form call)
+
+-- the instruction of a class with that pool, by what it takes from the pool; static fields are not supported
+unfoldable pub op_with : World → ℕ → List PoolEntry → Insn → Operand → Result Op Refusal
+op_with world current pool insn operands.Nothing = Ok (Plain insn)
+op_with world current pool insn (operands.Numbers code) = numbers_op insn code
+op_with world current pool insn (operands.Constant entry) = constant_of pool entry
+op_with world current pool insn operands.StaticField = Err refusals.StaticField
+op_with world current pool insn (operands.Field form entry) = field_operand world pool form entry
+op_with world current pool insn (operands.Class form entry) = class_operand world pool form entry
+op_with world current pool insn (operands.Call form entry) = call_operand world current pool form entry
 
 -- the constant pool of a class
 abbrev pub pool_of : World → ℕ → List PoolEntry

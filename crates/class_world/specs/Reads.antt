@@ -12,6 +12,8 @@ use Rattle.class_world.specs.Descriptors.{Meaning}
 use Rattle.class_world.specs.Descriptors.Meaning.{Known, Unsupported, Missing}
 use Rattle.class_world.specs.declared.signature.MethodText.{MethodText}
 use Rattle.class_world.specs.Signatures.{MethodType}
+use Rattle.class_world.specs.Operands.{Member}
+use Rattle.class_world.specs.declared.member_operand.MemberNames.{MemberNames}
 
 abbrev pub element_seen : ElementText → Element
 element_seen (Primitive letter) = PrimitiveElement letter
@@ -32,3 +34,6 @@ Reads seen None read = read ≡ None
 
 abbrev pub method_seen : MethodText → MethodType
 method_seen m = record { params = map type_seen m.params; returned = option_map type_seen m.returned }
+
+abbrev pub member_seen : MemberNames → Member
+member_seen m = record { class = m.class.now; name = m.name.now; desc = m.desc.now }

@@ -2,8 +2,11 @@
 #![tactic(auto)]
 
 mod built_in;
+mod call_operand;
+mod class_operand;
 mod descriptor;
 mod fault;
+mod field_operand;
 mod fields;
 mod flags;
 mod hierarchy;
@@ -11,16 +14,19 @@ mod index;
 mod interfaces;
 mod laws;
 mod linking;
+mod member_operand;
 mod members;
 mod names;
 mod op;
 mod operand;
+mod ops;
 mod program;
 mod resolve;
 mod roster;
 mod select;
 mod refusal;
 mod roster;
+mod runs;
 mod signature;
 mod types;
 mod world;
