@@ -23,3 +23,6 @@ pub mod Signatures
 pub mod Operands
 pub mod Ops
 pub mod Runs
+pub mod Said
+pub mod Methods
+pub mod Reached
