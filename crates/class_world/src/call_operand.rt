@@ -267,11 +267,7 @@ impl<'a> World<'a> {
     }
 
     /// The named type and what the descriptor means, or the first of their refusals.
-    fn named_parts(
-        &self,
-        alloc: Global,
-        names: MemberNames<'_>,
-    ) -> Result<(Ty, Signature), Refusal>
+    fn named_parts(&self, alloc: Global, names: MemberNames<'_>) -> Result<(Ty, Signature), Refusal>
         ensures { Gives (λ x. x) result (named_parts self.now.roster.classes (member_seen names.entry)) }
     {
         together(

@@ -151,12 +151,7 @@ impl<'a> World<'a> {
 
     /// An instruction that names a class or an array type.
     #[tactic(auto, unfolding(crate::specs::Ops::class_op))]
-    pub(crate) fn class_op(
-        &self,
-        alloc: Global,
-        form: ClassForm,
-        t: Ty,
-    ) -> Result<Op, Refusal>
+    pub(crate) fn class_op(&self, alloc: Global, form: ClassForm, t: Ty) -> Result<Op, Refusal>
         ensures { Gives (λ op. op) result (class_op self.now.roster.classes form t) }
     {
         match form {

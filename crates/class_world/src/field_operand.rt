@@ -42,7 +42,11 @@ impl<'a> World<'a> {
 
     /// The field of that name and descriptor in the objects of the named class.
     #[tactic(auto, unfolding(crate::specs::Ops::field_of))]
-    pub(crate) fn field_of(&self, alloc: Global, names: MemberNames<'_>) -> Result<FieldUse, Refusal>
+    pub(crate) fn field_of(
+        &self,
+        alloc: Global,
+        names: MemberNames<'_>,
+    ) -> Result<FieldUse, Refusal>
         ensures { Gives (λ used. used) result (field_of self.now.roster.classes (member_seen names.entry)) }
     {
         let named = self.roster.type_named(alloc, names.class)?;

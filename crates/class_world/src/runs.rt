@@ -1,5 +1,5 @@
 //! The methods that an instruction can run.
-ghost use Rattle.std.specs.Prelude.{◌≡◌, IfOk};
+ghost use Rattle.std.specs.Prelude.{◌≡◌, not, IfOk};
 ghost use Rattle.std.specs.Option.{option_to_list};
 ghost use Rattle.class_read.specs.View.{method_content};
 ghost use Rattle.class_world.specs.Select.{receivers};
@@ -21,6 +21,13 @@ impl<'a> World<'a> {
             Some(view) => has_flag(view.flags, ABSTRACT),
             None => true,
         }
+    }
+
+    /// Whether a method of that class and place is there, and has a body: it is not abstract.
+    pub fn has_body(&self, method: MethodRef) -> bool
+        ensures { result ≡ not (has_no_body self.now.roster.classes method) }
+    {
+        !self.has_no_body(method)
     }
 
     /// The method, unless it is abstract.
