@@ -1,8 +1,7 @@
 -- Seeking class by class along a superclass chain.
 use Rattle.std.proofs.Common.{◌≡◌, ◌-◌, ◌+◌, ℕ, suc, ◌<◌, ◌≤◌, Bool, true, false, cond, List, [], ◌∷◌, Option, Some, None, sym, refl, ap, ap₂, ◌∙◌, arith}
 use Rattle.std.specs.List.{find}
-use Rattle.std.specs.Option.{option_map, option_map_or, option_or}
-use Rattle.class_world.specs.World.{line_from}
+use Rattle.std.specs.Option.{option_map, option_or}
 use Rattle.class_world.specs.Resolve.{first_found}
 use Rattle.class_world.proofs.FieldLemmas.{rest_of_line}
 

@@ -1,19 +1,15 @@
 -- Classes that are read have few members.
-use Rattle.std.proofs.Common.{◌≡◌, ◌++◌, ℕ, zero, suc, ◌<◌, ◌≤◌, Bool, true, List, [], ◌∷◌, length, get_or, Option, Some, None, sym, refl, ap, ◌∙◌, subst, arith}
-use Rattle.std.specs.Prelude.{slice_get, map, position, option_and_then, IfSome}
+use Rattle.std.proofs.Common.{◌≡◌, ◌++◌, ℕ, zero, suc, ◌<◌, Bool, true, List, [], ◌∷◌, length, Option, Some, None, sym, refl, ap, ◌∙◌, subst, arith}
+use Rattle.std.specs.Prelude.{slice_get, position, option_and_then, IfSome}
 use Rattle.std.specs.List.{list_all, AllByRecursion}
 use Rattle.std.proofs.lemmas.Bool.{and_from, and_parts, lt-ltb, ltb-true}
 use Rattle.class_read.specs.Content.{ClassContent}
 use Rattle.class_read.specs.Rules.{field_of, method_of}
 use Rattle.class_world.specs.World.{World, built_ins, built_in_names, world_of}
 use Rattle.class_world.specs.Linking.{CanBeRead, has_few_members}
-use Rattle.class_read.specs.declared.view.MethodView.{MethodView}
-use Rattle.class_read.specs.View.{method_content}
-use Rattle.std.proofs.lemmas.Option.{slice_get_past}
 use Rattle.std.proofs.lemmas.List.Quantifiers.{position-Some}
 use Rattle.class_world.specs.Members.{is_method_named, declared_method}
-use Rattle.class_world.proofs.Tables.{class_at}
-use Rattle.class_world.proofs.Maps.{length_mapped, position-map}
+use Rattle.class_world.proofs.Maps.{length_mapped}
 
 few_read : (c : ClassContent) → CanBeRead c → has_few_members c ≡ true
 few_read c r =

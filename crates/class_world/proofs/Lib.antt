@@ -17,3 +17,4 @@ pub mod TypeLists
 pub mod Calls
 pub mod Refused
 pub mod Receivers
+pub mod Counting

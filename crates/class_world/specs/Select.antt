@@ -52,7 +52,10 @@ unfoldable pub selected_interface : World → ℕ → List ℕ → List ℕ → 
 selected_interface world named name desc receiver =
     if is_class_below world receiver named then selected_virtual world name desc receiver else Unfit
 
--- the numbers, rising, of the classes that can be made and are the named class or interface or below it: those that a
--- receiver can be of
+-- a class has instances, which can be receivers where the other class or interface is named
+abbrev pub is_receiver : World → ℕ → ℕ → Bool
+is_receiver world named class = can_be_made world class && is_class_below world class named
+
+-- the numbers, rising, of the classes that can be made and are the named class or interface or below it
 unfoldable pub receivers : World → ℕ → List ℕ
-receivers world named = filter (λ c. can_be_made world c && is_class_below world c named) (range_with_len 0 (length world))
+receivers world named = filter (is_receiver world named) (range_with_len 0 (length world))
