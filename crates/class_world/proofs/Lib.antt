@@ -16,5 +16,5 @@ pub mod Turns
 pub mod TypeLists
 pub mod Calls
 pub mod Refused
-pub mod Receivers
+pub mod ReceiverLists
 pub mod Counting

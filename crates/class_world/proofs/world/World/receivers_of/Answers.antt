@@ -1,5 +1,5 @@
 use Rattle.std.proofs.Common.{◌∙◌, arith}
-use Rattle.class_world.proofs.Receivers.{no_receivers}
+use Rattle.class_world.proofs.ReceiverLists.{no_receivers}
 use Rattle.class_world.proofs.world.World.receivers_of.Goals as goal
 
 pub returns-else-named-len : goal.returns-else-named-len
