@@ -22,7 +22,7 @@ all_read : (cs : List ClassContent) → AllByRecursion CanBeRead cs → list_all
 all_read [] h = refl
 all_read (c ∷ cs) h = and_from (has_few_members c) (list_all has_few_members cs) (few_read c h.0) (all_read cs h.1)
 
-all_append : (p : ClassContent → Bool) (xs ys : List ClassContent) → list_all p xs ≡ true → list_all p ys ≡ true → list_all p (xs ++ ys) ≡ true
+pub all_append : (p : ClassContent → Bool) (xs ys : List ClassContent) → list_all p xs ≡ true → list_all p ys ≡ true → list_all p (xs ++ ys) ≡ true
 all_append p [] ys e f = f
 all_append p (x ∷ xs) ys e f = let r = and_parts (p x) (list_all p xs) e in and_from (p x) _ r.0 (all_append p xs ys r.1 f)
 

@@ -16,5 +16,11 @@ pub mod Turns
 pub mod TypeLists
 pub mod Calls
 pub mod Refused
-pub mod ReceiverLists
 pub mod Counting
+pub mod ReceiverLists
+pub mod Saying
+pub mod Reaching
+pub mod Room
+pub mod Bodies
+pub mod GoingThrough
+pub mod ShortCodes

@@ -1,7 +1,7 @@
 -- When classes make a world, and else the first rule that they break: rule by rule, and of a rule the first class by
 -- its number (JVM specification, sections 5.3 and 5.3.5).
-use Rattle.std.specs.Prelude.{◌≡◌, ◌⊎◌, ℕ, suc, ◌==◌, ◌||◌, ◌&&◌, not, Bool, false, if◌then◌else◌, List, [], ◌∷◌, length, slice_get, Option, Some, None, is_none, nat_lt, Result, Ok, Err, option_and_then}
-use Rattle.std.specs.List.{list_any}
+use Rattle.std.specs.Prelude.{◌≡◌, ◌⊎◌, ℕ, suc, ◌==◌, ◌||◌, ◌&&◌, not, Bool, true, false, if◌then◌else◌, List, [], ◌∷◌, length, slice_get, Option, Some, None, is_none, nat_lt, Result, Ok, Err, option_and_then}
+use Rattle.std.specs.List.{list_any, list_all}
 use Rattle.std.specs.Option.{option_map_or, option_or}
 use Rattle.class_world.specs.declared.fault.LinkFault.{LinkFault}
 use Rattle.class_world.specs.declared.fault.LinkFault.TheVariants.{DuplicateClass, MissingClass, CyclicHierarchy, BadSuper, DefaultMethod, Memory}
@@ -95,6 +95,13 @@ CanBeRead class = (bytes : List ℕ) × Spells bytes class
 -- a class has fewer than 65,536 fields and as many methods, as a class file counts them in 16 bits
 abbrev pub has_few_members : ClassContent → Bool
 has_few_members class = nat_lt (length class.fields) 65536 && nat_lt (length class.methods) 65536
+
+-- a code has fewer than 65,536 bytes (JVM specification, section 4.7.3)
+abbrev pub has_short_code : MethodContent → Bool
+has_short_code m = option_map_or (λ code. nat_lt (length code.code) 65536) m.code true
+
+abbrev pub has_short_codes : ClassContent → Bool
+has_short_codes class = list_all has_short_code class.methods
 
 -- ---- answers
 

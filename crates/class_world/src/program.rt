@@ -1,6 +1,7 @@
 //! A world with the methods that an entry reaches.
 
 use crate::op::Op;
+use crate::reached::MethodRefs;
 use crate::world::World;
 use jvm_values::Slot;
 use list_views::{Bytes, Seq};
@@ -63,4 +64,5 @@ pub struct Program<'a> {
     pub methods: Seq<Method<'a>>,
     /// The static fields that reached instructions name; none while they are refused.
     pub statics: Seq<StaticField<'a>>,
+    pub(crate) refs: MethodRefs,
 }

@@ -1,7 +1,7 @@
 //! Worlds: linked classes.
 ghost use Rattle.std.specs.Prelude.{◌≡◌, ℕ, ◌+◌, ◌-◌, ◌<◌, ◌≤◌, ◌^◌, length, slice_get, IfOk, IfSome, IsTrue};
 ghost use Rattle.class_world.specs.World.{world_of, class_of, is_above};
-ghost use Rattle.class_world.specs.Linking.{Refuses, CanBeRead, has_few_members, link_fault, later_fault, is_linked};
+ghost use Rattle.class_world.specs.Linking.{Refuses, CanBeRead, has_few_members, has_short_codes, link_fault, later_fault, is_linked};
 ghost use Rattle.std.specs.List.{list_all, AllByRecursion};
 ghost use Rattle.class_world.specs.Fields.{fields_of};
 ghost use Rattle.class_world.specs.Members.{declared_method, find_method};
@@ -20,7 +20,7 @@ use list_views::Seq;
 use std::alloc::Global;
 
 /// A method by its class's number and its place among the class's methods, from 0.
-#[derive(Clone, Copy, Debug, PartialEq, Eq)]
+#[derive(Clone, Copy, Debug, PartialEq, Eq, Hash)]
 pub struct MethodRef {
     /// The class's number.
     pub class: u32,
@@ -40,6 +40,7 @@ pub struct World<'a> {
     pub(crate) index: MemberIndex<'a>,
     ghost linked: { IsTrue (is_linked roster.classes) },
     ghost few: { IsTrue (list_all has_few_members roster.classes) },
+    ghost short: { IsTrue (list_all has_short_codes roster.classes) },
     ghost marked: { above ≡ above_table roster.classes },
     ghost laid_out: { slots ≡ values_to (fields_of roster.classes) (length roster.classes) },
     ghost placed: { IsTrue (list_all has_places slots) },

@@ -2,6 +2,7 @@ use Rattle.std.proofs.Common.{◌∙◌}
 use Rattle.class_world.proofs.Rules.{passed_on}
 use Rattle.class_world.proofs.Links.{enrol_fits, link_first, link_later, link_none, linked_is}
 use Rattle.class_world.proofs.Few.{few_world}
+use Rattle.class_world.proofs.ShortCodes.{short_world}
 use Rattle.class_world.proofs.Indexes.{distinct_world, placed_from}
 use Rattle.class_world.proofs.world.World.link.Goals as goal
 
@@ -27,6 +28,9 @@ of-requires-clause-differ c = distinct_world c.args.classes.items c.in_ok-roster
 
 pub of-requires-clause-few : goal.of-requires-clause-few
 of-requires-clause-few c = few_world c.args.classes.items c.in_ok-roster.roster.classes (c.in_ok-roster.ensures.classes ∙ c.in_ok-with_built_ins.ensures) c.requires.read
+
+pub invariant_of-result-clause-short : goal.invariant_of-result-clause-short
+invariant_of-result-clause-short c = short_world c.args.classes.items c.in_ok-roster.roster.classes (c.in_ok-roster.ensures.classes ∙ c.in_ok-with_built_ins.ensures) c.requires.read
 
 pub returns-clause-fault : goal.returns-clause-fault
 returns-clause-fault c = link_none c.args.classes.items c.in_ok-with_built_ins.field-0 c.in_ok-roster.roster.classes c.in_ok-with_built_ins.ensures c.in_ok-roster.ensures.classes c.in_ok-roster.ensures.fault c.in_ok-keep_rules.ensures

@@ -1,0 +1,58 @@
+-- Codes of classes that are read are short.
+use Rattle.std.proofs.Common.{◌≡◌, ◌++◌, ℕ, zero, suc, ◌<◌, Bool, true, List, [], ◌∷◌, length, Option, Some, None, sym, refl, ap, ◌∙◌, subst, arith}
+use Rattle.std.specs.Prelude.{slice_get, map, option_and_then, nat_lt}
+use Rattle.std.specs.List.{list_all, AllByRecursion}
+use Rattle.std.specs.Option.{option_map_or}
+use Rattle.std.proofs.lemmas.Bool.{and_from, and_parts, lt-ltb, ltb-true}
+use Rattle.class_pool.specs.declared.entry.PoolEntry.{PoolEntry}
+use Rattle.class_read.specs.Content.{ClassContent, MethodContent, CodeContent}
+use Rattle.class_read.specs.Rules.{IsMethod, IsMethodAttribute, codes_in, first_of, method_of}
+use Rattle.class_read.specs.declared.text.AttrText.{AttrText}
+use Rattle.class_read.specs.declared.text.AttrText.TheVariants.{Skipped, Code}
+use Rattle.class_read.specs.declared.text.MemberText.{MemberText}
+use Rattle.class_world.specs.declared.world.MethodRef.{MethodRef}
+use Rattle.class_world.specs.World.{World, built_ins, built_in_names, world_of}
+use Rattle.class_world.specs.Linking.{CanBeRead, has_short_code, has_short_codes}
+use Rattle.class_world.specs.Resolve.{method_at}
+use Rattle.class_world.proofs.Few.{all_append}
+
+abbrev is_short : CodeContent → Bool
+is_short code = nat_lt (length code.code) 65536
+
+short_attributes : (pool : List PoolEntry) (attributes : List AttrText) → AllByRecursion (IsMethodAttribute pool) attributes → option_map_or is_short (first_of (codes_in attributes)) true ≡ true
+short_attributes pool [] h = refl
+short_attributes pool (Skipped name content ∷ rest) h = short_attributes pool rest h.1
+short_attributes pool (Code name max_stack max_locals code table attributes ∷ rest) h = lt-ltb (length code) 65536 h.0.most
+
+short_methods : (pool : List PoolEntry) (ms : List MemberText) → AllByRecursion (IsMethod pool) ms → list_all has_short_code (map (method_of pool) ms) ≡ true
+short_methods pool [] h = refl
+short_methods pool (m ∷ ms) h = and_from (has_short_code (method_of pool m)) (list_all has_short_code (map (method_of pool) ms)) (short_attributes pool m.attributes h.0.attributes) (short_methods pool ms h.1)
+
+short_read : (c : ClassContent) → CanBeRead c → has_short_codes c ≡ true
+short_read c r =
+    let s = r.1 in
+    ap (λ x. list_all has_short_code x.methods) (sym s.content) ∙ short_methods s.text.pool s.text.methods s.rules.methods
+
+all_short_read : (cs : List ClassContent) → AllByRecursion CanBeRead cs → list_all has_short_codes cs ≡ true
+all_short_read [] h = refl
+all_short_read (c ∷ cs) h = and_from (has_short_codes c) (list_all has_short_codes cs) (short_read c h.0) (all_short_read cs h.1)
+
+pub short_world : (given : List ClassContent) (world : World) → world ≡ world_of given → AllByRecursion CanBeRead given → list_all has_short_codes world ≡ true
+unfolding built_in_names
+short_world given world e h = subst (λ (w : World). list_all has_short_codes w ≡ true) (sym e) (all_append has_short_codes built_ins given refl (all_short_read given h))
+
+item_of : {A : Type 0} (p : A → Bool) (xs : List A) (i : ℕ) (x : A) → list_all p xs ≡ true → slice_get xs i ≡ Some x → p x ≡ true
+item_of p [] i x h e = cc
+item_of p (y ∷ ys) zero x h e = let same : y ≡ x = cc in subst (λ z. p z ≡ true) same (and_parts (p y) (list_all p ys) h).0
+item_of p (y ∷ ys) (suc i) x h e = item_of p ys i x (and_parts (p y) (list_all p ys) h).1 e
+
+pub short_at : (world : World) (ref : MethodRef) (m : MethodContent) → list_all has_short_codes world ≡ true → method_at world ref ≡ Some m → has_short_code m ≡ true
+unfolding method_at
+short_at world ref m h e = by (slice_get world ref.class) refl e
+  where
+    by : (o : Option ClassContent) → slice_get world ref.class ≡ o → option_and_then (λ c. slice_get c.methods ref.index) o ≡ Some m → has_short_code m ≡ true
+    by None s k = cc
+    by (Some c) s k = item_of has_short_code c.methods ref.index m (item_of has_short_codes world ref.class c h s) k
+
+pub short_code : (m : MethodContent) (code : CodeContent) → has_short_code m ≡ true → m.code ≡ Some code → length code.code < 65536
+short_code m code h e = ltb-true (length code.code) 65536 (ap (λ o. option_map_or is_short o true) (sym e) ∙ h)
