@@ -65,6 +65,24 @@ fn a_class_is_found_by_its_name_and_its_method_by_its_descriptor(
 }
 
 #[test]
+fn a_method_that_its_class_declares_with_code_has_a_body(rt: HostRuntime) -> Result<(), Fail> {
+    let mut classes = Vec::new(rt.alloc());
+    classes.push(read(rt.alloc(), &SMALL)?)?;
+    let world = World::link(rt.alloc(), classes)?;
+    let declared = MethodRef {
+        class: 15,
+        index: 0,
+    };
+    let past = MethodRef {
+        class: 15,
+        index: 1,
+    };
+    assert!(rt; world.has_body(declared));
+    assert!(rt; !world.has_body(past));
+    Ok(())
+}
+
+#[test]
 fn a_class_that_is_given_twice_is_refused_by_its_name(rt: HostRuntime) -> Result<(), Fail> {
     let mut classes = Vec::new(rt.alloc());
     classes.push(read(rt.alloc(), &SMALL)?)?;
