@@ -42,4 +42,6 @@ pub use program::{CatchRange, Method, Program, StaticField};
 pub use world::{MethodRef, World};
 
 #[cfg(test)]
+mod closing_tests;
+#[cfg(test)]
 mod tests;
