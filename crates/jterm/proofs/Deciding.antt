@@ -1,80 +1,109 @@
--- From the cause of a yes to the headline.
-use Rattle.std.proofs.Common.{◌≡◌, ℕ, List, [], ◌∷◌, length, Result, Ok, Err, IfOk, IsTrue, Bool, false, IfErr, ◌≢◌, slice_index_or, map, ◌↔◌, sym, subst, ap, ◌∙◌, arith, refl}
-use Rattle.class_read.specs.declared.fault.ClassFault.{ClassFault}
-use Rattle.class_read.specs.declared.fault.ClassFault.TheVariants as faults
-use Rattle.class_read.specs.Reading.{Fails}
+-- From what each step of a decision says to the answer.
+use Rattle.std.proofs.Common.{◌≡◌, ◌≤◌, ℕ, List, [], ◌∷◌, length, Result, Ok, Err, IfOk, map, drop, take, get_or, ◌-◌, refl, sym, subst, ap, ◌∙◌, arith, inl, inr, Option, Some, None, true}
 use Rattle.class_read.specs.Content.{ClassContent}
-use Rattle.class_read.specs.Rules.{Spells}
+use Rattle.class_world.specs.World.{World, world_of}
+use Rattle.class_world.specs.Linking.{link_fault}
+use Rattle.class_world.specs.Reached.{has_body, close_of}
+use Rattle.class_world.specs.declared.program.Method.{Method}
+use Rattle.class_world.specs.declared.world.MethodRef.{MethodRef}
 use Rattle.jterm.specs.declared.line.Line.{Line}
-use Rattle.jterm.specs.declared.verdict.Request.{Request}
-use Rattle.jterm.specs.declared.verdict.Request.TheVariants.{Prove}
 use Rattle.jterm.specs.declared.verdict.Verdict.{Verdict}
 use Rattle.jterm.specs.declared.verdict.Refused.{Refused}
-use Rattle.jterm.specs.declared.verdict.Refused.TheVariants.{Memory}
-use Rattle.jterm.specs.Decision.{Takes, SaysYes, Answers, PlainOrMemory}
-use Rattle.jterm.specs.Headline.{AllEnd}
-use Rattle.jterm.specs.Plain.{IsPlain, IsPlainFile}
-use Rattle.jterm.proofs.Plainly.{AllEnd-plain}
+use Rattle.jterm.specs.declared.verdict.Refused.TheVariants.{At, Memory}
+use Rattle.jterm.specs.declared.verdict.Place.TheVariants as places
+use Rattle.jterm.specs.declared.verdict.Fault.TheVariants as faults
+use Rattle.jterm.specs.Decision.{SaysYes, Answers, YesOrMemory, IsEntry, AreLinked, HasEntry}
+use Rattle.jterm.specs.FirstPath.{IsFirstPath}
+use Rattle.jterm.specs.Machine.{program_of}
+use Rattle.jterm.specs.Description.{IsLine}
+use Rattle.jterm.specs.Headline.{AllSpell, AllEnd, named_method}
+use Rattle.jterm.specs.Refusals.{RefusesClasses, RefusesWorld, RefusesProgram}
+use Rattle.jterm.proofs.Files.{take_all}
+use Rattle.jterm.proofs.Good.{AllEnd-good}
 
--- the request takes two files
-pub takes_two : (request : Request) (files : List (List ℕ)) → Takes request files → length files ≡ 2
-takes_two (Prove nodes) files t = t.2
+-- ---- refusals
 
-pub two_files : (desc : List ℕ) (classes files : List (List ℕ)) → length files ≡ 2 → files ≡ desc ∷ classes → (class : List ℕ) × (classes ≡ class ∷ [])
-two_files desc classes files l e = one classes (let m : length (desc ∷ classes) ≡ 2 = ap length (sym e) ∙ l in omega arith)
-  where
-    one : (cs : List (List ℕ)) → length cs ≡ 1 → (class : List ℕ) × (cs ≡ class ∷ [])
-    one [] m = absurd (omega arith)
-    one (c ∷ []) m = (c, refl)
-    one (c ∷ d ∷ cs) m = absurd (omega arith)
+pub classes_refused : (desc : List ℕ) (files : List (List ℕ)) (refused : Refused) → RefusesClasses files refused → Answers desc files (Err refused)
+classes_refused desc files (At (places.Class n) (faults.Class fault)) r = r
+classes_refused desc files (At (places.Class n) (faults.Link fault)) r = absurd r
+classes_refused desc files (At (places.Class n) faults.NotBuilt) r = absurd r
+classes_refused desc files (At places.Description fault) r = absurd r
+classes_refused desc files (At places.Link fault) r = absurd r
+classes_refused desc files Memory r = tt
+
+pub line_refused : (desc : List ℕ) (files : List (List ℕ)) (classes : List ClassContent) → AllSpell files classes → ((line : Line) → IsLine desc line → ⊥) → Answers desc files (Err (At places.Description faults.NotBuilt))
+line_refused desc files classes spelled none = inl (record { classes = classes; spelled = spelled; no_line = none })
+
+pub world_refused : (desc : List ℕ) (files : List (List ℕ)) (classes : List ClassContent) (line : Line) (refused : Refused) → AllSpell files classes → IsLine desc line → RefusesWorld (world_of classes) refused → Answers desc files (Err refused)
+world_refused desc files classes line (At places.Link (faults.Link fault)) spelled is r =
+    inl (record { read = record { classes = classes; spelled = spelled; line = line; described = is }; first = r })
+world_refused desc files classes line (At places.Link (faults.Class fault)) spelled is r = absurd r
+world_refused desc files classes line (At places.Link faults.NotBuilt) spelled is r = absurd r
+world_refused desc files classes line (At (places.Class n) fault) spelled is r = absurd r
+world_refused desc files classes line (At places.Description fault) spelled is r = absurd r
+world_refused desc files classes line Memory spelled is r = tt
+
+abbrev linked_of : (desc : List ℕ) (files : List (List ℕ)) (classes : List ClassContent) (line : Line) → AllSpell files classes → IsLine desc line → link_fault (world_of classes) ≡ None → AreLinked desc files
+linked_of desc files classes line spelled is links = record { read = record { classes = classes; spelled = spelled; line = line; described = is }; links = links }
+
+pub entry_refused : (desc : List ℕ) (files : List (List ℕ)) (classes : List ClassContent) (line : Line) (world : World) → AllSpell files classes → IsLine desc line → link_fault (world_of classes) ≡ None → world ≡ world_of classes → ((entry : MethodRef) → IsEntry world line entry → ⊥) → Answers desc files (Err (At places.Description faults.NotBuilt))
+entry_refused desc files classes line world spelled is links same none =
+    inr (record { linked = linked_of desc files classes line spelled is links; no_entry = λ entry e. none entry (subst (λ (w : World). IsEntry w line entry) (sym same) e) })
+
+abbrev entered : (desc : List ℕ) (files : List (List ℕ)) (classes : List ClassContent) (line : Line) (entry : MethodRef) (world : World) → AllSpell files classes → IsLine desc line → link_fault (world_of classes) ≡ None → world ≡ world_of classes → IsEntry world line entry → HasEntry desc files
+entered desc files classes line entry world spelled is links same e = record { linked = linked_of desc files classes line spelled is links; entry = entry; is_entry = subst (λ (w : World). IsEntry w line entry) same e }
+
+pub closing_refused : (desc : List ℕ) (files : List (List ℕ)) (classes : List ClassContent) (line : Line) (entry : MethodRef) (world : World) (refused : Refused) → AllSpell files classes → IsLine desc line → link_fault (world_of classes) ≡ None → world ≡ world_of classes → IsEntry world line entry → RefusesProgram world entry refused → Answers desc files (Err refused)
+closing_refused desc files classes line entry world (At places.Link (faults.Link fault)) spelled is links same e r =
+    inr (record { entered = entered desc files classes line entry world spelled is links same e; first = subst (λ (w : World). close_of w entry ≡ Err fault) same r })
+closing_refused desc files classes line entry world (At places.Link (faults.Class fault)) spelled is links same e r = absurd r
+closing_refused desc files classes line entry world (At places.Link faults.NotBuilt) spelled is links same e r = absurd r
+closing_refused desc files classes line entry world (At (places.Class n) fault) spelled is links same e r = absurd r
+closing_refused desc files classes line entry world (At places.Description fault) spelled is links same e r = absurd r
+closing_refused desc files classes line entry world Memory spelled is links same e r = tt
+
+pub program_refused : (desc : List ℕ) (files : List (List ℕ)) (classes : List ClassContent) (line : Line) (entry : MethodRef) (world : World) (methods : List Method) → AllSpell files classes → IsLine desc line → link_fault (world_of classes) ≡ None → world ≡ world_of classes → IsEntry world line entry → close_of world entry ≡ Ok methods → ((w : World) → IsFirstPath line.params (program_of w methods) → ⊥) → Answers desc files (Err (At places.Link faults.NotBuilt))
+program_refused desc files classes line entry world methods spelled is links same e closed none = record {
+  entered = entered desc files classes line entry world spelled is links same e;
+  methods = methods;
+  closed = subst (λ (w : World). close_of w entry ≡ Ok methods) same closed;
+  not_built = none (world_of classes);
+}
+
+-- ---- yes
+
+pub said_yes : (desc : List ℕ) (files : List (List ℕ)) (classes : List ClassContent) (line : Line) (entry : MethodRef) (world : World) (methods : List Method) (result : Result Verdict Refused) → AllSpell files classes → IsLine desc line → link_fault (world_of classes) ≡ None → world ≡ world_of classes → IsEntry world line entry → close_of world entry ≡ Ok methods → ((w : World) → IsFirstPath line.params (program_of w methods)) → YesOrMemory result → Answers desc files result
+said_yes desc files classes line entry world methods (Ok verdict) spelled is links same e closed path y = (
+  y,
+  record {
+    entered = entered desc files classes line entry world spelled is links same e;
+    built = record { methods = methods; closed = subst (λ (w : World). close_of w entry ≡ Ok methods) same closed; first_path = path (world_of classes) };
+  },
+)
+said_yes desc files classes line entry world methods (Err (At place fault)) spelled is links same e closed path y = absurd (cc)
+said_yes desc files classes line entry world methods (Err Memory) spelled is links same e closed path y = tt
 
 -- a yes that has its cause gives the headline
-pub headline_of : (desc : List ℕ) (classes : List (List ℕ)) (class : List ℕ) (result : Result Verdict Refused) → classes ≡ class ∷ [] → Answers desc class result → IfOk result (λ verdict. SaysYes verdict → AllEnd classes desc)
-headline_of desc classes class (Ok verdict) e a = λ says. subst (λ (files : List (List ℕ)). AllEnd files desc) (sym e) (AllEnd-plain desc class a.1.0 a.1.1 a.1.2)
-headline_of desc classes class (Err refused) e a = tt
+pub headline_of : (desc : List ℕ) (files : List (List ℕ)) (result : Result Verdict Refused) → Answers desc files result → IfOk result (λ verdict. SaysYes verdict → AllEnd files desc)
+headline_of desc files (Ok verdict) a = λ says. AllEnd-good desc files a.1
+headline_of desc files (Err refused) a = tt
 
--- a class that the file spells, and no other, answers for the file
-pub plain_file : (line : Line) (file : List ℕ) (class : ClassContent) (answer : Bool) → Spells file class → ((other : ClassContent) → Spells file other → other ≡ class) → IsTrue answer ↔ IsPlain line class → IsTrue answer ↔ IsPlainFile line file
-plain_file line file class answer spelled unique h = (
-  λ t. record { class = class; spelled = spelled; plain = h.0 t },
-  λ p. h.1 (subst (IsPlain line) (unique p.class p.spelled) p.plain),
-)
+same_items : {A : Type 0} (f : A → List ℕ) (x : A) (xs : List A) (desc : List ℕ) (classes : List (List ℕ)) → map f (x ∷ xs) ≡ desc ∷ classes → (f x ≡ desc) × (map f xs ≡ classes)
+same_items f x xs desc classes e = (cc, cc)
 
-pub same_ok : {A E : Type 0} (a b : A) → (let r : Result A E = Ok a in r) ≡ Ok b → a ≡ b
-same_ok a b e = cc
+-- a description and classes as they stand among the inputs
+pub headline_at : {A : Type 0} (f : A → List ℕ) (inputs : List A) (one : A) (first desc : List ℕ) (classes : List (List ℕ)) (result : Result Verdict Refused) → one ≡ get_or inputs 0 one → first ≡ f one → map f inputs ≡ desc ∷ classes → Answers first (map f (take (length inputs - 1) (drop 1 inputs))) result → IfOk result (λ verdict. SaysYes verdict → AllEnd classes desc)
+headline_at f [] one first desc classes result at is e a = absurd (cc)
+headline_at {A} f (x ∷ xs) one first desc classes result at is e a =
+    let parts = same_items f x xs desc classes e in
+    let here : first ≡ desc = is ∙ ap f at ∙ parts.0 in
+    let long : length (x ∷ xs) - 1 ≡ length xs = omega arith in
+    let others : take (length (x ∷ xs) - 1) xs ≡ xs = ap (λ (n : ℕ). take n xs) long ∙ take_all xs in
+    let all : Answers first (map f xs) result = subst (λ (ys : List A). Answers first (map f ys) result) others a in
+    headline_of desc classes result (subst (λ (cs : List (List ℕ)). Answers desc cs result) parts.1 (subst (λ (d : List ℕ). Answers d (map f xs) result) here all))
 
--- a file that has a fault spells no class, unless memory was wanting
-fault_none : (fault : ClassFault) (class : ClassContent) → Fails fault (Ok class) → fault ≡ faults.Memory
-fault_none faults.BadMagic class e = absurd (cc)
-fault_none (faults.Version major) class e = absurd (cc)
-fault_none (faults.Pool fault) class e = absurd (cc)
-fault_none (faults.Truncated at) class e = absurd (cc)
-fault_none (faults.BadDescriptor at) class e = absurd (cc)
-fault_none (faults.DuplicateMember at) class e = absurd (cc)
-fault_none (faults.CodeLength at) class e = absurd (cc)
-fault_none (faults.MissingCode at) class e = absurd (cc)
-fault_none (faults.ExtraCode at) class e = absurd (cc)
-fault_none (faults.TrailingBytes at) class e = absurd (cc)
-fault_none faults.Memory class e = refl
+-- ---- the entry
 
-pub unread_file : (line : Line) (file : List ℕ) (fault : ClassFault) (result : Result Bool Refused) → IfOk result (λ answer. (answer ≡ false) × (fault ≢ faults.Memory)) → IfErr result (λ refused. refused ≡ Memory) → ((class : ClassContent) → Spells file class → Fails fault (Ok class)) → PlainOrMemory line file result
-unread_file line file fault (Ok answer) o e f = (
-  λ t. absurd (let n = o.0 in cc),
-  λ p. absurd (o.1 (fault_none fault p.class (f p.class p.spelled))),
-)
-unread_file line file fault (Err refused) o e f = e
-
--- the first two files of two
-pub first_two : {V : Type 0} (f : V → List ℕ) (xs : List V) (a b : V) (desc class : List ℕ) → map f xs ≡ desc ∷ class ∷ [] → a ≡ slice_index_or xs 0 a → b ≡ slice_index_or xs 1 b → (f a ≡ desc) × (f b ≡ class)
-first_two f [] a b desc class e p q = absurd (cc)
-first_two f (x ∷ []) a b desc class e p q = absurd (cc)
-first_two f (x ∷ y ∷ xs) a b desc class e p q = (ap f p ∙ heads (f x) desc (f y ∷ map f xs) (class ∷ []) e, ap f q ∙ seconds (f x) desc (f y) class (map f xs) [] e)
-  where
-    heads : (u v : List ℕ) (us vs : List (List ℕ)) → u ∷ us ≡ v ∷ vs → u ≡ v
-    heads u v us vs s = cc
-
-    seconds : (u v w z : List ℕ) (us vs : List (List ℕ)) → u ∷ w ∷ us ≡ v ∷ z ∷ vs → w ≡ z
-    seconds u v w z us vs s = cc
-
-pub answers_at : (desc class first second : List ℕ) (result : Result Verdict Refused) → first ≡ desc → second ≡ class → Answers first second result → Answers desc class result
-answers_at desc class first second result e f a = subst (λ (d : List ℕ). Answers d class result) e (subst (λ (c : List ℕ). Answers first c result) f a)
+-- it has a body
+pub entry_body : (world : World) (line : Line) (entry : MethodRef) → IsEntry world line entry → has_body world entry ≡ true
+entry_body world line entry e = e.not_abstract

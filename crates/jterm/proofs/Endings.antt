@@ -1,6 +1,6 @@
 -- From what stopped a call, or the verdict that it has, to what the call says.
-use Rattle.std.proofs.Common.{◌≡◌, ◌⊎◌, ◌≤◌, ◌<◌, ◌+◌, ◌++◌, ℕ, suc, zero, List, [], ◌∷◌, length, map, Option, Some, Ok, Err, refl, sym, ap, ◌∙◌, subst, arith, inl, inr, IfSome, slice_get, append-nil, length-append}
-use Rattle.std.specs.List.{slice_index_or}
+use Rattle.std.proofs.Common.{◌≡◌, ◌⊎◌, ◌≤◌, ◌<◌, ◌+◌, ◌++◌, ℕ, suc, zero, List, [], ◌∷◌, length, map, Option, Some, None, Ok, Err, refl, sym, ap, ◌∙◌, subst, arith, inl, inr, IfSome, slice_get, append-nil, length-append}
+use Rattle.std.specs.List.{slice_index_or, AllByRecursion}
 use Rattle.io_ports.specs.Count.{Rose}
 use Rattle.io_ports.specs.Told.{Told, IsContent, IsPastLimit, IsNotHeld}
 use Rattle.io_ports.specs.Told.Told.{Content}
@@ -12,17 +12,28 @@ use Rattle.jterm.specs.declared.verdict.Request.{Request}
 use Rattle.jterm.specs.declared.verdict.Request.TheVariants.{Prove}
 use Rattle.jterm.specs.declared.verdict.Verdict.{Verdict}
 use Rattle.jterm.specs.declared.verdict.Place.{Place}
-use Rattle.jterm.specs.declared.verdict.Place.TheVariants.{Class, Description}
-use Rattle.jterm.specs.declared.verdict.Fault.TheVariants.{NotBuilt}
+use Rattle.jterm.specs.declared.verdict.Place.TheVariants as places
+use Rattle.jterm.specs.declared.verdict.Fault.TheVariants as faults
 use Rattle.jterm.specs.declared.line.Line.{Line}
 use Rattle.jterm.specs.Description.{IsLine}
-use Rattle.jterm.specs.Plain.{IsPlainFile}
+use Rattle.class_read.specs.Content.{ClassContent}
+use Rattle.class_read.specs.declared.fault.ClassFault.{ClassFault}
+use Rattle.class_read.proofs.ClassLaws.{class_one}
+use Rattle.class_world.specs.World.{world_of}
+use Rattle.class_world.specs.Said.{Said}
+use Rattle.class_world.specs.Reached.{close_of}
+use Rattle.class_world.specs.declared.program.Method.{Method}
+use Rattle.jterm.specs.FirstPath.{IsFirstPath}
+use Rattle.jterm.specs.Machine.{program_of}
+use Rattle.class_world.specs.Linking.{link_fault}
+use Rattle.class_world.specs.declared.fault.LinkFault.{LinkFault}
+use Rattle.class_world.specs.declared.world.MethodRef.{MethodRef}
 use Rattle.jterm.specs.declared.verdict.Fault.{Fault}
 use Rattle.jterm.specs.declared.verdict.Refused.TheVariants.{At}
 use Rattle.jterm.specs.Words.{IsProve, IsCommand}
 use Rattle.jterm.specs.Lines.{memory_line, read_line, refusal_line}
-use Rattle.jterm.specs.Decision.{Answers, SaysYes, yes_line}
-use Rattle.jterm.specs.Headline.{AllEnd}
+use Rattle.jterm.specs.Decision.{Answers, SaysYes, IsEntry, HasEntry, IsRefused, IsFirstBroken, IsGood, yes_line}
+use Rattle.jterm.specs.Headline.{AllEnd, AllSpell, named_method}
 use Rattle.jterm.specs.Outside.{AreTold, AreContents, IsUnread, ReadFails, Decided, Claims, limit_of}
 use Rattle.jterm.specs.Stop.{IsAnswered, HasCause, IsNamed, HasLine, status_of, line_of}
 use Rattle.jterm.proofs.Words.{first_word_unique, IsLine-class, IsLine-name, IsLine-params, params_marks, IsEnclosed-params}
@@ -60,7 +71,7 @@ pub refused : (words : List (List ℕ)) (request : Request) (names : List (List 
     → status ≡ 3 → (place : Place) × (fault : Fault) × Decided words held (Err (At place fault)) × Puts (refusal_line place fault)
 refused words request names held before after (Unread place fault) status Puts command cause says three = elim says [ inl said ↦ absurd (omega arith) | inr said ↦ absurd (omega arith) ]
 refused words request names held before after (Broken place fault) status Puts command cause says three = elim says [
-  | inl said ↦ (place, fault, record { request = request; names = names; is_command = command; desc = cause.0; class = cause.1; read = cause.2; answer = cause.3 }, said.2)
+  | inl said ↦ (place, fault, record { request = request; names = names; is_command = command; desc = cause.0; classes = cause.1; read = cause.2; answer = cause.3 }, said.2)
   | inr said ↦ absurd (omega arith)
 ]
 refused words request names held before after NoMemory status Puts command cause says three = elim says [ inl said ↦ absurd said.1 | inr said ↦ absurd (omega arith) ]
@@ -114,18 +125,18 @@ pub proved_contents : (words : List (List ℕ)) (request : Request) (names : Lis
 proved_contents words request names held d cs contents told command prove are tells =
     told_contents request 0 held names contents told are (subst (λ n. AreTold held n told) (sym (prove_names words request names d cs command prove)) tells)
 
-says_yes : (desc class : List ℕ) (verdict : Verdict) → Answers desc class (Ok verdict) → SaysYes verdict
-says_yes desc class verdict answer = ([], ap (λ v. v.out) answer.0 ∙ sym (append-nil yes_line))
+says_yes : (desc : List ℕ) (classes : List (List ℕ)) (verdict : Verdict) → Answers desc classes (Ok verdict) → SaysYes verdict
+says_yes desc classes verdict answer = ([], ap (λ v. v.out) answer.0 ∙ sym (append-nil yes_line))
 
 -- what YES says of the contents of a `prove`
 pub headline : (words : List (List ℕ)) (request : Request) (names : List (List ℕ)) (held : List ℕ → Told) (verdict : Verdict) (d : List ℕ) (cs : List (List ℕ)) (desc : List ℕ) (classes : List (List ℕ))
     → IsCommand words request names → IsAnswered request names held verdict → IsProve words d cs → AreTold held (d ∷ cs) (desc ∷ classes) → AllEnd classes desc
 headline words request names held verdict d cs desc classes command answered prove tells =
-    let same : answered.desc ∷ answered.class ∷ [] ≡ desc ∷ classes = proved_contents words request names held d cs _ (desc ∷ classes) command prove answered.read tells in
+    let same : answered.desc ∷ answered.classes ≡ desc ∷ classes = proved_contents words request names held d cs _ (desc ∷ classes) command prove answered.read tells in
     let desc_is : answered.desc ≡ desc = cc in
-    let classes_are : answered.class ∷ [] ≡ classes = cc in
+    let classes_are : answered.classes ≡ classes = cc in
     let ends = answered.ends (says_yes _ _ verdict answered.answer) in
-    subst (λ l. AllEnd l desc) classes_are (subst (AllEnd (answered.class ∷ [])) desc_is ends)
+    subst (λ l. AllEnd l desc) classes_are (subst (AllEnd answered.classes) desc_is ends)
 
 -- ---- completeness
 
@@ -133,17 +144,17 @@ headline words request names held verdict d cs desc classes command answered pro
 pub prove_is_command : (words : List (List ℕ)) (d : List ℕ) (cs : List (List ℕ)) → IsProve words d cs → IsCommand words (Prove 4000) (d ∷ cs)
 prove_is_command words d cs prove = record { desc = d; classes = cs; is_prove = prove; asked = refl; named = refl }
 
--- a name among two has its content, of the size that is allowed
+-- a name has its content, of the size that is allowed
 record IsHeld (held : List ℕ → Told) (name : List ℕ) : Type 0 where
   content : List ℕ
   is_told : held name ≡ Content content
   is_within : length content ≤ 1048576
 
-held_name : (held : List ℕ → Told) (d c desc class name : List ℕ) (place : ℕ) → slice_get (d ∷ c ∷ []) place ≡ Some name → AreTold held (d ∷ c ∷ []) (desc ∷ class ∷ [])
-    → length desc ≤ 1048576 → length class ≤ 1048576 → IsHeld held name
-held_name held d c desc class name zero e tells small small' = record { content = desc; is_told = cc; is_within = small }
-held_name held d c desc class name (suc zero) e tells small small' = record { content = class; is_told = cc; is_within = small' }
-held_name held d c desc class name (suc (suc place)) e tells small small' = cc
+held_name : (held : List ℕ → Told) (names told : List (List ℕ)) (name : List ℕ) (place : ℕ) → slice_get names place ≡ Some name → AreTold held names told → AllByRecursion (λ file. length file ≤ 1048576) told → IsHeld held name
+held_name held [] told name place e tells small = absurd (cc)
+held_name held (n ∷ names) [] name place e tells small = absurd (cc)
+held_name held (n ∷ names) (t ∷ told) name zero e tells small = record { content = t; is_told = (let first : held n ≡ Content t = cc in cc); is_within = small.0 }
+held_name held (n ∷ names) (t ∷ told) name (suc place) e tells small = (let others : map held names ≡ map Content told = cc in held_name held names told name place e others small.1)
 
 -- what is held within its limit is read, where no count rose
 held_is_read : (request : Request) (place : ℕ) (held : List ℕ → Told) (name : List ℕ) (before after : ℕ) (fault : FileFault) → IsHeld held name → (Rose before after → ⊥)
@@ -166,28 +177,94 @@ IsLine-unique bytes a b la lb =
     let params : a.params ≡ b.params = sym (length-replicate a.params 73) ∙ ap length marks ∙ length-replicate b.params 73 in
     λ i. record { class = class.0 i; name = rest.0 i; params = params i }
 
--- a line and a plain class for it break no rule
-not_broken : (desc class : List ℕ) (line : Line) (place : Place) (fault : Fault) → IsLine desc line → IsPlainFile line class → Answers desc class (Err (At place fault)) → ⊥
-not_broken desc class line Description NotBuilt is plain answer = answer line is
-not_broken desc class line (Class number) NotBuilt is plain answer =
-    answer.1.2 (subst (λ l. IsPlainFile l class) (IsLine-unique desc line answer.1.0 is answer.1.1) plain)
+-- ---- good input breaks no rule
+
+spell_unique : (files : List (List ℕ)) (a b : List ClassContent) → AllSpell files a → AllSpell files b → a ≡ b
+spell_unique [] [] [] h k = refl
+spell_unique [] [] (d ∷ b) h k = absurd k
+spell_unique [] (c ∷ a) b h k = absurd h
+spell_unique (f ∷ files) [] b h k = absurd h
+spell_unique (f ∷ files) (c ∷ a) [] h k = absurd k
+spell_unique (f ∷ files) (c ∷ a) (d ∷ b) h k =
+    let first : c ≡ d = class_one f c d h.0 k.0 in
+    let rest = spell_unique files a b h.1 k.1 in
+    λ i. first i ∷ rest i
+
+never_broken : (files : List (List ℕ)) (classes : List ClassContent) (number : ℕ) (fault : ClassFault) → AllSpell files classes → IsFirstBroken files number fault → ⊥
+never_broken [] classes number fault all broken = broken
+never_broken (f ∷ files) [] number fault all broken = absurd all
+never_broken (f ∷ files) (c ∷ classes) zero fault all broken = broken.none c all.0
+never_broken (f ∷ files) (c ∷ classes) (suc number) fault all broken = never_broken files classes number fault all.1 broken.2
+
+same_entry : (a b : MethodRef) → (let o : Option MethodRef = Some a in o) ≡ Some b → a ≡ b
+same_entry a b e = cc
+
+same_methods : (a b : List Method) → (let said : Said (List Method) = Ok a in said) ≡ Ok b → a ≡ b
+same_methods a b e = cc
+
+-- the same files and description have the same entry in the same world
+same_close : (desc : List ℕ) (files : List (List ℕ)) (a b : HasEntry desc files) → close_of (world_of a.linked.read.classes) a.entry ≡ close_of (world_of b.linked.read.classes) b.entry
+same_close desc files a b =
+    let one = a.linked.read in
+    let two = b.linked.read in
+    let classes = spell_unique files one.classes two.classes one.spelled two.spelled in
+    let line = IsLine-unique desc one.line two.line one.described two.described in
+    let named : named_method (world_of two.classes) two.line ≡ Some a.entry =
+    subst (λ (l : Line). named_method (world_of two.classes) l ≡ Some a.entry) line (subst (λ (cs : List ClassContent). named_method (world_of cs) one.line ≡ Some a.entry) classes a.is_entry.named) in
+    let entry : a.entry ≡ b.entry = same_entry _ _ (sym named ∙ b.is_entry.named) in
+    ap (λ (cs : List ClassContent). close_of (world_of cs) a.entry) classes ∙ ap (close_of (world_of two.classes)) entry
+
+not_broken : (desc : List ℕ) (files : List (List ℕ)) (place : Place) (fault : Fault) → IsGood desc files → IsRefused desc files place fault → ⊥
+not_broken desc files (places.Class number) (faults.Class fault) g r = never_broken files g.entered.linked.read.classes number fault g.entered.linked.read.spelled r
+not_broken desc files (places.Class number) (faults.Link fault) g r = r
+not_broken desc files (places.Class number) faults.NotBuilt g r = r
+not_broken desc files places.Description (faults.Class fault) g r = r
+not_broken desc files places.Description (faults.Link fault) g r = r
+not_broken desc files places.Description faults.NotBuilt g (inl none) = none.no_line g.entered.linked.read.line g.entered.linked.read.described
+not_broken desc files places.Description faults.NotBuilt g (inr none) =
+    let good = g.entered.linked.read in
+    let bad = none.linked.read in
+    let classes = spell_unique files good.classes bad.classes good.spelled bad.spelled in
+    let line = IsLine-unique desc good.line bad.line good.described bad.described in
+    none.no_entry g.entered.entry (subst (λ (l : Line). IsEntry (world_of bad.classes) l g.entered.entry) line (subst (λ (cs : List ClassContent). IsEntry (world_of cs) good.line g.entered.entry) classes g.entered.is_entry))
+not_broken desc files places.Link (faults.Class fault) g r = r
+not_broken desc files places.Link (faults.Link fault) g (inr r) =
+    let closed = subst (λ (said : Said (List Method)). said ≡ Ok g.built.methods) (same_close desc files g.entered r.entered) g.built.closed in
+    let e : (let said : Said (List Method) = Ok g.built.methods in said) ≡ Err fault = sym closed ∙ r.first in
+    cc
+not_broken desc files places.Link (faults.Link fault) g (inl r) =
+    let good = g.entered.linked.read in
+    let classes = spell_unique files good.classes r.read.classes good.spelled r.read.spelled in
+    let none = subst (λ (cs : List ClassContent). link_fault (world_of cs) ≡ None) classes g.entered.linked.links in
+    let first = r.first in
+    let e : (let o : Option LinkFault = None in o) ≡ Some fault = sym none ∙ first in
+    cc
+not_broken desc files places.Link faults.NotBuilt g r =
+    let closed = subst (λ (said : Said (List Method)). said ≡ Ok g.built.methods) (same_close desc files g.entered r.entered) g.built.closed in
+    let methods : g.built.methods ≡ r.methods = same_methods g.built.methods r.methods (sym closed ∙ r.closed) in
+    let line = IsLine-unique desc g.entered.linked.read.line r.entered.linked.read.line g.entered.linked.read.described r.entered.linked.read.described in
+    let classes = spell_unique files g.entered.linked.read.classes r.entered.linked.read.classes g.entered.linked.read.spelled r.entered.linked.read.spelled in
+    r.not_built (subst (λ (ms : List Method). IsFirstPath r.entered.linked.read.line.params (program_of (world_of r.entered.linked.read.classes) ms)) methods
+    (subst (λ (l : Line). IsFirstPath l.params (program_of (world_of r.entered.linked.read.classes) g.built.methods)) line
+    (subst (λ (cs : List ClassContent). IsFirstPath g.entered.linked.read.line.params (program_of (world_of cs) g.built.methods)) classes g.built.first_path)))
 
 -- the only other ending of a good `prove` without a verdict is want of memory
-pub complete : (words : List (List ℕ)) (request : Request) (names : List (List ℕ)) (held : List ℕ → Told) (before after : ℕ) (stop : Stop) (status : ℕ) (P Q R : Type 0) (d c desc class : List ℕ) (line : Line)
+pub complete : (words : List (List ℕ)) (request : Request) (names : List (List ℕ)) (held : List ℕ → Told) (before after : ℕ) (stop : Stop) (status : ℕ) (P Q R : Type 0) (d : List ℕ) (cs : List (List ℕ)) (desc : List ℕ) (classes : List (List ℕ))
     → IsCommand words request names → HasCause request names held before after stop
     → ((status ≡ status_of stop) × HasLine stop × P) ⊎ ((status ≡ 7) × Q)
-    → IsProve words d (c ∷ []) → AreTold held (d ∷ c ∷ []) (desc ∷ class ∷ []) → length desc ≤ 1048576 → length class ≤ 1048576
-    → IsLine desc line → IsPlainFile line class → (Rose before after → ⊥) → R ⊎ (status ≡ 7)
-complete words request names held before after (Unread place fault) status P Q R d c desc class line command cause says prove tells small small' is plain none =
-    let named = subst (λ n. slice_get n place ≡ Some cause.name) (prove_names words request names d (c ∷ []) command prove) cause.is_named in
-    absurd (held_is_read request place held cause.name before after fault (held_name held d c desc class cause.name place named tells small small') none cause.cause)
-complete words request names held before after (Broken place fault) status P Q R d c desc class line command cause says prove tells small small' is plain none =
-    let same : cause.0 ∷ cause.1 ∷ [] ≡ desc ∷ class ∷ [] = proved_contents words request names held d (c ∷ []) _ (desc ∷ class ∷ []) command prove cause.2 tells in
+    → IsProve words d cs → AreTold held (d ∷ cs) (desc ∷ classes) → AllByRecursion (λ file. length file ≤ 1048576) (desc ∷ classes)
+    → IsGood desc classes → (Rose before after → ⊥) → ((status ≡ 0) × R) ⊎ (status ≡ 7)
+complete words request names held before after (Unread place fault) status P Q R d cs desc classes command cause says prove tells small good none =
+    let names_are = prove_names words request names d cs command prove in
+    let there : slice_get (d ∷ cs) place ≡ Some cause.name = subst (λ (n : List (List ℕ)). slice_get n place ≡ Some cause.name) names_are cause.is_named in
+    absurd (held_is_read request place held cause.name before after fault (held_name held (d ∷ cs) (desc ∷ classes) cause.name place there tells small) none cause.cause)
+complete words request names held before after (Broken place fault) status P Q R d cs desc classes command cause says prove tells small good none =
+    let same : cause.0 ∷ cause.1 ≡ desc ∷ classes = proved_contents words request names held d cs _ (desc ∷ classes) command prove cause.2 tells in
     let desc_is : cause.0 ≡ desc = cc in
-    let class_is : cause.1 ≡ class = cc in
-    let answer = subst (λ l. Answers desc l (Err (At place fault))) class_is (subst (λ l. Answers l cause.1 (Err (At place fault))) desc_is cause.3) in
-    absurd (not_broken desc class line place fault is plain answer)
-complete words request names held before after NoMemory status P Q R d c desc class line command cause says prove tells small small' is plain none =
+    let classes_are : cause.1 ≡ classes = cc in
+    let refused : IsRefused desc classes place fault = subst (λ (cs : List (List ℕ)). IsRefused desc cs place fault) classes_are (subst (λ (l : List ℕ). IsRefused l cause.1 place fault) desc_is cause.3) in
+    absurd (not_broken desc classes place fault good refused)
+complete words request names held before after NoMemory status P Q R d cs desc classes command cause says prove tells small good none =
     elim says [ inl said ↦ absurd said.1 | inr said ↦ inr said.0 ]
 
 -- a verdict that was written is the answer for the contents of the files that the words name
@@ -199,7 +276,7 @@ decided words request names held verdict told is answered same =
       names = names;
       is_command = is;
       desc = answered.desc;
-      class = answered.class;
+      classes = answered.classes;
       read = answered.read;
       answer = answered.answer;
     })

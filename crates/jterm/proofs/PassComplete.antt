@@ -9,15 +9,16 @@ use Rattle.jterm.specs.declared.form.Form.{Form}
 use Rattle.jterm.specs.declared.form.Form.TheVariants.{Iconst, Iload, Istore, Iadd, Ireturn}
 use Rattle.jterm.specs.declared.typing.Known.{Known}
 use Rattle.jterm.specs.Options.{◌>>=◌}
-use Rattle.jterm.specs.Code.{IsCode}
-use Rattle.jterm.specs.World.{World}
-use Rattle.jterm.specs.Machine.{Method, first_place, instruction_at}
+use Rattle.class_world.specs.World.{World}
+use Rattle.class_world.specs.declared.program.Method.{Method}
+use Rattle.jterm.specs.Machine.{first_place, form_at}
+use Rattle.jterm.specs.Forms.{FirstAtZero}
 use Rattle.jterm.specs.Pass.{Passes, entry_known, known_after, known_along}
-use Rattle.jterm.specs.Plain.{ReturnsLast}
+use Rattle.jterm.specs.FirstPath.{ReturnsLast}
 use Rattle.jterm.specs.Typing.{PlaceType, UnsetPlace, IntPlace, NullPlace, RefPlace, FrameType, IsWithin, AreWithin, Types, Leads, LeadsTo, IsTyping, HasTyping, types_after, places_after, iconst_types, iload_types, istore_types, iadd_types, top_int_place, int_place, entry_types, type_of_slot}
 use Rattle.jterm.proofs.Forms.{some-same, and_then-some, chosen, int_place-int}
 use Rattle.jterm.proofs.PassSound.{place_of, not_return}
-use Rattle.jterm.proofs.Places.{instruction_at-place}
+use Rattle.jterm.proofs.Places.{Reads, form_at-place}
 use Rattle.jterm.proofs.Straight.{turn, returned_int}
 
 -- ---- what is known is within what a typing says
@@ -214,17 +215,17 @@ record Taken (max_stack : ℕ) (before : List (ℕ × Form)) (known : Known) : T
 taken_first : (max_stack : ℕ) (i : ℕ × Form) (before : List (ℕ × Form)) (known later : Known) → known_after max_stack i.1 known ≡ Some later → Taken max_stack before later → Taken max_stack (i ∷ before) known
 taken_first max_stack i before known later e t = record { last = t.last; along = rw e t.along; some = t.some }
 
-taken_along : (world : World) (method : Method) (typing : Types) (code : List ℕ) → IsTyping world method typing → IsCode 0 method.instructions code → (before done : List (ℕ × Form)) (place : ℕ) → method.instructions ≡ done ++ (before ++ (place, Ireturn) ∷ []) → All (λ i. i.1 ≢ Ireturn) before → (known : Known) (types : FrameType) → typing (start before place) ≡ Some types → Known_within world known types → Taken method.max_stack before known
-taken_along world method typing code typed reading [] done place split others known types at w =
-    let found : instruction_at method.instructions place ≡ Some (Ireturn, None) =
-    rw split (instruction_at-place 0 done (place, Ireturn) [] code (subst (λ (is : List (ℕ × Form)). IsCode 0 is code) split reading)) in
+taken_along : (world : World) (method : Method) (typing : Types) (forms : List (ℕ × Form)) → IsTyping world method typing → Reads method.insns forms → (before done : List (ℕ × Form)) (place : ℕ) → forms ≡ done ++ (before ++ (place, Ireturn) ∷ []) → All (λ i. i.1 ≢ Ireturn) before → (known : Known) (types : FrameType) → typing (start before place) ≡ Some types → Known_within world known types → Taken method.max_stack before known
+taken_along world method typing forms typed reading [] done place split others known types at w =
+    let found : form_at method.insns place ≡ Some (Ireturn, None) =
+    form_at-place method.insns forms done (place, Ireturn) [] reading split in
     let t = turn world method typing place types Ireturn None (typed.each place types at) found in
     let top = returned_int method.result types t.after t.runs in
     let l = less world known.depth types.stack top.0 w.stack top.1 in
     record { last = known; along = refl; some = l.some }
-taken_along world method typing code typed reading (i ∷ before) done place split others known types at w =
-    let found : instruction_at method.instructions i.0 ≡ Some (i.1, first_place (before ++ (place, Ireturn) ∷ [])) =
-    rw split (instruction_at-place 0 done i (before ++ (place, Ireturn) ∷ []) code (subst (λ (is : List (ℕ × Form)). IsCode 0 is code) split reading)) in
+taken_along world method typing forms typed reading (i ∷ before) done place split others known types at w =
+    let found : form_at method.insns i.0 ≡ Some (i.1, first_place (before ++ (place, Ireturn) ∷ [])) =
+    form_at-place method.insns forms done i (before ++ (place, Ireturn) ∷ []) reading split in
     let t = turn world method typing i.0 types i.1 (first_place (before ++ (place, Ireturn) ∷ [])) (typed.each i.0 types at) found in
     let other : i.1 ≡ Ireturn → ⊥ = others 0 i (omega arith) in
     let to = leads_of (LeadsTo world typing t.after) i.1 (first_place (before ++ (place, Ireturn) ∷ [])) other t.leads in
@@ -234,7 +235,7 @@ taken_along world method typing code typed reading (i ∷ before) done place spl
     let most = there.stack in
     let k = knows world method i.1 known types t.after other w t.runs (omega arith) in
     taken_first method.max_stack i before known k.later k.known_is
-    (taken_along world method typing code typed reading before (done ++ i ∷ []) place (split ∙ sym (append_assoc done (i ∷ []) (before ++ (place, Ireturn) ∷ []))) (λ n d h. others (suc n) d (omega arith)) k.later leads.there leads.is_there
+    (taken_along world method typing forms typed reading before (done ++ i ∷ []) place (split ∙ sym (append_assoc done (i ∷ []) (before ++ (place, Ireturn) ∷ []))) (λ n d h. others (suc n) d (omega arith)) k.later leads.there leads.is_there
     (record {
       locals = locals_trans world k.later.set t.after.locals leads.there.locals k.within.locals leads.locals;
       stack = stack_trans world k.later.depth t.after.stack leads.there.stack k.within.stack leads.stack;
@@ -250,13 +251,13 @@ entry_places : (world : World) (n k : ℕ) → map (type_of_slot world) (replica
 entry_places world zero k = unset_places k
 entry_places world (suc n) k = ap (λ (ps : List PlaceType). IntPlace ∷ ps) (entry_places world n k)
 
-start_zero : (before : List (ℕ × Form)) (place : ℕ) (code : List ℕ) → IsCode 0 (before ++ (place, Ireturn) ∷ []) code → start before place ≡ 0
-start_zero [] place code h = h.0
-start_zero (i ∷ before) place code h = h.0
+start_zero : (before : List (ℕ × Form)) (place : ℕ) → FirstAtZero (before ++ (place, Ireturn) ∷ []) → start before place ≡ 0
+start_zero [] place h = h
+start_zero (i ∷ before) place h = h
 
 -- a straight code that has a typing, in any world, is taken by the pass
-pub Passes-HasTyping : (world : World) (method : Method) (count : ℕ) (code : List ℕ) → method.params ≡ replicate count (Num kinds.Int) → IsCode 0 method.instructions code → ReturnsLast method.instructions → HasTyping world method → Passes count method.max_stack method.max_locals method.instructions
-Passes-HasTyping world method count code params reading returns typing =
+pub Passes-HasTyping : (world : World) (method : Method) (count : ℕ) (forms : List (ℕ × Form)) → method.params ≡ replicate count (Num kinds.Int) → Reads method.insns forms → ReturnsLast forms → HasTyping world method → Passes count method.max_stack method.max_locals forms
+Passes-HasTyping world method count forms params reading returns typing =
     let typed = typing.1 in
     let entry = typed.entry in
     let there = typed.each 0 entry.there entry.is_there in
@@ -270,13 +271,13 @@ Passes-HasTyping world method count code params reading returns typing =
     let limit = there.locals in
     let places : (entry_types world method).locals ≡ map place_of (replicate count true ++ replicate (method.max_locals - count) false) =
     rw (counted, params) (entry_places world count (method.max_locals - count)) in
-    let split : method.instructions ≡ [] ++ (returns.before ++ (returns.place, Ireturn) ∷ []) = returns.last in
+    let split : forms ≡ [] ++ (returns.before ++ (returns.place, Ireturn) ∷ []) = returns.last in
     let first : Known_within world (entry_known count method.max_locals) entry.there = record {
       locals = subst (λ (ps : List PlaceType). AreWithin world ps entry.there.locals) places entry.locals;
       stack = entry.stack;
     } in
-    let zero_is = start_zero returns.before returns.place code (subst (λ (is : List (ℕ × Form)). IsCode 0 is code) returns.last reading) in
-    let t = taken_along world method typing.0 code typed reading returns.before [] returns.place split returns.nowhere_else (entry_known count method.max_locals) entry.there (subst (λ (p : ℕ). typing.0 p ≡ Some entry.there) (sym zero_is) entry.is_there) first in
+    let zero_is = start_zero returns.before returns.place (subst FirstAtZero returns.last reading.first) in
+    let t = taken_along world method typing.0 forms typed reading returns.before [] returns.place split returns.nowhere_else (entry_known count method.max_locals) entry.there (subst (λ (p : ℕ). typing.0 p ≡ Some entry.there) (sym zero_is) entry.is_there) first in
     record { fits = omega arith; before = returns.before; place = returns.place; last = returns.last; known = t.last; along = t.along; some = t.some }
 
 all_cons : {A : Type 0} (P : A → Type 0) (x : A) (xs : List A) → P x → All P xs → All P (x ∷ xs)

@@ -11,14 +11,15 @@ use Rattle.jterm.specs.declared.form.Form.{Form}
 use Rattle.jterm.specs.declared.form.Form.TheVariants.{Iconst, Iload, Istore, Iadd, Ireturn}
 use Rattle.jterm.specs.declared.typing.Known.{Known}
 use Rattle.jterm.specs.Options.{◌>>=◌}
-use Rattle.jterm.specs.Code.{IsCode}
-use Rattle.jterm.specs.World.{World}
-use Rattle.jterm.specs.Machine.{Method, first_place}
+use Rattle.class_world.specs.World.{World}
+use Rattle.class_world.specs.declared.program.Method.{Method}
+use Rattle.jterm.specs.Machine.{first_place}
 use Rattle.jterm.specs.Pass.{Passes, entry_known, pushed, known_after, known_along}
 use Rattle.jterm.specs.Typing.{PlaceType, UnsetPlace, IntPlace, FrameType, AreWithin, Types, Leads, LeadsTo, IsTyped, HasTyping, types_after, places_after, iconst_types, iload_types, istore_types, iadd_types, ireturn_types, type_of_slot}
 use Rattle.jterm.proofs.Forms.{some-same, and_then-some}
-use Rattle.jterm.proofs.Decoding.{by_if, eq-of-test}
-use Rattle.jterm.proofs.Places.{Encodes-length, instruction_at-place}
+use Rattle.jterm.proofs.Tests.{by_if, eq-of-test}
+use Rattle.jterm.specs.Forms.{RiseFrom, FirstAtZero}
+use Rattle.jterm.proofs.Places.{Reads, form_at-place}
 
 -- ---- what is known, as types
 
@@ -131,22 +132,6 @@ agrees max_stack max_locals method Ireturn known after f e = absurd (cc)
 
 -- ---- the typing that the pass gives
 
--- the places rise from `low` on
-abbrev pub Rises : ℕ → List (ℕ × Form) → Type 0
-Rises low [] = Unit {0}
-Rises low (i ∷ rest) = (low ≤ i.0) × Rises (suc i.0) rest
-
-pub Rises-less : (low high : ℕ) (is : List (ℕ × Form)) → low ≤ high → Rises high is → Rises low is
-Rises-less low high [] h r = tt
-Rises-less low high (i ∷ rest) h r = (let l : high ≤ i.0 = r.0 in omega arith, r.1)
-
-pub IsCode-rises : (place : ℕ) (is : List (ℕ × Form)) (code : List ℕ) → IsCode place is code → Rises place is
-IsCode-rises place [] code h = tt
-IsCode-rises place (i ∷ rest) code h =
-    let e : i.0 ≡ place = h.0 in
-    let long = Encodes-length i.1 h.1.0 h.1.2 in
-    (omega arith, Rises-less (suc i.0) (place + length h.1.0) rest (omega arith) (IsCode-rises (place + length h.1.0) rest h.1.1 h.1.4))
-
 -- what the pass knows at a place
 abbrev pub known_at : ℕ → List (ℕ × Form) → Known → ℕ → Option Known
 known_at max_stack [] known place = None
@@ -164,7 +149,7 @@ known_at-here : (max_stack : ℕ) (i : ℕ × Form) (rest : List (ℕ × Form)) 
 known_at-here max_stack i rest known = let e : (i.0 == i.0) ≡ true = grind (arith, nat_tests) in rw e refl
 
 -- a place of the rest is past the first
-known_at-past : (max_stack low : ℕ) (is : List (ℕ × Form)) (known there : Known) (place : ℕ) → Rises low is → known_at max_stack is known place ≡ Some there → low ≤ place
+known_at-past : (max_stack low : ℕ) (is : List (ℕ × Form)) (known there : Known) (place : ℕ) → RiseFrom low is → known_at max_stack is known place ≡ Some there → low ≤ place
 known_at-past max_stack low [] known there place r e = absurd (cc)
 known_at-past max_stack low (i ∷ rest) known there place r e =
     by_if e
@@ -176,7 +161,7 @@ known_at-past max_stack low (i ∷ rest) known there place r e =
     omega arith)
 
 -- what the pass knows at a place of the rest it knows there from the first on
-known_at-later : (max_stack : ℕ) (i : ℕ × Form) (rest : List (ℕ × Form)) (known after there : Known) (place : ℕ) → Rises (suc i.0) rest → known_after max_stack i.1 known ≡ Some after → known_at max_stack rest after place ≡ Some there → known_at max_stack (i ∷ rest) known place ≡ Some there
+known_at-later : (max_stack : ℕ) (i : ℕ × Form) (rest : List (ℕ × Form)) (known after there : Known) (place : ℕ) → RiseFrom (suc i.0) rest → known_after max_stack i.1 known ≡ Some after → known_at max_stack rest after place ≡ Some there → known_at max_stack (i ∷ rest) known place ≡ Some there
 known_at-later max_stack i rest known after there place r e h =
     let past : suc i.0 ≤ place = known_at-past max_stack (suc i.0) rest after there place r h in
     let other : (i.0 == place) ≡ false = grind (arith, nat_tests) in
@@ -196,22 +181,22 @@ AreWithin-ints world zero = tt
 AreWithin-ints world (suc depth) = (tt, AreWithin-ints world depth)
 
 -- what holds at the places of a code that the pass goes over
-record Whole (world : World) (method : Method) (known : Known) (code : List ℕ) : Type 0 where
+record Whole (world : World) (method : Method) (known : Known) (forms : List (ℕ × Form)) : Type 0 where
   number : Kind
   result : method.result ≡ Some (Num number)
-  reading : IsCode 0 method.instructions code
+  reading : Reads method.insns forms
 
 int_is_set : IntPlace ≢ UnsetPlace
 int_is_set e = cc
 
-typed_at : (world : World) (method : Method) (first known : Known) (code : List ℕ) (w : Whole world method first code) (done rest : List (ℕ × Form)) (i : ℕ × Form) (after : FrameType) → method.instructions ≡ done ++ i ∷ rest → Fine method.max_stack method.max_locals known → types_after method i.1 (types_of known) ≡ Some after → All (LeadsTo world (typing_of method.max_stack method.instructions first) after) (places_after i.1 (first_place rest)) → IsTyped world method (typing_of method.max_stack method.instructions first) i.0 (types_of known)
-typed_at world method first known code w done rest i after split fine runs leads = record {
+typed_at : (world : World) (method : Method) (first known : Known) (forms : List (ℕ × Form)) (w : Whole world method first forms) (done rest : List (ℕ × Form)) (i : ℕ × Form) (after : FrameType) → forms ≡ done ++ i ∷ rest → Fine method.max_stack method.max_locals known → types_after method i.1 (types_of known) ≡ Some after → All (LeadsTo world (typing_of method.max_stack forms first) after) (places_after i.1 (first_place rest)) → IsTyped world method (typing_of method.max_stack forms first) i.0 (types_of known)
+typed_at world method first known forms w done rest i after split fine runs leads = record {
   locals = length-map known.set place_of ∙ fine.locals;
   stack = subst (λ (n : ℕ). n ≤ method.max_stack) (sym (length-replicate known.depth IntPlace)) fine.stack;
   set = All-replicate (λ entry. entry ≢ UnsetPlace) known.depth IntPlace int_is_set;
   form = i.1;
   next = first_place rest;
-  stands = rw split (instruction_at-place 0 done i rest code (subst (λ (is : List (ℕ × Form)). IsCode 0 is code) split w.reading));
+  stands = form_at-place method.insns forms done i rest w.reading split;
   after = after;
   runs = runs;
   leads = leads;
@@ -247,21 +232,21 @@ at_same world method typing place place' known known' e f h =
     subst (λ (k : Known). IsTyped world method typing place' (types_of k)) f (subst (λ (p : ℕ). IsTyped world method typing p (types_of known)) e h)
 
 -- each place of the rest is typed
-each_from : (world : World) (method : Method) (first known : Known) (code : List ℕ) (w : Whole world method first code) (rest done : List (ℕ × Form)) → method.instructions ≡ done ++ rest → (low : ℕ) → Rises low rest → Fine method.max_stack method.max_locals known → Goes method.max_stack rest known → ((place : ℕ) (there : Known) → known_at method.max_stack rest known place ≡ Some there → known_at method.max_stack method.instructions first place ≡ Some there) → (place : ℕ) (there : Known) → known_at method.max_stack rest known place ≡ Some there → IsTyped world method (typing_of method.max_stack method.instructions first) place (types_of there)
-each_from world method first known code w [] done split low rises fine goes whole place there e = absurd goes
-each_from world method first known code w (i ∷ []) done split low rises fine goes whole place there e =
+each_from : (world : World) (method : Method) (first known : Known) (forms : List (ℕ × Form)) (w : Whole world method first forms) (rest done : List (ℕ × Form)) → forms ≡ done ++ rest → (low : ℕ) → RiseFrom low rest → Fine method.max_stack method.max_locals known → Goes method.max_stack rest known → ((place : ℕ) (there : Known) → known_at method.max_stack rest known place ≡ Some there → known_at method.max_stack forms first place ≡ Some there) → (place : ℕ) (there : Known) → known_at method.max_stack rest known place ≡ Some there → IsTyped world method (typing_of method.max_stack forms first) place (types_of there)
+each_from world method first known forms w [] done split low rises fine goes whole place there e = absurd goes
+each_from world method first known forms w (i ∷ []) done split low rises fine goes whole place there e =
     by_if e
     (λ here s.
-    at_same world method (typing_of method.max_stack method.instructions first) i.0 place known there (eq-of-test i.0 place here) (some-same known there s)
-    (typed_at world method first known code w done [] i _ split fine
+    at_same world method (typing_of method.max_stack forms first) i.0 place known there (eq-of-test i.0 place here) (some-same known there s)
+    (typed_at world method first known forms w done [] i _ split fine
     (returns_int method w.number i.1 known w.result goes.0 goes.1)
-    (leads_none (LeadsTo world (typing_of method.max_stack method.instructions first) _) i.1 None goes.0)))
+    (leads_none (LeadsTo world (typing_of method.max_stack forms first) _) i.1 None goes.0)))
     (λ other s. let next = and_then-some (known_after method.max_stack i.1 known) (λ after. known_at method.max_stack [] after place) there s in let none : (let o : Option Known = None in o) ≡ Some there = next.2 in absurd (cc))
-each_from world method first known code w (i ∷ j ∷ rest) done split low rises fine goes whole place there e =
+each_from world method first known forms w (i ∷ j ∷ rest) done split low rises fine goes whole place there e =
     let a = agrees method.max_stack method.max_locals method i.1 known goes.0 fine goes.1 in
     let later : (place : ℕ) (there : Known) → known_at method.max_stack (j ∷ rest) goes.0 place ≡ Some there → known_at method.max_stack (i ∷ j ∷ rest) known place ≡ Some there = λ p t h. known_at-later method.max_stack i (j ∷ rest) known goes.0 t p rises.1 goes.1 h in
-    let at_j : known_at method.max_stack method.instructions first j.0 ≡ Some goes.0 = whole j.0 goes.0 (later j.0 goes.0 (known_at-here method.max_stack j rest goes.0)) in
-    let leads : Leads world (typing_of method.max_stack method.instructions first) (types_of goes.0) j.0 = record {
+    let at_j : known_at method.max_stack forms first j.0 ≡ Some goes.0 = whole j.0 goes.0 (later j.0 goes.0 (known_at-here method.max_stack j rest goes.0)) in
+    let leads : Leads world (typing_of method.max_stack forms first) (types_of goes.0) j.0 = record {
       there = types_of goes.0;
       is_there = ap typed at_j;
       locals = AreWithin-places world goes.0.set;
@@ -269,13 +254,13 @@ each_from world method first known code w (i ∷ j ∷ rest) done split low rise
     } in
     by_if e
     (λ here s.
-    at_same world method (typing_of method.max_stack method.instructions first) i.0 place known there (eq-of-test i.0 place here) (some-same known there s)
-    (typed_at world method first known code w done (j ∷ rest) i (types_of goes.0) split fine a.types
-    (leads_next (LeadsTo world (typing_of method.max_stack method.instructions first) (types_of goes.0)) i.1 (Some j.0) (not_return method.max_stack i.1 known goes.0 goes.1) leads)))
+    at_same world method (typing_of method.max_stack forms first) i.0 place known there (eq-of-test i.0 place here) (some-same known there s)
+    (typed_at world method first known forms w done (j ∷ rest) i (types_of goes.0) split fine a.types
+    (leads_next (LeadsTo world (typing_of method.max_stack forms first) (types_of goes.0)) i.1 (Some j.0) (not_return method.max_stack i.1 known goes.0 goes.1) leads)))
     (λ other s.
     let next = and_then-some (known_after method.max_stack i.1 known) (λ after. known_at method.max_stack (j ∷ rest) after place) there s in
     let same : next.0 ≡ goes.0 = some-same next.0 goes.0 (sym next.1 ∙ goes.1) in
-    each_from world method first goes.0 code w (j ∷ rest) (done ++ i ∷ []) (split ∙ sym (append_assoc done (i ∷ []) (j ∷ rest))) (suc i.0) rises.1 a.fine goes.2
+    each_from world method first goes.0 forms w (j ∷ rest) (done ++ i ∷ []) (split ∙ sym (append_assoc done (i ∷ []) (j ∷ rest))) (suc i.0) rises.1 a.fine goes.2
     (λ p t h. whole p t (later p t h)) place there (subst (λ (k : Known). known_at method.max_stack (j ∷ rest) k place ≡ Some there) same next.2))
 
 -- ---- the entry
@@ -288,15 +273,15 @@ ints_within : (world : World) (n : ℕ) (narrow : List PlaceType) (set : List Bo
 ints_within world zero narrow set h = h
 ints_within world (suc n) narrow set h = (tt, ints_within world n narrow set h)
 
-first_at : (max_stack : ℕ) (is : List (ℕ × Form)) (known : Known) (code : List ℕ) → Goes max_stack is known → IsCode 0 is code → known_at max_stack is known 0 ≡ Some known
-first_at max_stack [] known code goes h = absurd goes
-first_at max_stack (i ∷ rest) known code goes h = subst (λ (p : ℕ). known_at max_stack (i ∷ rest) known p ≡ Some known) h.0 (known_at-here max_stack i rest known)
+first_at : (max_stack : ℕ) (is : List (ℕ × Form)) (known : Known) → Goes max_stack is known → FirstAtZero is → known_at max_stack is known 0 ≡ Some known
+first_at max_stack [] known goes h = absurd goes
+first_at max_stack (i ∷ rest) known goes h = subst (λ (p : ℕ). known_at max_stack (i ∷ rest) known p ≡ Some known) h (known_at-here max_stack i rest known)
 
 -- a straight code that the pass takes has a typing, in any world
-pub HasTyping-Passes : (world : World) (method : Method) (count : ℕ) (number : Kind) (code : List ℕ) → method.params ≡ replicate count (Num kinds.Int) → method.result ≡ Some (Num number) → IsCode 0 method.instructions code → Passes count method.max_stack method.max_locals method.instructions → HasTyping world method
-HasTyping-Passes world method count number code params result reading passes =
+pub HasTyping-Passes : (world : World) (method : Method) (count : ℕ) (number : Kind) (forms : List (ℕ × Form)) → method.params ≡ replicate count (Num kinds.Int) → method.result ≡ Some (Num number) → Reads method.insns forms → Passes count method.max_stack method.max_locals forms → HasTyping world method
+HasTyping-Passes world method count number forms params result reading passes =
     let first : Known = entry_known count method.max_locals in
-    let goes : Goes method.max_stack method.instructions first =
+    let goes : Goes method.max_stack forms first =
     subst (λ (is : List (ℕ × Form)). Goes method.max_stack is first) (sym passes.last) (Goes-along method.max_stack passes.before passes.place first passes.known passes.along passes.some) in
     let long : length (replicate count true ++ replicate (method.max_locals - count) false) ≡ length (replicate count true) + length (replicate (method.max_locals - count) false) =
     length-append (replicate count true) (replicate (method.max_locals - count) false) in
@@ -305,18 +290,18 @@ HasTyping-Passes world method count number code params result reading passes =
     let below = passes.fits in
     let counted : length method.params ≡ count = ap length params ∙ length-replicate count (Num kinds.Int) in
     let fine : Fine method.max_stack method.max_locals first = record { locals = omega arith; stack = omega arith } in
-    let w : Whole world method first code = record { number = number; result = result; reading = reading } in (
-      typing_of method.max_stack method.instructions first,
+    let w : Whole world method first forms = record { number = number; result = result; reading = reading } in (
+      typing_of method.max_stack forms first,
       record {
         entry = record {
           there = types_of first;
-          is_there = ap typed (first_at method.max_stack method.instructions first code goes reading);
+          is_there = ap typed (first_at method.max_stack forms first goes reading.first);
           locals = rw (counted, params) (ints_within world count (replicate (method.max_locals - count) UnsetPlace) (replicate (method.max_locals - count) false) (unset_within world (method.max_locals - count)));
           stack = tt;
         };
         each = λ place types h.
-            let there = typed-some (known_at method.max_stack method.instructions first place) types h in
-            subst (IsTyped world method (typing_of method.max_stack method.instructions first) place) there.2
-            (each_from world method first first code w method.instructions [] refl 0 (IsCode-rises 0 method.instructions code reading) fine goes (λ p t e. e) place there.0 there.1);
+            let there = typed-some (known_at method.max_stack forms first place) types h in
+            subst (IsTyped world method (typing_of method.max_stack forms first) place) there.2
+            (each_from world method first first forms w forms [] refl 0 reading.rise fine goes (λ p t e. e) place there.0 there.1);
       },
     )

@@ -9,13 +9,13 @@ use Rattle.jvm_values.specs.declared.types.Slot.{Slot}
 use Rattle.jvm_values.specs.declared.types.Slot.TheVariants.{Num, Ref}
 use Rattle.jterm.specs.declared.form.Form.{Form}
 use Rattle.jterm.specs.declared.form.Form.TheVariants.{Iconst, Iload, Istore, Iadd, Ireturn}
-use Rattle.jterm.specs.Code.{IsCode}
-use Rattle.jterm.specs.World.{World}
-use Rattle.jterm.specs.Machine.{Method, Program, Outcome, Going, Returned, Stuck, instruction_at, perform, going, returned, top_int, normal_step, step}
+use Rattle.class_world.specs.World.{World}
+use Rattle.class_world.specs.declared.program.Method.{Method}
+use Rattle.jterm.specs.Machine.{Program, Outcome, Going, Returned, Stuck, form_at, perform, going, returned, top_int, normal_step, step}
 use Rattle.jterm.specs.Typing.{PlaceType, UnsetPlace, IntPlace, NullPlace, RefPlace, FrameType, IsWithin, AreWithin, Types, LeadsTo, IsTyped, IsTyping, types_after, places_after, ireturn_types, top_int_place}
 use Rattle.jterm.proofs.Runs.{Finishes, Finishes-going, Finishes-returned}
 use Rattle.jterm.proofs.Forms.{Fills, FillLocals, FillStack, FillFrame, Makes, take_int, and_then-some, iconst_makes, iload_makes, istore_makes, iadd_makes}
-use Rattle.jterm.proofs.Places.{instruction_at-place}
+use Rattle.jterm.proofs.Places.{Reads, form_at-place}
 
 -- what fills a place fills a wider one
 pub Fills-within : (world : World) (a b : PlaceType) (held : Option Value) → IsWithin world a b → Fills a held → Fills b held
@@ -59,7 +59,7 @@ pub record Stands (world : World) (program : Program) (method : Method) (typing 
   pub fits : FillFrame types frame
 
 -- the step of such a state is the form that stands there
-step-stands : (program : Program) (method : Method) (state : State) (frame : Frame) (form : Form) (next : Option ℕ) → state.frames ≡ frame ∷ [] → state.mode ≡ Normal → slice_get program.methods frame.method ≡ Some method → instruction_at method.instructions frame.pc ≡ Some (form, next) → step program state ≡ unwrap_or (perform program form next state frame []) Stuck
+step-stands : (program : Program) (method : Method) (state : State) (frame : Frame) (form : Form) (next : Option ℕ) → state.frames ≡ frame ∷ [] → state.mode ≡ Normal → slice_get program.methods frame.method ≡ Some method → form_at method.insns frame.pc ≡ Some (form, next) → step program state ≡ unwrap_or (perform program form next state frame []) Stuck
 unfolding step normal_step
 step-stands program method state frame form next alone normal runs found = rw (normal, alone, runs, found)
 
@@ -73,10 +73,10 @@ unfolding going
 going-makes state n made after e = rw e
 
 -- a form that made a frame and leads to the next place finishes
-moves : (world : World) (program : Program) (method : Method) (typing : Types) (place : ℕ) (state : State) (s : Stands world program method typing place state) (form : Form) (next : Option ℕ) (after : FrameType) (made : Option Frame) → instruction_at method.instructions place ≡ Some (form, next) → perform program form next state s.frame [] ≡ going state [] next made → Makes after s.frame made → LeadsTo world typing after next → NextFinishes world program method typing next → Finishes program state
+moves : (world : World) (program : Program) (method : Method) (typing : Types) (place : ℕ) (state : State) (s : Stands world program method typing place state) (form : Form) (next : Option ℕ) (after : FrameType) (made : Option Frame) → form_at method.insns place ≡ Some (form, next) → perform program form next state s.frame [] ≡ going state [] next made → Makes after s.frame made → LeadsTo world typing after next → NextFinishes world program method typing next → Finishes program state
 moves world program method typing place state s form None after made found runs m leads go = absurd leads
 moves world program method typing place state s form (Some n) after made found runs m leads go =
-    let found' : instruction_at method.instructions s.frame.pc ≡ Some (form, Some n) = rw s.here found in
+    let found' : form_at method.insns s.frame.pc ≡ Some (form, Some n) = rw s.here found in
     let goes : going state [] (Some n) made ≡ Some (Going (record state { frames = record m.after { pc = n } ∷ [] })) = going-makes state n made m.after m.made_is in
     let one : step program state ≡ Going (record state { frames = record m.after { pc = n } ∷ [] }) =
     step-stands program method state s.frame form (Some n) s.alone s.normal s.runs found' ∙ ap (λ (o : Option Outcome). unwrap_or o Stuck) (runs ∙ goes) in
@@ -106,9 +106,9 @@ unfolding returned
 ireturn-returns program state frame int under next e = rw e
 
 -- an int that is returned ends the run
-returns : (world : World) (program : Program) (method : Method) (typing : Types) (place : ℕ) (state : State) (s : Stands world program method typing place state) (next : Option ℕ) (result : Option Slot) (after : FrameType) → instruction_at method.instructions place ≡ Some (Ireturn, next) → ireturn_types result s.types ≡ Some after → Finishes program state
+returns : (world : World) (program : Program) (method : Method) (typing : Types) (place : ℕ) (state : State) (s : Stands world program method typing place state) (next : Option ℕ) (result : Option Slot) (after : FrameType) → form_at method.insns place ≡ Some (Ireturn, next) → ireturn_types result s.types ≡ Some after → Finishes program state
 returns world program method typing place state s next result after found e =
-    let found' : instruction_at method.instructions s.frame.pc ≡ Some (Ireturn, next) = rw s.here found in
+    let found' : form_at method.insns s.frame.pc ≡ Some (Ireturn, next) = rw s.here found in
     let top = returned_int result s.types after e in
     let taken = take_int s.types.stack top.0 s.frame.stack top.1 s.fits.stack in
     let one : step program state ≡ Returned (Some (Int taken.int)) =
@@ -132,7 +132,7 @@ second_of_some None = None
 same_turn : (a b : Form) (x y : Option ℕ) (same : (let o : Option (Form × Option ℕ) = Some (a, x) in o) ≡ Some (b, y)) → (a ≡ b) × (x ≡ y)
 same_turn a b x y same = (ap (λ (o : Option (Form × Option ℕ)). first_of_some o a) same, ap second_of_some same)
 
-pub turn : (world : World) (method : Method) (typing : Types) (place : ℕ) (types : FrameType) (form : Form) (next : Option ℕ) → IsTyped world method typing place types → instruction_at method.instructions place ≡ Some (form, next) → Turn world method typing types form next
+pub turn : (world : World) (method : Method) (typing : Types) (place : ℕ) (types : FrameType) (form : Form) (next : Option ℕ) → IsTyped world method typing place types → form_at method.insns place ≡ Some (form, next) → Turn world method typing types form next
 turn world method typing place types form next t found =
     let same = same_turn t.form form t.next next (sym t.stands ∙ found) in
     let forms = same.0 in
@@ -144,7 +144,7 @@ turn world method typing place types form next t found =
     }
 
 -- a state at a form finishes where every state at the next place does
-finishes_at : (world : World) (program : Program) (method : Method) (typing : Types) (place : ℕ) (state : State) (form : Form) (next : Option ℕ) → (s : Stands world program method typing place state) → Turn world method typing s.types form next → instruction_at method.instructions place ≡ Some (form, next) → NextFinishes world program method typing next → Finishes program state
+finishes_at : (world : World) (program : Program) (method : Method) (typing : Types) (place : ℕ) (state : State) (form : Form) (next : Option ℕ) → (s : Stands world program method typing place state) → Turn world method typing s.types form next → form_at method.insns place ≡ Some (form, next) → NextFinishes world program method typing next → Finishes program state
 finishes_at world program method typing place state (Iconst v) next s t found go =
     moves world program method typing place state s (Iconst v) next t.after _ found refl (iconst_makes v s.types t.after s.frame t.runs s.fits) (t.leads 0 next (omega arith)) go
 finishes_at world program method typing place state (Iload n) next s t found go =
@@ -157,16 +157,16 @@ finishes_at world program method typing place state Ireturn next s t found go =
     returns world program method typing place state s next method.result t.after found t.runs
 
 -- every state that stands at an instruction of a typed code without jumps finishes
-pub finishes_from : (world : World) (program : Program) (method : Method) (typing : Types) (code : List ℕ) (rest done : List (ℕ × Form)) (i : ℕ × Form) → IsTyping world method typing → IsCode 0 method.instructions code → method.instructions ≡ done ++ i ∷ rest → (state : State) → Stands world program method typing i.0 state → Finishes program state
-finishes_from world program method typing code [] done i typed spelled split state s =
-    let found : instruction_at method.instructions i.0 ≡ Some (i.1, None) =
-    rw split (instruction_at-place 0 done i [] code (subst (λ (is : List (ℕ × Form)). IsCode 0 is code) split spelled)) in
+pub finishes_from : (world : World) (program : Program) (method : Method) (typing : Types) (forms : List (ℕ × Form)) (rest done : List (ℕ × Form)) (i : ℕ × Form) → IsTyping world method typing → Reads method.insns forms → forms ≡ done ++ i ∷ rest → (state : State) → Stands world program method typing i.0 state → Finishes program state
+finishes_from world program method typing forms [] done i typed spelled split state s =
+    let found : form_at method.insns i.0 ≡ Some (i.1, None) =
+    form_at-place method.insns forms done i [] spelled split in
     finishes_at world program method typing i.0 state i.1 None s (turn world method typing i.0 s.types i.1 None (typed.each i.0 s.types s.typed) found) found (λ place e. absurd (cc))
-finishes_from world program method typing code (j ∷ rest) done i typed spelled split state s =
-    let found : instruction_at method.instructions i.0 ≡ Some (i.1, Some j.0) =
-    rw split (instruction_at-place 0 done i (j ∷ rest) code (subst (λ (is : List (ℕ × Form)). IsCode 0 is code) split spelled)) in
+finishes_from world program method typing forms (j ∷ rest) done i typed spelled split state s =
+    let found : form_at method.insns i.0 ≡ Some (i.1, Some j.0) =
+    form_at-place method.insns forms done i (j ∷ rest) spelled split in
     finishes_at world program method typing i.0 state i.1 (Some j.0) s (turn world method typing i.0 s.types i.1 (Some j.0) (typed.each i.0 s.types s.typed) found) found
     (λ place e next there.
     let same : j.0 ≡ place = cc in
-    finishes_from world program method typing code rest (done ++ i ∷ []) j typed spelled (split ∙ sym (append_assoc done (i ∷ []) (j ∷ rest))) next
+    finishes_from world program method typing forms rest (done ++ i ∷ []) j typed spelled (split ∙ sym (append_assoc done (i ∷ []) (j ∷ rest))) next
     (subst (λ (p : ℕ). Stands world program method typing p next) (sym same) there))

@@ -1,19 +1,33 @@
 -- What `decide` answers, and why.
-use Rattle.std.specs.Prelude.{Bool, IsTrue, ◌↔◌, ◌≡◌, ℕ, ◌≤◌, List, [], ◌∷◌, ◌++◌, length, Result, Ok, Err}
+use Rattle.std.specs.Prelude.{◌≡◌, ◌⊎◌, ℕ, zero, suc, ◌≤◌, List, [], ◌∷◌, ◌++◌, length, Option, Some, None, Result, Ok, Err, IsTrue}
+use Rattle.class_read.specs.Content.{ClassContent}
+use Rattle.class_read.specs.Rules.{Spells}
+use Rattle.class_read.specs.FirstFault.{class_in}
+use Rattle.class_read.specs.declared.fault.ClassFault.{ClassFault}
+use Rattle.class_world.specs.World.{World, world_of}
+use Rattle.class_world.specs.Linking.{link_fault}
+use Rattle.class_world.specs.Reached.{has_body, close_of}
+use Rattle.class_world.specs.declared.program.Method.{Method}
+use Rattle.class_world.specs.declared.world.MethodRef.{MethodRef}
+use Rattle.class_world.specs.declared.fault.LinkFault.{LinkFault}
 use Rattle.jterm.specs.declared.line.Line.{Line}
 use Rattle.jterm.specs.declared.verdict.Request.{Request}
 use Rattle.jterm.specs.declared.verdict.Request.TheVariants.{Prove}
 use Rattle.jterm.specs.declared.verdict.Verdict.{Verdict}
 use Rattle.jterm.specs.declared.verdict.Refused.{Refused}
 use Rattle.jterm.specs.declared.verdict.Refused.TheVariants.{At, Memory}
-use Rattle.jterm.specs.declared.verdict.Place.TheVariants.{Class, Description}
-use Rattle.jterm.specs.declared.verdict.Fault.TheVariants.{NotBuilt}
+use Rattle.jterm.specs.declared.verdict.Place.{Place}
+use Rattle.jterm.specs.declared.verdict.Place.TheVariants as places
+use Rattle.jterm.specs.declared.verdict.Fault.{Fault}
+use Rattle.jterm.specs.declared.verdict.Fault.TheVariants as faults
 use Rattle.jterm.specs.Description.{IsLine}
-use Rattle.jterm.specs.Plain.{IsPlainFile}
+use Rattle.jterm.specs.FirstPath.{IsFirstPath}
+use Rattle.jterm.specs.Machine.{program_of}
+use Rattle.jterm.specs.Headline.{AllSpell, named_method}
 
 -- the request's number is in its range, and there are as many files as its command has file words
 abbrev pub Takes : Request → List (List ℕ) → Type 0
-Takes (Prove nodes) files = (1 ≤ nodes) × (nodes ≤ 20000) × (length files ≡ 2)
+Takes (Prove nodes) files = (1 ≤ nodes) × (nodes ≤ 20000) × (2 ≤ length files) × (length files ≤ 257)
 
 -- `YES` and a newline
 abbrev pub yes_line : List ℕ
@@ -27,22 +41,96 @@ SaysYes verdict = (rest : List ℕ) × (verdict.out ≡ yes_line ++ rest)
 abbrev pub yes : Verdict
 yes = record { status = 0; out = yes_line }
 
--- The cause of each answer. YES is answered where the first file is a line and the second is a plain class for it;
--- the description is refused where the first file is no line; class 0 is refused where it is one and the second file is
--- no plain class for it. Want of memory has no cause.
-abbrev pub Answers : List ℕ → List ℕ → Result Verdict Refused → Type 0
-Answers desc class (Ok verdict) = (verdict ≡ yes) × ((line : Line) × IsLine desc line × IsPlainFile line class)
-Answers desc class (Err (At Description NotBuilt)) = (line : Line) → IsLine desc line → ⊥
-Answers desc class (Err (At (Class number) NotBuilt)) =
-    (number ≡ 0) × ((line : Line) × IsLine desc line × (IsPlainFile line class → ⊥))
-Answers desc class (Err Memory) = Unit {0}
+-- ---- one order of refusals: the class files, the description, linking, the entry method, the program
+
+-- the file spells no class, and this is its first fault
+pub record IsBrokenFile (file : List ℕ) (fault : ClassFault) : Type 0 where
+  pub none : (class : ClassContent) → Spells file class → ⊥
+  pub first : class_in file ≡ Err fault
+
+-- the file of this number is the first that spells no class, and this is its first fault
+abbrev pub IsFirstBroken : List (List ℕ) → ℕ → ClassFault → Type 0
+IsFirstBroken [] number fault = ⊥
+IsFirstBroken (file ∷ files) zero fault = IsBrokenFile file fault
+IsFirstBroken (file ∷ files) (suc number) fault = (class : ClassContent) × Spells file class × IsFirstBroken files number fault
+
+-- the files spell classes, and the description is a line
+pub record AreRead (desc : List ℕ) (files : List (List ℕ)) : Type 0 where
+  pub classes : List ClassContent
+  pub spelled : AllSpell files classes
+  pub line : Line
+  pub described : IsLine desc line
+
+-- and the classes make a world
+pub record AreLinked (desc : List ℕ) (files : List (List ℕ)) : Type 0 where
+  pub read : AreRead desc files
+  pub links : link_fault (world_of read.classes) ≡ None
+
+-- the line names this method of the world, and it is not abstract
+pub record IsEntry (world : World) (line : Line) (entry : MethodRef) : Type 0 where
+  pub named : named_method world line ≡ Some entry
+  pub not_abstract : IsTrue (has_body world entry)
+
+-- the files spell classes, and the description is no line
+pub record IsNoLine (desc : List ℕ) (files : List (List ℕ)) : Type 0 where
+  pub classes : List ClassContent
+  pub spelled : AllSpell files classes
+  pub no_line : (line : Line) → IsLine desc line → ⊥
+
+-- the classes make a world in which the line names no method, or an abstract one
+pub record HasNoEntry (desc : List ℕ) (files : List (List ℕ)) : Type 0 where
+  pub linked : AreLinked desc files
+  pub no_entry : (entry : MethodRef) → IsEntry (world_of linked.read.classes) linked.read.line entry → ⊥
+
+-- the classes break this rule first
+pub record IsUnlinked (desc : List ℕ) (files : List (List ℕ)) (fault : LinkFault) : Type 0 where
+  pub read : AreRead desc files
+  pub first : link_fault (world_of read.classes) ≡ Some fault
+
+-- the line names a method that is not abstract
+pub record HasEntry (desc : List ℕ) (files : List (List ℕ)) : Type 0 where
+  pub linked : AreLinked desc files
+  pub entry : MethodRef
+  pub is_entry : IsEntry (world_of linked.read.classes) linked.read.line entry
+
+-- the program of the method breaks this rule first
+pub record IsUnclosed (desc : List ℕ) (files : List (List ℕ)) (fault : LinkFault) : Type 0 where
+  pub entered : HasEntry desc files
+  pub first : close_of (world_of entered.linked.read.classes) entered.entry ≡ Err fault
+
+-- the method is closed, and its program is one of those that are decided so far
+pub record IsBuilt (world : World) (entry : MethodRef) (params : ℕ) : Type 0 where
+  pub methods : List Method
+  pub closed : close_of world entry ≡ Ok methods
+  pub first_path : IsFirstPath params (program_of world methods)
+
+-- the method is closed, and its program is none of those that are decided so far
+pub record IsNotBuilt (desc : List ℕ) (files : List (List ℕ)) : Type 0 where
+  pub entered : HasEntry desc files
+  pub methods : List Method
+  pub closed : close_of (world_of entered.linked.read.classes) entered.entry ≡ Ok methods
+  pub not_built : IsFirstPath entered.linked.read.line.params (program_of (world_of entered.linked.read.classes) methods) → ⊥
+
+-- nothing is refused
+pub record IsGood (desc : List ℕ) (files : List (List ℕ)) : Type 0 where
+  pub entered : HasEntry desc files
+  pub built : IsBuilt (world_of entered.linked.read.classes) entered.entry entered.linked.read.line.params
+
+-- the cause of a refusal
+abbrev pub IsRefused : List ℕ → List (List ℕ) → Place → Fault → Type 0
+IsRefused desc files (places.Class number) (faults.Class fault) = IsFirstBroken files number fault
+IsRefused desc files places.Description faults.NotBuilt = IsNoLine desc files ⊎ HasNoEntry desc files
+IsRefused desc files places.Link (faults.Link fault) = IsUnlinked desc files fault ⊎ IsUnclosed desc files fault
+IsRefused desc files places.Link faults.NotBuilt = IsNotBuilt desc files
+IsRefused desc files _ _ = ⊥
+
+-- The cause of each answer. Want of memory has none.
+abbrev pub Answers : List ℕ → List (List ℕ) → Result Verdict Refused → Type 0
+Answers desc files (Ok verdict) = (verdict ≡ yes) × IsGood desc files
+Answers desc files (Err (At place fault)) = IsRefused desc files place fault
+Answers desc files (Err Memory) = Unit {0}
 
 -- yes, or want of memory
 abbrev pub YesOrMemory : Result Verdict Refused → Type 0
 YesOrMemory (Ok verdict) = verdict ≡ yes
 YesOrMemory (Err refused) = refused ≡ Memory
-
--- whether the file spells a plain class for the line, or want of memory
-abbrev pub PlainOrMemory : Line → List ℕ → Result Bool Refused → Type 0
-PlainOrMemory line file (Ok answer) = IsTrue answer ↔ IsPlainFile line file
-PlainOrMemory line file (Err refused) = refused ≡ Memory

@@ -1,48 +1,49 @@
 -- The machine that the headline speaks of: what one instruction does, and what a run of many gives.
 --
 -- The table follows the JVM specification, chapter 6, form by form. What it does not name is `Stuck`: an operand that
--- is missing or of another kind, a local that is unset, a place where no instruction stands. Nothing here knows of a
--- prover.
+-- is missing or of another kind, a local that is unset, a place where no instruction stands, an instruction that the
+-- table does not have yet. Nothing here knows of a prover.
 use Rattle.std.specs.Prelude.{◌≡◌, ℕ, zero, suc, ◌==◌, nat_lt, if◌then◌else◌, List, [], ◌∷◌, length, slice_get, slice_set, Option, Some, None, unwrap_or, ℤ, ◌+ℤ◌}
 use Rattle.std.specs.Int.{w32, int_wrap}
 use Rattle.jvm_values.specs.declared.heap.Value.{Value}
 use Rattle.jvm_values.specs.declared.heap.Value.TheVariants.{Int, Null, Ref}
-use Rattle.jvm_values.specs.declared.types.Slot.{Slot}
 use Rattle.jvm_values.specs.declared.state.Frame.{Frame}
 use Rattle.jvm_values.specs.declared.state.Mode.TheVariants.{Normal, Throwing}
 use Rattle.jvm_values.specs.declared.state.Mode.{Mode}
 use Rattle.jvm_values.specs.declared.state.State.{State}
 use Rattle.jterm.specs.declared.form.Form.{Form}
 use Rattle.jterm.specs.declared.form.Form.TheVariants.{Iconst, Iload, Istore, Iadd, Ireturn}
-use Rattle.jterm.specs.World.{World}
+use Rattle.class_world.specs.declared.op.Op.{Op}
+use Rattle.class_world.specs.World.{World}
+use Rattle.class_world.specs.declared.program.Method.{Method}
+use Rattle.jterm.specs.Forms.{form_of}
 use Rattle.jterm.specs.Options.{◌>>=◌}
-
--- a reached method: the class that declares it, what it takes and gives, the limits of its frame and its instructions,
--- each with its place in the code
-pub record Method : Type 0 where
-  pub class : ℕ
-  pub name : List ℕ
-  pub desc : List ℕ
-  pub params : List Slot
-  pub result : Option Slot
-  pub max_stack : ℕ
-  pub max_locals : ℕ
-  pub instructions : List (ℕ × Form)
 
 -- the classes, and the methods that a run can come to, the entry method first
 pub record Program : Type 0 where
   pub world : World
   pub methods : List Method
 
+abbrev pub program_of : World → List Method → Program
+program_of world methods = record { world = world; methods = methods }
+
 -- the place of the first of these instructions; there is none at the code's end
-abbrev pub first_place : List (ℕ × Form) → Option ℕ
+abbrev pub first_place : {A : Type 0} → List (ℕ × A) → Option ℕ
 first_place [] = None
 first_place (i ∷ rest) = Some i.0
 
 -- the instruction at a place, and the place of the next one
-abbrev pub instruction_at : List (ℕ × Form) → ℕ → Option (Form × Option ℕ)
+abbrev pub instruction_at : {A : Type 0} → List (ℕ × A) → ℕ → Option (A × Option ℕ)
 instruction_at [] place = None
 instruction_at (i ∷ rest) place = if i.0 == place then Some (i.1, first_place rest) else instruction_at rest place
+
+-- the form at a place, and the place of the next instruction; none where no instruction stands, or one that the table
+-- does not have
+unfoldable pub form_at : List (ℕ × Op) → ℕ → Option (Form × Option ℕ)
+form_at insns place = do
+  here ← instruction_at insns place
+  form ← form_of here.0
+  Some (form, here.1)
 
 -- an int on the top of a stack, and what is below it
 abbrev pub top_int : List Value → Option (ℤ × List Value)
@@ -103,7 +104,7 @@ unfoldable pub returned : Program → State → Value → List Frame → Option 
 returned program state v [] = Some (Returned (Some v))
 returned program state v (caller ∷ below) = do
   method ← slice_get program.methods caller.method
-  call ← instruction_at method.instructions caller.pc
+  call ← instruction_at method.insns caller.pc
   going state below call.1 (Some (record caller { stack = v ∷ caller.stack }))
 
 -- one form, run in the frame `frame` over the frames `below`; every form that is not said to jump goes on at `next`
@@ -121,19 +122,25 @@ unfoldable pub normal_step : Program → State → List Frame → Option Outcome
 normal_step program state [] = None
 normal_step program state (frame ∷ below) = do
   method ← slice_get program.methods frame.method
-  here ← instruction_at method.instructions frame.pc
+  here ← form_at method.insns frame.pc
   perform program here.0 here.1 state frame below
 
--- throwing mode: no method has a handler yet, so the top frame goes and its caller's stack is emptied; with one frame
--- left the run ends with the throw
-unfoldable pub throwing_step : State → ℕ → List Frame → Option Outcome
-throwing_step state thrown [] = None
-throwing_step state thrown (frame ∷ []) = Some (Threw thrown)
-throwing_step state thrown (frame ∷ caller ∷ below) = Some (Going (record state { frames = record caller { stack = [] } ∷ below }))
+-- a throw that nothing in the top frame takes: that frame goes and its caller's stack is emptied; with one frame left the
+-- run ends with the throw
+abbrev pub uncaught : State → ℕ → List Frame → Outcome
+uncaught state thrown [] = Threw thrown
+uncaught state thrown (caller ∷ below) = Going (record state { frames = record caller { stack = [] } ∷ below })
+
+-- throwing mode: the top frame's method has no exception table; the table does not have handlers yet
+unfoldable pub throwing_step : Program → State → ℕ → List Frame → Option Outcome
+throwing_step program state thrown [] = None
+throwing_step program state thrown (frame ∷ below) = do
+  method ← slice_get program.methods frame.method
+  if length method.table == 0 then Some (uncaught state thrown below) else None
 
 abbrev pub step_in : Program → State → Mode → Option Outcome
 step_in program state Normal = normal_step program state state.frames
-step_in program state (Throwing thrown) = throwing_step state thrown state.frames
+step_in program state (Throwing thrown) = throwing_step program state thrown state.frames
 
 -- one step of the machine
 unfoldable pub step : Program → State → Outcome

@@ -66,9 +66,9 @@ pub record Decided (words : List (List ℕ)) (held : List ℕ → Told) (result 
   pub names : List (List ℕ)
   pub is_command : IsCommand words request names
   pub desc : List ℕ
-  pub class : List ℕ
-  pub read : AreContents request 0 held names (desc ∷ class ∷ [])
-  pub answer : Answers desc class result
+  pub classes : List (List ℕ)
+  pub read : AreContents request 0 held names (desc ∷ classes)
+  pub answer : Answers desc classes result
 
 -- ---- outputs
 

@@ -19,7 +19,7 @@ use Rattle.jterm.specs.Outside.{AreContents, IsUnread}
 abbrev pub HasCause : Request → List (List ℕ) → (List ℕ → Told) → ℕ → ℕ → Stop → Type 0
 HasCause request names held before after (Unread place fault) = IsUnread request names held before after place fault
 HasCause request names held before after (Broken place fault) =
-    (desc : List ℕ) × (class : List ℕ) × AreContents request 0 held names (desc ∷ class ∷ []) × Answers desc class (Err (At place fault))
+    (desc : List ℕ) × (classes : List (List ℕ)) × AreContents request 0 held names (desc ∷ classes) × Answers desc classes (Err (At place fault))
 HasCause request names held before after NoMemory = ⊤
 
 -- the exit status
@@ -48,10 +48,10 @@ AreOfCommand request names = (words : List (List ℕ)) × IsCommand words reques
 -- the verdict is the answer for the contents of the files
 pub record IsAnswered (request : Request) (names : List (List ℕ)) (held : List ℕ → Told) (verdict : Verdict) : Type 0 where
   pub desc : List ℕ
-  pub class : List ℕ
-  pub read : AreContents request 0 held names (desc ∷ class ∷ [])
-  pub answer : Answers desc class (Ok verdict)
-  pub ends : SaysYes verdict → AllEnd (class ∷ []) desc
+  pub classes : List (List ℕ)
+  pub read : AreContents request 0 held names (desc ∷ classes)
+  pub answer : Answers desc classes (Ok verdict)
+  pub ends : SaysYes verdict → AllEnd classes desc
 
 -- an unread file is one of the named ones
 abbrev pub IsNamed : List (List ℕ) → Stop → Type 0

@@ -8,8 +8,10 @@ use Rattle.jvm_values.specs.declared.types.Slot.TheVariants.{Num, Ref}
 use Rattle.jterm.specs.declared.form.Form.{Form}
 use Rattle.jterm.specs.declared.form.Form.TheVariants.{Iconst, Iload, Istore, Iadd, Ireturn}
 use Rattle.jterm.specs.Options.{◌>>=◌}
-use Rattle.jterm.specs.Machine.{Method, instruction_at}
-use Rattle.jterm.specs.World.{World, Sub, erase}
+use Rattle.class_world.specs.World.{World}
+use Rattle.class_world.specs.Types.{Sub, erase}
+use Rattle.class_world.specs.declared.program.Method.{Method}
+use Rattle.jterm.specs.Machine.{form_at}
 
 -- what a local or a stack entry holds: nothing that may be read, an int, null, or a reference of an erased type
 pub data PlaceType : Type 0 where
@@ -124,7 +126,7 @@ abbrev pub LeadsTo : World → Types → FrameType → Option ℕ → Type 0
 LeadsTo world typing types (Some place) = Leads world typing types place
 LeadsTo world typing types None = ⊥
 
--- the typing holds at one place: locals and stack fit the method's limits, no stack entry is unset, an instruction
+-- the typing holds at one place: locals and stack fit the method's limits, no stack entry is unset, a form
 -- stands there and finds what it needs, and it leads to places whose types are as wide as those that it leaves
 pub record IsTyped (world : World) (method : Method) (typing : Types) (place : ℕ) (types : FrameType) : Type 0 where
   pub locals : length types.locals ≡ method.max_locals
@@ -132,7 +134,7 @@ pub record IsTyped (world : World) (method : Method) (typing : Types) (place : �
   pub set : All (λ entry. entry ≢ UnsetPlace) types.stack
   pub form : Form
   pub next : Option ℕ
-  pub stands : instruction_at method.instructions place ≡ Some (form, next)
+  pub stands : form_at method.insns place ≡ Some (form, next)
   pub after : FrameType
   pub runs : types_after method form types ≡ Some after
   pub leads : All (LeadsTo world typing after) (places_after form next)

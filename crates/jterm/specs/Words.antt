@@ -1,19 +1,24 @@
 -- The words of the command line.
-use Rattle.std.specs.Prelude.{◌≡◌, ◌≢◌, ℕ, List, [], ◌∷◌, length, All, codes, ⊤}
+use Rattle.std.specs.Prelude.{◌≡◌, ℕ, ◌≤◌, ◌==◌, not, Bool, true, List, [], ◌∷◌, length, codes, IsTrue}
+use Rattle.std.specs.List.{list_all}
 use Rattle.jterm.specs.declared.verdict.Request.{Request}
 use Rattle.jterm.specs.declared.verdict.Request.TheVariants.{Prove}
 
 -- a word that names a file does not begin with `-`
-abbrev pub IsFileWord : List ℕ → Type 0
-IsFileWord [] = ⊤
-IsFileWord (first ∷ rest) = first ≢ 45
+abbrev pub is_file_word : List ℕ → Bool
+is_file_word [] = true
+is_file_word (first ∷ rest) = not (first == 45)
 
--- `prove DESC CLASS`: the words name a description, and one class
+-- words that name a description and 1 to 256 classes
+pub record AreFiles (files : List (List ℕ)) : Type 0 where
+  pub some : 2 ≤ length files
+  pub few : length files ≤ 257
+  pub each : IsTrue (list_all is_file_word files)
+
+-- `prove DESC CLASS..`
 pub record IsProve (words : List (List ℕ)) (desc : List ℕ) (classes : List (List ℕ)) : Type 0 where
   pub spelled : words ≡ codes "prove" ∷ desc ∷ classes
-  pub count : length classes ≡ 1
-  pub desc_is_file : IsFileWord desc
-  pub classes_are_files : All IsFileWord classes
+  pub files : AreFiles (desc ∷ classes)
 
 -- A row of the table of commands: the words ask for this, and these of them name files, in this order. `prove`
 -- without a number of nodes asks for 4,000.

@@ -1,6 +1,7 @@
 //! The words of the command line.
-ghost use Rattle.std.specs.Prelude.{◌↔◌, string_bytes, IsTrue};
-ghost use Rattle.jterm.specs.Words.{IsFileWord};
+ghost use Rattle.std.specs.Prelude.{◌≡◌, ◌↔◌, map, string_bytes, IsTrue};
+ghost use Rattle.std.specs.List.{list_all};
+ghost use Rattle.jterm.specs.Words.{is_file_word, AreFiles};
 
 use crate::Request;
 
@@ -27,25 +28,34 @@ impl<'a> Command<'a> {
             ((request : Request) (files : List (List ℕ)) → ¬ IsCommand (map string_bytes words.now) request files)
             (λ c. IsCommand (map string_bytes words.now) c.request (map string_bytes c.files.now)) }
     {
-        if words.len() != 3 || words[0].as_str() != "prove" {
-            return None;
-        }
-        if !is_file_word(&words[1]) || !is_file_word(&words[2]) {
+        let (verb, files) = words.split_first()?;
+        if verb.as_str() != "prove" || !are_files(files) {
             return None;
         }
         let request = Request::Prove {
             nodes: DEFAULT_NODES,
         };
-        Some(Command {
-            request,
-            files: &words[1..],
-        })
+        Some(Command { request, files })
     }
+}
+
+// A description and 1 to 256 classes, each word one that can name a file.
+fn are_files(words: &[String]) -> bool
+    ensures { IsTrue result ↔ AreFiles (map string_bytes words.now) }
+{
+    words.len() >= 2 && words.len() <= 257 && are_file_words(words)
+}
+
+// Each word can name a file.
+fn are_file_words(words: &[String]) -> bool
+    ensures { result ≡ list_all (λ word. is_file_word (string_bytes word)) words.now }
+{
+    words.iter().all(is_file_word)
 }
 
 // A word can name a file where it does not begin with `-`.
 fn is_file_word(word: &String) -> bool
-    ensures { IsTrue result ↔ IsFileWord (string_bytes word.now) }
+    ensures { result ≡ is_file_word (string_bytes word.now) }
 {
     match word.as_bytes().first() {
         Some(b'-') => false,

@@ -1,12 +1,12 @@
 //! The decision over the bytes of the input files.
-ghost use Rattle.std.specs.Prelude.{◌≡◌, List, ℕ, [], ◌∷◌, map, false, IfOk, IfErr, ◌≢◌};
-ghost use Rattle.jterm.specs.Decision.{Takes, SaysYes, Answers, YesOrMemory, PlainOrMemory};
+ghost use Rattle.std.specs.Prelude.{◌≡◌, ◌≤◌, List, ℕ, ◌∷◌, length, map, IfOk};
+ghost use Rattle.jterm.specs.Decision.{Takes, SaysYes, Answers, YesOrMemory};
 ghost use Rattle.jterm.specs.Headline.{AllEnd};
 
-use crate::line::{Line, read_line};
-use crate::plain::is_plain;
+use crate::classes::{close, entry, link, read_classes};
+use crate::first_path::is_first_path;
+use crate::line::read_line;
 use crate::verdict::{Fault, Place, Refused, Request, Verdict};
-use class_read::{ClassFault, ClassView};
 use list_views::Seq;
 use std::alloc::Global;
 
@@ -20,42 +20,38 @@ fn yes(alloc: Global) -> Result<Verdict, Refused>
     })
 }
 
-/// What is said of a file that was not read: that it is no plain class, unless memory was wanting.
-fn unread(fault: ClassFault) -> Result<bool, Refused>
-    ensures no { IfOk result (λ answer. (answer ≡ false) × (fault ≢ ClassFault.Memory)) }
-    ensures memory { IfErr result (λ refused. refused ≡ Refused.Memory) }
+/// The description is refused, or the program: what they ask for is not built yet.
+fn not_built(place: Place) -> Refused
+    ensures { result ≡ Refused.At place Fault.NotBuilt }
 {
-    match fault {
-        ClassFault::Memory => Err(Refused::Memory),
-        _ => Ok(false),
+    Refused::At {
+        place,
+        fault: Fault::NotBuilt,
     }
 }
 
-/// Whether the file spells a plain class for the line.
-fn is_plain_file(alloc: Global, line: &Line<'_>, file: &[u8]) -> Result<bool, Refused>
-    ensures { PlainOrMemory line.now file.now result }
+/// The decision on a description and class files.
+fn decide_classes(alloc: Global, description: &[u8], files: &[Vec<u8>]) -> Result<Verdict, Refused>
+    requires { length files.now ≤ 256 }
+    ensures { Answers description.now (map (λ file. file.items) files.now) result }
 {
-    match ClassView::read(alloc, file) {
-        Ok(class) => Ok(is_plain(alloc, line, &class)?),
-        Err(fault) => unread(fault),
-    }
-}
-
-/// The decision on a description and one class file.
-fn decide_class(alloc: Global, description: &[u8], class: &[u8]) -> Result<Verdict, Refused>
-    ensures { Answers description.now class.now result }
-{
+    let classes = read_classes(alloc, files)?;
     let Some(line) = read_line(description) else {
-        return Err(Refused::At {
-            place: Place::Description,
-            fault: Fault::NotBuilt,
-        });
+        return Err(not_built(Place::Description));
     };
-    if !is_plain_file(alloc, &line, class)? {
-        return Err(Refused::At {
-            place: Place::Class(0),
-            fault: Fault::NotBuilt,
-        });
+    let world = match link(alloc, classes) {
+        Ok(world) => world,
+        Err(refused) => return Err(refused),
+    };
+    let Some(entry) = entry(alloc, &world, &line)? else {
+        return Err(not_built(Place::Description));
+    };
+    let program = match close(alloc, world, entry) {
+        Ok(program) => program,
+        Err(refused) => return Err(refused),
+    };
+    if !is_first_path(alloc, line.params, program.methods.as_slice())? {
+        return Err(not_built(Place::Link));
     }
     yes(alloc)
 }
@@ -74,10 +70,10 @@ pub fn decide(alloc: Global, request: &Request, inputs: &[Vec<u8>]) -> Result<Ve
         → IfOk result (λ verdict. SaysYes verdict → AllEnd classes desc) }
 
     // The cause of each answer.
-    ensures answer { (desc class : List ℕ) → map (λ file. file.items) inputs.now ≡ desc ∷ class ∷ [] → Answers desc class result }
+    ensures answer { (desc : List ℕ) (classes : List (List ℕ)) → map (λ file. file.items) inputs.now ≡ desc ∷ classes → Answers desc classes result }
 {
     let Request::Prove { .. } = request;
-    decide_class(alloc, inputs[0].as_slice(), inputs[1].as_slice())
+    decide_classes(alloc, inputs[0].as_slice(), &inputs[1..])
 }
 
 #[cfg(test)]

@@ -10,7 +10,7 @@ use io_ports::{FileFault, Files};
 use std::alloc::{AllocError, AllocFailed, Global};
 
 /// Why a call ends without a verdict.
-#[derive(Clone, Copy)]
+#[derive(Drop)]
 pub(crate) enum Stop {
     /// The file at this place among the file words was not read.
     Unread {

@@ -1,14 +1,16 @@
 //! A prover of termination for Java bytecode: the public call over the bytes of its input files.
 #![tactic(auto)]
 
+mod classes;
 mod commands;
 mod decision;
+mod faults;
+mod first_path;
 mod form;
 mod inputs;
 mod line;
 mod lines;
-mod plain;
-mod reading;
+mod texts;
 mod top;
 mod typing;
 mod verdict;

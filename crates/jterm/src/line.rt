@@ -1,10 +1,12 @@
 //! The description: one line that names a method.
-ghost use Rattle.std.specs.Prelude.{◌≡◌, ◌≤◌, ◌∷◌, [], ◌++◌, ◌==◌, ℕ, List, MatchOption, IsTrue, ◌↔◌};
+ghost use Rattle.std.specs.Prelude.{◌≡◌, ◌≤◌, ◌∷◌, [], ◌++◌, ◌==◌, ℕ, List, MatchOption, IfOk};
 ghost use Rattle.std.specs.List.{position, list_all};
 ghost use Rattle.jterm.specs.declared.line.Line.{Line};
 ghost use Rattle.jterm.specs.Description.{IsLine, int_descriptor, IsFirstWord, IsEnclosed, IsParams, ends_word};
 
-use list_views::Bytes;
+use crate::texts::joined;
+use list_views::{Bytes, Seq};
+use std::alloc::{AllocError, Global};
 
 /// A method by its class, its name and the number of its parameters, all of them ints. Its result is an int.
 #[derive(Debug, Drop)]
@@ -63,14 +65,12 @@ fn params_of(bytes: &[u8]) -> Option<u8>
     Some(marks.len() as u8)
 }
 
-/// Whether it is the descriptor of so many ints that gives an int.
-pub fn is_int_descriptor(desc: &[u8], params: u8) -> bool
-    ensures { IsTrue result ↔ (desc.now ≡ int_descriptor params) }
+/// The descriptor of so many ints that gives an int.
+pub(crate) fn descriptor(alloc: Global, params: u8) -> Result<Seq<u8>, AllocError>
+    ensures { IfOk result (λ desc. desc ≡ int_descriptor params) }
 {
-    match enclosed(desc, b")I") {
-        Some(marks) => marks.len() == usize::from(params) && are_marks(marks),
-        None => false,
-    }
+    let marks = vec![in alloc; b'I'; usize::from(params)]?;
+    joined(alloc, &[b"(", marks.as_slice(), b")I"])
 }
 
 /// The line that `bytes` is, or None where it is none.

@@ -1,18 +1,19 @@
 //! The lines that say why a call has no output.
 ghost use Rattle.std.specs.Prelude.{◌≡◌, IfOk, string_bytes};
-ghost use Rattle.jterm.specs.Lines.{usage_lines, memory_line, write_line, read_line, refusal_line, file_fault_text};
+ghost use Rattle.jterm.specs.Lines.{usage_lines, memory_line, write_line, file_line, read_line, refusal_line, file_fault_text, place_text};
 
+use crate::faults::fault_text;
+use crate::texts::joined;
 use crate::{Fault, Place};
 use io_ports::FileFault;
+use list_views::Seq;
 use std::alloc::{AllocError, Global};
-use std::fmt;
-use std::fmt::{Display, Formatter};
 
 /// The words are no command. A line for each command that is built follows, with its words.
 pub(crate) fn usage_text() -> &'static [u8]
     ensures { result.now ≡ usage_lines }
 {
-    b"jterm: usage\nprove DESC CLASS\n"
+    b"jterm: usage\nprove DESC CLASS..\n"
 }
 
 /// Memory ran out.
@@ -30,54 +31,51 @@ pub(crate) fn write_text() -> &'static [u8]
 }
 
 /// This file was not read.
-pub(crate) fn read_text(alloc: Global, name: &str, fault: FileFault) -> Result<String, AllocError>
-    ensures { IfOk result (λ line. string_bytes line ≡ read_line name.now fault) }
+pub(crate) fn read_text(alloc: Global, name: &str, fault: FileFault) -> Result<Seq<u8>, AllocError>
+    ensures { IfOk result (λ line. line ≡ read_line name.now fault) }
 {
-    let cause = file_fault_name(fault);
-    format!(in alloc; "jterm: read {name}: {cause}\n")
+    file_line(alloc, name.as_bytes(), file_fault_name(fault))
+}
+
+fn file_line(alloc: Global, name: &[u8], cause: &[u8]) -> Result<Seq<u8>, AllocError>
+    ensures { IfOk result (λ line. line ≡ file_line name.now cause.now) }
+{
+    joined(alloc, &[b"jterm: read ", name, b": ", cause, b"\n"])
 }
 
 /// The input has this fault at this place.
-pub(crate) fn refusal_text(alloc: Global, place: Place, fault: Fault) -> Result<String, AllocError>
-    ensures { IfOk result (λ line. string_bytes line ≡ refusal_line place fault) }
+pub(crate) fn refusal_text(
+    alloc: Global,
+    place: Place,
+    fault: &Fault,
+) -> Result<Seq<u8>, AllocError>
+    ensures { IfOk result (λ line. line ≡ refusal_line place fault.now) }
 {
-    format!(in alloc; "jterm: {place}: {fault}\n")
+    let place = place_text(alloc, place)?;
+    let fault = fault_text(alloc, fault)?;
+    joined(
+        alloc,
+        &[b"jterm: ", place.as_bytes(), b": ", fault.as_slice(), b"\n"],
+    )
 }
 
-fn file_fault_name(fault: FileFault) -> &'static str
+fn file_fault_name(fault: FileFault) -> &'static [u8]
     ensures { result.now ≡ file_fault_text fault }
 {
     match fault {
-        FileFault::Failed => "Failed",
-        FileFault::TooLong => "TooLong",
-        FileFault::Missing => "Missing",
-        FileFault::Memory => "Memory",
+        FileFault::Failed => b"Failed",
+        FileFault::TooLong => b"TooLong",
+        FileFault::Missing => b"Missing",
+        FileFault::Memory => b"Memory",
     }
 }
 
-impl Display for Place {
-    ghost use Rattle.std.specs.Prelude.{Some};
-    ghost use Rattle.jterm.specs.Lines.{place_text};
-
-    ghost output = { λ place. Some (place_text place) };
-
-    fn fmt<W: fmt::Write>(&self, f: &mut Formatter<W>) -> fmt::Result {
-        match self {
-            Place::Class(number) => write!(f, "class {number}"),
-            Place::Description => write!(f, "description"),
-        }
-    }
-}
-
-impl Display for Fault {
-    ghost use Rattle.std.specs.Prelude.{Some};
-    ghost use Rattle.jterm.specs.Lines.{fault_text};
-
-    ghost output = { λ fault. Some (fault_text fault) };
-
-    fn fmt<W: fmt::Write>(&self, f: &mut Formatter<W>) -> fmt::Result {
-        match self {
-            Fault::NotBuilt => write!(f, "NotBuilt"),
-        }
+fn place_text(alloc: Global, place: Place) -> Result<String, AllocError>
+    ensures { IfOk result (λ text. string_bytes text ≡ place_text place) }
+{
+    match place {
+        Place::Class(number) => format!(in alloc; "class {number}"),
+        Place::Description => String::from_str(alloc, "description"),
+        Place::Link => String::from_str(alloc, "link"),
     }
 }

@@ -1,17 +1,15 @@
 //! The call behind the program: from the words of the command line to the exit status.
 ghost use Rattle.std.specs.Prelude.{◌≡◌, ◌≢◌, ◌≤◌, ◌↔◌, ◌⊎◌, ℕ, List, [], ◌∷◌, length, All, map, string_bytes, Some, Ok, Err, IfOk, IfErr, IfSome, IfNone};
+ghost use Rattle.std.specs.List.{AllByRecursion};
 ghost use Rattle.std.specs.Io.KnownBytes.{Appends};
 ghost use Rattle.io_ports.specs.Count.{Rose};
 ghost use Rattle.io_ports.specs.declared.files.FileFault.{FileFault};
-ghost use Rattle.jterm.specs.declared.line.Line.{Line};
 ghost use Rattle.jterm.specs.declared.verdict.Request.{Request};
 ghost use Rattle.jterm.specs.declared.verdict.Place.{Place};
 ghost use Rattle.jterm.specs.declared.verdict.Fault.{Fault};
 ghost use Rattle.jterm.specs.declared.verdict.Refused.TheVariants.{At};
 ghost use Rattle.jterm.specs.Words.{IsProve, IsCommand};
-ghost use Rattle.jterm.specs.Description.{IsLine};
-ghost use Rattle.jterm.specs.Plain.{IsPlainFile};
-ghost use Rattle.jterm.specs.Decision.{yes_line};
+ghost use Rattle.jterm.specs.Decision.{IsGood, yes_line};
 ghost use Rattle.jterm.specs.Headline.{AllEnd};
 ghost use Rattle.jterm.specs.Lines.{usage_lines, memory_line, write_line, read_line, refusal_line};
 ghost use Rattle.jterm.specs.Outside.{AreTold, IsUnread, FirstAreRead, Decided, Puts, Claims, IsWithoutVerdict, IsWritten};
@@ -22,6 +20,7 @@ use crate::inputs::{Stop, read_inputs};
 use crate::lines::{memory_text, read_text, refusal_text, usage_text, write_text};
 use crate::{Refused, Verdict, decide};
 use io_ports::{Files, Sink};
+use list_views::Seq;
 use std::alloc::{AllocError, Global};
 
 /// What a call came to.
@@ -57,20 +56,20 @@ fn put_line<E: Sink>(err: &mut E, line: &[u8])
 }
 
 // The line that says why a call has no verdict. Want of memory has none of its own.
-fn line(alloc: Global, names: &[String], stop: Stop) -> Result<String, AllocError>
-    requires { IsNamed (map string_bytes names.now) stop }
-    ensures text { IfOk result (λ line. string_bytes line ≡ line_of (map string_bytes names.now) stop) }
-    ensures has_line { IfOk result (λ line. HasLine stop) }
+fn line(alloc: Global, names: &[String], stop: &Stop) -> Result<Seq<u8>, AllocError>
+    requires { IsNamed (map string_bytes names.now) stop.now }
+    ensures text { IfOk result (λ line. line ≡ line_of (map string_bytes names.now) stop.now) }
+    ensures has_line { IfOk result (λ line. HasLine stop.now) }
 {
     match stop {
-        Stop::Unread { place, fault } => read_text(alloc, names[place].as_str(), fault),
-        Stop::Broken { place, fault } => refusal_text(alloc, place, fault),
+        Stop::Unread { place, fault } => read_text(alloc, names[*place].as_str(), *fault),
+        Stop::Broken { place, fault } => refusal_text(alloc, *place, fault),
         Stop::NoMemory => Err(AllocError),
     }
 }
 
-fn status(stop: Stop) -> u8
-    ensures { result ≡ status_of stop }
+fn status(stop: &Stop) -> u8
+    ensures { result ≡ status_of stop.now }
 {
     match stop {
         Stop::Unread { .. } => 5,
@@ -85,10 +84,10 @@ fn report<E: Sink>(alloc: Global, names: &[String], stop: Stop, err: &mut E) -> 
     ensures { ((result ≡ status_of stop) × HasLine stop × Puts E.faults E.taken err.old err.new (line_of (map string_bytes names.now) stop))
         ⊎ ((result ≡ 7) × Puts E.faults E.taken err.old err.new memory_line) }
 {
-    match line(alloc, names, stop) {
+    match line(alloc, names, &stop) {
         Ok(line) => {
-            put_line(err, line.as_bytes());
-            status(stop)
+            put_line(err, line.as_slice());
+            status(&stop)
         }
         Err(_) => {
             put_line(err, memory_text());
@@ -170,10 +169,11 @@ pub fn jterm<F: Files, O: Sink, E: Sink>(
     // Status 0: nothing is said on `err`.
     ensures says_nothing { result.status ≡ 0 → err.new ≡ err.old }
 
-    // A line and a plain class for it give YES, or want of memory, where no count rose. A file may have 1 MiB.
-    ensures complete { (d c desc class : List ℕ) (line : Line)
-        → IsProve (map string_bytes words.now) d (c ∷ []) → AreTold (F.held files.old) (d ∷ c ∷ []) (desc ∷ class ∷ [])
-        → length desc ≤ 1048576 → length class ≤ 1048576 → IsLine desc line → IsPlainFile line class
+    // Input that breaks no rule, and whose program is built, gives YES, or want of memory, where no count rose. A file may
+    // have 1 MiB.
+    ensures complete { (d : List ℕ) (cs : List (List ℕ)) (desc : List ℕ) (classes : List (List ℕ))
+        → IsProve (map string_bytes words.now) d cs → AreTold (F.held files.old) (d ∷ cs) (desc ∷ classes)
+        → AllByRecursion (λ file. length file ≤ 1048576) (desc ∷ classes) → IsGood desc classes
         → ¬ Rose (F.faults files.old) (F.faults files.new) → ¬ Rose (O.faults out.old) (O.faults out.new)
         → ((result.status ≡ 0) × Appends (O.taken out.old) (O.taken out.new) yes_line) ⊎ (result.status ≡ 7) }
 

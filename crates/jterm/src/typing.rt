@@ -88,7 +88,7 @@ impl Known {
     }
 }
 
-/// Whether the instructions end with their only return and have a typing, in a method that takes so many ints and gives
+/// Whether the forms end with their only return and have a typing, in a method that takes so many ints and gives
 /// one.
 ///
 /// # Errors
@@ -96,17 +96,17 @@ impl Known {
 /// Want of memory.
 pub fn has_typing(
     alloc: Global,
-    instructions: &[(usize, Form)],
+    forms: &[(u16, Form)],
     params: u16,
     max_stack: u16,
     max_locals: u16,
 ) -> Result<bool, AllocError>
-    ensures { IfOk result (λ answer. IsTrue answer ↔ Passes params max_stack max_locals instructions.now) }
+    ensures { IfOk result (λ answer. IsTrue answer ↔ Passes params max_stack max_locals forms.now) }
 {
     if params > max_locals {
         return Ok(false);
     }
-    let Some(((_, Form::Ireturn), before)) = instructions.split_last() else {
+    let Some(((_, Form::Ireturn), before)) = forms.split_last() else {
         return Ok(false);
     };
     let mut known = Known::at_entry(alloc, params, max_locals)?;

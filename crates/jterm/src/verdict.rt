@@ -2,6 +2,8 @@
 ghost use Rattle.std.specs.Prelude.{◌≡◌};
 ghost use Rattle.jterm.specs.declared.verdict.Refused.TheVariants.{Memory};
 
+use class_read::ClassFault;
+use class_world::LinkFault;
 use list_views::Seq;
 use std::alloc::{AllocError, AllocFailed};
 
@@ -25,7 +27,7 @@ pub struct Verdict {
 }
 
 /// Why there is no verdict.
-#[derive(Clone, Copy, Debug, PartialEq, Eq)]
+#[derive(Debug, Drop)]
 pub enum Refused {
     /// The input has this fault at this place.
     At {
@@ -45,11 +47,17 @@ pub enum Place {
     Class(u32),
     /// The description.
     Description,
+    /// The classes together, and the methods that the entry reaches.
+    Link,
 }
 
 /// What is wrong with the input.
-#[derive(Clone, Copy, Debug, PartialEq, Eq)]
+#[derive(Debug, Drop)]
 pub enum Fault {
+    /// The first rule that a class file breaks.
+    Class(ClassFault),
+    /// The first rule that the classes break as a world.
+    Link(LinkFault),
     /// It may be good input, but what reads it is not built yet.
     NotBuilt,
 }

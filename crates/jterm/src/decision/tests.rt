@@ -1,9 +1,11 @@
 //! The decision on whole files, and the tables of lines and of codes.
 use super::decide;
+use crate::form::forms_of;
 use crate::line::read_line;
-use crate::reading::read_code;
 use crate::typing::has_typing;
-use crate::verdict::{Fault, Place, Refused, Request, Verdict};
+use crate::verdict::{Refused, Request, Verdict};
+use class_world::Op;
+use code_decode::decode;
 use std::alloc::{AllocError, Global};
 use std::test::Fail;
 
@@ -23,16 +25,6 @@ fn decided(alloc: Global, description: &[u8], class: &[u8]) -> Result<Verdict, R
     decide(alloc, &Request::Prove { nodes: 4000 }, &files)
 }
 
-const NO_LINE: Refused = Refused::At {
-    place: Place::Description,
-    fault: Fault::NotBuilt,
-};
-
-const NO_PLAIN_CLASS: Refused = Refused::At {
-    place: Place::Class(0),
-    fault: Fault::NotBuilt,
-};
-
 #[test]
 fn a_method_that_returns_a_constant_ends(rt: HostRuntime) {
     match decided(rt.alloc(), b"A f ()I\n", SEVEN) {
@@ -49,24 +41,6 @@ fn a_method_that_adds_to_its_parameter_ends(rt: HostRuntime) {
     match decided(rt.alloc(), b"A f (I)I\n", ONE_LESS) {
         Ok(verdict) => assert_eq!(rt; verdict.out.as_slice(), b"YES\n".as_slice()),
         Err(_) => assert!(rt; false),
-    }
-}
-
-#[test]
-fn the_place_of_a_refusal_is_the_first_file_that_does_not_fit(rt: HostRuntime) {
-    let short = SEVEN.split_last().map_or(SEVEN, |(_, rest)| rest);
-    for (description, class, wanted) in [
-        (b"A f".as_slice(), SEVEN, NO_LINE),
-        (b"A f", b"", NO_LINE),
-        (b"A f ()I\n", short, NO_PLAIN_CLASS),
-        (b"A f (I)I\n", SEVEN, NO_PLAIN_CLASS),
-        (b"B f ()I\n", SEVEN, NO_PLAIN_CLASS),
-        (b"A g ()I\n", SEVEN, NO_PLAIN_CLASS),
-    ] {
-        match decided(rt.alloc(), description, class) {
-            Ok(_) => assert!(rt; false),
-            Err(refused) => assert_eq!(rt; refused, wanted),
-        }
     }
 }
 
@@ -103,14 +77,18 @@ fn typed(
     max_stack: u16,
     max_locals: u16,
 ) -> Result<bool, AllocError> {
-    match read_code(alloc, code)? {
-        Some(instructions) => has_typing(
-            alloc,
-            instructions.as_slice(),
-            params,
-            max_stack,
-            max_locals,
-        ),
+    if code.len() > 65535 {
+        return Ok(false);
+    }
+    let Ok(insns) = decode(alloc, code) else {
+        return Ok(false);
+    };
+    let mut ops = Vec::new(alloc);
+    for (place, insn) in insns {
+        ops.push((place, Op::Plain(insn)))?;
+    }
+    match forms_of(alloc, ops.as_slice())? {
+        Some(forms) => has_typing(alloc, forms.as_slice(), params, max_stack, max_locals),
         None => Ok(false),
     }
 }
@@ -140,8 +118,9 @@ fn codes_with_a_typing_are_told_from_others(rt: HostRuntime) -> Result<(), Fail>
         // no return at the end, and one in the middle
         (b"\x04", 0, 1, 0, false),
         (b"\x04\xac\x04\xac", 0, 1, 0, false),
-        // a byte that begins no form, and a form without its operand
+        // an instruction that has no form, an opcode that none has, and a form without its operand
         (b"\x00\x04\xac", 0, 1, 0, false),
+        (b"\xff\x04\xac", 0, 1, 0, false),
         (b"\x10", 0, 1, 0, false),
         (b"", 0, 1, 0, false),
     ] {

@@ -57,7 +57,7 @@ fn call(
     let held = held(alloc, files)?;
     let mut files = MemoryFiles::new(held, Vec::from_slice(alloc, failing.files)?);
     let mut out = MemorySink::new(alloc, room, Vec::from_slice(alloc, failing.out)?)?;
-    let mut err = MemorySink::new(alloc, 100, Vec::from_slice(alloc, failing.err)?)?;
+    let mut err = MemorySink::new(alloc, 200, Vec::from_slice(alloc, failing.err)?)?;
     let done = jterm(alloc, &texts, &mut files, &mut out, &mut err);
     Ok(Outcome {
         status: done.status,
@@ -73,7 +73,7 @@ fn a_prove_without_a_class_is_no_command(rt: HostRuntime) -> Result<(), Fail> {
     assert_eq!(rt; outcome.out.bytes(), b"".as_slice());
     assert_eq!(rt;
         outcome.err.bytes(),
-        b"jterm: usage\nprove DESC CLASS\n".as_slice()
+        b"jterm: usage\nprove DESC CLASS..\n".as_slice()
     );
     Ok(())
 }
@@ -139,29 +139,149 @@ fn a_line_and_its_class_are_a_yes(rt: HostRuntime) -> Result<(), Fail> {
     Ok(())
 }
 
+// The class with other bytes from `at` on.
+fn patched(alloc: Global, at: usize, bytes: &[u8]) -> Result<Vec<u8>, AllocError> {
+    let mut class = Vec::from_slice(alloc, CLASS)?;
+    for (i, byte) in bytes.iter().enumerate() {
+        if at + i < class.len() {
+            class[at + i] = *byte;
+        }
+    }
+    Ok(class)
+}
+
+// What `prove` of these files says where it refuses them, and whether it puts nothing on the output.
+fn refuses(
+    alloc: Global,
+    description: &[u8],
+    classes: &[&[u8]],
+    line: &[u8],
+) -> Result<bool, AllocError> {
+    let names = ["a", "b", "c"];
+    let mut words = Vec::new(alloc);
+    words.push("prove")?;
+    words.push("d")?;
+    let mut files = Vec::new(alloc);
+    files.push(("d", description))?;
+    for (name, class) in names.iter().zip(classes) {
+        words.push(*name)?;
+        files.push((*name, *class))?;
+    }
+    let outcome = call(alloc, words.as_slice(), files.as_slice(), &NONE, 100)?;
+    Ok(outcome.status == 3 && outcome.out.bytes().is_empty() && outcome.err.bytes() == line)
+}
+
 #[test]
-fn a_class_without_its_last_byte_is_refused(rt: HostRuntime) -> Result<(), Fail> {
-    let files = [("d", LINE), ("c", &CLASS[..98])];
-    let outcome = call(rt.alloc(), &["prove", "d", "c"], &files, &NONE, 100)?;
-    assert_eq!(rt; outcome.status, 3);
-    assert_eq!(rt; outcome.out.bytes(), b"".as_slice());
-    assert_eq!(rt;
-        outcome.err.bytes(),
-        b"jterm: class 0: NotBuilt\n".as_slice()
+fn the_first_fault_of_a_class_file_is_told_with_its_number(rt: HostRuntime) -> Result<(), Fail> {
+    let alloc = rt.alloc();
+    let newer = patched(alloc, 7, &[51])?;
+    let mut longer = Vec::from_slice(alloc, CLASS)?;
+    longer.push(0)?;
+    for (classes, line) in [
+        (
+            [&CLASS[..98], CLASS].as_slice(),
+            b"jterm: class 0: Truncated at=97\n".as_slice(),
+        ),
+        (
+            &[CLASS, newer.as_slice()],
+            b"jterm: class 1: Version major=51\n",
+        ),
+        (
+            &[CLASS, longer.as_slice(), b""],
+            b"jterm: class 1: TrailingBytes at=99\n",
+        ),
+        (&[b"\xca\xfe\xba\xbf"], b"jterm: class 0: BadMagic\n"),
+    ] {
+        assert!(rt; refuses(alloc, LINE, classes, line)?);
+        // before the description is looked at
+        assert!(rt; refuses(alloc, b"A f\n", classes, line)?);
+    }
+    Ok(())
+}
+
+#[test]
+fn a_description_that_is_no_line_or_names_no_method_is_refused(
+    rt: HostRuntime,
+) -> Result<(), Fail> {
+    let alloc = rt.alloc();
+    let line = b"jterm: description: NotBuilt\n";
+    assert!(rt; refuses(alloc, b"A f\n", &[CLASS], line)?);
+    assert!(rt; refuses(alloc, b"A g ()I\n", &[CLASS], line)?);
+    assert!(rt; refuses(alloc, b"A f (I)I\n", &[CLASS], line)?);
+    assert!(rt; refuses(alloc, b"B f ()I\n", &[CLASS], line)?);
+    // a line is read before classes are linked, and its method is sought after that
+    assert!(rt; refuses(alloc, b"A f\n", &[CLASS, CLASS], line)?);
+    let twice = b"jterm: link: DuplicateClass name=A\n";
+    assert!(rt; refuses(alloc, b"A g ()I\n", &[CLASS, CLASS], twice)?);
+    Ok(())
+}
+
+#[test]
+fn the_first_broken_rule_of_linking_is_told_with_its_class(rt: HostRuntime) -> Result<(), Fail> {
+    let alloc = rt.alloc();
+    let orphan = patched(alloc, 20, b"java/lang/Objekt")?;
+    let mut interface = patched(alloc, 56, &[6])?;
+    if interface.len() == 99 {
+        interface[69] = 1;
+    }
+    assert!(rt;
+        refuses(
+            alloc,
+            LINE,
+            &[CLASS, CLASS],
+            b"jterm: link: DuplicateClass name=A\n"
+        )?
+    );
+    assert!(rt;
+        refuses(
+            alloc,
+            LINE,
+            &[orphan.as_slice()],
+            b"jterm: link: MissingClass name=java/lang/Objekt\n"
+        )?
+    );
+    assert!(rt;
+        refuses(
+            alloc,
+            LINE,
+            &[interface.as_slice()],
+            b"jterm: link: DefaultMethod name=A\n"
+        )?
     );
     Ok(())
 }
 
 #[test]
-fn a_line_without_a_descriptor_is_refused(rt: HostRuntime) -> Result<(), Fail> {
-    let files = [("d", b"A f\n".as_slice()), ("c", CLASS)];
-    let outcome = call(rt.alloc(), &["prove", "d", "c"], &files, &NONE, 100)?;
-    assert_eq!(rt; outcome.status, 3);
-    assert_eq!(rt; outcome.out.bytes(), b"".as_slice());
-    assert_eq!(rt;
-        outcome.err.bytes(),
-        b"jterm: description: NotBuilt\n".as_slice()
-    );
+fn the_first_broken_rule_of_the_program_is_told_with_its_method(
+    rt: HostRuntime,
+) -> Result<(), Fail> {
+    let alloc = rt.alloc();
+    // `aconst_null; ladd`, `getstatic`, and a jump to a place where no instruction begins
+    let unsupported = patched(alloc, 90, &[1, 97])?;
+    let field = patched(alloc, 90, &[178, 0, 1])?;
+    let stray = patched(alloc, 90, &[167, 0, 1])?;
+    for (class, line) in [
+        (
+            &unsupported,
+            b"jterm: link: UnsupportedOpcode method=A.f()I pc=1 op=97\n".as_slice(),
+        ),
+        (&field, b"jterm: link: StaticField method=A.f()I pc=0\n"),
+        (&stray, b"jterm: link: BadTarget method=A.f()I pc=0\n"),
+    ] {
+        assert!(rt; refuses(alloc, LINE, &[class.as_slice()], line)?);
+    }
+    Ok(())
+}
+
+#[test]
+fn a_method_that_is_not_decided_yet_is_refused(rt: HostRuntime) -> Result<(), Fail> {
+    let alloc = rt.alloc();
+    let line = b"jterm: link: NotBuilt\n";
+    // `nop; iconst_5; ireturn`, and the same method as an instance method
+    let other = patched(alloc, 90, &[0, 8])?;
+    let instance = patched(alloc, 69, &[1])?;
+    assert!(rt; refuses(alloc, LINE, &[other.as_slice()], line)?);
+    assert!(rt; refuses(alloc, LINE, &[instance.as_slice()], line)?);
     Ok(())
 }
 

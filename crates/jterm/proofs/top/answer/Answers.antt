@@ -1,5 +1,5 @@
 use Rattle.std.proofs.Common.{map, ap}
-use Rattle.jterm.proofs.Answering.{is_answered, is_broken}
+use Rattle.jterm.proofs.Answering.{is_answered, is_broken, takes_read}
 use Rattle.jterm.proofs.top.answer.Goals as goal
 
 pub returns-in-Ok-clause-answered : goal.returns-in-Ok-clause-answered
@@ -10,3 +10,7 @@ pub returns-in-Err-At-clause-cause : goal.returns-in-Err-At-clause-cause
 returns-in-Err-At-clause-cause g c =
     is_broken _ _ _ 0 0 _ _ _ _ (ap (map (λ file. file.items)) c.deref.ensures.value) c.requires c.in_ok-inputs.ensures.contents
     (λ desc class e. rw c.in-Err-At.field-0-is at (c.in-Err-At.ensures.answer desc class e))
+
+pub decide-requires : goal.decide-requires
+decide-requires g c =
+    takes_read _ _ _ _ _ (ap (map (λ file. file.items)) c.deref.ensures.value) c.requires c.in_ok-inputs.ensures.contents

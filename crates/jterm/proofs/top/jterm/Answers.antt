@@ -26,15 +26,15 @@ returns-in-Err-clause-read g c =
     c.in-Some.ensures c.in-Err.ensures.cause c.report.ensures
 
 pub returns-in_default-clause-complete : goal.returns-in_default-clause-complete
-returns-in_default-clause-complete g c d class_word desc class line prove told within within' is_line plain files out =
-    absurd (c.in_default.ensures (Prove 4000) (d ∷ class_word ∷ []) (prove_is_command _ d (class_word ∷ []) prove))
+returns-in_default-clause-complete g c d cs desc classes prove told within good files out =
+    absurd (c.in_default.ensures (Prove 4000) (d ∷ cs) (prove_is_command _ d cs prove))
 
 pub returns-in-Ok-clause-headline : goal.returns-in-Ok-clause-headline
 returns-in-Ok-clause-headline g c d cs desc classes prove told claims = headline _ _ _ _ _ d cs desc classes c.in-Some.ensures c.in-Ok.ensures.answered prove told
 
 pub returns-in-Err-clause-complete : goal.returns-in-Err-clause-complete
-returns-in-Err-clause-complete g c d class_word desc class line prove told within within' is_line plain files out =
-    complete _ _ _ _ _ _ c.in-Err.stop c.report.result _ _ _ d class_word desc class line c.in-Some.ensures c.in-Err.ensures.cause c.report.ensures prove told within within' is_line plain files
+returns-in-Err-clause-complete g c d cs desc classes prove told within good files out =
+    complete _ _ _ _ _ _ c.in-Err.stop c.report.result _ _ _ d cs desc classes c.in-Some.ensures c.in-Err.ensures.cause c.report.ensures prove told within good files
 
 pub returns-in-Ok-clause-verdict : goal.returns-in-Ok-clause-verdict
 returns-in-Ok-clause-verdict g c =

@@ -1,0 +1,91 @@
+-- When a method is straight, and a program one straight method.
+use Rattle.std.proofs.Common.{◌≡◌, ℕ, suc, zero, ◌+◌, Bool, true, false, ◌&&◌, List, [], ◌∷◌, length, replicate, get_or, Option, Some, None, refl, ap, sym, ◌∙◌, subst, arith, IsTrue}
+use Rattle.std.specs.Prelude.{◌↔◌}
+use Rattle.std.specs.List.{list_all}
+use Rattle.jvm_values.specs.declared.types.Kind.TheVariants as kinds
+use Rattle.jvm_values.specs.declared.types.Slot.{Slot}
+use Rattle.jvm_values.specs.declared.types.Slot.TheVariants.{Num, Ref}
+use Rattle.class_world.specs.World.{World}
+use Rattle.class_world.specs.declared.program.Method.{Method}
+use Rattle.jterm.specs.declared.form.Form.{Form}
+use Rattle.jterm.specs.Forms.{forms_of, AreRising}
+use Rattle.jterm.specs.FirstPath.{is_int, IsIntMethod, IsStraight, IsFirstPath}
+use Rattle.jterm.specs.Machine.{program_of}
+use Rattle.jterm.specs.Pass.{Passes}
+use Rattle.jterm.proofs.Places.{reads_of}
+use Rattle.jterm.proofs.PassSound.{HasTyping-Passes}
+use Rattle.jterm.proofs.PassComplete.{Passes-HasTyping, ReturnsLast-Passes}
+
+-- ---- ints
+
+is_int-is : (slot : Slot) → is_int slot ≡ true → slot ≡ Num kinds.Int
+is_int-is (Num kinds.Int) e = refl
+is_int-is (Num kinds.Boolean) e = absurd (cc)
+is_int-is (Num kinds.Char) e = absurd (cc)
+is_int-is (Num kinds.Byte) e = absurd (cc)
+is_int-is (Num kinds.Short) e = absurd (cc)
+is_int-is (Ref t) e = absurd (cc)
+
+both_of : (a b : Bool) → (a && b) ≡ true → (a ≡ true) × (b ≡ true)
+both_of true b e = (refl, e)
+both_of false b e = absurd (cc)
+
+pub are_ints-are : (slots : List Slot) (count : ℕ) → length slots ≡ count → list_all is_int slots ≡ true → slots ≡ replicate count (Num kinds.Int)
+are_ints-are [] zero l e = refl
+are_ints-are [] (suc count) l e = absurd (omega arith)
+are_ints-are (slot ∷ slots) zero l e = absurd (omega arith)
+are_ints-are (slot ∷ slots) (suc count) l e =
+    let b = both_of (is_int slot) (list_all is_int slots) e in
+    let first = is_int-is slot b.0 in
+    let others = are_ints-are slots count (omega arith) b.1 in
+    ap (λ (s : Slot). s ∷ slots) first ∙ ap (λ (ss : List Slot). Num kinds.Int ∷ ss) others
+
+pub all-ints : (count : ℕ) → list_all is_int (replicate count (Num kinds.Int)) ≡ true
+all-ints zero = refl
+all-ints (suc count) = all-ints count
+
+-- ---- methods
+
+pub IsStraight-Passes : (world : World) (params : ℕ) (method : Method) (forms : List (ℕ × Form)) → AreRising method.insns → forms_of method.insns ≡ Some forms → IsIntMethod params method → Passes params method.max_stack method.max_locals forms → IsStraight world params method
+IsStraight-Passes world params method forms rising e of_ints passes = record {
+  of_ints = of_ints;
+  forms = forms;
+  forms_are = e;
+  returns = ReturnsLast-Passes params method.max_stack method.max_locals forms passes;
+  typed = HasTyping-Passes world method params kinds.Int forms of_ints.takes of_ints.gives (reads_of method.insns forms e rising) passes;
+}
+
+some_is : {A : Type 0} (a b : A) → (let o : Option A = Some a in o) ≡ Some b → a ≡ b
+some_is a b e = cc
+
+pub Passes-IsStraight : (world : World) (params : ℕ) (method : Method) (forms : List (ℕ × Form)) → AreRising method.insns → forms_of method.insns ≡ Some forms → IsStraight world params method → Passes params method.max_stack method.max_locals forms
+Passes-IsStraight world params method forms rising e p =
+    subst (Passes params method.max_stack method.max_locals) (some_is p.forms forms (sym p.forms_are ∙ e))
+    (Passes-HasTyping world method params p.forms p.of_ints.takes (reads_of method.insns p.forms p.forms_are rising) p.returns p.typed)
+
+pub straight_answer : (params : ℕ) (method : Method) (forms : List (ℕ × Form)) (answer : Bool) → AreRising method.insns → forms_of method.insns ≡ Some forms → IsIntMethod params method → IsTrue answer ↔ Passes params method.max_stack method.max_locals forms → (world : World) → IsTrue answer ↔ IsStraight world params method
+straight_answer params method forms answer rising e of_ints h world = (
+  λ t. IsStraight-Passes world params method forms rising e of_ints (h.0 t),
+  λ p. h.1 (Passes-IsStraight world params method forms rising e p),
+)
+
+-- without forms
+pub no_forms : (world : World) (params : ℕ) (method : Method) → forms_of method.insns ≡ None → IsStraight world params method → ⊥
+no_forms world params method e p = let f = p.forms_are in cc
+
+-- ---- programs
+
+pub first_path_answer : (params : ℕ) (methods : List Method) (method : Method) (answer : Bool) → methods ≡ method ∷ [] → ((world : World) → IsTrue answer ↔ IsStraight world params method) → (world : World) → IsTrue answer ↔ IsFirstPath params (program_of world methods)
+first_path_answer params methods method answer only h world = (
+  λ t. record { method = method; only = only; straight = (h world).0 t },
+  λ p. (h world).1 (subst (IsStraight world params) (same p.method method (sym p.only ∙ only)) p.straight),
+)
+  where
+    same : (a b : Method) → a ∷ [] ≡ b ∷ [] → a ≡ b
+    same a b e = cc
+
+-- a list of one item
+pub one_item : {A : Type 0} (xs : List A) (x : A) → length xs ≡ 1 → x ≡ get_or xs 0 x → xs ≡ x ∷ []
+one_item [] x e s = absurd (omega arith)
+one_item (y ∷ []) x e s = ap (λ (z : _). z ∷ []) (sym s)
+one_item (y ∷ z ∷ xs) x e s = absurd (omega arith)

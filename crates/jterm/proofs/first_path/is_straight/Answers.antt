@@ -1,0 +1,18 @@
+use Rattle.std.proofs.Common.{◌≡◌, Bool, Some, ap, sym, ◌∙◌, IsTrue, subst}
+use Rattle.std.specs.Prelude.{◌↔◌}
+use Rattle.std.specs.Option.{option_map}
+use Rattle.class_world.specs.World.{World}
+use Rattle.jterm.specs.Forms.{forms_of}
+use Rattle.jterm.specs.FirstPath.{IsStraight}
+use Rattle.jterm.proofs.Results.{ok_map}
+use Rattle.jterm.proofs.FirstPaths.{straight_answer}
+use Rattle.jterm.proofs.first_path.is_straight.Goals as goal
+
+pub returns : goal.returns
+returns c =
+    let method = c.args.method.now in
+    let forms : forms_of method.insns ≡ Some c.in-Some.forms.items = sym (ap (option_map (λ v. v.items)) (sym c.in-Some.is) ∙ c.in_ok-forms.ensures ∙ ap forms_of c.as_slice.ensures) in
+    ok_map _ (λ (answer : Bool). (world : World) → IsTrue answer ↔ IsStraight world c.args.params method) c.has_typing.result
+    (λ answer h. straight_answer c.args.params method c.in-Some.forms.items answer c.requires forms
+    (c.is_int_method.ensures.0 c.if-not-is_int_method.false) (rw (c.from.ensures, c.as_slice-2.ensures.value) at h))
+    c.has_typing.ensures

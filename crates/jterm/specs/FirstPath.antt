@@ -1,0 +1,44 @@
+-- The programs that are decided so far.
+use Rattle.std.specs.Prelude.{◌≡◌, ◌≢◌, ℕ, Bool, true, false, List, [], ◌∷◌, ◌++◌, All, replicate, Option, Some}
+use Rattle.jvm_values.specs.declared.types.Kind.TheVariants as kinds
+use Rattle.jvm_values.specs.declared.types.Slot.{Slot}
+use Rattle.jvm_values.specs.declared.types.Slot.TheVariants.{Num}
+use Rattle.class_world.specs.World.{World}
+use Rattle.class_world.specs.declared.program.Method.{Method}
+use Rattle.jterm.specs.declared.form.Form.{Form}
+use Rattle.jterm.specs.declared.form.Form.TheVariants.{Ireturn}
+use Rattle.jterm.specs.Forms.{forms_of}
+use Rattle.jterm.specs.Machine.{Program}
+use Rattle.jterm.specs.Typing.{HasTyping}
+
+-- ireturn stands at the end, and nowhere else
+pub record ReturnsLast (forms : List (ℕ × Form)) : Type 0 where
+  pub before : List (ℕ × Form)
+  pub place : ℕ
+  pub last : forms ≡ before ++ (place, Ireturn) ∷ []
+  pub nowhere_else : All (λ i. i.1 ≢ Ireturn) before
+
+-- a slot that holds an int
+abbrev pub is_int : Slot → Bool
+is_int (Num kinds.Int) = true
+is_int _ = false
+
+-- a method that takes so many ints and nothing else, so it is static, gives an int, and has no exception table
+pub record IsIntMethod (params : ℕ) (method : Method) : Type 0 where
+  pub takes : method.params ≡ replicate params (Num kinds.Int)
+  pub gives : method.result ≡ Some (Num kinds.Int)
+  pub no_table : method.table ≡ []
+
+-- such a method whose code is a list of the forms with an ireturn at the end and nowhere else, and has a typing
+pub record IsStraight (world : World) (params : ℕ) (method : Method) : Type 0 where
+  pub of_ints : IsIntMethod params method
+  pub forms : List (ℕ × Form)
+  pub forms_are : forms_of method.insns ≡ Some forms
+  pub returns : ReturnsLast forms
+  pub typed : HasTyping world method
+
+-- a program of one such method
+pub record IsFirstPath (params : ℕ) (program : Program) : Type 0 where
+  pub method : Method
+  pub only : program.methods ≡ method ∷ []
+  pub straight : IsStraight program.world params method

@@ -1,0 +1,97 @@
+//! The programs that are decided so far.
+ghost use Rattle.std.specs.Prelude.{◌≡◌, ◌↔◌, ℕ, List, [], ◌∷◌, length, replicate, Some, IsTrue, IfOk};
+ghost use Rattle.std.specs.List.{list_all, AllByRecursion};
+ghost use Rattle.jvm_values.specs.declared.types.Kind.TheVariants as kinds;
+ghost use Rattle.jvm_values.specs.declared.types.Slot.TheVariants.{Num};
+ghost use Rattle.class_world.specs.World.{World};
+ghost use Rattle.jterm.specs.Forms.{AreRising};
+ghost use Rattle.jterm.specs.Machine.{program_of};
+ghost use Rattle.jterm.specs.FirstPath.{is_int, IsIntMethod, IsStraight, IsFirstPath};
+
+use crate::form::forms_of;
+use crate::typing::has_typing;
+use class_world::Method;
+use jvm_values::{Kind, Slot};
+use std::alloc::{AllocError, Global};
+
+/// Whether a slot holds an int.
+fn is_int(slot: Slot) -> bool
+    ensures { result ≡ is_int slot }
+{
+    match slot {
+        Slot::Num(Kind::Int) => true,
+        _ => false,
+    }
+}
+
+/// Whether each slot holds an int.
+fn hold_ints(slots: &[Slot]) -> bool
+    ensures { result ≡ list_all is_int slots.now }
+{
+    slots.iter().all(|slot| is_int(*slot))
+}
+
+/// Whether these are so many ints.
+fn are_ints(slots: &[Slot], count: u8) -> bool
+    ensures { IsTrue result ↔ (slots.now ≡ replicate count (Num kinds.Int)) }
+{
+    slots.len() == usize::from(count) && hold_ints(slots)
+}
+
+/// Whether it is the result of a method that gives an int.
+fn gives_int(slot: Option<Slot>) -> bool
+    ensures { IsTrue result ↔ (slot ≡ Some (Num kinds.Int)) }
+{
+    match slot {
+        Some(slot) => is_int(slot),
+        None => false,
+    }
+}
+
+/// Whether the method takes so many ints and nothing else, gives an int, and has no exception table.
+fn is_int_method(method: &Method<'_>, params: u8) -> bool
+    ensures { IsTrue result ↔ IsIntMethod params method.now }
+{
+    are_ints(method.params.as_slice(), params)
+        && gives_int(method.result)
+        && method.table.is_empty()
+}
+
+/// Whether the method takes so many ints and is straight, in whatever world.
+fn is_straight(alloc: Global, params: u8, method: &Method<'_>) -> Result<bool, AllocError>
+    requires { AreRising method.now.insns }
+    ensures { IfOk result (λ answer. (world : World) → IsTrue answer ↔ IsStraight world params method.now) }
+{
+    if !is_int_method(method, params) {
+        return Ok(false);
+    }
+    let Some(forms) = forms_of(alloc, method.insns.as_slice())? else {
+        return Ok(false);
+    };
+    has_typing(
+        alloc,
+        forms.as_slice(),
+        u16::from(params),
+        method.max_stack,
+        method.max_locals,
+    )
+}
+
+/// Whether these methods are one straight method that takes so many ints, in whatever world.
+///
+/// # Errors
+///
+/// Want of memory.
+pub(crate) fn is_first_path(
+    alloc: Global,
+    params: u8,
+    methods: &[Method<'_>],
+) -> Result<bool, AllocError>
+    requires { AllByRecursion (λ m. AreRising m.insns) methods.now }
+    ensures { IfOk result (λ answer. (world : World) → IsTrue answer ↔ IsFirstPath params (program_of world methods.now)) }
+{
+    if methods.len() != 1 {
+        return Ok(false);
+    }
+    is_straight(alloc, params, &methods[0])
+}
