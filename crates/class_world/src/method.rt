@@ -83,11 +83,7 @@ fn code_fault(alloc: Global, name: &MethodName, fault: CodeFault) -> LinkFault
 }
 
 /// The instructions of a code.
-fn decoded(
-    alloc: Global,
-    name: &MethodName,
-    code: &[u8],
-) -> Result<Vec<(u16, Insn)>, LinkFault>
+fn decoded(alloc: Global, name: &MethodName, code: &[u8]) -> Result<Vec<(u16, Insn)>, LinkFault>
     requires { length code.now < 2 ^ 16 }
     ensures { Says (λ insns. insns.items) result (in_method name.now (decode_of code.now)) }
 {
@@ -98,10 +94,7 @@ fn decoded(
 }
 
 /// The entries of an exception table.
-fn handlers(
-    alloc: Global,
-    table: &[(u16, u16, u16, u16)],
-) -> Result<Vec<Handler>, AllocError>
+fn handlers(alloc: Global, table: &[(u16, u16, u16, u16)]) -> Result<Vec<Handler>, AllocError>
     ensures { IfOk result (λ entries. entries.items ≡ map code_handler table.now) }
 {
     let mut entries = Vec::with_capacity(alloc, table.len())?;
@@ -245,12 +238,7 @@ impl<'a> World<'a> {
 
     /// The class that a range catches.
     #[tactic(auto, unfolding(crate::specs::Methods::catch_of))]
-    fn catch_of(
-        &self,
-        alloc: Global,
-        pool: &Pool<'_>,
-        entry: u16,
-    ) -> Result<Option<u32>, LinkFault>
+    fn catch_of(&self, alloc: Global, pool: &Pool<'_>, entry: u16) -> Result<Option<u32>, LinkFault>
         ensures { Says (λ class. class) result (catch_of self.now.roster.classes pool.now entry) }
     {
         if entry == 0 {
