@@ -6,3 +6,6 @@ pub mod ClassLines
 pub mod Operations
 pub mod Items
 pub mod Listings
+pub mod Instructions
+pub mod Places
+pub mod LineFaults

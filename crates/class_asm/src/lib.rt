@@ -4,11 +4,14 @@
 mod class_line;
 mod fault;
 mod first;
+mod instruction;
 mod item;
+mod labels;
 mod listing;
 mod number;
 mod operation;
 mod parts;
+mod pooled;
 mod statement;
 
 pub use fault::AsmFault;
