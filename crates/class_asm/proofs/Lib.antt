@@ -3,5 +3,8 @@ pub mod Digits
 pub mod Divided
 pub mod FoundLabels
 pub mod KeyCases
+pub mod Marks
 pub mod Opcodes
+pub mod Operands
 pub mod Outcomes
+pub mod Sizes

@@ -54,13 +54,20 @@ with_operand table op n = option_map (λ make. make n) (find_by table op)
 abbrev pub local_insn : ℕ → ℕ → Option Insn
 local_insn op local = if nat_lt local 256 then with_operand with_byte op local else with_operand wide_local op local
 
+-- an instruction that names a pool entry
+abbrev pub entry_insn : ℕ → ℕ → Option Insn
+entry_insn op entry = if nat_lt entry 65536 then with_operand with_pair op entry else None
+
 -- `ldc`; `ldc_w` where that is written, or where the entry has two bytes
-abbrev pub load_insn : ℕ → ℕ → Insn
-load_insn op entry = if op == 18 && nat_lt entry 256 then insns.Ldc entry else insns.LdcW entry
+abbrev pub load_insn : ℕ → ℕ → Option Insn
+load_insn op entry = if op == 18 && nat_lt entry 256 then Some (insns.Ldc entry) else entry_insn 19 entry
 
 -- `invokeinterface` has the words of its receiver and its arguments beside the entry
-abbrev pub member_insn : ℕ → Need → Option Insn
-member_insn op need = if op == 185 then Some (insns.Invokeinterface need.entry need.words) else with_operand with_pair op need.entry
+abbrev pub interface_insn : ℕ → ℕ → Option Insn
+interface_insn entry words = if nat_lt entry 65536 && nat_lt words 256 then Some (insns.Invokeinterface entry words) else None
+
+abbrev pub member_insn : ℕ → ℕ → ℕ → Option Insn
+member_insn op entry words = if op == 185 then interface_insn entry words else entry_insn op entry
 
 abbrev pub array_insn : ℕ → Option Insn
 array_insn code = if nat_le 4 code && nat_le code 11 then Some (insns.Newarray code) else None
@@ -105,10 +112,10 @@ insn_of places need (Plain op) = plain op
 insn_of places need (Local op n) = option_and_then (local_insn op) (pair_of n)
 insn_of places need (Bipush n) = option_map insns.Bipush (byte_value n)
 insn_of places need (Sipush n) = option_map insns.Sipush (pair_value n)
-insn_of places need (LoadInt op n) = Some (load_insn op need.entry)
-insn_of places need (LoadString op word) = Some (load_insn op need.entry)
-insn_of places need (Member op class name desc) = member_insn op need
-insn_of places need (Class op class) = with_operand with_pair op need.entry
+insn_of places need (LoadInt op n) = load_insn op need.entry
+insn_of places need (LoadString op word) = load_insn op need.entry
+insn_of places need (Member op class name desc) = member_insn op need.entry need.words
+insn_of places need (Class op class) = entry_insn op need.entry
 insn_of places need (Newarray code) = array_insn code
 insn_of places need (Iinc n m) = increment_insn n m
 insn_of places need (Jump op label) = with_operand with_jump op (target places label)

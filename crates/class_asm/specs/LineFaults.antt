@@ -48,9 +48,9 @@ is_among labels label = list_any (bytes_eq label) labels
 abbrev pub with_label : (List ℕ → Bool) → List ℕ → List ℕ → Bool
 with_label seen label other = seen other || bytes_eq other label
 
-abbrev pub with_seen : (List ℕ → Bool) → Option (List ℕ) → List ℕ → Bool
-with_seen seen None other = seen other
-with_seen seen (Some label) other = with_label seen label other
+abbrev pub with_seen : (List ℕ → Bool) → Option (List ℕ) → (List ℕ → Bool)
+with_seen seen None = seen
+with_seen seen (Some label) = with_label seen label
 
 -- ---- distances
 

@@ -50,6 +50,10 @@ place_in entries label = lookup (bytes_eq label) entries
 abbrev pub with_place : Places → List ℕ → ℕ → Places
 with_place places label place other = option_or (places other) (if bytes_eq other label then Some place else None)
 
+abbrev pub with_mark : Places → Option (List ℕ) → ℕ → Places
+with_mark places None place = places
+with_mark places (Some label) place = with_place places label place
+
 -- Each place has two bytes.
 abbrev pub IsNear : Places → Type 0
 IsNear places = (label : List ℕ) → target places label < 2 ^ 16

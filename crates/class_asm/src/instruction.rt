@@ -3,7 +3,7 @@
 ghost use Rattle.std.specs.Prelude.{◌≡◌, map, IfOk};
 ghost use Rattle.code_decode.specs.Texts.{is_rising};
 ghost use Rattle.class_asm.specs.Places.{place_in, IsNear};
-ghost use Rattle.class_asm.specs.Instructions.{target, byte_value, pair_value, local_insn, load_insn, member_insn, array_insn, increment, increment_insn, highest_fits, table_insn, cases_of, lookup_of, lookup_insn, insn_of};
+ghost use Rattle.class_asm.specs.Instructions.{target, byte_value, pair_value, local_insn, entry_insn, load_insn, interface_insn, member_insn, array_insn, increment, increment_insn, highest_fits, table_insn, cases_of, lookup_of, lookup_insn, insn_of};
 
 use crate::labels::Labels;
 use crate::number::Number;
@@ -56,24 +56,37 @@ fn local_insn(op: u8, local: u16) -> Option<Insn>
     }
 }
 
+/// An instruction that names a pool entry.
+fn entry_insn(op: u8, entry: u16) -> Option<Insn>
+    ensures { result ≡ entry_insn op entry }
+{
+    with_pair(op, entry)
+}
+
 /// `ldc`, or `ldc_w` where that is asked for or the entry has two bytes.
-fn load_insn(op: u8, entry: u16) -> Insn
+fn load_insn(op: u8, entry: u16) -> Option<Insn>
     ensures { result ≡ load_insn op entry }
 {
     if op == 18 && entry < 0x100 {
-        Insn::Ldc(entry as u8)
+        Some(Insn::Ldc(entry as u8))
     } else {
-        Insn::LdcW(entry)
+        entry_insn(19, entry)
     }
 }
 
-fn member_insn(op: u8, need: Need) -> Option<Insn>
-    ensures { result ≡ member_insn op need }
+fn interface_insn(entry: u16, words: u8) -> Option<Insn>
+    ensures { result ≡ interface_insn entry words }
+{
+    Some(Insn::Invokeinterface(entry, words))
+}
+
+fn member_insn(op: u8, entry: u16, words: u8) -> Option<Insn>
+    ensures { result ≡ member_insn op entry words }
 {
     if op == 185 {
-        Some(Insn::Invokeinterface(need.entry, need.words))
+        interface_insn(entry, words)
     } else {
-        with_pair(op, need.entry)
+        entry_insn(op, entry)
     }
 }
 
@@ -238,10 +251,10 @@ pub(crate) fn insn_of(
             Some(value) => Ok(Some(Insn::Sipush(value))),
             None => Ok(None),
         },
-        Operation::LoadInt(op, _) => Ok(Some(load_insn(*op, need.entry))),
-        Operation::LoadString(op, _) => Ok(Some(load_insn(*op, need.entry))),
-        Operation::Member(op, _, _, _) => Ok(member_insn(*op, need)),
-        Operation::Class(op, _) => Ok(with_pair(*op, need.entry)),
+        Operation::LoadInt(op, _) => Ok(load_insn(*op, need.entry)),
+        Operation::LoadString(op, _) => Ok(load_insn(*op, need.entry)),
+        Operation::Member(op, _, _, _) => Ok(member_insn(*op, need.entry, need.words)),
+        Operation::Class(op, _) => Ok(entry_insn(*op, need.entry)),
         Operation::Newarray(code) => Ok(array_insn(*code)),
         Operation::Iinc(local, value) => Ok(increment_insn(*local, *value)),
         Operation::Jump(op, label) => Ok(with_jump(*op, target(labels, label))),

@@ -11,6 +11,7 @@ mod listing;
 mod number;
 mod operation;
 mod parts;
+mod places;
 mod pooled;
 mod statement;
 
