@@ -1,6 +1,7 @@
 pub mod Cases
 pub mod Digits
 pub mod Divided
+pub mod FirstFaults
 pub mod FoundLabels
 pub mod KeyCases
 pub mod Marks

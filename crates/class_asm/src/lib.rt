@@ -7,6 +7,7 @@ mod first;
 mod instruction;
 mod item;
 mod labels;
+mod line_fault;
 mod listing;
 mod number;
 mod operation;
