@@ -83,7 +83,7 @@ stays places before pc x small h = item_stays places (entries_of before) pc x.ne
 
 -- ---- entries
 
-more_entries : (places : Places) (entries pc size : ℕ) (fits : Bool) (item : Item) → entries ≤ 65535 → item_is_out places entries pc fits size item ≡ false → cond (is_catch item) (entries + 1) entries ≤ 65535
+pub more_entries : (places : Places) (entries pc size : ℕ) (fits : Bool) (item : Item) → entries ≤ 65535 → item_is_out places entries pc fits size item ≡ false → cond (is_catch item) (entries + 1) entries ≤ 65535
 more_entries places entries pc size fits (items.Catch c) few h =
     let a : nat_le 65535 entries ≡ false = (either_false _ (nat_le 65535 entries) h).1 in
     grind (arith, nat_tests)

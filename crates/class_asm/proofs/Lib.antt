@@ -1,4 +1,5 @@
 pub mod Cases
+pub mod CodeSizes
 pub mod Digits
 pub mod Divided
 pub mod FirstFaults
@@ -9,3 +10,4 @@ pub mod Opcodes
 pub mod Operands
 pub mod Outcomes
 pub mod Sizes
+pub mod Written

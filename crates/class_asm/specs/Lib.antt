@@ -9,3 +9,4 @@ pub mod Listings
 pub mod Instructions
 pub mod Places
 pub mod LineFaults
+pub mod MethodCodes

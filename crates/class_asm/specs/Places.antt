@@ -58,10 +58,14 @@ with_mark places (Some label) place = with_place places label place
 abbrev pub IsNear : Places → Type 0
 IsNear places = (label : List ℕ) → target places label < 2 ^ 16
 
+abbrev pub placed : ℕ → Option Insn → List (ℕ × Insn)
+placed pc None = []
+placed pc (Some insn) = (pc, insn) ∷ []
+
 -- the instructions of the lines with their places
 abbrev pub insns_from : Places → ℕ → List PooledLine → List (ℕ × Insn)
 insns_from places pc [] = []
-insns_from places pc (x ∷ xs) = option_map_or (λ insn. (pc, insn) ∷ []) (insn_in places x) [] ++ insns_from places (pc + size_at pc x) xs
+insns_from places pc (x ∷ xs) = placed pc (insn_in places x) ++ insns_from places (pc + size_at pc x) xs
 
 -- the instruction has bytes at each of the first places
 abbrev pub FitsFirst : Option Insn → Type 0

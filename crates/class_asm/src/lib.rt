@@ -9,6 +9,7 @@ mod item;
 mod labels;
 mod line_fault;
 mod listing;
+mod method_code;
 mod number;
 mod operation;
 mod parts;
