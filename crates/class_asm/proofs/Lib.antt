@@ -2,6 +2,8 @@ pub mod Cases
 pub mod CodeSizes
 pub mod Digits
 pub mod Divided
+pub mod Entered
+pub mod Faults
 pub mod FirstFaults
 pub mod FoundLabels
 pub mod KeyCases

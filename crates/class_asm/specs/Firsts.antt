@@ -1,5 +1,6 @@
 -- Which of several faults comes first.
-use Rattle.std.specs.Prelude.{ℕ, Bool, ◌&&◌, ◌||◌, ◌==◌, nat_lt, Option, Some, None, if◌then◌else◌}
+use Rattle.std.specs.Prelude.{ℕ, Bool, ◌&&◌, ◌||◌, ◌==◌, nat_lt, List, Option, Some, None, if◌then◌else◌}
+use Rattle.std.specs.List.{fold}
 use Rattle.class_asm.specs.declared.fault.AsmFault.{AsmFault}
 use Rattle.class_asm.specs.declared.fault.AsmFault.TheVariants.{Syntax, UnknownOpcode, UnknownLabel, DuplicateLabel, OutOfRange, NoEnd, Memory}
 
@@ -21,3 +22,7 @@ is_before a b = nat_lt (rank a).0 (rank b).0 || (((rank a).0 == (rank b).0) && n
 abbrev pub with_fault : Option AsmFault → AsmFault → Option AsmFault
 with_fault None fault = Some fault
 with_fault (Some first) fault = if is_before fault first then Some fault else Some first
+
+-- the first of the faults so far and more
+abbrev pub with_faults : Option AsmFault → List AsmFault → Option AsmFault
+with_faults first faults = fold with_fault first faults

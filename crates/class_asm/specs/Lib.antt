@@ -10,3 +10,7 @@ pub mod Instructions
 pub mod Places
 pub mod LineFaults
 pub mod MethodCodes
+pub mod Entries
+pub mod Pools
+pub mod Needs
+pub mod Rules

@@ -1,7 +1,8 @@
 //! The first of several faults.
 
 ghost use Rattle.std.specs.Prelude.{◌≡◌, None};
-ghost use Rattle.class_asm.specs.Firsts.{rank, is_before, with_fault};
+ghost use Rattle.class_asm.specs.Firsts.{rank, is_before, with_fault, with_faults};
+ghost use Rattle.class_asm.specs.Pools.{unless};
 
 use crate::fault::AsmFault;
 
@@ -42,6 +43,15 @@ impl First {
         ensures { result.fault ≡ None }
     {
         First { fault: None }
+    }
+
+    /// A fault where the line breaks a rule.
+    pub(crate) fn unless(&mut self, good: bool, line: usize)
+        ensures { self.new.fault ≡ with_faults self.old.fault (unless good line) }
+    {
+        if !good {
+            self.add(AsmFault::OutOfRange { line });
+        }
     }
 
     /// One more fault.

@@ -1,0 +1,107 @@
+-- The rules on a listing that no line keeps by itself, and those on names, descriptors and numbers (JVM specification,
+-- sections 4.1, 4.2.1 and 4.3). A line that breaks one is out of range.
+use Rattle.std.specs.Prelude.{ℕ, ◌^◌, Bool, true, false, ◌&&◌, nat_lt, bit_and, bit_or, ◌==◌, List, [], ◌∷◌, ◌++◌, length, map, slice_get, Option, Some, None, is_some, if◌then◌else◌}
+use Rattle.std.specs.List.{flat_map, list_all, list_any}
+use Rattle.std.specs.Option.{option_map_or}
+use Rattle.class_read.specs.declared.names.MemberKind.TheVariants.{Field, Method}
+use Rattle.class_read.specs.Names.{is_class_name, is_descriptor}
+use Rattle.class_read.specs.Rules.{same_key}
+use Rattle.class_asm.specs.declared.fault.AsmFault.{AsmFault}
+use Rattle.class_asm.specs.declared.fault.AsmFault.TheVariants.{OutOfRange}
+use Rattle.class_asm.specs.declared.number.Number.{Number}
+use Rattle.class_asm.specs.declared.listing.CodeLine.{CodeLine}
+use Rattle.class_asm.specs.declared.listing.MethodLines.{MethodLines}
+use Rattle.class_asm.specs.declared.listing.Listing.{Listing}
+use Rattle.class_asm.specs.declared.statement.Constant.{Constant}
+use Rattle.class_asm.specs.declared.statement.FieldLine.{FieldLine}
+use Rattle.class_asm.specs.declared.statement.AttributeLine.{AttributeLine}
+use Rattle.class_asm.specs.declared.statement.ClassLine.{ClassLine}
+use Rattle.class_asm.specs.declared.statement.MethodLine.{MethodLine}
+use Rattle.class_asm.specs.Numbers.{pair_of}
+use Rattle.class_asm.specs.Pools.{unless}
+use Rattle.class_asm.specs.Needs.{super_of, constant_entry, attribute_entries, line_needs}
+
+-- ---- lists
+
+-- A count has two bytes: the line that adds an item past it breaks a rule.
+abbrev pub past_count : {A : Type 0} → (A → ℕ) → List A → List AsmFault
+past_count line_of items = option_map_or (λ item. OutOfRange (line_of item) ∷ []) (slice_get items 65535) []
+
+-- ---- members
+
+-- a name and a descriptor
+abbrev pub Key : Type 0
+Key = List ℕ × List ℕ
+
+-- the lines of members whose name and descriptor an earlier one has
+abbrev pub seconds : List Key → List (Key × ℕ) → List AsmFault
+seconds earlier [] = []
+seconds earlier (member ∷ members) =
+    if list_any (same_key member.0) earlier then OutOfRange member.1 ∷ seconds earlier members
+    else seconds (earlier ++ member.0 ∷ []) members
+
+abbrev pub field_key : ℕ × FieldLine → Key × ℕ
+field_key f = ((f.1.name, f.1.desc), f.0)
+
+abbrev pub method_key : MethodLines → Key × ℕ
+method_key m = ((m.head.name, m.head.desc), m.line)
+
+-- Members are public (0x0001), or private (0x0002).
+abbrev pub field_flags : FieldLine → ℕ
+field_flags f = if f.is_static then 0x0009 else 0x0001
+
+abbrev pub method_flags : MethodLine → ℕ
+method_flags head = if bit_and head.flags 0x0002 == 0 then bit_or head.flags 0x0001 else head.flags
+
+abbrev pub field_faults : ℕ × FieldLine → List AsmFault
+field_faults f = unless (is_descriptor Field (field_flags f.1) f.1.desc) f.0
+
+abbrev pub sizes_fit : Option (Number × Number) → Bool
+sizes_fit None = true
+sizes_fit (Some sizes) = is_some (pair_of sizes.0) && is_some (pair_of sizes.1)
+
+-- the lines of the attributes of its code
+abbrev pub attribute_lines : List CodeLine → List ℕ
+attribute_lines lines = map (λ need. need.1) (flat_map (line_needs attribute_entries) lines)
+
+abbrev pub method_faults : MethodLines → List AsmFault
+method_faults m =
+    unless (is_descriptor Method (method_flags m.head) m.head.desc && sizes_fit m.head.sizes) m.line
+    ++ past_count (λ line. line) (attribute_lines m.lines)
+
+abbrev pub fields_faults : List (ℕ × FieldLine) → List AsmFault
+fields_faults fields = flat_map field_faults fields ++ seconds [] (map field_key fields) ++ past_count (λ f. f.0) fields
+
+abbrev pub methods_faults : List MethodLines → List AsmFault
+methods_faults methods = flat_map method_faults methods ++ seconds [] (map method_key methods) ++ past_count (λ m. m.line) methods
+
+-- ---- other lines
+
+abbrev pub content_fits : List ℕ → Bool
+content_fits content = nat_lt (length content) (2 ^ 32)
+
+abbrev pub attribute_faults : ℕ × AttributeLine → List AsmFault
+attribute_faults a = unless (content_fits a.1.content) a.0
+
+abbrev pub attributes_faults : List (ℕ × AttributeLine) → List AsmFault
+attributes_faults attributes = flat_map attribute_faults attributes ++ past_count (λ a. a.0) attributes
+
+abbrev pub constant_faults : ℕ × Constant → List AsmFault
+constant_faults c = unless (is_some (constant_entry c.1)) c.0
+
+-- without `major`: 50
+abbrev pub major_of : ClassLine → Option ℕ
+major_of class = option_map_or pair_of class.major (Some 50)
+
+abbrev pub class_is_good : ClassLine → Bool
+class_is_good class =
+    is_class_name class.name && is_class_name (super_of class) && list_all is_class_name class.interfaces
+    && nat_lt (length class.interfaces) (2 ^ 16) && is_some (major_of class)
+
+-- ---- a listing
+
+-- What its lines break beside their pool and their codes.
+abbrev pub rule_faults : ℕ → ClassLine → Listing → List AsmFault
+rule_faults line class listing =
+    unless (class_is_good class) line ++ fields_faults listing.fields ++ methods_faults listing.methods
+    ++ attributes_faults listing.attributes ++ flat_map constant_faults listing.constants
