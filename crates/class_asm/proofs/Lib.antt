@@ -1,4 +1,6 @@
 pub mod Cases
+pub mod CodeBounds
+pub mod CodeFits
 pub mod CodeSizes
 pub mod Digits
 pub mod Divided

@@ -12,3 +12,12 @@ fails_is (DuplicateLabel line) said differs h = h
 fails_is (OutOfRange line) said differs h = h
 fails_is (NoEnd line) said differs h = h
 fails_is Memory said differs h = absurd (differs refl)
+
+pub is_fault : {Y : Type 0} (fault : AsmFault) (said : Result Y AsmFault) → said ≡ Err fault → Fails fault said
+is_fault (Syntax line) said h = h
+is_fault (UnknownOpcode line) said h = h
+is_fault (UnknownLabel line) said h = h
+is_fault (DuplicateLabel line) said h = h
+is_fault (OutOfRange line) said h = h
+is_fault (NoEnd line) said h = h
+is_fault Memory said h = tt

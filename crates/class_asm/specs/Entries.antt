@@ -1,6 +1,6 @@
 -- Entries of a pool by what they say, in place of the numbers by which the file names other entries (JVM specification,
 -- section 4.4).
-use Rattle.std.specs.Prelude.{ℕ, ℤ, Bool, true, false, ◌&&◌, ◌==◌, nat_lt, ◌^◌, List, [], ◌∷◌, length}
+use Rattle.std.specs.Prelude.{ℕ, ℤ, Bool, true, false, ◌&&◌, ◌==◌, nat_lt, nat_le, ◌^◌, List, [], ◌∷◌, length}
 use Rattle.std.specs.Ordering.{int_eq}
 use Rattle.std.specs.Str.{bytes_eq}
 use Rattle.class_asm.specs.declared.entry.Entry.{Entry as Kept}
@@ -44,14 +44,15 @@ with_named entry = entry ∷ []
 abbrev pub is_short : List ℕ → Bool
 is_short text = nat_lt (length text) (2 ^ 16)
 
--- All texts in it are short.
-abbrev pub has_short_texts : Entry → Bool
-has_short_texts (Utf8 text) = is_short text
-has_short_texts (Class name) = is_short name
-has_short_texts (Str text) = is_short text
-has_short_texts (Member tag class name desc) = is_short class && is_short name && is_short desc
-has_short_texts (NameAndType name desc) = is_short name && is_short desc
-has_short_texts entry = true
+-- It has a text in a file: its texts are short, and a member's tag is that of a Fieldref, a Methodref or an
+-- InterfaceMethodref. The numbers fit where they are made.
+abbrev pub has_text : Entry → Bool
+has_text (Utf8 text) = is_short text
+has_text (Class name) = is_short name
+has_text (Str text) = is_short text
+has_text (Member tag class name desc) = (nat_le 9 tag && nat_le tag 11) && (is_short class && (is_short name && is_short desc))
+has_text (NameAndType name desc) = is_short name && is_short desc
+has_text entry = true
 
 -- how many numbers it takes
 abbrev pub width : Entry → ℕ

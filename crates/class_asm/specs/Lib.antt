@@ -14,3 +14,4 @@ pub mod Entries
 pub mod Pools
 pub mod Needs
 pub mod Rules
+pub mod Classes

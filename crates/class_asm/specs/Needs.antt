@@ -18,7 +18,7 @@ use Rattle.class_asm.specs.declared.statement.FieldLine.{FieldLine}
 use Rattle.class_asm.specs.declared.statement.AttributeLine.{AttributeLine}
 use Rattle.class_asm.specs.declared.statement.ClassLine.{ClassLine}
 use Rattle.class_asm.specs.Numbers.{unsigned_of, signed_of, int_of}
-use Rattle.class_asm.specs.Entries.{Entry, Utf8, Integer, Float, Long, Double, Class, Str, Member, NameAndType, has_short_texts}
+use Rattle.class_asm.specs.Entries.{Entry, Utf8, Integer, Float, Long, Double, Class, Str, Member, NameAndType, has_text}
 use Rattle.class_asm.specs.Pools.{Need, needed}
 
 -- ---- instructions
@@ -42,7 +42,7 @@ abbrev pub is_class_or_array : List ℕ → Bool
 is_class_or_array name = is_class_name name || (nat_lt 0 (array_depth name) && is_descriptor Field 0 name)
 
 abbrev pub allowed : Bool → Entry → Option Entry
-allowed good entry = if good && has_short_texts entry then Some entry else None
+allowed good entry = if good && has_text entry then Some entry else None
 
 -- whether an instruction needs an entry
 abbrev pub takes_entry : Operation → Bool

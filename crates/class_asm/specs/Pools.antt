@@ -6,7 +6,7 @@ use Rattle.class_pool.specs.declared.entry.PoolEntry.{PoolEntry}
 use Rattle.class_pool.specs.declared.entry.PoolEntry.TheVariants as files
 use Rattle.class_asm.specs.declared.fault.AsmFault.{AsmFault}
 use Rattle.class_asm.specs.declared.fault.AsmFault.TheVariants.{OutOfRange}
-use Rattle.class_asm.specs.Entries.{Entry, Utf8, Integer, Float, Long, Double, Class, Str, Member, NameAndType, same, with_named, has_short_texts, width}
+use Rattle.class_asm.specs.Entries.{Entry, Utf8, Integer, Float, Long, Double, Class, Str, Member, NameAndType, same, with_named, has_text, width}
 
 -- an entry, and the line that needs it
 abbrev pub Need : Type 0
@@ -21,10 +21,10 @@ unless good line = if good then [] else OutOfRange line ∷ []
 
 -- A text that is too long is a fault of each line that needs it, and comes into no pool.
 abbrev pub need_faults : Need → List AsmFault
-need_faults need = unless (has_short_texts need.0) need.1
+need_faults need = unless (has_text need.0) need.1
 
 abbrev pub brought : Need → List Need
-brought need = if has_short_texts need.0 then needed need.1 (with_named need.0) else []
+brought need = if has_text need.0 then needed need.1 (with_named need.0) else []
 
 -- ---- each once
 

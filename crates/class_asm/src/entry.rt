@@ -1,7 +1,7 @@
 //! Entries of a pool by what they say.
 
 ghost use Rattle.std.specs.Prelude.{◌≡◌, nat_lt, length, ◌^◌};
-ghost use Rattle.class_asm.specs.Entries.{is_short, has_short_texts, width, seen};
+ghost use Rattle.class_asm.specs.Entries.{is_short, has_text, width, seen};
 
 /// An entry, without the numbers of the entries that it names.
 #[derive(Clone, Copy, Debug, PartialEq, Eq, Hash)]
@@ -33,16 +33,16 @@ fn is_short(text: &[u8]) -> bool
 }
 
 impl<'a> Entry<'a> {
-    /// Whether the length of each text in it fits its field.
-    pub(crate) fn has_short_texts(self) -> bool
-        ensures { result ≡ has_short_texts (seen self.entry) }
+    /// Whether it has a text in a file: the length of each text in it fits its field, and a member's tag is one.
+    pub(crate) fn has_text(self) -> bool
+        ensures { result ≡ has_text (seen self.entry) }
     {
         match self {
             Entry::Utf8(text) => is_short(text),
             Entry::Class(name) => is_short(name),
             Entry::Str(text) => is_short(text),
-            Entry::Member(_, class, name, desc) => {
-                is_short(class) && is_short(name) && is_short(desc)
+            Entry::Member(tag, class, name, desc) => {
+                (9 <= tag && tag <= 11) && (is_short(class) && (is_short(name) && is_short(desc)))
             }
             Entry::NameAndType(name, desc) => is_short(name) && is_short(desc),
             _ => true,

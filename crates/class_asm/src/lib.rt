@@ -2,6 +2,8 @@
 #![tactic(auto)]
 
 mod class_line;
+mod codes;
+mod copies;
 mod entry;
 mod fault;
 mod first;
@@ -20,5 +22,6 @@ mod pool;
 mod pooled;
 mod rules;
 mod statement;
+mod texts;
 
 pub use fault::AsmFault;

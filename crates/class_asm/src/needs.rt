@@ -71,7 +71,7 @@ fn is_class_or_array(name: &[u8]) -> bool
 fn allowed<'a>(good: bool, entry: Entry<'a>) -> Option<Entry<'a>>
     ensures { option_map seen result ≡ allowed good (seen entry.entry) }
 {
-    if good && entry.has_short_texts() {
+    if good && entry.has_text() {
         Some(entry)
     } else {
         None

@@ -251,7 +251,7 @@ fn increment_operation(line: usize, words: &[Seq<u8>]) -> Result<Operation, AsmF
     Ok(Operation::Iinc(local, value))
 }
 
-fn copies(alloc: Global, words: &[Seq<u8>]) -> Result<Seq<Seq<u8>>, AllocError>
+pub(crate) fn copies(alloc: Global, words: &[Seq<u8>]) -> Result<Seq<Seq<u8>>, AllocError>
     ensures { IfOk result (λ s. s ≡ words.now) }
 {
     let mut all = Seq::new(alloc);

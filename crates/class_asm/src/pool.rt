@@ -1,7 +1,9 @@
 //! The pool: entries in order of first need, each once, found through an index.
 
-ghost use Rattle.std.specs.Prelude.{◌≡◌, ◌∷◌, ◌<◌, ◌^◌, [], OnOk, IfOk, fold, map, min, slice_index_or};
-ghost use Rattle.class_asm.specs.Entries.{seen, with_named};
+ghost use Rattle.std.specs.Prelude.{◌≡◌, ◌∷◌, ◌<◌, ◌^◌, [], OnOk, IfOk, fold, map, min, slice_index_or, true};
+ghost use Rattle.std.specs.List.{AllByRecursion};
+ghost use Rattle.class_pool.specs.Entry.{HasText};
+ghost use Rattle.class_asm.specs.Entries.{seen, with_named, has_text};
 ghost use Rattle.class_asm.specs.Firsts.{with_faults};
 ghost use Rattle.class_asm.specs.Pools.{needed, brought, need_faults, with_first, count_faults, numbers_from, number_of, pool_entry, unless};
 
@@ -99,7 +101,7 @@ impl<'a> Firsts<'a> {
         ensures needs { OnOk result (self.new ≡ fold with_first self.old (brought (seen entry.entry, line))) }
         ensures faults { OnOk result (first.new.fault ≡ with_faults first.old.fault (need_faults (seen entry.entry, line))) }
     {
-        if entry.has_short_texts() {
+        if entry.has_text() {
             self.bring(line, entry)
         } else {
             first.add(AsmFault::OutOfRange { line });
@@ -188,7 +190,9 @@ impl<'a> Pool<'a> {
 
     /// The entry as the file has it.
     fn pool_entry(&self, alloc: Global, entry: Entry<'_>) -> Result<PoolEntry, AllocError>
-        ensures { IfOk result (λ e. e ≡ pool_entry self.now (seen entry.entry)) }
+        requires { has_text (seen entry) ≡ true }
+        ensures same { IfOk result (λ e. e ≡ pool_entry self.now (seen entry.entry)) }
+        ensures text { IfOk result (λ e. HasText e) }
     {
         Ok(match entry {
             Entry::Utf8(text) => PoolEntry::Utf8(Seq::from_slice(alloc, text)?),
@@ -218,7 +222,9 @@ impl<'a> Pool<'a> {
         alloc: Global,
         needs: &[(Entry<'_>, usize)],
     ) -> Result<Seq<PoolEntry>, AllocError>
-        ensures { IfOk result (λ s. s ≡ map (pool_entry self.now) (map (λ e. seen e.0) needs.now)) }
+        requires { AllByRecursion (λ e. has_text (seen e.0) ≡ true) needs.now }
+        ensures same { IfOk result (λ s. s ≡ map (pool_entry self.now) (map (λ e. seen e.0) needs.now)) }
+        ensures texts { IfOk result (λ s. AllByRecursion HasText s) }
     {
         let mut entries = Seq::new(alloc);
         for need in needs {

@@ -1,0 +1,179 @@
+-- The class that a listing says, or its first fault.
+use Rattle.std.specs.Prelude.{ℕ, ◌+◌, ◌*◌, ◌^◌, Bool, true, false, ◌==◌, nat_lt, bit_or, List, [], ◌∷◌, ◌++◌, length, map, Option, Some, None, is_some, Ok, Err, if◌then◌else◌}
+use Rattle.std.specs.List.{flat_map}
+use Rattle.std.specs.Option.{option_map, option_map_or, unwrap_or}
+use Rattle.class_read.specs.Content.{Handler}
+use Rattle.class_read.specs.Text.{class_bytes}
+use Rattle.class_read.specs.declared.text.ClassText.{ClassText}
+use Rattle.class_read.specs.declared.text.MemberText.{MemberText}
+use Rattle.class_read.specs.declared.text.AttrText.{AttrText}
+use Rattle.class_read.specs.declared.text.AttrText.TheVariants as attrs
+use Rattle.class_asm.specs.declared.fault.AsmFault.{AsmFault}
+use Rattle.class_asm.specs.declared.number.Number.{Number}
+use Rattle.class_asm.specs.declared.operation.Operation.{Operation}
+use Rattle.class_asm.specs.declared.operation.Operation.TheVariants as operations
+use Rattle.class_asm.specs.declared.item.Item.{Item}
+use Rattle.class_asm.specs.declared.item.Item.TheVariants.{Insn, Catch, Attribute}
+use Rattle.class_asm.specs.declared.listing.CodeLine.{CodeLine}
+use Rattle.class_asm.specs.declared.listing.MethodLines.{MethodLines}
+use Rattle.class_asm.specs.declared.listing.Listing.{Listing}
+use Rattle.class_asm.specs.declared.statement.FieldLine.{FieldLine}
+use Rattle.class_asm.specs.declared.statement.AttributeLine.{AttributeLine}
+use Rattle.class_asm.specs.declared.statement.ClassLine.{ClassLine}
+use Rattle.class_asm.specs.declared.pooled.Need.{Need as LineNeed}
+use Rattle.class_asm.specs.declared.pooled.PooledLine.{PooledLine}
+use Rattle.class_asm.specs.declared.method_code.MethodCode.{MethodCode}
+use Rattle.class_asm.specs.Numbers.{pair_of}
+use Rattle.class_asm.specs.Statements.{Said, ◌>>=◌}
+use Rattle.class_asm.specs.Firsts.{with_faults}
+use Rattle.class_asm.specs.Listings.{listing_of}
+use Rattle.class_asm.specs.Entries.{Entry, Utf8, Class}
+use Rattle.class_asm.specs.Pools.{Need, Numbered, unless, need_faults, brought, firsts_of, count_faults, numbered, number_of, pool_entry}
+use Rattle.class_asm.specs.Needs.{counted_words, takes_entry, operation_entry, catch_entry, code_name, super_of, listing_needs}
+use Rattle.class_asm.specs.Rules.{field_flags, method_flags, content_fits, major_of, rule_faults}
+use Rattle.class_asm.specs.MethodCodes.{make_code, method_code}
+
+-- ---- codes
+
+abbrev pub make_need : ℕ → ℕ → LineNeed
+make_need entry words = record { entry = entry; words = words }
+
+abbrev pub no_need : LineNeed
+no_need = make_need 0 0
+
+abbrev pub entry_need : Numbered → ℕ → Option Entry → Option LineNeed
+entry_need pool words entry = option_map (λ e. make_need (number_of pool e) words) entry
+
+-- the words that a call writes beside its entry
+abbrev pub call_words : Operation → ℕ
+call_words (operations.Member op class name desc) = if op == 185 then counted_words desc else 0
+call_words operation = 0
+
+-- What a line of a method needs of the pool; none where it breaks a rule on names, descriptors and numbers.
+abbrev pub item_need : Numbered → Item → Option LineNeed
+item_need pool (Insn operation) =
+    if takes_entry operation then entry_need pool (call_words operation) (operation_entry operation) else Some no_need
+item_need pool (Catch x) = if is_some x.class then entry_need pool 0 (catch_entry x.class) else Some no_need
+item_need pool (Attribute x) = if content_fits x.content then Some no_need else None
+item_need pool item = Some no_need
+
+abbrev pub pooled : Numbered → CodeLine → PooledLine
+pooled pool code = record { code = code; need = item_need pool code.item }
+
+abbrev pub code_said : Numbered → MethodLines → Said MethodCode
+code_said pool m = method_code (map (pooled pool) m.lines)
+
+abbrev pub code_in : Said MethodCode → MethodCode
+code_in (Ok code) = code
+code_in (Err fault) = make_code [] []
+
+abbrev pub said_faults : Said MethodCode → List AsmFault
+said_faults (Ok code) = []
+said_faults (Err fault) = fault ∷ []
+
+-- the attributes of a code
+abbrev pub item_attributes : Numbered → Item → List (ℕ × List ℕ)
+item_attributes pool (Attribute x) = (number_of pool (Utf8 x.name), x.content) ∷ []
+item_attributes pool item = []
+
+abbrev pub code_attributes : Numbered → List CodeLine → List (ℕ × List ℕ)
+code_attributes pool lines = flat_map (λ code. item_attributes pool code.item) lines
+
+-- How many bytes the content of `Code` has (JVM specification, section 4.7.3).
+abbrev pub attributes_size : List (ℕ × List ℕ) → ℕ
+attributes_size [] = 0
+attributes_size (attribute ∷ attributes) = 6 + length attribute.1 + attributes_size attributes
+
+abbrev pub code_size : MethodCode → List (ℕ × List ℕ) → ℕ
+code_size code attributes = 12 + length code.bytes + 8 * length code.table + attributes_size attributes
+
+abbrev pub code_fits : MethodCode → List (ℕ × List ℕ) → Bool
+code_fits code attributes = nat_lt (code_size code attributes) (2 ^ 32)
+
+-- The faults of a code, and of its method's line where the content is too long for its length.
+abbrev pub code_faults : Numbered → MethodLines → List AsmFault
+code_faults pool m =
+    if is_some m.head.sizes then said_faults (code_said pool m) ++ unless (code_fits (code_in (code_said pool m)) (code_attributes pool m.lines)) m.line
+    else []
+
+-- ---- members
+
+abbrev pub make_member : ℕ → ℕ → ℕ → List AttrText → MemberText
+make_member flags name desc attributes = record { flags = flags; name = name; desc = desc; attributes = attributes }
+
+abbrev pub field_text : Numbered → ℕ × FieldLine → MemberText
+field_text pool f = make_member (field_flags f.1) (number_of pool (Utf8 f.1.name)) (number_of pool (Utf8 f.1.desc)) []
+
+abbrev pub size_of : Number → ℕ
+size_of n = unwrap_or (pair_of n) 0
+
+abbrev pub handlers_of : MethodCode → List Handler
+handlers_of code = map (λ h. (h.start, h.end, h.handler, h.catch)) code.table
+
+abbrev pub code_text : Numbered → MethodLines → MethodCode → Number × Number → AttrText
+code_text pool m code sizes =
+    attrs.Code (number_of pool code_name) (size_of sizes.0) (size_of sizes.1) code.bytes (handlers_of code) (code_attributes pool m.lines)
+
+abbrev pub method_attributes : Numbered → MethodLines → List AttrText
+method_attributes pool m = option_map_or (λ sizes. code_text pool m (code_in (code_said pool m)) sizes ∷ []) m.head.sizes []
+
+abbrev pub method_text : Numbered → MethodLines → MemberText
+method_text pool m =
+    make_member (method_flags m.head) (number_of pool (Utf8 m.head.name)) (number_of pool (Utf8 m.head.desc)) (method_attributes pool m)
+
+-- ---- the class
+
+-- A class has the flags PUBLIC and SUPER, an interface PUBLIC, INTERFACE and ABSTRACT (JVM specification, table 4.1-B).
+abbrev pub class_flags : ClassLine → ℕ
+class_flags class = bit_or (if class.is_interface then 0x0601 else 0x0021) (if class.is_abstract then 0x0400 else 0)
+
+abbrev pub attribute_text : Numbered → ℕ × AttributeLine → AttrText
+attribute_text pool a = attrs.Skipped (number_of pool (Utf8 a.1.name)) a.1.content
+
+abbrev pub class_text : Numbered → ClassLine → Listing → ClassText
+class_text pool class listing = record {
+  minor = 0;
+  major = unwrap_or (major_of class) 0;
+  pool = map (pool_entry pool) pool.0;
+  flags = class_flags class;
+  this_index = number_of pool (Class class.name);
+  super_index = number_of pool (Class (super_of class));
+  interfaces = map (λ name. number_of pool (Class name)) class.interfaces;
+  fields = map (field_text pool) listing.fields;
+  methods = map (method_text pool) listing.methods;
+  attributes = map (attribute_text pool) listing.attributes;
+}
+
+-- ---- the pool and the faults
+
+-- the entries with the lines that first need them
+abbrev pub firsts_in : List Need → List Need
+firsts_in needs = firsts_of (flat_map brought needs)
+
+abbrev pub pool_in : List Need → Numbered
+pool_in needs = numbered (map (λ need. need.0) (firsts_in needs))
+
+abbrev pub pool_faults : List Need → List AsmFault
+pool_faults needs = flat_map need_faults needs ++ count_faults 1 (firsts_in needs)
+
+abbrev pub all_faults : ℕ → ClassLine → Listing → List AsmFault
+all_faults line class listing =
+    let needs = listing_needs line class listing in
+    rule_faults line class listing ++ pool_faults needs ++ flat_map (code_faults (pool_in needs)) listing.methods
+
+-- the class, unless there is a fault
+abbrev pub unless_faulty : Option AsmFault → ClassText → Said ClassText
+unless_faulty (Some fault) class = Err fault
+unless_faulty None class = Ok class
+
+-- What a listing's lines say together: the class, or the first fault of all.
+unfoldable pub class_of : ℕ → ClassLine → Listing → Said ClassText
+class_of line class listing =
+    unless_faulty (with_faults listing.first.fault (all_faults line class listing)) (class_text (pool_in (listing_needs line class listing)) class listing)
+
+-- The bytes of the class that a text says, or its first fault.
+unfoldable pub assembled : List ℕ → Said (List ℕ)
+assembled text = do
+  lines ← listing_of text
+  class ← class_of lines.0 lines.1 lines.2
+  Ok (class_bytes class)
