@@ -8,13 +8,13 @@ use Rattle.class_asm.specs.Classes.{attributes_size, code_fits}
 left_over : (b s : ℕ) → b < 2 ^ 32 → nat_le s (2 ^ 32 - 1 - b) ≡ nat_lt (b + s) (2 ^ 32)
 left_over b s h = elim (leb_tells s (2 ^ 32 - 1 - b)) [
   | inl p ↦ elim (leb_tells (suc (b + s)) (2 ^ 32)) [
-      | inl q ↦ p.0 ∙ sym q.0
-      | inr q ↦ absurd (omega (arith, h, p.1, q.1))
-    ]
+    | inl q ↦ p.0 ∙ sym q.0
+    | inr q ↦ absurd (omega (arith, h, p.1, q.1))
+  ]
   | inr p ↦ elim (leb_tells (suc (b + s)) (2 ^ 32)) [
-      | inl q ↦ absurd (omega (arith, h, p.1, q.1))
-      | inr q ↦ p.0 ∙ sym q.0
-    ]
+    | inl q ↦ absurd (omega (arith, h, p.1, q.1))
+    | inr q ↦ p.0 ∙ sym q.0
+  ]
 ]
 
 pub fits_left : (code : MethodCode) (attributes : List (ℕ × List ℕ)) → length code.bytes < 2 ^ 16 → length code.table < 2 ^ 16

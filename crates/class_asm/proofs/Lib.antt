@@ -1,10 +1,13 @@
+pub mod Assembled
 pub mod Cases
+pub mod ClassBounds
 pub mod CodeBounds
 pub mod CodeFits
 pub mod CodeSizes
 pub mod Digits
 pub mod Divided
 pub mod Entered
+pub mod Faultless
 pub mod Faults
 pub mod FirstFaults
 pub mod FoundLabels
@@ -13,5 +16,6 @@ pub mod Marks
 pub mod Opcodes
 pub mod Operands
 pub mod Outcomes
+pub mod PoolBounds
 pub mod Sizes
 pub mod Written

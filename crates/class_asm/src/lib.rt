@@ -1,6 +1,7 @@
 //! Listings, assembled exactly.
 #![tactic(auto)]
 
+mod assembly;
 mod class_line;
 mod codes;
 mod copies;
@@ -24,4 +25,8 @@ mod rules;
 mod statement;
 mod texts;
 
+pub use assembly::assemble;
 pub use fault::AsmFault;
+
+#[cfg(test)]
+mod tests;

@@ -1,0 +1,86 @@
+-- What a listing without faults keeps.
+use Rattle.std.proofs.Common.{◌≡◌, ℕ, zero, suc, ◌+◌, ◌<◌, ◌≤◌, ◌^◌, Bool, true, false, cond, ltb, ◌&&◌, List, [], ◌∷◌, ◌++◌, length, map, slice_get, Option, Some, None, refl, sym, ap, ◌∙◌, arith}
+use Rattle.std.specs.Prelude.{nat_lt}
+use Rattle.std.specs.List.{flat_map, list_all, AllByRecursion}
+use Rattle.std.specs.Option.{option_map_or}
+use Rattle.std.proofs.lemmas.Bool.{ltb-true}
+use Rattle.class_asm.specs.declared.fault.AsmFault.{AsmFault}
+use Rattle.class_asm.specs.declared.fault.AsmFault.TheVariants.{OutOfRange}
+use Rattle.class_asm.specs.Firsts.{is_before, with_fault, with_faults}
+use Rattle.class_asm.specs.Pools.{unless}
+use Rattle.class_asm.specs.Rules.{past_count}
+
+-- ---- no faults
+
+kept : (x y : AsmFault) (fs : List AsmFault) → ((z : AsmFault) → with_faults (Some z) fs ≡ None → ⊥) → (b : Bool) → with_faults (cond b (Some y) (Some x)) fs ≡ None → ⊥
+kept x y fs more true h = more y h
+kept x y fs more false h = more x h
+
+stays : (fs : List AsmFault) (x : AsmFault) → with_faults (Some x) fs ≡ None → ⊥
+stays [] x h = cc
+stays (y ∷ fs) x h = kept x y fs (stays fs) (is_before y x) h
+
+pub no_faults : (o : Option AsmFault) (fs : List AsmFault) → with_faults o fs ≡ None → fs ≡ []
+no_faults o [] h = refl
+no_faults None (x ∷ fs) h = absurd (stays fs x h)
+no_faults (Some y) (x ∷ fs) h = absurd (stays (x ∷ fs) y h)
+
+-- ---- parts of no faults
+
+pub left : {A : Type 0} (xs ys : List A) → xs ++ ys ≡ [] → xs ≡ []
+left [] ys h = refl
+left (x ∷ xs) ys h = absurd cc
+
+pub right : {A : Type 0} (xs ys : List A) → xs ++ ys ≡ [] → ys ≡ []
+right [] ys h = h
+right (x ∷ xs) ys h = absurd cc
+
+pub each : {A B : Type 0} (f : A → List B) (xs : List A) → flat_map f xs ≡ [] → AllByRecursion (λ x. f x ≡ []) xs
+each f [] h = tt
+each f (x ∷ xs) h = (left (f x) (flat_map f xs) h, each f xs (right (f x) (flat_map f xs) h))
+
+pub is_good : (good : Bool) (line : ℕ) → unless good line ≡ [] → good ≡ true
+is_good true line h = refl
+is_good false line h = absurd cc
+
+pub first_of_both : (a b : Bool) → a && b ≡ true → a ≡ true
+first_of_both true b h = refl
+first_of_both false b h = absurd cc
+
+pub second_of_both : (a b : Bool) → a && b ≡ true → b ≡ true
+second_of_both true b h = h
+second_of_both false b h = absurd cc
+
+pub both_true : (a b : Bool) → a ≡ true → b ≡ true → a && b ≡ true
+both_true a b p q = rw (p, q) refl
+
+no_more : {A : Type 0} (xs : List A) (n : ℕ) → slice_get xs n ≡ None → length xs ≤ n
+no_more [] n h = omega arith
+no_more (x ∷ xs) zero h = absurd cc
+no_more (x ∷ xs) (suc n) h = omega (arith, no_more xs n h)
+
+none_past : {A : Type 0} (line_of : A → ℕ) (o : Option A) → option_map_or (λ item. OutOfRange (line_of item) ∷ []) o [] ≡ [] → o ≡ None
+none_past line_of None h = refl
+none_past line_of (Some x) h = absurd cc
+
+pub within_count : {A : Type 0} (line_of : A → ℕ) (xs : List A) → past_count line_of xs ≡ [] → length xs < 2 ^ 16
+within_count line_of xs h = omega (arith, no_more xs 65535 (none_past line_of (slice_get xs 65535) h))
+
+pub is_less : (n m : ℕ) → nat_lt n m ≡ true → n < m
+is_less n m h = ltb-true n m h
+
+pub mapped_length : {A B : Type 0} (f : A → B) (xs : List A) → length (map f xs) ≡ length xs
+mapped_length f [] = refl
+mapped_length f (x ∷ xs) = ap (λ n. suc n) (mapped_length f xs)
+
+pub all_mapped : {A B : Type 0} (P : B → Type 0) (f : A → B) (xs : List A) → AllByRecursion (λ x. P (f x)) xs → AllByRecursion P (map f xs)
+all_mapped P f [] h = tt
+all_mapped P f (x ∷ xs) h = (h.0, all_mapped P f xs h.1)
+
+pub all_both : {A : Type 0} (P Q R : A → Type 0) → ((x : A) → P x → Q x → R x) → (xs : List A) → AllByRecursion P xs → AllByRecursion Q xs → AllByRecursion R xs
+all_both P Q R f [] p q = tt
+all_both P Q R f (x ∷ xs) p q = (f x p.0 q.0, all_both P Q R f xs p.1 q.1)
+
+pub all_one : {A : Type 0} (P R : A → Type 0) → ((x : A) → P x → R x) → (xs : List A) → AllByRecursion P xs → AllByRecursion R xs
+all_one P R f [] p = tt
+all_one P R f (x ∷ xs) p = (f x p.0, all_one P R f xs p.1)
