@@ -6,6 +6,7 @@ mod case;
 mod classes;
 mod code;
 mod json;
+mod listings;
 
 use anyhow::{Result, bail};
 use case::Case;
@@ -30,6 +31,7 @@ fn answer(alloc: Global, line: &str) -> Result<String> {
         "classes-50" => classes::answer(alloc, &case),
         "code" => code::answer(alloc, &case),
         "json" => json::answer(alloc, &case),
+        "listings" => listings::answer(alloc, &case),
         "table" => code::table_answer(alloc, &case),
         table => bail!("there is no table {table}"),
     }
