@@ -6,6 +6,7 @@ mod case;
 mod classes;
 mod code;
 mod json;
+mod links;
 mod listings;
 
 use anyhow::{Result, bail};
@@ -31,6 +32,7 @@ fn answer(alloc: Global, line: &str) -> Result<String> {
         "classes-50" => classes::answer(alloc, &case),
         "code" => code::answer(alloc, &case),
         "json" => json::answer(alloc, &case),
+        "link-50" => links::answer(alloc, &case),
         "listings" => listings::answer(alloc, &case),
         "table" => code::table_answer(alloc, &case),
         table => bail!("there is no table {table}"),
