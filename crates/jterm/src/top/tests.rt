@@ -142,9 +142,11 @@ fn a_line_and_its_class_are_a_yes(rt: HostRuntime) -> Result<(), Fail> {
 // The class with other bytes from `at` on.
 fn patched(alloc: Global, at: usize, bytes: &[u8]) -> Result<Vec<u8>, AllocError> {
     let mut class = Vec::from_slice(alloc, CLASS)?;
-    for (i, byte) in bytes.iter().enumerate() {
-        if at + i < class.len() {
-            class[at + i] = *byte;
+    let mut place = at;
+    for byte in bytes {
+        if place < class.len() {
+            class[place] = *byte;
+            place += 1;
         }
     }
     Ok(class)
@@ -171,31 +173,29 @@ fn refuses(
     Ok(outcome.status == 3 && outcome.out.bytes().is_empty() && outcome.err.bytes() == line)
 }
 
+// Whether classes are refused so with a good description and with one that is no line.
+fn refuses_before_the_description(
+    alloc: Global,
+    classes: &[&[u8]],
+    line: &[u8],
+) -> Result<bool, AllocError> {
+    Ok(refuses(alloc, LINE, classes, line)? && refuses(alloc, b"A f\n", classes, line)?)
+}
+
 #[test]
 fn the_first_fault_of_a_class_file_is_told_with_its_number(rt: HostRuntime) -> Result<(), Fail> {
     let alloc = rt.alloc();
     let newer = patched(alloc, 7, &[51])?;
     let mut longer = Vec::from_slice(alloc, CLASS)?;
     longer.push(0)?;
-    for (classes, line) in [
-        (
-            [&CLASS[..98], CLASS].as_slice(),
-            b"jterm: class 0: Truncated at=97\n".as_slice(),
-        ),
-        (
-            &[CLASS, newer.as_slice()],
-            b"jterm: class 1: Version major=51\n",
-        ),
-        (
-            &[CLASS, longer.as_slice(), b""],
-            b"jterm: class 1: TrailingBytes at=99\n",
-        ),
-        (&[b"\xca\xfe\xba\xbf"], b"jterm: class 0: BadMagic\n"),
-    ] {
-        assert!(rt; refuses(alloc, LINE, classes, line)?);
-        // before the description is looked at
-        assert!(rt; refuses(alloc, b"A f\n", classes, line)?);
-    }
+    let cut = b"jterm: class 0: Truncated at=97\n";
+    assert!(rt; refuses_before_the_description(alloc, &[&CLASS[..98], CLASS], cut)?);
+    let version = b"jterm: class 1: Version major=51\n";
+    assert!(rt; refuses_before_the_description(alloc, &[CLASS, newer.as_slice()], version)?);
+    let trailing = b"jterm: class 1: TrailingBytes at=99\n";
+    assert!(rt; refuses_before_the_description(alloc, &[CLASS, longer.as_slice(), b""], trailing)?);
+    let magic = b"jterm: class 0: BadMagic\n";
+    assert!(rt; refuses_before_the_description(alloc, &[b"\xca\xfe\xba\xbf"], magic)?);
     Ok(())
 }
 
@@ -260,16 +260,12 @@ fn the_first_broken_rule_of_the_program_is_told_with_its_method(
     let unsupported = patched(alloc, 90, &[1, 97])?;
     let field = patched(alloc, 90, &[178, 0, 1])?;
     let stray = patched(alloc, 90, &[167, 0, 1])?;
-    for (class, line) in [
-        (
-            &unsupported,
-            b"jterm: link: UnsupportedOpcode method=A.f()I pc=1 op=97\n".as_slice(),
-        ),
-        (&field, b"jterm: link: StaticField method=A.f()I pc=0\n"),
-        (&stray, b"jterm: link: BadTarget method=A.f()I pc=0\n"),
-    ] {
-        assert!(rt; refuses(alloc, LINE, &[class.as_slice()], line)?);
-    }
+    let opcode = b"jterm: link: UnsupportedOpcode method=A.f()I pc=1 op=97\n";
+    assert!(rt; refuses(alloc, LINE, &[unsupported.as_slice()], opcode)?);
+    let static_field = b"jterm: link: StaticField method=A.f()I pc=0\n";
+    assert!(rt; refuses(alloc, LINE, &[field.as_slice()], static_field)?);
+    let target = b"jterm: link: BadTarget method=A.f()I pc=0\n";
+    assert!(rt; refuses(alloc, LINE, &[stray.as_slice()], target)?);
     Ok(())
 }
 
