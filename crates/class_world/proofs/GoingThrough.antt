@@ -147,7 +147,7 @@ past (x ∷ xs) zero e = cc
 past (x ∷ xs) (suc i) e = let l = past xs i e in omega (arith, l)
 
 -- nothing is left
-all_gone : (world : World) (entry : MethodRef) (refs : List MethodRef) (methods : List Method) (h : IsReaching world entry refs methods) → slice_get refs (length methods) ≡ None → h.gone ≡ refs
+pub all_gone : (world : World) (entry : MethodRef) (refs : List MethodRef) (methods : List Method) (h : IsReaching world entry refs methods) → slice_get refs (length methods) ≡ None → h.gone ≡ refs
 all_gone world entry refs methods h e =
     let l = past refs (length methods) e in
     let n = h.len in

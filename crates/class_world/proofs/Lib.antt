@@ -24,3 +24,4 @@ pub mod Room
 pub mod Bodies
 pub mod GoingThrough
 pub mod ShortCodes
+pub mod Closed

@@ -26,3 +26,4 @@ pub mod Runs
 pub mod Said
 pub mod Methods
 pub mod Reached
+pub mod Selected

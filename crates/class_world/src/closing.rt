@@ -2,6 +2,7 @@
 ghost use Rattle.std.specs.Prelude.{◌≡◌, ◌<◌, [], map, length, IfOk, OnOk, IsTrue, flat_map};
 ghost use Rattle.class_world.specs.Said.{Says};
 ghost use Rattle.class_world.specs.Runs.{runs};
+ghost use Rattle.class_world.specs.Selected.{is_closed};
 ghost use Rattle.class_world.specs.Reached.{has_body, with_new, reached, methods_of, numbered, op_numbered, insns_numbered, method_numbered, close_of};
 
 use crate::fault::LinkFault;
@@ -48,6 +49,7 @@ impl<'a> World<'a> {
         requires { IsTrue (has_body self.now.roster.classes entry) }
         ensures methods { Says (λ r. r.1) result (methods_of self.now.roster.classes (reached self.now.roster.classes entry)) }
         ensures refs { IfOk result (λ r. r.0 ≡ reached self.now.roster.classes entry) }
+        ensures closed { IfOk result (λ r. IsTrue (is_closed self.now.roster.classes r.0 r.1)) }
     {
         let mut refs = MethodRefs::new(alloc);
         refs.add(entry)?;
@@ -158,6 +160,7 @@ impl<'a> Program<'a> {
         ensures methods { Says (λ program. program.methods) result (close_of world.entry.roster.classes entry) }
         ensures world { IfOk result (λ program. program.world ≡ world.entry) }
         ensures statics { IfOk result (λ program. program.statics ≡ []) }
+        ensures refs { IfOk result (λ program. program.refs ≡ reached world.entry.roster.classes entry) }
     {
         let (refs, methods) = world.reach(alloc, entry)?;
         let methods = methods_numbered(alloc, &refs, methods)?;

@@ -31,6 +31,7 @@ mod resolve;
 mod roster;
 mod runs;
 mod select;
+mod selected;
 mod signature;
 mod types;
 mod world;
@@ -39,6 +40,7 @@ pub use fault::{LinkFault, MethodName};
 pub use laws::sub_is_least;
 pub use op::{Call, FieldUse, Op};
 pub use program::{CatchRange, Method, Program, StaticField};
+pub use selected::Selected;
 pub use world::{MethodRef, World};
 
 #[cfg(test)]

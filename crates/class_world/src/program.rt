@@ -1,4 +1,6 @@
 //! A world with the methods that an entry reaches.
+ghost use Rattle.std.specs.Prelude.{IsTrue};
+ghost use Rattle.class_world.specs.Selected.{is_closed};
 
 use crate::op::Op;
 use crate::reached::MethodRefs;
@@ -65,4 +67,5 @@ pub struct Program<'a> {
     /// The static fields that reached instructions name; none while they are refused.
     pub statics: Seq<StaticField<'a>>,
     pub(crate) refs: MethodRefs,
+    ghost closed: { IsTrue (is_closed world.roster.classes refs methods) },
 }

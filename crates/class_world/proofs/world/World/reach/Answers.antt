@@ -4,6 +4,7 @@ use Rattle.class_world.specs.Reached.{with_one, method_count}
 use Rattle.class_world.proofs.Room.{body_at}
 use Rattle.class_world.proofs.Saying.{handed_on}
 use Rattle.class_world.proofs.GoingThrough.{reach_start, next_body, reach_more, reach_broken, reach_end, reach_found, reach_less, reach_smaller}
+use Rattle.class_world.proofs.Closed.{reach_closed}
 use Rattle.class_world.proofs.world.World.reach.Goals as goal
 
 pub loop-next-init : goal.loop-next-init
@@ -45,3 +46,8 @@ pub returns-clause-refs : goal.returns-clause-refs
 returns-clause-refs c =
     let at : slice_get c.loop-next.refs (length c.loop-next.methods) ≡ None = ap (slice_get c.loop-next.refs) (sym c.len.ensures) ∙ sym c.in_default.ensures in
     reach_end c.args.self.now.roster.classes c.args.entry c.loop-next.refs c.loop-next.methods c.loop-next.invariant at
+
+pub returns-clause-closed : goal.returns-clause-closed
+returns-clause-closed c =
+    let at : slice_get c.loop-next.refs (length c.loop-next.methods) ≡ None = ap (slice_get c.loop-next.refs) (sym c.len.ensures) ∙ sym c.in_default.ensures in
+    reach_closed c.args.self.now.roster.classes c.args.entry c.loop-next.refs c.loop-next.methods c.loop-next.invariant at

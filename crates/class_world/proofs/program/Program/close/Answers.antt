@@ -1,0 +1,5 @@
+use Rattle.class_world.proofs.Closed.{closed_from}
+use Rattle.class_world.proofs.program.Program.close.Goals as goal
+
+pub invariant_of-result : goal.invariant_of-result
+invariant_of-result c = record { closed = closed_from c.args.world.roster.classes c.in_ok-refs.refs c.in_ok-refs.methods c.in_ok-methods.methods c.in_ok-methods.ensures c.in_ok-refs.ensures.closed }

@@ -1,0 +1,151 @@
+//! What a call of a program does on an object of a class.
+ghost use Rattle.std.specs.Prelude.{◌≡◌, ◌==◌, ◌<◌, Some, length, option_and_then, IsTrue};
+ghost use Rattle.std.specs.List.{find};
+ghost use Rattle.std.specs.Option.{option_map, option_map_or, option_copied};
+ghost use Rattle.class_world.specs.Types.{is_class_below};
+ghost use Rattle.class_world.specs.Resolve.{method_at};
+ghost use Rattle.class_world.specs.Select.Selection.{Runs, Lacks};
+ghost use Rattle.class_world.specs.Select.{selected_virtual, selected_interface};
+ghost use Rattle.class_world.specs.Selected.{op_at, selection_at, selected_in, selected_at, can_receive_at};
+
+use crate::op::{Call, Op};
+use crate::program::Program;
+use crate::world::{MethodRef, World};
+
+/// What a virtual or interface call does.
+#[derive(Clone, Copy, Debug, PartialEq, Eq)]
+pub enum Selected {
+    /// It runs the method of this number.
+    Method(u32),
+    /// It throws `AbstractMethodError`.
+    Abstract,
+    /// It throws `IncompatibleClassChangeError`: the object does not have the interface.
+    NoInterface,
+}
+
+/// The instruction at a place.
+fn op_in(insns: &[(u16, Op)], pc: u16) -> Option<&Op>
+    ensures { option_copied result ≡ option_map (λ x. x.1) (find (λ x. x.0 == pc) insns.now) }
+{
+    for insn in insns {
+        if insn.0 == pc {
+            return Some(&insn.1);
+        }
+    }
+    None
+}
+
+impl<'a> World<'a> {
+    /// Whether class `a` is class `b` or below it; no class is below one that isn't there.
+    fn is_below(&self, a: u32, b: u32) -> bool
+        requires { a < length self.now.roster.classes }
+        ensures { result ≡ is_class_below self.now.roster.classes a b }
+    {
+        (b as usize) < self.roster.classes.len() && self.is_class_below(a, b)
+    }
+}
+
+impl<'a> Program<'a> {
+    /// The instruction at a place of a method.
+    #[tactic(auto, unfolding(crate::specs::Selected::op_at))]
+    fn op_at(&self, method: u32, pc: u16) -> Option<&Op>
+        ensures { option_copied result ≡ op_at self.now.methods method pc }
+    {
+        match self.methods.get(method as usize) {
+            Some(method) => op_in(method.insns.as_slice(), pc),
+            None => None,
+        }
+    }
+
+    /// The answer for a method that is not abstract; None where it is not reached.
+    #[tactic(auto, unfolding(crate::specs::Selected::selected_in))]
+    fn numbered(&self, method: MethodRef) -> Option<Selected>
+        ensures { result ≡ selected_in self.now.refs (Runs method) }
+    {
+        match self.refs.number_of(method) {
+            Some(number) => Some(Selected::Method(number)),
+            None => None,
+        }
+    }
+
+    /// What a class selects by name and descriptor.
+    #[tactic(auto, unfolding(crate::specs::Select::selected_virtual, crate::specs::Selected::selected_in))]
+    fn selected_by(&self, name: &[u8], desc: &[u8], class: u32) -> Option<Selected>
+        ensures { result ≡ selected_in self.now.refs (selected_virtual self.now.world.roster.classes name.now desc.now class) }
+    {
+        match self.world.select_in(name, desc, class) {
+            Some(method) => {
+                if self.world.is_abstract_method(method) {
+                    Some(Selected::Abstract)
+                } else {
+                    self.numbered(method)
+                }
+            }
+            None => Some(Selected::Abstract),
+        }
+    }
+
+    /// What a virtual call does.
+    #[tactic(auto, unfolding(crate::specs::Selected::selected_in))]
+    fn selected_virtual(&self, call: &Call, class: u32) -> Option<Selected>
+        ensures { result ≡ selected_in self.now.refs (option_map_or (λ m. selected_virtual self.now.world.roster.classes m.name m.desc class) (method_at self.now.world.roster.classes call.now.method) Lacks) }
+    {
+        match self.world.method_at(call.method) {
+            Some(named) => self.selected_by(named.name, named.desc, class),
+            None => Some(Selected::Abstract),
+        }
+    }
+
+    /// What an interface call does.
+    #[tactic(auto, unfolding(crate::specs::Select::selected_interface, crate::specs::Selected::selected_in))]
+    fn selected_interface(&self, call: &Call, class: u32) -> Option<Selected>
+        requires { class < length self.now.world.roster.classes }
+        ensures { result ≡ selected_in self.now.refs (option_map_or (λ m. selected_interface self.now.world.roster.classes call.now.class m.name m.desc class) (method_at self.now.world.roster.classes call.now.method) Lacks) }
+    {
+        match self.world.method_at(call.method) {
+            Some(named) => {
+                if self.world.is_below(class, call.class) {
+                    self.selected_by(named.name, named.desc, class)
+                } else {
+                    Some(Selected::NoInterface)
+                }
+            }
+            None => Some(Selected::Abstract),
+        }
+    }
+
+    #[tactic(auto, unfolding(crate::specs::Selected::selection_at))]
+    fn selected_by_op(&self, op: &Op, class: u32) -> Option<Selected>
+        requires { class < length self.now.world.roster.classes }
+        ensures { result ≡ option_and_then (selected_in self.now.refs) (selection_at self.now.world.roster.classes op.now class) }
+    {
+        match op {
+            Op::Invokevirtual(call) => self.selected_virtual(call, class),
+            Op::Invokeinterface(call) => self.selected_interface(call, class),
+            _ => None,
+        }
+    }
+
+    #[tactic(auto, unfolding(crate::specs::Selected::selected_at))]
+    fn selected_at(&self, method: u32, pc: u16, class: u32) -> Option<Selected>
+        requires { class < length self.now.world.roster.classes }
+        ensures { result ≡ selected_at self.now.world.roster.classes self.now.refs self.now.methods method pc class }
+    {
+        let op = self.op_at(method, pc)?;
+        self.selected_by_op(op, class)
+    }
+
+    /// What the call at a place of a method does on an object of a class. The method is given by its number.
+    ///
+    /// At that place stands an `invokevirtual` or `invokeinterface`. The class can be made; where it is an
+    /// `invokevirtual`, it is the named class or below it.
+    pub fn select(&self, method: u32, pc: u16, class: u32) -> Selected
+        requires { IsTrue (can_receive_at self.now.world.roster.classes self.now.methods method pc class) }
+        ensures { selected_at self.now.world.roster.classes self.now.refs self.now.methods method pc class ≡ Some result }
+    {
+        match self.selected_at(method, pc, class) {
+            Some(selected) => selected,
+            None => Selected::Abstract,
+        }
+    }
+}
