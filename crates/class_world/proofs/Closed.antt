@@ -233,7 +233,7 @@ selected_with_body world name desc class ref e a =
 
 -- ---- a class that a receiver can be of
 
-made_within : (world : World) (class : ℕ) → can_be_made world class ≡ true → class < length world
+pub made_within : (world : World) (class : ℕ) → can_be_made world class ≡ true → class < length world
 unfolding can_be_made
 made_within world class e = go (slice_get world class) refl e
   where

@@ -17,7 +17,6 @@ pub mod TypeLists
 pub mod Calls
 pub mod Refused
 pub mod Counting
-pub mod ReceiverLists
 pub mod Saying
 pub mod Reaching
 pub mod Room

@@ -2,7 +2,6 @@
 ghost use Rattle.std.specs.Prelude.{◌≡◌, not, IfOk};
 ghost use Rattle.std.specs.Option.{option_to_list};
 ghost use Rattle.class_read.specs.View.{method_content};
-ghost use Rattle.class_world.specs.Select.{receivers};
 ghost use Rattle.class_world.specs.Runs.{has_no_body, with_body, selected_body, selections, call_selections, runs};
 
 use crate::flags::{ABSTRACT, has_flag};
@@ -50,17 +49,6 @@ impl<'a> World<'a> {
         self.with_body(selected)
     }
 
-    /// The classes that can be made and are the named one or below it.
-    fn receivers_of(&self, alloc: Global, named: u32) -> Result<Seq<u32>, AllocError>
-        ensures { IfOk result (λ found. found ≡ receivers self.now.roster.classes named) }
-    {
-        if (named as usize) < self.roster.classes.len() {
-            self.receivers(alloc, named)
-        } else {
-            Ok(Seq::new(alloc))
-        }
-    }
-
     /// What each class that a receiver can be of selects, class by class.
     #[tactic(auto, unfolding(crate::specs::Runs::selections))]
     fn selections(
@@ -71,7 +59,7 @@ impl<'a> World<'a> {
     ) -> Result<Seq<MethodRef>, AllocError>
         ensures { IfOk result (λ found. found ≡ selections self.now.roster.classes named (method_content method.now)) }
     {
-        let receivers = self.receivers_of(alloc, named)?;
+        let receivers = self.receivers(alloc, named)?;
         let mut found = Seq::new(alloc);
         for class in receivers.as_slice() {
             if let Some(selected) = self.selected_body(method.name, method.desc, *class) {

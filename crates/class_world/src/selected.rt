@@ -2,15 +2,14 @@
 ghost use Rattle.std.specs.Prelude.{◌≡◌, ◌==◌, ◌<◌, Some, length, option_and_then, IsTrue};
 ghost use Rattle.std.specs.List.{find};
 ghost use Rattle.std.specs.Option.{option_map, option_map_or, option_copied};
-ghost use Rattle.class_world.specs.Types.{is_class_below};
 ghost use Rattle.class_world.specs.Resolve.{method_at};
 ghost use Rattle.class_world.specs.Select.Selection.{Runs, Lacks};
 ghost use Rattle.class_world.specs.Select.{selected_virtual, selected_interface};
-ghost use Rattle.class_world.specs.Selected.{op_at, selection_at, selected_in, selected_at, can_receive_at};
+ghost use Rattle.class_world.specs.Selected.{op_at, selection_at, selected_in, selected_at, can_receive, can_receive_at};
 
 use crate::op::{Call, Op};
 use crate::program::Program;
-use crate::world::{MethodRef, World};
+use crate::world::MethodRef;
 
 /// What a virtual or interface call does.
 #[derive(Clone, Copy, Debug, PartialEq, Eq)]
@@ -33,16 +32,6 @@ fn op_in(insns: &[(u16, Op)], pc: u16) -> Option<&Op>
         }
     }
     None
-}
-
-impl<'a> World<'a> {
-    /// Whether class `a` is class `b` or below it; no class is below one that isn't there.
-    fn is_below(&self, a: u32, b: u32) -> bool
-        requires { a < length self.now.roster.classes }
-        ensures { result ≡ is_class_below self.now.roster.classes a b }
-    {
-        (b as usize) < self.roster.classes.len() && self.is_class_below(a, b)
-    }
 }
 
 impl<'a> Program<'a> {
@@ -135,10 +124,38 @@ impl<'a> Program<'a> {
         self.selected_by_op(op, class)
     }
 
+    /// Whether the instruction selects by its receiver's class, and an object of the class can be its receiver.
+    #[tactic(auto, unfolding(crate::specs::Selected::can_receive))]
+    fn op_can_receive(&self, op: &Op, class: u32) -> bool
+        ensures { result ≡ can_receive self.now.world.roster.classes op.now class }
+    {
+        match op {
+            Op::Invokevirtual(call) => self.world.is_receiver(class, call.class),
+            Op::Invokeinterface(_) => self.world.roster.can_be_made(class),
+            _ => false,
+        }
+    }
+
+    /// Whether [`Program::select`] answers there: at that place of a method stands an `invokevirtual` or
+    /// `invokeinterface`, and an object of the class can be its receiver. The method is given by its number.
+    ///
+    /// The class can be made, so it is none that is abstract, an interface or no class of the world; for an
+    /// `invokevirtual` it is the named class or below it. An `invokeinterface` can have an object of any class that can
+    /// be made, as verification does not ask whether the class has the interface (JVM specification, section 6.5,
+    /// invokevirtual and invokeinterface).
+    #[tactic(auto, unfolding(crate::specs::Selected::can_receive_at))]
+    pub fn can_receive(&self, method: u32, pc: u16, class: u32) -> bool
+        ensures { result ≡ can_receive_at self.now.world.roster.classes self.now.methods method pc class }
+    {
+        match self.op_at(method, pc) {
+            Some(op) => self.op_can_receive(op, class),
+            None => false,
+        }
+    }
+
     /// What the call at a place of a method does on an object of a class. The method is given by its number.
     ///
-    /// At that place stands an `invokevirtual` or `invokeinterface`. The class can be made; where it is an
-    /// `invokevirtual`, it is the named class or below it.
+    /// It answers where [`Program::can_receive`] says so.
     pub fn select(&self, method: u32, pc: u16, class: u32) -> Selected
         requires { IsTrue (can_receive_at self.now.world.roster.classes self.now.methods method pc class) }
         ensures { selected_at self.now.world.roster.classes self.now.refs self.now.methods method pc class ≡ Some result }

@@ -45,12 +45,20 @@ impl<'a> World<'a> {
 
     /// Whether class `a` is class `b` or below it.
     #[tactic(auto, unfolding(crate::specs::Types::is_class_below))]
-    pub(crate) fn is_class_below(&self, a: u32, b: u32) -> bool
+    fn is_class_below(&self, a: u32, b: u32) -> bool
         requires a { a < length self.now.roster.classes }
         requires b { b < length self.now.roster.classes }
         ensures { result ≡ is_class_below self.now.roster.classes a b }
     {
         (b == 0 || a == b) || self.is_above(a as usize, b as usize)
+    }
+
+    /// Whether class `a` is class `b` or below it; no class is below one that isn't there.
+    pub(crate) fn is_below(&self, a: u32, b: u32) -> bool
+        requires { a < length self.now.roster.classes }
+        ensures { result ≡ is_class_below self.now.roster.classes a b }
+    {
+        (b as usize) < self.roster.classes.len() && self.is_class_below(a, b)
     }
 
     fn is_interface(&self, class: u32) -> bool
