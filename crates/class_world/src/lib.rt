@@ -46,4 +46,6 @@ pub use world::{MethodRef, World};
 #[cfg(test)]
 mod closing_tests;
 #[cfg(test)]
+mod selected_tests;
+#[cfg(test)]
 mod tests;
