@@ -24,3 +24,5 @@ pub mod Bodies
 pub mod GoingThrough
 pub mod ShortCodes
 pub mod Closed
+pub mod RisingCodes
+pub mod Rising

@@ -1,6 +1,6 @@
 -- What a virtual or interface call of a program does once it knows its receiver's class, with the number of the method
 -- that it runs (JVM specification, section 6.5, invokevirtual and invokeinterface).
-use Rattle.std.specs.Prelude.{ℕ, ◌==◌, Bool, false, List, position, slice_get, Option, Some, None, option_and_then}
+use Rattle.std.specs.Prelude.{ℕ, ◌+◌, ◌==◌, ◌&&◌, nat_le, Bool, true, false, List, [], ◌∷◌, position, slice_get, Option, Some, None, option_and_then}
 use Rattle.std.specs.List.{find, list_all}
 use Rattle.std.specs.Option.{option_map, option_map_or}
 use Rattle.class_world.specs.declared.op.Op.{Op}
@@ -55,3 +55,11 @@ has_runs world refs m = list_all (has_method refs) (runs_in world m)
 -- it has all that the methods of a program can run
 abbrev pub is_closed : World → List MethodRef → List Method → Bool
 is_closed world refs methods = list_all (has_runs world refs) methods
+
+-- the instructions stand at rising places, from a place on
+abbrev pub rises_from : {A : Type 0} → ℕ → List (ℕ × A) → Bool
+rises_from place [] = true
+rises_from place (x ∷ xs) = nat_le place x.0 && rises_from (x.0 + 1) xs
+
+abbrev pub is_rising : Method → Bool
+is_rising m = rises_from 0 m.insns

@@ -1,6 +1,7 @@
 //! A world with the methods that an entry reaches.
 ghost use Rattle.std.specs.Prelude.{IsTrue};
-ghost use Rattle.class_world.specs.Selected.{is_closed};
+ghost use Rattle.std.specs.List.{list_all};
+ghost use Rattle.class_world.specs.Selected.{is_closed, is_rising};
 
 use crate::op::Op;
 use crate::reached::MethodRefs;
@@ -38,7 +39,7 @@ pub struct Method<'a> {
     pub max_stack: u16,
     /// The words of the local variables.
     pub max_locals: u16,
-    /// The instructions, each with its place in bytes from the code's start.
+    /// The instructions, each with its place in bytes from the code's start. The places rise.
     pub insns: Seq<(u16, Op)>,
     /// The exception table.
     pub table: Seq<CatchRange>,
@@ -68,4 +69,5 @@ pub struct Program<'a> {
     pub statics: Seq<StaticField<'a>>,
     pub(crate) refs: MethodRefs,
     ghost closed: { IsTrue (is_closed world.roster.classes refs methods) },
+    ghost rising: { IsTrue (list_all is_rising methods) },
 }

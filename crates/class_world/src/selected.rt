@@ -1,11 +1,11 @@
 //! What a call of a program does on an object of a class.
-ghost use Rattle.std.specs.Prelude.{◌≡◌, ◌==◌, ◌<◌, Some, length, option_and_then, IsTrue};
+ghost use Rattle.std.specs.Prelude.{◌≡◌, ◌==◌, ◌<◌, if◌then◌else◌, Some, None, length, slice_get, option_and_then, IsTrue};
 ghost use Rattle.std.specs.List.{find};
 ghost use Rattle.std.specs.Option.{option_map, option_map_or, option_copied};
 ghost use Rattle.class_world.specs.Resolve.{method_at};
 ghost use Rattle.class_world.specs.Select.Selection.{Runs, Lacks};
 ghost use Rattle.class_world.specs.Select.{selected_virtual, selected_interface};
-ghost use Rattle.class_world.specs.Selected.{op_at, selection_at, selected_in, selected_at, can_receive, can_receive_at};
+ghost use Rattle.class_world.specs.Selected.{rises_from, op_at, selection_at, selected_in, selected_at, can_receive, can_receive_at};
 
 use crate::op::{Call, Op};
 use crate::program::Program;
@@ -22,16 +22,21 @@ pub enum Selected {
     NoInterface,
 }
 
+/// How many instructions stand before a place.
+fn count_before(insns: &[(u16, Op)], pc: u16) -> usize
+    requires { IsTrue (rises_from 0 insns.now) }
+    ensures { find (λ x. x.0 == pc) insns.now ≡ option_and_then (λ x. if x.0 == pc then Some x else None) (slice_get insns.now result) }
+{
+    insns.partition_point(|insn| insn.0 < pc)
+}
+
 /// The instruction at a place.
 fn op_in(insns: &[(u16, Op)], pc: u16) -> Option<&Op>
+    requires { IsTrue (rises_from 0 insns.now) }
     ensures { option_copied result ≡ option_map (λ x. x.1) (find (λ x. x.0 == pc) insns.now) }
 {
-    for insn in insns {
-        if insn.0 == pc {
-            return Some(&insn.1);
-        }
-    }
-    None
+    let insn = insns.get(count_before(insns, pc))?;
+    if insn.0 == pc { Some(&insn.1) } else { None }
 }
 
 impl<'a> Program<'a> {

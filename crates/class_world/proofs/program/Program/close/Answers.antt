@@ -1,5 +1,11 @@
 use Rattle.class_world.proofs.Closed.{closed_from}
+use Rattle.class_world.proofs.Rising.{rising_from}
 use Rattle.class_world.proofs.program.Program.close.Goals as goal
 
 pub invariant_of-result : goal.invariant_of-result
-invariant_of-result c = record { closed = closed_from c.args.world.roster.classes c.in_ok-refs.refs c.in_ok-refs.methods c.in_ok-methods.methods c.in_ok-methods.ensures c.in_ok-refs.ensures.closed }
+invariant_of-result c =
+    let world = c.args.world.roster.classes in
+    record {
+      closed = closed_from world c.in_ok-refs.refs c.in_ok-refs.methods c.in_ok-methods.methods c.in_ok-methods.ensures c.in_ok-refs.ensures.closed;
+      rising = rising_from world c.in_ok-refs.refs _ c.in_ok-refs.methods c.in_ok-methods.methods c.in_ok-refs.ensures.methods c.in_ok-methods.ensures;
+    }
