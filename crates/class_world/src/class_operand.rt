@@ -5,7 +5,7 @@ ghost use Rattle.class_world.specs.Ops.{meant_type, array_type, class_named, typ
 ghost use Rattle.class_world.specs.Reads.{type_seen, meaning_seen};
 ghost use Rattle.class_world.specs.Refusals.{Gives};
 
-use crate::descriptor::{Sense, TypeText, is_class_name};
+use crate::descriptor::{Sense, TypeText};
 use crate::flags::{ABSTRACT, INTERFACE, has_flag};
 use crate::op::Op;
 use crate::operand::ClassForm;
@@ -14,6 +14,7 @@ use crate::roster::Roster;
 use crate::signature::whole_type;
 use crate::world::World;
 use class_pool::Pool;
+use class_read::is_class_name;
 use jvm_values::{Base, Slot, Ty};
 use list_views::Seq;
 use std::alloc::Global;

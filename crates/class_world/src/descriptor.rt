@@ -1,11 +1,10 @@
 //! Descriptors (JVM specification, section 4.3).
 ghost use Rattle.std.specs.Prelude.{◌≡◌, ◌≤◌, length, position, ◌==◌};
-ghost use Rattle.std.specs.List.{list_all};
-ghost use Rattle.std.specs.Str.{is_utf8};
-ghost use Rattle.class_read.specs.Names.{is_name_byte, is_class_name, is_primitive, array_depth};
+ghost use Rattle.class_read.specs.Names.{is_primitive, array_depth};
 ghost use Rattle.class_world.specs.Descriptors.{object_at, element_at, type_at, kind_of};
 ghost use Rattle.class_world.specs.Reads.{Reads, element_seen, type_seen};
 
+use class_read::is_class_name;
 use jvm_values::{Kind, Slot};
 
 /// The element of an array, or a type that is no array.
@@ -33,34 +32,6 @@ pub(crate) enum Sense<'t> {
     Unsupported,
     /// It is of a class that isn't there.
     Missing(&'t [u8]),
-}
-
-fn is_name_byte(b: u8) -> bool
-    ensures { result ≡ is_name_byte b }
-{
-    !(b == b'.' || b == b';' || b == b'[')
-}
-
-fn has_name_bytes(name: &[u8]) -> bool
-    ensures { result ≡ list_all is_name_byte name.now }
-{
-    name.iter().all(|b| is_name_byte(*b))
-}
-
-fn is_text(bytes: &[u8]) -> bool
-    ensures { result ≡ is_utf8 bytes.now }
-{
-    match str::from_utf8(bytes) {
-        Ok(_) => true,
-        Err(_) => false,
-    }
-}
-
-/// Whether the bytes are the name of a class.
-pub(crate) fn is_class_name(name: &[u8]) -> bool
-    ensures { result ≡ is_class_name name.now }
-{
-    name.len() > 0 && has_name_bytes(name) && is_text(name)
 }
 
 fn is_primitive(b: u8) -> bool
