@@ -26,3 +26,4 @@ pub mod ShortCodes
 pub mod Closed
 pub mod RisingCodes
 pub mod Rising
+pub mod ReadAlike

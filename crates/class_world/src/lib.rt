@@ -37,7 +37,7 @@ mod types;
 mod world;
 
 pub use fault::{LinkFault, MethodName};
-pub use laws::sub_is_least;
+pub use laws::{descriptors_read_alike, sub_is_least};
 pub use op::{Call, FieldUse, Op};
 pub use program::{CatchRange, Method, Program, StaticField};
 pub use selected::Selected;
