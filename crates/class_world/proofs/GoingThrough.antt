@@ -1,6 +1,6 @@
 -- Going through the reached methods, one after the other.
-use Rattle.std.proofs.Common.{◌≡◌, ◌++◌, ℕ, zero, suc, ◌+◌, ◌<◌, ◌≤◌, Bool, true, false, cond, List, [], ◌∷◌, length, Option, Some, None, Ok, Err, sym, refl, ap, ◌∙◌, subst, inl, inr, ◌⊎◌, arith, append_assoc, append-nil, length-append, get_or, drop, drop-cons, add-one, ◌-◌}
-use Rattle.std.specs.Prelude.{flat_map, slice_get, Result, option_and_then}
+use Rattle.std.proofs.Common.{◌≡◌, ◌++◌, ℕ, zero, suc, ◌+◌, ◌<◌, ◌≤◌, Bool, true, List, [], ◌∷◌, length, Option, Some, None, Ok, Err, sym, refl, ap, ◌∙◌, subst, inl, inr, ◌⊎◌, arith, append_assoc, length-append, get_or, drop, drop-cons, add-one, ◌-◌}
+use Rattle.std.specs.Prelude.{flat_map, slice_get, option_and_then}
 use Rattle.std.proofs.lemmas.Option.{slice_get_past}
 use Rattle.std.specs.List.{list_all, filter_map, cons_option}
 use Rattle.std.specs.Option.{option_map, option_map_or}
@@ -15,13 +15,13 @@ use Rattle.class_world.specs.declared.fault.LinkFault.TheVariants.{Memory}
 use Rattle.class_world.specs.declared.program.Method.{Method}
 use Rattle.class_world.specs.declared.world.MethodRef.{MethodRef}
 use Rattle.class_world.specs.World.{World}
-use Rattle.class_world.specs.Said.{Said, each}
+use Rattle.class_world.specs.Said.{each}
 use Rattle.class_world.specs.Resolve.{method_at}
 use Rattle.class_world.specs.Runs.{runs}
 use Rattle.class_world.specs.Methods.{method_of}
 use Rattle.class_world.specs.Reached.{has_body, with_one, with_new, runs_in, runs_said, runs_from, reached_within, method_count, reached, contents_of, methods_of}
 use Rattle.class_world.proofs.Saying.{each_more, each_broken}
-use Rattle.class_world.proofs.Reaching.{with_new_append, Begins, begins_refl, begins_length, begins_all, made_by, within, IsGrowing, grow_start, grow_more, begins_in_time, ends_in_time}
+use Rattle.class_world.proofs.Reaching.{with_new_append, Begins, begins_length, begins_all, within, IsGrowing, grow_start, grow_more, begins_in_time, ends_in_time}
 use Rattle.class_world.proofs.Room.{open_in, all_methods, all_length, at_in_all, body_at, bodies_in_all, all_new, room_start, room_new}
 use Rattle.class_world.proofs.Bodies.{all_flat_map, runs_all}
 

@@ -1,5 +1,5 @@
 -- Refusals and faults.
-use Rattle.std.proofs.Common.{◌≡◌, ◌⊎◌, ℕ, ◌<◌, List, [], length, get_or, Option, Some, None, Result, Ok, Err, refl, ap, sym, ◌∙◌, inl, inr, subst}
+use Rattle.std.proofs.Common.{◌≡◌, ◌⊎◌, ℕ, ◌<◌, List, [], length, get_or, Result, Ok, Err, refl, ap, sym, ◌∙◌, inl, inr, subst}
 use Rattle.std.specs.Option.{option_map_or}
 use Rattle.class_pool.specs.declared.entry.PoolEntry.{PoolEntry}
 use Rattle.class_read.specs.Content.{ClassContent}
@@ -14,7 +14,7 @@ use Rattle.class_world.specs.World.{World}
 use Rattle.class_world.specs.Operands.{operand_of}
 use Rattle.class_world.specs.Ops.{op_with, op_of, pool_of}
 use Rattle.class_world.proofs.Tables.{class_at}
-use Rattle.class_world.specs.Refusals.{Fails, Gives, fault_at, with_fault, rank, first_refusal, together}
+use Rattle.class_world.specs.Refusals.{Fails, Gives, fault_at, with_fault, first_refusal, together}
 
 -- a refusal's fault is what is said, unless memory ran out
 pub fault_said : {A : Type 0} (name : MethodName) (pc : ℕ) (refusal : Refusal) (said : Result A Refusal) (fault : LinkFault)

@@ -1,7 +1,7 @@
 -- A list of methods of a world, each once, is no longer than the world has methods.
-use Rattle.std.proofs.Common.{◌≡◌, ◌++◌, ◌||◌, ◌&&◌, ℕ, zero, suc, ◌+◌, ◌<◌, ◌≤◌, Bool, true, false, not, cond, eqb, List, [], ◌∷◌, length, Option, Some, None, sym, refl, ap, ◌∙◌, subst, inl, inr, ◌⊎◌, arith, length-append}
+use Rattle.std.proofs.Common.{◌≡◌, ◌++◌, ◌||◌, ◌&&◌, ℕ, zero, suc, ◌+◌, ◌≤◌, Bool, true, false, not, cond, eqb, List, [], ◌∷◌, length, Option, Some, None, sym, refl, ap, ◌∙◌, subst, arith, length-append}
 use Rattle.std.specs.Prelude.{flat_map, slice_get, option_and_then}
-use Rattle.std.specs.List.{list_any, list_all}
+use Rattle.std.specs.List.{list_all}
 use Rattle.std.specs.Option.{option_map_or}
 use Rattle.std.proofs.lemmas.Bool.{false≢true, eqb-true, eq-eqb, and_from, and_parts, or_left, or_right}
 use Rattle.std.proofs.lemmas.List.Folds.{list_any-append, list_all-append}
@@ -9,7 +9,6 @@ use Rattle.class_read.specs.Content.{ClassContent, MethodContent}
 use Rattle.class_world.specs.declared.world.MethodRef.{MethodRef}
 use Rattle.class_world.specs.World.{World, is_abstract}
 use Rattle.class_world.specs.Resolve.{method_at}
-use Rattle.class_world.specs.Runs.{has_no_body}
 use Rattle.class_world.specs.Reached.{same_method, has_method, with_one, with_new, has_body, method_count}
 
 pub same_is : (a b : MethodRef) → same_method a b ≡ true → a ≡ b

@@ -1,6 +1,6 @@
 -- The first class that isn't there, among the parameters and then the result.
 use Rattle.std.proofs.Common.{◌≡◌, ℕ, ◌++◌, List, [], ◌∷◌, Option, Some, None, refl, ap, sym, ◌∙◌}
-use Rattle.std.specs.Option.{option_or, option_map, option_to_list}
+use Rattle.std.specs.Option.{option_or, option_to_list}
 use Rattle.class_read.specs.Names.{FieldType}
 use Rattle.class_world.specs.World.{World}
 use Rattle.class_world.specs.Descriptors.{meaning_of}

@@ -2,10 +2,10 @@
 --
 -- JVM specification: section 4.7.3 (codes and exception tables), section 5.4.3 (what names stand for), section 5.5 (which
 -- classes a call initialises). Static initialisers, native and synchronized methods are not supported.
-use Rattle.std.specs.Prelude.{ℕ, ◌==◌, if◌then◌else◌, Bool, List, [], ◌∷◌, length, map, slice_get, Option, Some, None, option_map, Result, Ok, Err}
+use Rattle.std.specs.Prelude.{ℕ, ◌==◌, if◌then◌else◌, List, [], ◌∷◌, length, map, slice_get, Option, Some, None, option_map, Result, Ok, Err}
 use Rattle.std.specs.Option.{option_map_or}
 use Rattle.class_pool.specs.declared.entry.PoolEntry.{PoolEntry}
-use Rattle.class_read.specs.Content.{ClassContent, MethodContent, CodeContent, Handler}
+use Rattle.class_read.specs.Content.{MethodContent, CodeContent, Handler}
 use Rattle.class_read.specs.Rules.{name_of}
 use Rattle.code_decode.specs.declared.fault.CodeFault.{CodeFault}
 use Rattle.code_decode.specs.declared.insn.Insn.{Insn}
@@ -19,7 +19,6 @@ use Rattle.class_world.specs.declared.fault.MethodName.{MethodName}
 use Rattle.class_world.specs.declared.op.Op.{Op}
 use Rattle.class_world.specs.declared.program.CatchRange.{CatchRange}
 use Rattle.class_world.specs.declared.program.Method.{Method}
-use Rattle.class_world.specs.declared.world.MethodRef.{MethodRef}
 use Rattle.class_world.specs.World.{World, class_of, is_static, is_native, is_synchronized}
 use Rattle.class_world.specs.Descriptors.{class_slot}
 use Rattle.class_world.specs.Said.{Said, ◌>>=◌, unless, each}

@@ -5,7 +5,7 @@ use Rattle.std.specs.Option.{option_map, option_or, option_to_list}
 use Rattle.class_read.specs.Names.{FieldType}
 use Rattle.jvm_values.specs.declared.types.Slot.{Slot}
 use Rattle.class_world.specs.declared.refusal.Refusal.{Refusal}
-use Rattle.class_world.specs.declared.refusal.Refusal.TheVariants.{MissingClass, UnsupportedType, Unresolved}
+use Rattle.class_world.specs.declared.refusal.Refusal.TheVariants.{MissingClass, UnsupportedType}
 use Rattle.class_world.specs.declared.signature.Signature.{Signature}
 use Rattle.class_world.specs.World.{World}
 use Rattle.class_world.specs.Refusals.{◌>>=◌, wanted}

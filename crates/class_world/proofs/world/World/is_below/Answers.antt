@@ -1,4 +1,4 @@
-use Rattle.std.proofs.Common.{◌∙◌, ap, length, ltb, arith}
+use Rattle.std.proofs.Common.{ap, ltb, arith}
 use Rattle.class_world.proofs.Closed.{not_below}
 use Rattle.class_world.proofs.world.World.is_below.Goals as goal
 

@@ -1,4 +1,4 @@
-use Rattle.std.proofs.Common.{◌≡◌, sym, subst, Result}
+use Rattle.std.proofs.Common.{sym, subst, Result}
 use Rattle.class_world.specs.declared.refusal.Refusal.{Refusal}
 use Rattle.jvm_values.specs.declared.types.Ty.{Ty}
 use Rattle.class_world.specs.declared.signature.Signature.{Signature}

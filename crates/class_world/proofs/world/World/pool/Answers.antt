@@ -1,4 +1,4 @@
-use Rattle.std.proofs.Common.{ap, ◌∙◌}
+use Rattle.std.proofs.Common.{ap}
 use Rattle.class_world.proofs.GoingThrough.{pool_from}
 use Rattle.class_world.proofs.world.World.pool.Goals as goal
 

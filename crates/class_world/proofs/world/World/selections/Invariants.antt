@@ -1,6 +1,5 @@
 use Rattle.std.proofs.Common.{◌≡◌, ◌++◌, drop}
 use Rattle.std.specs.List.{filter_map}
-use Rattle.class_world.specs.Select.{receivers}
 use Rattle.class_world.specs.Runs.{selected_body}
 use Rattle.class_world.proofs.world.World.selections.Given as goal
 
