@@ -4,6 +4,7 @@
 //! table that ties each instruction to its opcode and operands stands once, in the definitions: both cite it.
 #![tactic(auto)]
 
+mod cases;
 mod code;
 mod fault;
 mod flow;
@@ -16,6 +17,7 @@ mod starts;
 mod table;
 mod writing;
 
+pub use cases::is_rising;
 pub use code::decode;
 pub use fault::CodeFault;
 pub use flow::{falls_through, length, targets};

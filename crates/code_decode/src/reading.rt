@@ -2,8 +2,9 @@
 ghost use Rattle.std.specs.Prelude.{◌≡◌, IsTrue, is_some, option_map};
 ghost use Rattle.std.specs.Int.{w16, w32, cast_signed};
 ghost use Rattle.code_decode.specs.Reading.{Gives, Byte, Pair, Jump, byte_at, number_at, signed_at, place_of, target_at, skip_at, find_by, with_byte, with_pair, with_jump, operands_at, repeat_at, case_at, table_at, lookup_at, interface_at, array_at, wide_at, increment_at, signed_byte_at, sipush_at, far_jump_at, table_targets_at, counted_cases_at, wide_increment_at, wide_local, wide_operand_at, single_form, operand_form, insn_at};
-ghost use Rattle.code_decode.specs.Texts.{padding_of, is_rising};
+ghost use Rattle.code_decode.specs.Texts.{padding_of};
 
+use crate::cases::is_rising;
 use crate::fault::CodeFault;
 use crate::forms::{plain, wide_local, with_byte, with_jump, with_pair};
 use crate::insn::{Case, Insn};
@@ -137,23 +138,6 @@ fn cases_at(
         rest = after;
     }
     Ok((cases, rest))
-}
-
-/// Whether each key is above the one before it.
-fn is_rising(cases: &[Case]) -> bool
-    ensures { result ≡ is_rising cases.now }
-{
-    let Some((first, others)) = cases.split_first() else {
-        return true;
-    };
-    let mut key = first.key;
-    for case in others {
-        if case.key <= key {
-            return false;
-        }
-        key = case.key;
-    }
-    true
 }
 
 /// The targets of a table whose lowest and highest key are given.
