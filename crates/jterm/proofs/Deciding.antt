@@ -7,12 +7,14 @@ use Rattle.class_world.specs.Reached.{has_body, close_of}
 use Rattle.class_world.specs.declared.program.Method.{Method}
 use Rattle.class_world.specs.declared.world.MethodRef.{MethodRef}
 use Rattle.jterm.specs.declared.line.Line.{Line}
+use Rattle.jterm.specs.declared.verdict.Request.{Request}
+use Rattle.jterm.specs.declared.verdict.Request.TheVariants.{Prove, Asm}
 use Rattle.jterm.specs.declared.verdict.Verdict.{Verdict}
 use Rattle.jterm.specs.declared.verdict.Refused.{Refused}
 use Rattle.jterm.specs.declared.verdict.Refused.TheVariants.{At, Memory}
 use Rattle.jterm.specs.declared.verdict.Place.TheVariants as places
 use Rattle.jterm.specs.declared.verdict.Fault.TheVariants as faults
-use Rattle.jterm.specs.Decision.{SaysYes, Answers, YesOrMemory, IsEntry, AreLinked, HasEntry}
+use Rattle.jterm.specs.Decision.{SaysYes, Answers, Assembles, IsAnswer, YesOrMemory, IsEntry, AreLinked, HasEntry}
 use Rattle.jterm.specs.FirstPath.{IsFirstPath}
 use Rattle.jterm.specs.Machine.{program_of}
 use Rattle.jterm.specs.Description.{IsLine}
@@ -25,8 +27,10 @@ use Rattle.jterm.proofs.Good.{AllEnd-good}
 
 pub classes_refused : (desc : List ℕ) (files : List (List ℕ)) (refused : Refused) → RefusesClasses files refused → Answers desc files (Err refused)
 classes_refused desc files (At (places.Class n) (faults.Class fault)) r = r
+classes_refused desc files (At (places.Class n) (faults.Listing fault)) r = absurd r
 classes_refused desc files (At (places.Class n) (faults.Link fault)) r = absurd r
 classes_refused desc files (At (places.Class n) faults.NotBuilt) r = absurd r
+classes_refused desc files (At places.Listing fault) r = absurd r
 classes_refused desc files (At places.Description fault) r = absurd r
 classes_refused desc files (At places.Link fault) r = absurd r
 classes_refused desc files Memory r = tt
@@ -38,8 +42,10 @@ pub world_refused : (desc : List ℕ) (files : List (List ℕ)) (classes : List 
 world_refused desc files classes line (At places.Link (faults.Link fault)) spelled is r =
     inl (record { read = record { classes = classes; spelled = spelled; line = line; described = is }; first = r })
 world_refused desc files classes line (At places.Link (faults.Class fault)) spelled is r = absurd r
+world_refused desc files classes line (At places.Link (faults.Listing fault)) spelled is r = absurd r
 world_refused desc files classes line (At places.Link faults.NotBuilt) spelled is r = absurd r
 world_refused desc files classes line (At (places.Class n) fault) spelled is r = absurd r
+world_refused desc files classes line (At places.Listing fault) spelled is r = absurd r
 world_refused desc files classes line (At places.Description fault) spelled is r = absurd r
 world_refused desc files classes line Memory spelled is r = tt
 
@@ -57,8 +63,10 @@ pub closing_refused : (desc : List ℕ) (files : List (List ℕ)) (classes : Lis
 closing_refused desc files classes line entry world (At places.Link (faults.Link fault)) spelled is links same e r =
     inr (record { entered = entered desc files classes line entry world spelled is links same e; first = subst (λ (w : World). close_of w entry ≡ Err fault) same r })
 closing_refused desc files classes line entry world (At places.Link (faults.Class fault)) spelled is links same e r = absurd r
+closing_refused desc files classes line entry world (At places.Link (faults.Listing fault)) spelled is links same e r = absurd r
 closing_refused desc files classes line entry world (At places.Link faults.NotBuilt) spelled is links same e r = absurd r
 closing_refused desc files classes line entry world (At (places.Class n) fault) spelled is links same e r = absurd r
+closing_refused desc files classes line entry world (At places.Listing fault) spelled is links same e r = absurd r
 closing_refused desc files classes line entry world (At places.Description fault) spelled is links same e r = absurd r
 closing_refused desc files classes line entry world Memory spelled is links same e r = tt
 
@@ -88,19 +96,31 @@ pub headline_of : (desc : List ℕ) (files : List (List ℕ)) (result : Result V
 headline_of desc files (Ok verdict) a = λ says. AllEnd-good desc files a.1
 headline_of desc files (Err refused) a = tt
 
-same_items : {A : Type 0} (f : A → List ℕ) (x : A) (xs : List A) (desc : List ℕ) (classes : List (List ℕ)) → map f (x ∷ xs) ≡ desc ∷ classes → (f x ≡ desc) × (map f xs ≡ classes)
-same_items f x xs desc classes e = (cc, cc)
+-- ---- the answer to a request
 
 -- a description and classes as they stand among the inputs
-pub headline_at : {A : Type 0} (f : A → List ℕ) (inputs : List A) (one : A) (first desc : List ℕ) (classes : List (List ℕ)) (result : Result Verdict Refused) → one ≡ get_or inputs 0 one → first ≡ f one → map f inputs ≡ desc ∷ classes → Answers first (map f (take (length inputs - 1) (drop 1 inputs))) result → IfOk result (λ verdict. SaysYes verdict → AllEnd classes desc)
-headline_at f [] one first desc classes result at is e a = absurd (cc)
-headline_at {A} f (x ∷ xs) one first desc classes result at is e a =
-    let parts = same_items f x xs desc classes e in
-    let here : first ≡ desc = is ∙ ap f at ∙ parts.0 in
+pub prove_at : {A : Type 0} (f : A → List ℕ) (inputs : List A) (one : A) (first : List ℕ) (nodes : ℕ) (result : Result Verdict Refused) → 2 ≤ length inputs → one ≡ get_or inputs 0 one → first ≡ f one
+    → Answers first (map f (take (length inputs - 1) (drop 1 inputs))) result → IsAnswer (Prove nodes) (map f inputs) result
+prove_at f [] one first nodes result some at is a = absurd (omega arith)
+prove_at {A} f (x ∷ xs) one first nodes result some at is a =
+    let here : first ≡ f x = is ∙ ap f at in
     let long : length (x ∷ xs) - 1 ≡ length xs = omega arith in
     let others : take (length (x ∷ xs) - 1) xs ≡ xs = ap (λ (n : ℕ). take n xs) long ∙ take_all xs in
     let all : Answers first (map f xs) result = subst (λ (ys : List A). Answers first (map f ys) result) others a in
-    headline_of desc classes result (subst (λ (cs : List (List ℕ)). Answers desc cs result) parts.1 (subst (λ (d : List ℕ). Answers d (map f xs) result) here all))
+    subst (λ (d : List ℕ). Answers d (map f xs) result) here all
+
+-- a listing as it stands among the inputs
+pub asm_at : {A : Type 0} (f : A → List ℕ) (inputs : List A) (one : A) (first : List ℕ) (result : Result Verdict Refused) → length inputs ≡ 1 → one ≡ get_or inputs 0 one → first ≡ f one
+    → Assembles first result → IsAnswer Asm (map f inputs) result
+asm_at f [] one first result alone at is a = absurd (omega arith)
+asm_at f (x ∷ []) one first result alone at is a = let here : first ≡ f x = is ∙ ap f at in subst (λ (l : List ℕ). Assembles l result) here a
+asm_at f (x ∷ y ∷ xs) one first result alone at is a = absurd (omega arith)
+
+-- what YES says of a description and classes
+pub headline_at : (request : Request) (nodes : ℕ) (files : List (List ℕ)) (desc : List ℕ) (classes : List (List ℕ)) (result : Result Verdict Refused) → request ≡ Prove nodes → files ≡ desc ∷ classes → IsAnswer request files result
+    → IfOk result (λ verdict. SaysYes verdict → AllEnd classes desc)
+headline_at request nodes files desc classes result asked given answer =
+    headline_of desc classes result (subst (λ (r : Request). IsAnswer r (desc ∷ classes) result) asked (subst (λ (fs : List (List ℕ)). IsAnswer request fs result) given answer))
 
 -- ---- the entry
 

@@ -9,7 +9,7 @@ use Rattle.io_ports.specs.declared.files.FileFault.TheVariants.{Failed, TooLong,
 use Rattle.jterm.specs.declared.inputs.Stop.{Stop}
 use Rattle.jterm.specs.declared.inputs.Stop.TheVariants.{Unread, Broken, NoMemory}
 use Rattle.jterm.specs.declared.verdict.Request.{Request}
-use Rattle.jterm.specs.declared.verdict.Request.TheVariants.{Prove}
+use Rattle.jterm.specs.declared.verdict.Request.TheVariants.{Prove, Asm}
 use Rattle.jterm.specs.declared.verdict.Verdict.{Verdict}
 use Rattle.jterm.specs.declared.verdict.Place.{Place}
 use Rattle.jterm.specs.declared.verdict.Place.TheVariants as places
@@ -29,16 +29,20 @@ use Rattle.class_world.specs.Linking.{link_fault}
 use Rattle.class_world.specs.declared.fault.LinkFault.{LinkFault}
 use Rattle.class_world.specs.declared.world.MethodRef.{MethodRef}
 use Rattle.jterm.specs.declared.verdict.Fault.{Fault}
+use Rattle.jterm.specs.declared.verdict.Refused.{Refused}
 use Rattle.jterm.specs.declared.verdict.Refused.TheVariants.{At}
 use Rattle.jterm.specs.Words.{IsProve, IsCommand}
 use Rattle.jterm.specs.Lines.{memory_line, read_line, refusal_line}
-use Rattle.jterm.specs.Decision.{Answers, SaysYes, IsEntry, HasEntry, IsRefused, IsFirstBroken, IsGood, yes_line}
+use Rattle.jterm.specs.Decision.{Answers, IsAnswer, SaysYes, IsEntry, HasEntry, IsRefused, IsFirstBroken, IsGood, yes_line}
 use Rattle.jterm.specs.Headline.{AllEnd, AllSpell, named_method}
-use Rattle.jterm.specs.Outside.{AreTold, AreContents, IsUnread, ReadFails, Decided, Claims, limit_of}
+use Rattle.jterm.specs.Outside.{AreTold, AreContents, IsUnread, ReadFails, Decided, Claims, IsWritten, limit_of}
 use Rattle.jterm.specs.Stop.{IsAnswered, HasCause, IsNamed, HasLine, status_of, line_of}
 use Rattle.jterm.proofs.Words.{first_word_unique, IsLine-class, IsLine-name, IsLine-params, params_marks, IsEnclosed-params}
 use Rattle.std.proofs.lemmas.List.{length-replicate}
-use Rattle.std.specs.Prelude.{replicate}
+use Rattle.std.specs.Prelude.{replicate, Result}
+use Rattle.std.specs.Io.KnownBytes.{Appends}
+use Rattle.jterm.proofs.Deciding.{headline_of}
+use Rattle.jterm.proofs.WordsLemmas.{other_verbs}
 
 get_below : (names : List (List ℕ)) (place : ℕ) (name : List ℕ) → slice_get names place ≡ Some name → place < length names
 get_below [] place name e = cc
@@ -71,7 +75,7 @@ pub refused : (words : List (List ℕ)) (request : Request) (names : List (List 
     → status ≡ 3 → (place : Place) × (fault : Fault) × Decided words held (Err (At place fault)) × Puts (refusal_line place fault)
 refused words request names held before after (Unread place fault) status Puts command cause says three = elim says [ inl said ↦ absurd (omega arith) | inr said ↦ absurd (omega arith) ]
 refused words request names held before after (Broken place fault) status Puts command cause says three = elim says [
-  | inl said ↦ (place, fault, record { request = request; names = names; is_command = command; desc = cause.0; classes = cause.1; read = cause.2; answer = cause.3 }, said.2)
+  | inl said ↦ (place, fault, record { request = request; names = names; is_command = command; contents = cause.0; read = cause.1; answer = cause.2 }, said.2)
   | inr said ↦ absurd (omega arith)
 ]
 refused words request names held before after NoMemory status Puts command cause says three = elim says [ inl said ↦ absurd said.1 | inr said ↦ absurd (omega arith) ]
@@ -111,19 +115,23 @@ told_contents request place held (n ∷ names) (c ∷ contents) (t ∷ told) are
     let same : c ≡ t = subst (λ h. IsContent h c) first are.0 in
     cc
 
--- the file words of a `prove`
-pub prove_names : (words : List (List ℕ)) (request : Request) (names : List (List ℕ)) (d : List ℕ) (cs : List (List ℕ)) → IsCommand words request names → IsProve words d cs → names ≡ d ∷ cs
-prove_names words request names d cs command prove =
-    let here = command.is_prove.spelled in
+-- what the words of a `prove` ask for, and its file words
+pub prove_names : (words : List (List ℕ)) (request : Request) (names : List (List ℕ)) (d : List ℕ) (cs : List (List ℕ)) → IsCommand words request names → IsProve words d cs → (request ≡ Prove 4000) × (names ≡ d ∷ cs)
+prove_names words request names d cs (inl row) prove =
+    let here = row.is_prove.spelled in
     let there = prove.spelled in
-    let named = command.named in
-    cc
+    let named = row.named in
+    (row.asked, cc)
+prove_names words request names d cs (inr row) prove =
+    absurd (other_verbs (row.listing ∷ []) (d ∷ cs) (sym row.is_asm.spelled ∙ prove.spelled))
 
--- the contents of a `prove`
-pub proved_contents : (words : List (List ℕ)) (request : Request) (names : List (List ℕ)) (held : List ℕ → Told) (d : List ℕ) (cs contents told : List (List ℕ))
-    → IsCommand words request names → IsProve words d cs → AreContents request 0 held names contents → AreTold held (d ∷ cs) told → contents ≡ told
-proved_contents words request names held d cs contents told command prove are tells =
-    told_contents request 0 held names contents told are (subst (λ n. AreTold held n told) (sym (prove_names words request names d cs command prove)) tells)
+-- the answer for the contents of a `prove`
+pub proved_answer : (words : List (List ℕ)) (request : Request) (names : List (List ℕ)) (held : List ℕ → Told) (d : List ℕ) (cs contents : List (List ℕ)) (desc : List ℕ) (classes : List (List ℕ)) (result : Result Verdict Refused)
+    → IsCommand words request names → IsProve words d cs → AreContents request 0 held names contents → AreTold held (d ∷ cs) (desc ∷ classes) → IsAnswer request contents result → Answers desc classes result
+proved_answer words request names held d cs contents desc classes result command prove are tells answer =
+    let asked = prove_names words request names d cs command prove in
+    let same : contents ≡ desc ∷ classes = told_contents request 0 held names contents (desc ∷ classes) are (subst (λ n. AreTold held n (desc ∷ classes)) (sym asked.1) tells) in
+    subst (λ (r : Request). IsAnswer r (desc ∷ classes) result) asked.0 (subst (λ (fs : List (List ℕ)). IsAnswer request fs result) same answer)
 
 says_yes : (desc : List ℕ) (classes : List (List ℕ)) (verdict : Verdict) → Answers desc classes (Ok verdict) → SaysYes verdict
 says_yes desc classes verdict answer = ([], ap (λ v. v.out) answer.0 ∙ sym (append-nil yes_line))
@@ -132,35 +140,36 @@ says_yes desc classes verdict answer = ([], ap (λ v. v.out) answer.0 ∙ sym (a
 pub headline : (words : List (List ℕ)) (request : Request) (names : List (List ℕ)) (held : List ℕ → Told) (verdict : Verdict) (d : List ℕ) (cs : List (List ℕ)) (desc : List ℕ) (classes : List (List ℕ))
     → IsCommand words request names → IsAnswered request names held verdict → IsProve words d cs → AreTold held (d ∷ cs) (desc ∷ classes) → AllEnd classes desc
 headline words request names held verdict d cs desc classes command answered prove tells =
-    let same : answered.desc ∷ answered.classes ≡ desc ∷ classes = proved_contents words request names held d cs _ (desc ∷ classes) command prove answered.read tells in
-    let desc_is : answered.desc ≡ desc = cc in
-    let classes_are : answered.classes ≡ classes = cc in
-    let ends = answered.ends (says_yes _ _ verdict answered.answer) in
-    subst (λ l. AllEnd l desc) classes_are (subst (AllEnd answered.classes) desc_is ends)
+    let answer = proved_answer words request names held d cs answered.contents desc classes (Ok verdict) command prove answered.read tells answered.answer in
+    headline_of desc classes (Ok verdict) answer (says_yes desc classes verdict answer)
 
 -- ---- completeness
 
 -- the words of a `prove` are a command
 pub prove_is_command : (words : List (List ℕ)) (d : List ℕ) (cs : List (List ℕ)) → IsProve words d cs → IsCommand words (Prove 4000) (d ∷ cs)
-prove_is_command words d cs prove = record { desc = d; classes = cs; is_prove = prove; asked = refl; named = refl }
+prove_is_command words d cs prove = inl (record { desc = d; classes = cs; is_prove = prove; asked = refl; named = refl })
 
 -- a name has its content, of the size that is allowed
-record IsHeld (held : List ℕ → Told) (name : List ℕ) : Type 0 where
+pub record IsHeld (held : List ℕ → Told) (name : List ℕ) : Type 0 where
   content : List ℕ
   is_told : held name ≡ Content content
   is_within : length content ≤ 1048576
 
-held_name : (held : List ℕ → Told) (names told : List (List ℕ)) (name : List ℕ) (place : ℕ) → slice_get names place ≡ Some name → AreTold held names told → AllByRecursion (λ file. length file ≤ 1048576) told → IsHeld held name
+pub held_name : (held : List ℕ → Told) (names told : List (List ℕ)) (name : List ℕ) (place : ℕ) → slice_get names place ≡ Some name → AreTold held names told → AllByRecursion (λ file. length file ≤ 1048576) told → IsHeld held name
 held_name held [] told name place e tells small = absurd (cc)
 held_name held (n ∷ names) [] name place e tells small = absurd (cc)
 held_name held (n ∷ names) (t ∷ told) name zero e tells small = record { content = t; is_told = (let first : held n ≡ Content t = cc in cc); is_within = small.0 }
 held_name held (n ∷ names) (t ∷ told) name (suc place) e tells small = (let others : map held names ≡ map Content told = cc in held_name held names told name place e others small.1)
 
 -- what is held within its limit is read, where no count rose
-held_is_read : (request : Request) (place : ℕ) (held : List ℕ → Told) (name : List ℕ) (before after : ℕ) (fault : FileFault) → IsHeld held name → (Rose before after → ⊥)
+pub held_is_read : (request : Request) (place : ℕ) (held : List ℕ → Told) (name : List ℕ) (before after : ℕ) (fault : FileFault) → IsHeld held name → (Rose before after → ⊥)
     → ReadFails fault (held name) (limit_of request place) before after → ⊥
 held_is_read request place held name before after Failed is none fails = none fails
 held_is_read (Prove nodes) place held name before after TooLong is none fails =
+    let longer : IsPastLimit (Content is.content) 1048576 = subst (λ t. IsPastLimit t 1048576) is.is_told fails in
+    let small = is.is_within in
+    omega arith
+held_is_read Asm place held name before after TooLong is none fails =
     let longer : IsPastLimit (Content is.content) 1048576 = subst (λ t. IsPastLimit t 1048576) is.is_told fails in
     let small = is.is_within in
     omega arith
@@ -216,9 +225,12 @@ same_close desc files a b =
 
 not_broken : (desc : List ℕ) (files : List (List ℕ)) (place : Place) (fault : Fault) → IsGood desc files → IsRefused desc files place fault → ⊥
 not_broken desc files (places.Class number) (faults.Class fault) g r = never_broken files g.entered.linked.read.classes number fault g.entered.linked.read.spelled r
+not_broken desc files (places.Class number) (faults.Listing fault) g r = r
 not_broken desc files (places.Class number) (faults.Link fault) g r = r
 not_broken desc files (places.Class number) faults.NotBuilt g r = r
+not_broken desc files places.Listing fault g r = r
 not_broken desc files places.Description (faults.Class fault) g r = r
+not_broken desc files places.Description (faults.Listing fault) g r = r
 not_broken desc files places.Description (faults.Link fault) g r = r
 not_broken desc files places.Description faults.NotBuilt g (inl none) = none.no_line g.entered.linked.read.line g.entered.linked.read.described
 not_broken desc files places.Description faults.NotBuilt g (inr none) =
@@ -228,6 +240,7 @@ not_broken desc files places.Description faults.NotBuilt g (inr none) =
     let line = IsLine-unique desc good.line bad.line good.described bad.described in
     none.no_entry g.entered.entry (subst (λ (l : Line). IsEntry (world_of bad.classes) l g.entered.entry) line (subst (λ (cs : List ClassContent). IsEntry (world_of cs) good.line g.entered.entry) classes g.entered.is_entry))
 not_broken desc files places.Link (faults.Class fault) g r = r
+not_broken desc files places.Link (faults.Listing fault) g r = r
 not_broken desc files places.Link (faults.Link fault) g (inr r) =
     let closed = subst (λ (said : Said (List Method)). said ≡ Ok g.built.methods) (same_close desc files g.entered r.entered) g.built.closed in
     let e : (let said : Said (List Method) = Ok g.built.methods in said) ≡ Err fault = sym closed ∙ r.first in
@@ -255,17 +268,22 @@ pub complete : (words : List (List ℕ)) (request : Request) (names : List (List
     → IsProve words d cs → AreTold held (d ∷ cs) (desc ∷ classes) → AllByRecursion (λ file. length file ≤ 1048576) (desc ∷ classes)
     → IsGood desc classes → (Rose before after → ⊥) → ((status ≡ 0) × R) ⊎ (status ≡ 7)
 complete words request names held before after (Unread place fault) status P Q R d cs desc classes command cause says prove tells small good none =
-    let names_are = prove_names words request names d cs command prove in
-    let there : slice_get (d ∷ cs) place ≡ Some cause.name = subst (λ (n : List (List ℕ)). slice_get n place ≡ Some cause.name) names_are cause.is_named in
+    let asked = prove_names words request names d cs command prove in
+    let there : slice_get (d ∷ cs) place ≡ Some cause.name = subst (λ (n : List (List ℕ)). slice_get n place ≡ Some cause.name) asked.1 cause.is_named in
     absurd (held_is_read request place held cause.name before after fault (held_name held (d ∷ cs) (desc ∷ classes) cause.name place there tells small) none cause.cause)
 complete words request names held before after (Broken place fault) status P Q R d cs desc classes command cause says prove tells small good none =
-    let same : cause.0 ∷ cause.1 ≡ desc ∷ classes = proved_contents words request names held d cs _ (desc ∷ classes) command prove cause.2 tells in
-    let desc_is : cause.0 ≡ desc = cc in
-    let classes_are : cause.1 ≡ classes = cc in
-    let refused : IsRefused desc classes place fault = subst (λ (cs : List (List ℕ)). IsRefused desc cs place fault) classes_are (subst (λ (l : List ℕ). IsRefused l cause.1 place fault) desc_is cause.3) in
-    absurd (not_broken desc classes place fault good refused)
+    absurd (not_broken desc classes place fault good (proved_answer words request names held d cs cause.0 desc classes (Err (At place fault)) command prove cause.1 tells cause.2))
 complete words request names held before after NoMemory status P Q R d cs desc classes command cause says prove tells small good none =
     elim says [ inl said ↦ absurd said.1 | inr said ↦ inr said.0 ]
+
+-- the output of a good `prove` is a yes
+pub complete_written : {S : Type 0} (faults : S → ℕ) (taken : S → Option (List ℕ)) (old new : S) (words : List (List ℕ)) (request : Request) (names : List (List ℕ)) (held : List ℕ → Told) (verdict : Verdict) (status : ℕ) (d : List ℕ) (cs : List (List ℕ)) (desc : List ℕ) (classes : List (List ℕ))
+    → IsCommand words request names → IsAnswered request names held verdict → IsWritten faults taken old new verdict status → IsProve words d cs → AreTold held (d ∷ cs) (desc ∷ classes)
+    → (Rose (faults old) (faults new) → ⊥) → ((status ≡ 0) × Appends (taken old) (taken new) yes_line) ⊎ (status ≡ 7)
+complete_written faults taken old new words request names held verdict status d cs desc classes command answered (inl put) prove tells none =
+    let answer = proved_answer words request names held d cs answered.contents desc classes (Ok verdict) command prove answered.read tells answered.answer in
+    inl (put.0 ∙ answered.done, subst (λ (l : List ℕ). Appends (taken old) (taken new) l) (ap (λ v. v.out) answer.0) put.1)
+complete_written faults taken old new words request names held verdict status d cs desc classes command answered (inr failed) prove tells none = absurd (none failed.1)
 
 -- a verdict that was written is the answer for the contents of the files that the words name
 pub decided : (words : List (List ℕ)) (request : Request) (names : List (List ℕ)) (held : List ℕ → Told) (verdict : Verdict) (told : Option Verdict) → IsCommand words request names → IsAnswered request names held verdict → told ≡ Some verdict → IfSome told (λ v. Decided words held (Ok v))
@@ -275,15 +293,10 @@ decided words request names held verdict told is answered same =
       request = request;
       names = names;
       is_command = is;
-      desc = answered.desc;
-      classes = answered.classes;
+      contents = answered.contents;
       read = answered.read;
       answer = answered.answer;
     })
-
--- a verdict's status is 0
-pub status_of_answer : (request : Request) (names : List (List ℕ)) (held : List ℕ → Told) (verdict : Verdict) → IsAnswered request names held verdict → verdict.status ≡ 0
-status_of_answer request names held verdict answered = ap (λ v. v.status) answered.answer.0
 
 -- status 6 is that of an output that was not taken: the verdict's own is 0
 pub unwritten : {A B R P Q : Type 0} (status own : ℕ) → own ≡ 0 → ((status ≡ own) × A) ⊎ ((status ≡ 6) × R × B) → ((status ≡ own) × P) ⊎ ((status ≡ 6) × Q) → status ≡ 6 → R × Q

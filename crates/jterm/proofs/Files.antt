@@ -54,8 +54,10 @@ broken_at (f ∷ files) (suc number) (c ∷ read) file fault all e broken = (c, 
 
 pub refuses_classes : (files : List (List ℕ)) (number : ℕ) (read : List ClassContent) (file : List ℕ) (refused : Refused) → AllSpell (take number files) read → slice_get files number ≡ Some file → RefusesFile number file refused → RefusesClasses files refused
 refuses_classes files number read file (At (places.Class n) (faults.Class fault)) all e r = subst (λ (k : ℕ). IsFirstBroken files k fault) (sym r.0) (broken_at files number read file fault all e r.1)
+refuses_classes files number read file (At (places.Class n) (faults.Listing fault)) all e r = absurd r
 refuses_classes files number read file (At (places.Class n) (faults.Link fault)) all e r = absurd r
 refuses_classes files number read file (At (places.Class n) faults.NotBuilt) all e r = absurd r
+refuses_classes files number read file (At places.Listing fault) all e r = absurd r
 refuses_classes files number read file (At places.Description fault) all e r = absurd r
 refuses_classes files number read file (At places.Link fault) all e r = absurd r
 refuses_classes files number read file Memory all e r = tt

@@ -20,3 +20,4 @@ pub mod Files
 pub mod Rising
 pub mod Closed
 pub mod Good
+pub mod Assembling

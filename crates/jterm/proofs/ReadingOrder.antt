@@ -6,7 +6,7 @@ use Rattle.io_ports.specs.Told.{Told, IsContent, IsPastLimit, IsNotHeld}
 use Rattle.io_ports.specs.declared.files.FileFault.{FileFault}
 use Rattle.io_ports.specs.declared.files.FileFault.TheVariants.{Failed, TooLong, Missing, Memory}
 use Rattle.jterm.specs.declared.verdict.Request.{Request}
-use Rattle.jterm.specs.declared.verdict.Request.TheVariants.{Prove}
+use Rattle.jterm.specs.declared.verdict.Request.TheVariants.{Prove, Asm}
 use Rattle.jterm.specs.Outside.{AreContents, AreRead, limit_of}
 use Rattle.jterm.specs.Stop.{HasCause, stopped_at}
 
@@ -41,6 +41,7 @@ first_read_more leaves names k name a b c more read left =
 
 limit_anywhere : (request : Request) (p q : ℕ) → limit_of request p ≡ limit_of request q
 limit_anywhere (Prove nodes) p q = refl
+limit_anywhere Asm p q = refl
 
 pub contents_more : (request : Request) (place : ℕ) (held : List ℕ → Told) (names contents : List (List ℕ)) (name content : List ℕ) (limit at : ℕ)
     → AreContents request place held names contents → IsContent (held name) content → length content ≤ limit → limit ≡ limit_of request at

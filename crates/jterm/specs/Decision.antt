@@ -1,5 +1,6 @@
 -- What `decide` answers, and why.
 use Rattle.std.specs.Prelude.{◌≡◌, ◌⊎◌, ℕ, zero, suc, ◌≤◌, List, [], ◌∷◌, ◌++◌, length, Option, Some, None, Result, Ok, Err, IsTrue}
+use Rattle.class_asm.specs.Classes.{assembled}
 use Rattle.class_read.specs.Content.{ClassContent}
 use Rattle.class_read.specs.Rules.{Spells}
 use Rattle.class_read.specs.FirstFault.{class_in}
@@ -12,7 +13,7 @@ use Rattle.class_world.specs.declared.world.MethodRef.{MethodRef}
 use Rattle.class_world.specs.declared.fault.LinkFault.{LinkFault}
 use Rattle.jterm.specs.declared.line.Line.{Line}
 use Rattle.jterm.specs.declared.verdict.Request.{Request}
-use Rattle.jterm.specs.declared.verdict.Request.TheVariants.{Prove}
+use Rattle.jterm.specs.declared.verdict.Request.TheVariants.{Prove, Asm}
 use Rattle.jterm.specs.declared.verdict.Verdict.{Verdict}
 use Rattle.jterm.specs.declared.verdict.Refused.{Refused}
 use Rattle.jterm.specs.declared.verdict.Refused.TheVariants.{At, Memory}
@@ -28,6 +29,7 @@ use Rattle.jterm.specs.Headline.{AllSpell, named_method}
 -- the request's number is in its range, and there are as many files as its command has file words
 abbrev pub Takes : Request → List (List ℕ) → Type 0
 Takes (Prove nodes) files = (1 ≤ nodes) × (nodes ≤ 20000) × (2 ≤ length files) × (length files ≤ 257)
+Takes Asm files = length files ≡ 1
 
 -- `YES` and a newline
 abbrev pub yes_line : List ℕ
@@ -129,6 +131,19 @@ abbrev pub Answers : List ℕ → List (List ℕ) → Result Verdict Refused →
 Answers desc files (Ok verdict) = (verdict ≡ yes) × IsGood desc files
 Answers desc files (Err (At place fault)) = IsRefused desc files place fault
 Answers desc files (Err Memory) = Unit {0}
+
+-- The class file's bytes where the listing says a class, and else its first fault. Want of memory has no cause.
+abbrev pub Assembles : List ℕ → Result Verdict Refused → Type 0
+Assembles listing (Ok verdict) = (verdict.status ≡ 0) × (assembled listing ≡ Ok verdict.out)
+Assembles listing (Err (At places.Listing (faults.Listing fault))) = assembled listing ≡ Err fault
+Assembles listing (Err Memory) = Unit {0}
+Assembles listing (Err _) = ⊥
+
+-- the answer to a request for the contents of its files: a description and classes, or a listing
+abbrev pub IsAnswer : Request → List (List ℕ) → Result Verdict Refused → Type 0
+IsAnswer (Prove nodes) (desc ∷ classes) result = Answers desc classes result
+IsAnswer Asm (listing ∷ []) result = Assembles listing result
+IsAnswer request files result = ⊥
 
 -- yes, or want of memory
 abbrev pub YesOrMemory : Result Verdict Refused → Type 0

@@ -5,13 +5,15 @@ use Rattle.class_pool.specs.declared.fault.PoolFault.{PoolFault}
 use Rattle.class_pool.specs.declared.fault.PoolFault.TheVariants as pools
 use Rattle.class_read.specs.declared.fault.ClassFault.{ClassFault}
 use Rattle.class_read.specs.declared.fault.ClassFault.TheVariants as classes
+use Rattle.class_asm.specs.declared.fault.AsmFault.{AsmFault}
+use Rattle.class_asm.specs.declared.fault.AsmFault.TheVariants as listings
 use Rattle.code_decode.specs.declared.fault.CodeFault.{CodeFault}
 use Rattle.code_decode.specs.declared.fault.CodeFault.TheVariants as codes_of
 use Rattle.class_world.specs.declared.fault.MethodName.{MethodName}
 use Rattle.class_world.specs.declared.fault.LinkFault.{LinkFault}
 use Rattle.class_world.specs.declared.fault.LinkFault.TheVariants as links
 use Rattle.jterm.specs.declared.verdict.Fault.{Fault}
-use Rattle.jterm.specs.declared.verdict.Fault.TheVariants.{Class, Link, NotBuilt}
+use Rattle.jterm.specs.declared.verdict.Fault.TheVariants.{Class, Listing, Link, NotBuilt}
 use Rattle.jterm.specs.Texts.{joined}
 
 -- ---- class files
@@ -35,6 +37,17 @@ class_fault_text (classes.MissingCode at) = codes "MissingCode at=" ++ decimal a
 class_fault_text (classes.ExtraCode at) = codes "ExtraCode at=" ++ decimal at
 class_fault_text (classes.TrailingBytes at) = codes "TrailingBytes at=" ++ decimal at
 class_fault_text classes.Memory = codes "Memory"
+
+-- ---- listings
+
+abbrev pub asm_fault_text : AsmFault → List ℕ
+asm_fault_text (listings.Syntax line) = codes "Syntax line=" ++ decimal line
+asm_fault_text (listings.UnknownOpcode line) = codes "UnknownOpcode line=" ++ decimal line
+asm_fault_text (listings.UnknownLabel line) = codes "UnknownLabel line=" ++ decimal line
+asm_fault_text (listings.DuplicateLabel line) = codes "DuplicateLabel line=" ++ decimal line
+asm_fault_text (listings.OutOfRange line) = codes "OutOfRange line=" ++ decimal line
+asm_fault_text (listings.NoEnd line) = codes "NoEnd line=" ++ decimal line
+asm_fault_text listings.Memory = codes "Memory"
 
 -- ---- codes
 
@@ -92,5 +105,6 @@ link_fault_text links.Memory = codes "Memory"
 
 abbrev pub fault_text : Fault → List ℕ
 fault_text (Class fault) = class_fault_text fault
+fault_text (Listing fault) = asm_fault_text fault
 fault_text (Link fault) = link_fault_text fault
 fault_text NotBuilt = codes "NotBuilt"

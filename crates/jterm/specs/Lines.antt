@@ -4,7 +4,7 @@ use Rattle.std.specs.Fmt.{decimal}
 use Rattle.io_ports.specs.declared.files.FileFault.{FileFault}
 use Rattle.io_ports.specs.declared.files.FileFault.TheVariants.{Failed, TooLong, Missing, Memory}
 use Rattle.jterm.specs.declared.verdict.Place.{Place}
-use Rattle.jterm.specs.declared.verdict.Place.TheVariants.{Class, Description, Link}
+use Rattle.jterm.specs.declared.verdict.Place.TheVariants.{Class, Listing, Description, Link}
 use Rattle.jterm.specs.declared.verdict.Fault.{Fault}
 use Rattle.jterm.specs.Faults.{fault_text}
 use Rattle.jterm.specs.Texts.{joined}
@@ -12,6 +12,7 @@ use Rattle.jterm.specs.Texts.{joined}
 -- the file or the step that has a fault
 abbrev pub place_text : Place → List ℕ
 place_text (Class number) = codes "class " ++ decimal number
+place_text Listing = codes "listing"
 place_text Description = codes "description"
 place_text Link = codes "link"
 
@@ -23,7 +24,7 @@ file_fault_text Memory = codes "Memory"
 
 -- the words are no command; each command that is built follows, with its words
 abbrev pub usage_lines : List ℕ
-usage_lines = codes "jterm: usage\nprove DESC CLASS..\n"
+usage_lines = codes "jterm: usage\nprove DESC CLASS..\nasm LISTING\n"
 
 -- want of memory
 abbrev pub memory_line : List ℕ

@@ -8,11 +8,11 @@ use Rattle.io_ports.specs.Told.Told.{Content}
 use Rattle.io_ports.specs.declared.files.FileFault.{FileFault}
 use Rattle.io_ports.specs.declared.files.FileFault.TheVariants.{Failed, TooLong, Missing, Memory}
 use Rattle.jterm.specs.declared.verdict.Request.{Request}
-use Rattle.jterm.specs.declared.verdict.Request.TheVariants.{Prove}
+use Rattle.jterm.specs.declared.verdict.Request.TheVariants.{Prove, Asm}
 use Rattle.jterm.specs.declared.verdict.Verdict.{Verdict}
 use Rattle.jterm.specs.declared.verdict.Refused.{Refused}
 use Rattle.jterm.specs.Words.{IsCommand}
-use Rattle.jterm.specs.Decision.{Answers, yes_line}
+use Rattle.jterm.specs.Decision.{IsAnswer, yes_line}
 
 -- ---- files
 
@@ -23,6 +23,7 @@ AreTold held names contents = map held names ≡ map Content contents
 -- how many bytes the file at this place among the file words may have: 1 MiB
 abbrev pub limit_of : Request → ℕ → ℕ
 limit_of (Prove nodes) place = 1048576
+limit_of Asm place = 1048576
 
 -- The contents under these names, each within its limit, are no others than those that are told. The first name
 -- stands at `place` among the file words.
@@ -65,10 +66,9 @@ pub record Decided (words : List (List ℕ)) (held : List ℕ → Told) (result 
   pub request : Request
   pub names : List (List ℕ)
   pub is_command : IsCommand words request names
-  pub desc : List ℕ
-  pub classes : List (List ℕ)
-  pub read : AreContents request 0 held names (desc ∷ classes)
-  pub answer : Answers desc classes result
+  pub contents : List (List ℕ)
+  pub read : AreContents request 0 held names contents
+  pub answer : IsAnswer request contents result
 
 -- ---- outputs
 

@@ -1,5 +1,7 @@
 -- What each step of a decision says where it refuses.
 use Rattle.std.specs.Prelude.{◌≡◌, ℕ, List, Some, Err}
+use Rattle.class_asm.specs.declared.fault.AsmFault.{AsmFault}
+use Rattle.class_asm.specs.declared.fault.AsmFault.TheVariants as listings
 use Rattle.class_read.specs.declared.fault.ClassFault.{ClassFault}
 use Rattle.class_read.specs.declared.fault.ClassFault.TheVariants as classes
 use Rattle.class_world.specs.World.{World}
@@ -40,3 +42,8 @@ abbrev pub RefusesProgram : World → MethodRef → Refused → Type 0
 RefusesProgram world entry (At places.Link (faults.Link fault)) = close_of world entry ≡ Err fault
 RefusesProgram world entry Memory = Unit {0}
 RefusesProgram world entry _ = ⊥
+
+-- what is said of a listing that has this fault
+abbrev pub listing_refusal : AsmFault → Refused
+listing_refusal listings.Memory = Memory
+listing_refusal fault = At places.Listing (faults.Listing fault)

@@ -1,5 +1,5 @@
 -- Why a call ends without a verdict.
-use Rattle.std.specs.Prelude.{◌<◌, ℕ, List, [], ◌∷◌, length, Ok, Err, ⊤}
+use Rattle.std.specs.Prelude.{◌≡◌, ◌<◌, ℕ, List, [], ◌∷◌, length, Ok, Err, ⊤}
 use Rattle.std.specs.List.{slice_index_or}
 use Rattle.io_ports.specs.Told.{Told}
 use Rattle.io_ports.specs.declared.files.FileFault.{FileFault}
@@ -9,8 +9,7 @@ use Rattle.jterm.specs.declared.inputs.Stop.TheVariants.{Unread, Broken, NoMemor
 use Rattle.jterm.specs.declared.verdict.Request.{Request}
 use Rattle.jterm.specs.declared.verdict.Refused.TheVariants.{At}
 use Rattle.jterm.specs.declared.verdict.Verdict.{Verdict}
-use Rattle.jterm.specs.Decision.{Answers, SaysYes}
-use Rattle.jterm.specs.Headline.{AllEnd}
+use Rattle.jterm.specs.Decision.{IsAnswer}
 use Rattle.jterm.specs.Words.{IsCommand}
 use Rattle.jterm.specs.Lines.{read_line, refusal_line, memory_line}
 use Rattle.jterm.specs.Outside.{AreContents, IsUnread}
@@ -19,7 +18,7 @@ use Rattle.jterm.specs.Outside.{AreContents, IsUnread}
 abbrev pub HasCause : Request → List (List ℕ) → (List ℕ → Told) → ℕ → ℕ → Stop → Type 0
 HasCause request names held before after (Unread place fault) = IsUnread request names held before after place fault
 HasCause request names held before after (Broken place fault) =
-    (desc : List ℕ) × (classes : List (List ℕ)) × AreContents request 0 held names (desc ∷ classes) × Answers desc classes (Err (At place fault))
+    (contents : List (List ℕ)) × AreContents request 0 held names contents × IsAnswer request contents (Err (At place fault))
 HasCause request names held before after NoMemory = ⊤
 
 -- the exit status
@@ -45,13 +44,12 @@ stopped_at place Memory = NoMemory
 abbrev pub AreOfCommand : Request → List (List ℕ) → Type 0
 AreOfCommand request names = (words : List (List ℕ)) × IsCommand words request names
 
--- the verdict is the answer for the contents of the files
+-- the verdict is the answer for the contents of the files, and its status is 0
 pub record IsAnswered (request : Request) (names : List (List ℕ)) (held : List ℕ → Told) (verdict : Verdict) : Type 0 where
-  pub desc : List ℕ
-  pub classes : List (List ℕ)
-  pub read : AreContents request 0 held names (desc ∷ classes)
-  pub answer : Answers desc classes (Ok verdict)
-  pub ends : SaysYes verdict → AllEnd classes desc
+  pub contents : List (List ℕ)
+  pub read : AreContents request 0 held names contents
+  pub answer : IsAnswer request contents (Ok verdict)
+  pub done : verdict.status ≡ 0
 
 -- an unread file is one of the named ones
 abbrev pub IsNamed : List (List ℕ) → Stop → Type 0

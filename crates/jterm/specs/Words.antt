@@ -1,8 +1,8 @@
 -- The words of the command line.
-use Rattle.std.specs.Prelude.{◌≡◌, ℕ, ◌≤◌, ◌==◌, not, Bool, true, List, [], ◌∷◌, length, codes, IsTrue}
+use Rattle.std.specs.Prelude.{◌≡◌, ◌⊎◌, ℕ, ◌≤◌, ◌==◌, not, Bool, true, List, [], ◌∷◌, length, codes, IsTrue}
 use Rattle.std.specs.List.{list_all}
 use Rattle.jterm.specs.declared.verdict.Request.{Request}
-use Rattle.jterm.specs.declared.verdict.Request.TheVariants.{Prove}
+use Rattle.jterm.specs.declared.verdict.Request.TheVariants.{Prove, Asm}
 
 -- a word that names a file does not begin with `-`
 abbrev pub is_file_word : List ℕ → Bool
@@ -29,6 +29,23 @@ pub record IsProveRow (words : List (List ℕ)) (request : Request) (files : Lis
   pub asked : request ≡ Prove 4000
   pub named : files ≡ desc ∷ classes
 
+-- a word that names a listing, alone
+pub record IsListing (files : List (List ℕ)) : Type 0 where
+  pub one : length files ≡ 1
+  pub each : IsTrue (list_all is_file_word files)
+
+-- `asm LISTING`
+pub record IsAsm (words : List (List ℕ)) (listing : List ℕ) : Type 0 where
+  pub spelled : words ≡ codes "asm" ∷ listing ∷ []
+  pub file : IsListing (listing ∷ [])
+
+-- the same as a row of the table of commands
+pub record IsAsmRow (words : List (List ℕ)) (request : Request) (files : List (List ℕ)) : Type 0 where
+  pub listing : List ℕ
+  pub is_asm : IsAsm words listing
+  pub asked : request ≡ Asm
+  pub named : files ≡ listing ∷ []
+
 -- the words are a row of the table of the commands that are built
 abbrev pub IsCommand : List (List ℕ) → Request → List (List ℕ) → Type 0
-IsCommand words request files = IsProveRow words request files
+IsCommand words request files = IsProveRow words request files ⊎ IsAsmRow words request files

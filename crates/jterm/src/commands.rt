@@ -1,7 +1,9 @@
 //! The words of the command line.
-ghost use Rattle.std.specs.Prelude.{◌≡◌, ◌↔◌, map, string_bytes, IsTrue};
+ghost use Rattle.std.specs.Prelude.{◌≡◌, ◌↔◌, ℕ, List, ◌∷◌, map, string_bytes, IsTrue, MatchOption};
 ghost use Rattle.std.specs.List.{list_all};
-ghost use Rattle.jterm.specs.Words.{is_file_word, AreFiles};
+ghost use Rattle.jterm.specs.declared.verdict.Request.{Request};
+ghost use Rattle.jterm.specs.declared.verdict.Request.TheVariants.{Prove, Asm};
+ghost use Rattle.jterm.specs.Words.{is_file_word, AreFiles, IsListing, IsProveRow, IsAsmRow, IsCommand};
 
 use crate::Request;
 
@@ -29,14 +31,45 @@ impl<'a> Command<'a> {
             (λ c. IsCommand (map string_bytes words.now) c.request (map string_bytes c.files.now)) }
     {
         let (verb, files) = words.split_first()?;
-        if verb.as_str() != "prove" || !are_files(files) {
-            return None;
-        }
-        let request = Request::Prove {
-            nodes: DEFAULT_NODES,
-        };
+        let request = request_of(verb.as_str(), files)?;
         Some(Command { request, files })
     }
+}
+
+// What a word asks for with these words behind it.
+fn request_of(verb: &str, files: &[String]) -> Option<Request>
+    ensures { MatchOption result
+        ((request : Request) (names : List (List ℕ)) → ¬ IsCommand (verb.now ∷ map string_bytes files.now) request names)
+        (λ request. IsCommand (verb.now ∷ map string_bytes files.now) request (map string_bytes files.now)) }
+{
+    if is_prove(verb, files) {
+        return Some(Request::Prove {
+            nodes: DEFAULT_NODES,
+        });
+    }
+    if is_asm(verb, files) {
+        return Some(Request::Asm);
+    }
+    None
+}
+
+fn is_prove(verb: &str, files: &[String]) -> bool
+    ensures { IsTrue result ↔ IsProveRow (verb.now ∷ map string_bytes files.now) (Prove 4000) (map string_bytes files.now) }
+{
+    verb == "prove" && are_files(files)
+}
+
+fn is_asm(verb: &str, files: &[String]) -> bool
+    ensures { IsTrue result ↔ IsAsmRow (verb.now ∷ map string_bytes files.now) Asm (map string_bytes files.now) }
+{
+    verb == "asm" && is_listing(files)
+}
+
+// One word that can name a file.
+fn is_listing(words: &[String]) -> bool
+    ensures { IsTrue result ↔ IsListing (map string_bytes words.now) }
+{
+    words.len() == 1 && are_file_words(words)
 }
 
 // A description and 1 to 256 classes, each word one that can name a file.

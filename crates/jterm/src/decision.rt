@@ -1,11 +1,12 @@
 //! The decision over the bytes of the input files.
 ghost use Rattle.std.specs.Prelude.{◌≡◌, ◌≤◌, List, ℕ, ◌∷◌, length, map, IfOk};
-ghost use Rattle.jterm.specs.Decision.{Takes, SaysYes, Answers, YesOrMemory};
+ghost use Rattle.jterm.specs.Decision.{Takes, SaysYes, Answers, IsAnswer, YesOrMemory};
 ghost use Rattle.jterm.specs.Headline.{AllEnd};
 
 use crate::classes::{close, entry, link, read_classes};
 use crate::first_path::is_first_path;
 use crate::line::read_line;
+use crate::listing::assemble_listing;
 use crate::verdict::{Fault, Place, Refused, Request, Verdict};
 use list_views::Seq;
 use std::alloc::Global;
@@ -57,7 +58,7 @@ fn decide_classes(alloc: Global, description: &[u8], files: &[Vec<u8>]) -> Resul
 }
 
 /// Does what the request asks for with the bytes of the files that its command names, in the order of the words:
-/// the description, and then the classes.
+/// the description, and then the classes; or the listing.
 ///
 /// # Errors
 ///
@@ -66,14 +67,16 @@ pub fn decide(alloc: Global, request: &Request, inputs: &[Vec<u8>]) -> Result<Ve
     requires { Takes request.now (map (λ file. file.items) inputs.now) }
 
     // Where YES is answered, every state that the description fits ends.
-    ensures headline { (desc : List ℕ) (classes : List (List ℕ)) → map (λ file. file.items) inputs.now ≡ desc ∷ classes
-        → IfOk result (λ verdict. SaysYes verdict → AllEnd classes desc) }
+    ensures headline { (nodes : ℕ) (desc : List ℕ) (classes : List (List ℕ)) → request.now ≡ Request.Prove nodes
+        → map (λ file. file.items) inputs.now ≡ desc ∷ classes → IfOk result (λ verdict. SaysYes verdict → AllEnd classes desc) }
 
     // The cause of each answer.
-    ensures answer { (desc : List ℕ) (classes : List (List ℕ)) → map (λ file. file.items) inputs.now ≡ desc ∷ classes → Answers desc classes result }
+    ensures answer { IsAnswer request.now (map (λ file. file.items) inputs.now) result }
 {
-    let Request::Prove { .. } = request;
-    decide_classes(alloc, inputs[0].as_slice(), &inputs[1..])
+    match request {
+        Request::Prove { .. } => decide_classes(alloc, inputs[0].as_slice(), &inputs[1..]),
+        Request::Asm => assemble_listing(alloc, inputs[0].as_slice()),
+    }
 }
 
 #[cfg(test)]

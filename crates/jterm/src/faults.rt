@@ -1,9 +1,10 @@
 //! Faults as lines name them.
 ghost use Rattle.std.specs.Prelude.{◌≡◌, IfOk, string_bytes};
-ghost use Rattle.jterm.specs.Faults.{pool_fault_text, class_fault_text, code_fault_name, code_fault_fields, pc_field, named_text, method_text, link_fault_text, fault_text};
+ghost use Rattle.jterm.specs.Faults.{pool_fault_text, class_fault_text, asm_fault_text, code_fault_name, code_fault_fields, pc_field, named_text, method_text, link_fault_text, fault_text};
 
 use crate::Fault;
 use crate::texts::joined;
+use class_asm::AsmFault;
 use class_pool::PoolFault;
 use class_read::ClassFault;
 use class_world::{LinkFault, MethodName};
@@ -38,6 +39,20 @@ fn class_fault_text(alloc: Global, fault: ClassFault) -> Result<String, AllocErr
         ClassFault::ExtraCode { at } => format!(in alloc; "ExtraCode at={at}"),
         ClassFault::TrailingBytes { at } => format!(in alloc; "TrailingBytes at={at}"),
         ClassFault::Memory => String::from_str(alloc, "Memory"),
+    }
+}
+
+fn asm_fault_text(alloc: Global, fault: AsmFault) -> Result<String, AllocError>
+    ensures { IfOk result (λ text. string_bytes text ≡ asm_fault_text fault) }
+{
+    match fault {
+        AsmFault::Syntax { line } => format!(in alloc; "Syntax line={line}"),
+        AsmFault::UnknownOpcode { line } => format!(in alloc; "UnknownOpcode line={line}"),
+        AsmFault::UnknownLabel { line } => format!(in alloc; "UnknownLabel line={line}"),
+        AsmFault::DuplicateLabel { line } => format!(in alloc; "DuplicateLabel line={line}"),
+        AsmFault::OutOfRange { line } => format!(in alloc; "OutOfRange line={line}"),
+        AsmFault::NoEnd { line } => format!(in alloc; "NoEnd line={line}"),
+        AsmFault::Memory => String::from_str(alloc, "Memory"),
     }
 }
 
@@ -154,6 +169,10 @@ pub(crate) fn fault_text(alloc: Global, fault: &Fault) -> Result<Seq<u8>, AllocE
     match fault {
         Fault::Class(fault) => {
             let text = class_fault_text(alloc, *fault)?;
+            Seq::from_slice(alloc, text.as_bytes())
+        }
+        Fault::Listing(fault) => {
+            let text = asm_fault_text(alloc, *fault)?;
             Seq::from_slice(alloc, text.as_bytes())
         }
         Fault::Link(fault) => link_fault_text(alloc, fault),

@@ -52,7 +52,7 @@ fn limit(request: &Request, _place: usize) -> usize
     ensures small { result ≤ 2 ^ 31 }
 {
     match request {
-        Request::Prove { nodes: _ } => 1 << 20,
+        Request::Prove { nodes: _ } | Request::Asm => 1 << 20,
     }
 }
 

@@ -10,6 +10,7 @@ mod form;
 mod inputs;
 mod line;
 mod lines;
+mod listing;
 mod texts;
 mod top;
 mod typing;

@@ -13,7 +13,7 @@ use std::alloc::{AllocError, Global};
 pub(crate) fn usage_text() -> &'static [u8]
     ensures { result.now ≡ usage_lines }
 {
-    b"jterm: usage\nprove DESC CLASS..\n"
+    b"jterm: usage\nprove DESC CLASS..\nasm LISTING\n"
 }
 
 /// Memory ran out.
@@ -75,6 +75,7 @@ fn place_text(alloc: Global, place: Place) -> Result<String, AllocError>
 {
     match place {
         Place::Class(number) => format!(in alloc; "class {number}"),
+        Place::Listing => String::from_str(alloc, "listing"),
         Place::Description => String::from_str(alloc, "description"),
         Place::Link => String::from_str(alloc, "link"),
     }

@@ -8,7 +8,11 @@ ghost use Rattle.jterm.specs.declared.verdict.Request.{Request};
 ghost use Rattle.jterm.specs.declared.verdict.Place.{Place};
 ghost use Rattle.jterm.specs.declared.verdict.Fault.{Fault};
 ghost use Rattle.jterm.specs.declared.verdict.Refused.TheVariants.{At};
-ghost use Rattle.jterm.specs.Words.{IsProve, IsCommand};
+ghost use Rattle.jterm.specs.declared.verdict.Place.TheVariants as places;
+ghost use Rattle.jterm.specs.declared.verdict.Fault.TheVariants as faults;
+ghost use Rattle.class_asm.specs.Classes.{assembled};
+ghost use Rattle.class_asm.specs.declared.fault.AsmFault.{AsmFault};
+ghost use Rattle.jterm.specs.Words.{IsProve, IsAsm, IsCommand};
 ghost use Rattle.jterm.specs.Decision.{IsGood, yes_line};
 ghost use Rattle.jterm.specs.Headline.{AllEnd};
 ghost use Rattle.jterm.specs.Lines.{usage_lines, memory_line, write_line, read_line, refusal_line};
@@ -119,7 +123,7 @@ fn write_out<O: Sink, E: Sink>(verdict: Verdict, out: &mut O, err: &mut E) -> Do
 /// Reads the words of the command line and the files that they name, decides over their contents, writes the output
 /// to `out` and a line for a call without one to `err`, and gives the exit status:
 ///
-/// - 0: YES;
+/// - 0: YES, or the class file's bytes;
 /// - 3: the input is refused;
 /// - 4: the words are no command;
 /// - 5: a file was not read;
@@ -176,6 +180,20 @@ pub fn jterm<F: Files, O: Sink, E: Sink>(
         → AllByRecursion (λ file. length file ≤ 1048576) (desc ∷ classes) → IsGood desc classes
         → ¬ Rose (F.faults files.old) (F.faults files.new) → ¬ Rose (O.faults out.old) (O.faults out.new)
         → ((result.status ≡ 0) × Appends (O.taken out.old) (O.taken out.new) yes_line) ⊎ (result.status ≡ 7) }
+
+    // `asm`: the output of a verdict is the class file's bytes, and status 3 comes with the listing's first fault.
+    ensures assembles { (name listing : List ℕ) → IsAsm (map string_bytes words.now) name → AreTold (F.held files.old) (name ∷ []) (listing ∷ [])
+        → IfSome result.verdict (λ v. (assembled listing ≡ Ok v.out) × IsWritten O.faults O.taken out.old out.new v result.status) }
+    ensures asm_fault { (name listing : List ℕ) → IsAsm (map string_bytes words.now) name → AreTold (F.held files.old) (name ∷ []) (listing ∷ [])
+        → result.status ≡ 3 → (fault : AsmFault) × (assembled listing ≡ Err fault)
+        × Puts E.faults E.taken err.old err.new (refusal_line places.Listing (faults.Listing fault)) }
+
+    // A listing gives its class with status 0 or its first fault with status 3, or want of memory, where no count rose. It
+    // may have 1 MiB.
+    ensures complete_asm { (name listing : List ℕ) → IsAsm (map string_bytes words.now) name → AreTold (F.held files.old) (name ∷ []) (listing ∷ [])
+        → length listing ≤ 1048576 → ¬ Rose (F.faults files.old) (F.faults files.new) → ¬ Rose (O.faults out.old) (O.faults out.new)
+        → ((bytes : List ℕ) × (assembled listing ≡ Ok bytes) × (result.status ≡ 0) × Appends (O.taken out.old) (O.taken out.new) bytes)
+        ⊎ ((fault : AsmFault) × (assembled listing ≡ Err fault) × (result.status ≡ 3)) ⊎ (result.status ≡ 7) }
 
     // Nothing but reads of the file words, in their order, changes the files.
     ensures reads { (request : Request) (names : List (List ℕ)) → IsCommand (map string_bytes words.now) request names

@@ -2,6 +2,7 @@
 ghost use Rattle.std.specs.Prelude.{◌≡◌};
 ghost use Rattle.jterm.specs.declared.verdict.Refused.TheVariants.{Memory};
 
+use class_asm::AsmFault;
 use class_read::ClassFault;
 use class_world::LinkFault;
 use list_views::Seq;
@@ -15,6 +16,8 @@ pub enum Request {
         /// At least 1 and at most 20,000.
         nodes: u32,
     },
+    /// To write the class file that a listing says.
+    Asm,
 }
 
 /// The answer of a command whose input is not refused.
@@ -45,6 +48,8 @@ pub enum Refused {
 pub enum Place {
     /// The class file of this number, counted from 0 in the order of the words.
     Class(u32),
+    /// The listing.
+    Listing,
     /// The description.
     Description,
     /// The classes together, and the methods that the entry reaches.
@@ -56,6 +61,8 @@ pub enum Place {
 pub enum Fault {
     /// The first rule that a class file breaks.
     Class(ClassFault),
+    /// The first rule that a listing breaks.
+    Listing(AsmFault),
     /// The first rule that the classes break as a world.
     Link(LinkFault),
     /// It may be good input, but what reads it is not built yet.

@@ -73,7 +73,7 @@ fn a_prove_without_a_class_is_no_command(rt: HostRuntime) -> Result<(), Fail> {
     assert_eq!(rt; outcome.out.bytes(), b"".as_slice());
     assert_eq!(rt;
         outcome.err.bytes(),
-        b"jterm: usage\nprove DESC CLASS..\n".as_slice()
+        b"jterm: usage\nprove DESC CLASS..\nasm LISTING\n".as_slice()
     );
     Ok(())
 }
@@ -292,5 +292,92 @@ fn an_output_that_fails_keeps_a_prefix(rt: HostRuntime) -> Result<(), Fail> {
     let outcome = call(rt.alloc(), &["prove", "d", "c"], &files, &NONE, 2)?;
     assert_eq!(rt; outcome.status, 6);
     assert_eq!(rt; outcome.out.bytes(), b"YE".as_slice());
+    Ok(())
+}
+
+/// The listing of the class.
+const LISTING: &[u8] = b"class A\nmethod f ()I static stack 1 locals 0\nbipush 7\nireturn\nend\n";
+
+#[test]
+fn a_listing_gives_the_bytes_of_its_class(rt: HostRuntime) -> Result<(), Fail> {
+    let outcome = call(rt.alloc(), &["asm", "l"], &[("l", LISTING)], &NONE, 100)?;
+    assert_eq!(rt; outcome.status, 0);
+    assert_eq!(rt; outcome.out.bytes(), CLASS);
+    assert_eq!(rt; outcome.err.bytes(), b"".as_slice());
+    Ok(())
+}
+
+#[test]
+fn the_first_fault_of_a_listing_is_told_with_its_line(rt: HostRuntime) -> Result<(), Fail> {
+    for (listing, line) in [
+        (
+            b"class A\nfoo\n".as_slice(),
+            b"jterm: listing: Syntax line=2\n".as_slice(),
+        ),
+        (
+            b"class A\nmethod f ()I static stack 1 locals 0\nbipush 128\nireturn\n",
+            b"jterm: listing: OutOfRange line=3\n",
+        ),
+        (
+            b"class A\nmethod f ()I static stack 1 locals 0\nbipush 7\ngoto a\nend\n",
+            b"jterm: listing: UnknownLabel line=4\n",
+        ),
+        (
+            b"class A\nmethod f ()I static stack 1 locals 0\nbipush 7\nireturn\n",
+            b"jterm: listing: NoEnd line=4\n",
+        ),
+    ] {
+        let outcome = call(rt.alloc(), &["asm", "l"], &[("l", listing)], &NONE, 200)?;
+        assert_eq!(rt; outcome.status, 3);
+        assert_eq!(rt; outcome.out.bytes(), b"".as_slice());
+        assert_eq!(rt; outcome.err.bytes(), line);
+    }
+    Ok(())
+}
+
+#[test]
+fn an_asm_of_other_words_than_one_file_is_no_command(rt: HostRuntime) -> Result<(), Fail> {
+    for words in [
+        ["asm"].as_slice(),
+        &["asm", "l", "l"],
+        &["asm", "-l"],
+        &["asm "],
+        &["l"],
+        &[],
+    ] {
+        let outcome = call(rt.alloc(), words, &[("l", LISTING)], &NONE, 100)?;
+        assert_eq!(rt; outcome.status, 4);
+    }
+    Ok(())
+}
+
+#[test]
+fn a_listing_that_is_not_read_is_told(rt: HostRuntime) -> Result<(), Fail> {
+    let failing = Failing {
+        files: &[0],
+        ..NONE
+    };
+    let outcome = call(rt.alloc(), &["asm", "l"], &[("l", LISTING)], &failing, 100)?;
+    assert_eq!(rt; outcome.status, 5);
+    assert_eq!(rt; outcome.err.bytes(), b"jterm: read l: Failed\n".as_slice());
+    let long = vec![in rt.alloc(); b'#'; (1 << 20) + 1]?;
+    let outcome = call(
+        rt.alloc(),
+        &["asm", "l"],
+        &[("l", long.as_slice())],
+        &NONE,
+        100,
+    )?;
+    assert_eq!(rt; outcome.status, 5);
+    assert_eq!(rt; outcome.err.bytes(), b"jterm: read l: TooLong\n".as_slice());
+    Ok(())
+}
+
+#[test]
+fn an_output_without_room_takes_a_prefix_of_the_class(rt: HostRuntime) -> Result<(), Fail> {
+    let outcome = call(rt.alloc(), &["asm", "l"], &[("l", LISTING)], &NONE, 98)?;
+    assert_eq!(rt; outcome.status, 6);
+    assert_eq!(rt; outcome.out.bytes(), &CLASS[..98]);
+    assert_eq!(rt; outcome.err.bytes(), b"jterm: write: Failed\n".as_slice());
     Ok(())
 }

@@ -4,12 +4,12 @@ use Rattle.jterm.proofs.top.answer.Goals as goal
 
 pub returns-in-Ok-clause-answered : goal.returns-in-Ok-clause-answered
 returns-in-Ok-clause-answered g c =
-    is_answered _ _ _ _ _ _ (ap (map (λ file. file.items)) c.deref.ensures.value) c.requires c.in_ok-inputs.ensures.contents c.in-Ok.ensures.headline c.in-Ok.ensures.answer
+    is_answered _ _ _ _ _ _ (ap (map (λ file. file.items)) c.deref.ensures.value) c.in_ok-inputs.ensures.contents c.in-Ok.ensures.answer
 
 pub returns-in-Err-At-clause-cause : goal.returns-in-Err-At-clause-cause
 returns-in-Err-At-clause-cause g c =
-    is_broken _ _ _ 0 0 _ _ _ _ (ap (map (λ file. file.items)) c.deref.ensures.value) c.requires c.in_ok-inputs.ensures.contents
-    (λ desc class e. rw c.in-Err-At.field-0-is at (c.in-Err-At.ensures.answer desc class e))
+    is_broken _ _ _ 0 0 _ _ _ _ (ap (map (λ file. file.items)) c.deref.ensures.value) c.in_ok-inputs.ensures.contents
+    (rw c.in-Err-At.field-0-is at c.in-Err-At.ensures.answer)
 
 pub decide-requires : goal.decide-requires
 decide-requires g c =

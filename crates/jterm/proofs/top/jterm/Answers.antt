@@ -1,7 +1,8 @@
 use Rattle.std.proofs.Common.{◌∷◌, [], arith}
 use Rattle.jterm.specs.Outside.{Puts}
-use Rattle.jterm.specs.declared.verdict.Request.TheVariants.{Prove}
-use Rattle.jterm.proofs.Endings.{is_named, unclaimed, refused, unread, not_zero, headline, complete, prove_is_command, decided, status_of_answer, unwritten}
+use Rattle.jterm.specs.declared.verdict.Request.TheVariants.{Prove, Asm}
+use Rattle.jterm.proofs.Endings.{is_named, unclaimed, refused, unread, not_zero, headline, complete, complete_written, prove_is_command, decided, unwritten}
+use Rattle.jterm.proofs.Assembling.{asm_is_command, assembles, complete_asm, complete_asm_written, fault_told}
 use Rattle.jterm.proofs.top.jterm.Goals as goal
 
 pub returns-in_default-clause-headline : goal.returns-in_default-clause-headline
@@ -42,4 +43,30 @@ returns-in-Ok-clause-verdict g c =
 
 pub returns-in-Ok-clause-write : goal.returns-in-Ok-clause-write
 returns-in-Ok-clause-write g c =
-    unwritten _ _ (status_of_answer _ _ _ _ c.in-Ok.ensures.answered) c.write_out.ensures.written c.write_out.ensures.line
+    unwritten _ _ c.in-Ok.ensures.answered.done c.write_out.ensures.written c.write_out.ensures.line
+
+pub returns-in-Ok-clause-complete : goal.returns-in-Ok-clause-complete
+returns-in-Ok-clause-complete g c d cs desc classes prove told within good files out =
+    complete_written g.O.Sink.faults g.O.Sink.taken _ _ _ _ _ _ _ _ d cs desc classes c.in-Some.ensures c.in-Ok.ensures.answered c.write_out.ensures.written prove told out
+
+pub returns-in-Ok-clause-assembles : goal.returns-in-Ok-clause-assembles
+returns-in-Ok-clause-assembles g c name listing asm told =
+    assembles g.O.Sink.faults g.O.Sink.taken _ _ _ _ _ _ _ _ _ name listing c.in-Some.ensures c.in-Ok.ensures.answered c.write_out.ensures.verdict c.write_out.ensures.written asm told
+
+pub returns-in-Ok-clause-complete_asm : goal.returns-in-Ok-clause-complete_asm
+returns-in-Ok-clause-complete_asm g c name listing asm told within files out =
+    complete_asm_written g.O.Sink.faults g.O.Sink.taken _ _ _ _ _ _ _ _ name listing _ c.in-Some.ensures c.in-Ok.ensures.answered c.write_out.ensures.written asm told out
+
+pub returns-in-Err-clause-asm_fault : goal.returns-in-Err-clause-asm_fault
+returns-in-Err-clause-asm_fault g c name listing asm told =
+    fault_told _ _ _ _ _ _ c.in-Err.stop c.report.result
+    (Puts g.E.Sink.faults g.E.Sink.taken c.args.err.now c.report.new.err)
+    name listing c.in-Some.ensures c.in-Err.ensures.cause c.report.ensures asm told
+
+pub returns-in-Err-clause-complete_asm : goal.returns-in-Err-clause-complete_asm
+returns-in-Err-clause-complete_asm g c name listing asm told within files out =
+    complete_asm _ _ _ _ _ _ c.in-Err.stop c.report.result _ _ _ name listing c.in-Some.ensures c.in-Err.ensures.cause c.report.ensures asm told within files
+
+pub returns-in_default-clause-complete_asm : goal.returns-in_default-clause-complete_asm
+returns-in_default-clause-complete_asm g c name listing asm told within files out =
+    absurd (c.in_default.ensures Asm (name ∷ []) (asm_is_command _ name asm))
