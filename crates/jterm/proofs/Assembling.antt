@@ -65,13 +65,12 @@ listing_fault listing places.Link fault a = absurd a
 
 -- ---- with a verdict
 
-pub assembles : {S : Type 0} (faults : S → ℕ) (taken : S → Option (List ℕ)) (old new : S) (words : List (List ℕ)) (request : Request) (names : List (List ℕ)) (held : List ℕ → Told) (verdict : Verdict) (told : Option Verdict) (status : ℕ) (name listing : List ℕ)
-    → IsCommand words request names → IsAnswered request names held verdict → told ≡ Some verdict → IsWritten faults taken old new verdict status → IsAsm words name → AreTold held (name ∷ []) (listing ∷ [])
-    → IfSome told (λ v. (assembled listing ≡ Ok v.out) × IsWritten faults taken old new v status)
-assembles faults taken old new words request names held verdict told status name listing command answered same written asm tells =
-    let answer = asm_answer words request names held answered.contents name listing (Ok verdict) command asm answered.read tells answered.answer in
-    let P : Option Verdict → Type 0 = λ o. IfSome o (λ v. (assembled listing ≡ Ok v.out) × IsWritten faults taken old new v status) in
-    subst P (sym same) (answer.1, written)
+pub assembles : (words : List (List ℕ)) (request : Request) (names : List (List ℕ)) (held : List ℕ → Told) (verdict : Verdict) (told : Option Verdict) (name listing : List ℕ)
+    → IsCommand words request names → IsAnswered request names held verdict → told ≡ Some verdict → IsAsm words name → AreTold held (name ∷ []) (listing ∷ [])
+    → IfSome told (λ v. (v.status ≡ 0) × (assembled listing ≡ Ok v.out))
+assembles words request names held verdict told name listing command answered same asm tells =
+    let P : Option Verdict → Type 0 = λ o. IfSome o (λ v. (v.status ≡ 0) × (assembled listing ≡ Ok v.out)) in
+    subst P (sym same) (asm_answer words request names held answered.contents name listing (Ok verdict) command asm answered.read tells answered.answer)
 
 pub complete_asm_written : {S : Type 0} (faults : S → ℕ) (taken : S → Option (List ℕ)) (old new : S) (words : List (List ℕ)) (request : Request) (names : List (List ℕ)) (held : List ℕ → Told) (verdict : Verdict) (status : ℕ) (name listing : List ℕ) (P : Type 0)
     → IsCommand words request names → IsAnswered request names held verdict → IsWritten faults taken old new verdict status → IsAsm words name → AreTold held (name ∷ []) (listing ∷ [])

@@ -1,5 +1,5 @@
 -- From what each step of a decision says to the answer.
-use Rattle.std.proofs.Common.{◌≡◌, ◌≤◌, ℕ, List, [], ◌∷◌, length, Result, Ok, Err, IfOk, map, drop, take, get_or, ◌-◌, refl, sym, subst, ap, ◌∙◌, arith, inl, inr, Option, Some, None, true}
+use Rattle.std.proofs.Common.{◌≡◌, ◌≤◌, ℕ, List, [], ◌∷◌, length, Result, Ok, Err, IfOk, map, drop, take, get_or, ◌-◌, sym, subst, ap, ◌∙◌, arith, inl, inr, None, true}
 use Rattle.class_read.specs.Content.{ClassContent}
 use Rattle.class_world.specs.World.{World, world_of}
 use Rattle.class_world.specs.Linking.{link_fault}
@@ -7,7 +7,6 @@ use Rattle.class_world.specs.Reached.{has_body, close_of}
 use Rattle.class_world.specs.declared.program.Method.{Method}
 use Rattle.class_world.specs.declared.world.MethodRef.{MethodRef}
 use Rattle.jterm.specs.declared.line.Line.{Line}
-use Rattle.jterm.specs.declared.verdict.Request.{Request}
 use Rattle.jterm.specs.declared.verdict.Request.TheVariants.{Prove, Asm}
 use Rattle.jterm.specs.declared.verdict.Verdict.{Verdict}
 use Rattle.jterm.specs.declared.verdict.Refused.{Refused}
@@ -18,7 +17,7 @@ use Rattle.jterm.specs.Decision.{SaysYes, Answers, Assembles, IsAnswer, YesOrMem
 use Rattle.jterm.specs.FirstPath.{IsFirstPath}
 use Rattle.jterm.specs.Machine.{program_of}
 use Rattle.jterm.specs.Description.{IsLine}
-use Rattle.jterm.specs.Headline.{AllSpell, AllEnd, named_method}
+use Rattle.jterm.specs.Headline.{AllSpell, AllEnd}
 use Rattle.jterm.specs.Refusals.{RefusesClasses, RefusesWorld, RefusesProgram}
 use Rattle.jterm.proofs.Files.{take_all}
 use Rattle.jterm.proofs.Good.{AllEnd-good}
@@ -99,15 +98,19 @@ headline_of desc files (Err refused) a = tt
 -- ---- the answer to a request
 
 -- a description and classes as they stand among the inputs
-pub prove_at : {A : Type 0} (f : A → List ℕ) (inputs : List A) (one : A) (first : List ℕ) (nodes : ℕ) (result : Result Verdict Refused) → 2 ≤ length inputs → one ≡ get_or inputs 0 one → first ≡ f one
-    → Answers first (map f (take (length inputs - 1) (drop 1 inputs))) result → IsAnswer (Prove nodes) (map f inputs) result
-prove_at f [] one first nodes result some at is a = absurd (omega arith)
-prove_at {A} f (x ∷ xs) one first nodes result some at is a =
+answers_here : {A : Type 0} (f : A → List ℕ) (x : A) (xs : List A) (one : A) (first : List ℕ) (result : Result Verdict Refused) → one ≡ get_or (x ∷ xs) 0 one → first ≡ f one
+    → Answers first (map f (take (length (x ∷ xs) - 1) (drop 1 (x ∷ xs)))) result → Answers (f x) (map f xs) result
+answers_here {A} f x xs one first result at is a =
     let here : first ≡ f x = is ∙ ap f at in
     let long : length (x ∷ xs) - 1 ≡ length xs = omega arith in
     let others : take (length (x ∷ xs) - 1) xs ≡ xs = ap (λ (n : ℕ). take n xs) long ∙ take_all xs in
     let all : Answers first (map f xs) result = subst (λ (ys : List A). Answers first (map f ys) result) others a in
     subst (λ (d : List ℕ). Answers d (map f xs) result) here all
+
+pub prove_at : {A : Type 0} (f : A → List ℕ) (inputs : List A) (one : A) (first : List ℕ) (nodes : ℕ) (result : Result Verdict Refused) → 2 ≤ length inputs → one ≡ get_or inputs 0 one → first ≡ f one
+    → Answers first (map f (take (length inputs - 1) (drop 1 inputs))) result → IsAnswer (Prove nodes) (map f inputs) result
+prove_at f [] one first nodes result some at is a = absurd (omega arith)
+prove_at f (x ∷ xs) one first nodes result some at is a = answers_here f x xs one first result at is a
 
 -- a listing as it stands among the inputs
 pub asm_at : {A : Type 0} (f : A → List ℕ) (inputs : List A) (one : A) (first : List ℕ) (result : Result Verdict Refused) → length inputs ≡ 1 → one ≡ get_or inputs 0 one → first ≡ f one
@@ -117,10 +120,12 @@ asm_at f (x ∷ []) one first result alone at is a = let here : first ≡ f x = 
 asm_at f (x ∷ y ∷ xs) one first result alone at is a = absurd (omega arith)
 
 -- what YES says of a description and classes
-pub headline_at : (request : Request) (nodes : ℕ) (files : List (List ℕ)) (desc : List ℕ) (classes : List (List ℕ)) (result : Result Verdict Refused) → request ≡ Prove nodes → files ≡ desc ∷ classes → IsAnswer request files result
-    → IfOk result (λ verdict. SaysYes verdict → AllEnd classes desc)
-headline_at request nodes files desc classes result asked given answer =
-    headline_of desc classes result (subst (λ (r : Request). IsAnswer r (desc ∷ classes) result) asked (subst (λ (fs : List (List ℕ)). IsAnswer request fs result) given answer))
+pub headline_at : {A : Type 0} (f : A → List ℕ) (inputs : List A) (one : A) (first desc : List ℕ) (classes : List (List ℕ)) (result : Result Verdict Refused) → one ≡ get_or inputs 0 one → first ≡ f one
+    → map f inputs ≡ desc ∷ classes → Answers first (map f (take (length inputs - 1) (drop 1 inputs))) result → IfOk result (λ verdict. SaysYes verdict → AllEnd classes desc)
+headline_at f [] one first desc classes result at is given a = absurd (cc)
+headline_at f (x ∷ xs) one first desc classes result at is given a =
+    let answer : IsAnswer (Prove 0) (f x ∷ map f xs) result = answers_here f x xs one first result at is a in
+    headline_of desc classes result (subst (λ (fs : List (List ℕ)). IsAnswer (Prove 0) fs result) given answer)
 
 -- ---- the entry
 

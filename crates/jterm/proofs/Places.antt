@@ -1,11 +1,10 @@
 -- The places of a code's instructions rise, so each place has one instruction.
-use Rattle.std.proofs.Common.{◌≡◌, ℕ, suc, ◌+◌, ◌<◌, ◌≤◌, ◌==◌, List, [], ◌∷◌, ◌++◌, length, Option, Some, None, refl, sym, ap, ◌∙◌, subst, true, false, Bool, if◌then◌else◌, arith}
+use Rattle.std.proofs.Common.{◌≡◌, ℕ, suc, ◌≤◌, ◌==◌, List, [], ◌∷◌, ◌++◌, Option, Some, None, refl, sym, ap, ◌∙◌, subst, true, false, Bool, arith}
 use Rattle.std.proofs.lemmas.Bool.Decides.{nat_tests}
 use Rattle.std.specs.Option.{option_map}
 use Rattle.std.specs.Prelude.{option_and_then}
 use Rattle.class_world.specs.declared.op.Op.{Op}
 use Rattle.jterm.specs.declared.form.Form.{Form}
-use Rattle.jterm.specs.Options.{◌>>=◌}
 use Rattle.jterm.specs.Forms.{form_of, forms_of, RiseFrom, FirstAtZero, AreRising}
 use Rattle.jterm.specs.Machine.{first_place, instruction_at, form_at}
 

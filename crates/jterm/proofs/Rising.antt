@@ -1,5 +1,5 @@
 -- A code's instructions stand at rising places.
-use Rattle.std.proofs.Common.{◌≡◌, ℕ, zero, suc, ◌+◌, ◌-◌, ◌≤◌, List, [], ◌∷◌, length, Option, Some, None, ap, subst, arith, Result, Ok, Err, refl, add-one}
+use Rattle.std.proofs.Common.{◌≡◌, ℕ, zero, suc, ◌+◌, ◌-◌, ◌≤◌, List, [], ◌∷◌, length, Option, Some, None, subst, arith, Result, Ok, Err, refl}
 use Rattle.code_decode.specs.declared.fault.CodeFault.{CodeFault}
 use Rattle.code_decode.specs.declared.insn.Insn.{Insn}
 use Rattle.code_decode.specs.Codes.{insns_from, with_targets, decode_of, first_stray, stands, starts}

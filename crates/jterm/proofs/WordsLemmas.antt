@@ -1,7 +1,7 @@
 -- Lists of words.
-use Rattle.std.proofs.Common.{◌≡◌, ℕ, ◌≤◌, Bool, true, false, not, ◌&&◌, List, [], ◌∷◌, length, map, refl, arith, ap, sym, ◌∙◌, subst, inl, inr, IsTrue}
+use Rattle.std.proofs.Common.{◌≡◌, ℕ, ◌≤◌, Bool, true, false, ◌&&◌, List, [], ◌∷◌, length, map, refl, arith, ap, sym, ◌∙◌, subst, inl, inr, IsTrue}
 use Rattle.std.proofs.lemmas.List.{length-map}
-use Rattle.std.specs.Prelude.{◌↔◌, codes}
+use Rattle.std.specs.Prelude.{◌↔◌, codes, Option, None, MatchOption}
 use Rattle.std.specs.List.{list_all}
 use Rattle.jterm.specs.declared.verdict.Request.{Request}
 use Rattle.jterm.specs.declared.verdict.Request.TheVariants.{Prove, Asm}
@@ -101,11 +101,15 @@ pub no_command_of : {A : Type 0} (f : A → List ℕ) (words : List A) (verb : A
     → ((request : Request) (names : List (List ℕ)) → IsCommand (first ∷ map f files) request names → ⊥) → (request : Request) (names : List (List ℕ)) → IsCommand (map f words) request names → ⊥
 no_command_of f words verb files first e v none request names is = none request names (subst (λ (ws : List (List ℕ)). IsCommand ws request names) (words_are f words verb files first e v) is)
 
+-- an answer that is none shows what none says
+pub none_says : {A P : Type 0} (Q : A → Type 0) (answer : Option A) → answer ≡ None → P → MatchOption answer P Q
+none_says {A} {P} Q answer e p = subst (λ (o : Option A). MatchOption o P Q) (sym e) p
+
 -- ---- the commands have different first words
 
-first_length : List (List ℕ) → ℕ
+abbrev first_length : List (List ℕ) → ℕ
 first_length [] = 0
 first_length (word ∷ words) = length word
 
 pub other_verbs : (listings files : List (List ℕ)) → codes "asm" ∷ listings ≡ codes "prove" ∷ files → ⊥
-other_verbs listings files same = let e : 3 ≡ 5 = ap first_length same in omega arith
+other_verbs listings files same = let e : (let three : ℕ = 3 in three) ≡ 5 = ap first_length same in omega (arith, e)

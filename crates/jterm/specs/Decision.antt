@@ -1,5 +1,5 @@
 -- What `decide` answers, and why.
-use Rattle.std.specs.Prelude.{◌≡◌, ◌⊎◌, ℕ, zero, suc, ◌≤◌, List, [], ◌∷◌, ◌++◌, length, Option, Some, None, Result, Ok, Err, IsTrue}
+use Rattle.std.specs.Prelude.{◌≡◌, ◌⊎◌, ℕ, zero, suc, ◌≤◌, List, [], ◌∷◌, ◌++◌, length, Some, None, Result, Ok, Err, IsTrue}
 use Rattle.class_asm.specs.Classes.{assembled}
 use Rattle.class_read.specs.Content.{ClassContent}
 use Rattle.class_read.specs.Rules.{Spells}

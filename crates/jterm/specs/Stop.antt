@@ -1,5 +1,5 @@
 -- Why a call ends without a verdict.
-use Rattle.std.specs.Prelude.{◌≡◌, ◌<◌, ℕ, List, [], ◌∷◌, length, Ok, Err, ⊤}
+use Rattle.std.specs.Prelude.{◌≡◌, ◌<◌, ℕ, List, [], length, Ok, Err, ⊤}
 use Rattle.std.specs.List.{slice_index_or}
 use Rattle.io_ports.specs.Told.{Told}
 use Rattle.io_ports.specs.declared.files.FileFault.{FileFault}

@@ -181,9 +181,9 @@ pub fn jterm<F: Files, O: Sink, E: Sink>(
         → ¬ Rose (F.faults files.old) (F.faults files.new) → ¬ Rose (O.faults out.old) (O.faults out.new)
         → ((result.status ≡ 0) × Appends (O.taken out.old) (O.taken out.new) yes_line) ⊎ (result.status ≡ 7) }
 
-    // `asm`: the output of a verdict is the class file's bytes, and status 3 comes with the listing's first fault.
+    // `asm`: a verdict has status 0 and the class file's bytes, and status 3 comes with the listing's first fault.
     ensures assembles { (name listing : List ℕ) → IsAsm (map string_bytes words.now) name → AreTold (F.held files.old) (name ∷ []) (listing ∷ [])
-        → IfSome result.verdict (λ v. (assembled listing ≡ Ok v.out) × IsWritten O.faults O.taken out.old out.new v result.status) }
+        → IfSome result.verdict (λ v. (v.status ≡ 0) × (assembled listing ≡ Ok v.out)) }
     ensures asm_fault { (name listing : List ℕ) → IsAsm (map string_bytes words.now) name → AreTold (F.held files.old) (name ∷ []) (listing ∷ [])
         → result.status ≡ 3 → (fault : AsmFault) × (assembled listing ≡ Err fault)
         × Puts E.faults E.taken err.old err.new (refusal_line places.Listing (faults.Listing fault)) }

@@ -1,4 +1,4 @@
-use Rattle.std.proofs.Common.{List, ℕ, map, sym, subst, arith, Err}
+use Rattle.std.proofs.Common.{map, sym, subst, arith, Err}
 use Rattle.std.proofs.lemmas.List.{length-map}
 use Rattle.class_world.specs.Worlds.{classes_of}
 use Rattle.jterm.specs.declared.verdict.Refused.{Refused}

@@ -1,4 +1,4 @@
-use Rattle.std.proofs.Common.{◌≡◌, Bool, Some, ap, sym, ◌∙◌, IsTrue, subst}
+use Rattle.std.proofs.Common.{◌≡◌, Bool, Some, ap, sym, ◌∙◌, IsTrue}
 use Rattle.std.specs.Prelude.{◌↔◌}
 use Rattle.std.specs.Option.{option_map}
 use Rattle.class_world.specs.World.{World}

@@ -51,7 +51,7 @@ returns-in-Ok-clause-complete g c d cs desc classes prove told within good files
 
 pub returns-in-Ok-clause-assembles : goal.returns-in-Ok-clause-assembles
 returns-in-Ok-clause-assembles g c name listing asm told =
-    assembles g.O.Sink.faults g.O.Sink.taken _ _ _ _ _ _ _ _ _ name listing c.in-Some.ensures c.in-Ok.ensures.answered c.write_out.ensures.verdict c.write_out.ensures.written asm told
+    assembles _ _ _ _ _ _ name listing c.in-Some.ensures c.in-Ok.ensures.answered c.write_out.ensures.verdict asm told
 
 pub returns-in-Ok-clause-complete_asm : goal.returns-in-Ok-clause-complete_asm
 returns-in-Ok-clause-complete_asm g c name listing asm told within files out =
