@@ -1,17 +1,13 @@
 #!/usr/bin/env python3
 """Times the reading of generated class files of a quarter, a half and the whole of 1 MiB.
 
-usage: class_read.py PROGRAM
+usage: class_read.py [PROGRAM]
 
 PROGRAM is the built `vector_tables`: it reads each class and prints a digest. Three shapes are tried: many methods without
 code (one name, descriptors of their own), many fields with names of their own, and a large constant pool. The time of an
 empty input is taken off.
 """
-import struct, subprocess, sys, time
-
-
-def u2(n):
-    return struct.pack('>H', n)
+from common import print_times, u2
 
 
 def utf8(text):
@@ -44,26 +40,12 @@ def pool(size):
     return class_file([utf8(b'entry%08d' % n) for n in range(count - 4)][:65000], [], [])
 
 
-def seconds(program, data):
-    line = b'classes-50\t' + data.hex().encode() + b'\n' if data else b''
-    best = None
-    for _ in range(5):
-        start = time.perf_counter()
-        answer = subprocess.run([program], input=line, capture_output=True, check=True).stdout
-        took = time.perf_counter() - start
-        best = took if best is None else min(best, took)
-    assert not data or answer.startswith(b'OK '), answer[:80]
-    return best
-
-
-def main():
-    program = sys.argv[1]
-    empty = seconds(program, b'')
-    print('shape    bytes    ms')
+def cases():
     for shape in (methods, fields, pool):
         for part in (4, 2, 1):
             data = shape((1 << 20) // part)
-            print('%-8s %-8d %.1f' % (shape.__name__, len(data), 1000 * (seconds(program, data) - empty)))
+            yield [shape.__name__, len(data)], ['classes-50', data.hex()], lambda answer: answer.startswith(b'OK ')
 
 
-main()
+if __name__ == '__main__':
+    print_times(__doc__, ['shape', 'bytes'], cases())

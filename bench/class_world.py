@@ -1,17 +1,18 @@
 #!/usr/bin/env python3
-"""Times linking and closing of generated programs of a quarter, a half and the whole of two sizes.
+"""Times linking and closing of generated programs of a quarter, a half and the whole of a size.
 
-usage: class_world.py PROGRAM
+usage: class_world.py [PROGRAM]
 
 PROGRAM is the built `vector_tables`: it reads the classes, links them, closes the entry and prints the reached methods.
-Two shapes are tried: classes in one chain, each of which overrides the method that the entry calls, and one class whose
-methods call each other in order. The time of an empty input is taken off.
+The time of an empty input is taken off. The shapes:
+
+chain     so many classes in one chain, each of which overrides the method that the entry calls
+calls     one class with so many methods that call each other in order
+sites     so many calls in one method, of a method that 255 classes in one chain inherit from the first
 """
-import struct, subprocess, sys, time
+import struct
 
-
-def u2(n):
-    return struct.pack('>H', n)
+from common import print_times, u2
 
 
 class Pool:
@@ -49,12 +50,20 @@ def class_file(name, super_name, methods):
     return head + u2(0x21) + u2(this) + u2(over) + u2(0) + u2(0) + u2(len(methods)) + out + u2(0)
 
 
+def ends(pool):
+    return b'\xb1'
+
+
+def under(count, methods):
+    """Classes in one chain under C0, with C0 so many."""
+    return [class_file('C%d' % n, 'C%d' % (n - 1), methods) for n in range(1, count)]
+
+
 def chain(count):
-    """Classes, each under the one before it; `f` of the first calls `m` on its argument."""
-    ends = lambda pool: b'\xb1'
+    """`f` of the first class calls `m` on null."""
     calls = lambda pool: b'\x01\xb6' + u2(pool.method('C0', 'm')) + b'\xb1'
     first = class_file('C0', 'java/lang/Object', [(9, 'f', calls), (1, 'm', ends)])
-    return ('C0', [first] + [class_file('C%d' % n, 'C%d' % (n - 1), [(1, 'm', ends)]) for n in range(1, count)])
+    return 'C0', [first] + under(count, [(1, 'm', ends)]), count + 1
 
 
 def calls(count):
@@ -62,33 +71,30 @@ def calls(count):
     def to(n):
         return lambda pool: b'\xb8' + u2(pool.method('A', 'm%d' % n)) + b'\xb1'
 
-    methods = [(9, 'm%d' % n, to(n + 1)) for n in range(count - 1)] + [(9, 'm%d' % (count - 1), lambda pool: b'\xb1')]
-    return ('A', [class_file('A', 'java/lang/Object', [(9, 'f', to(0))] + methods)])
+    methods = [(9, 'm%d' % n, to(n + 1)) for n in range(count - 1)] + [(9, 'm%d' % (count - 1), ends)]
+    return 'A', [class_file('A', 'java/lang/Object', [(9, 'f', to(0))] + methods)], count + 1
 
 
-def seconds(program, case, count):
-    words = ['link-50', case[0], 'f', '()V'] + [data.hex() for data in case[1]] if case else []
-    line = '\t'.join(words).encode() + b'\n' if case else b''
-    best = None
-    for _ in range(5):
-        start = time.perf_counter()
-        answer = subprocess.run([program], input=line, capture_output=True, check=True).stdout
-        took = time.perf_counter() - start
-        best = took if best is None else min(best, took)
-    assert not case or answer.startswith(b'OK ') and answer.count(b' ') == count + 1, answer[:80]
-    return best
+def sites(count):
+    """`f` of the first class calls its `m` on null, over and over."""
+    calls = lambda pool: (b'\x01\xb6' + u2(pool.method('C0', 'm'))) * count + b'\xb1'
+    first = class_file('C0', 'java/lang/Object', [(9, 'f', calls), (1, 'm', ends)])
+    return 'C0', [first] + under(256, []), 2
 
 
-def main():
-    program = sys.argv[1]
-    empty = seconds(program, None, 0)
-    print('shape    methods  bytes    ms')
-    for shape, whole in ((chain, 256), (calls, 10000)):
+def link_case(shape, count):
+    """A shape of that size, with the answer's number of reached methods."""
+    name, files, reached = shape(count)
+    words = [shape.__name__, count, sum(len(data) for data in files)]
+    fields = ['link-50', name, 'f', '()V'] + [data.hex() for data in files]
+    return words, fields, lambda answer: answer.startswith(b'OK ') and answer.count(b' ') == reached
+
+
+def cases():
+    for shape, whole in ((chain, 256), (calls, 10000), (sites, 16000)):
         for part in (4, 2, 1):
-            count = whole // part
-            case = shape(count)
-            size = sum(len(data) for data in case[1])
-            print('%-8s %-8d %-8d %.1f' % (shape.__name__, count, size, 1000 * (seconds(program, case, count) - empty)))
+            yield link_case(shape, whole // part)
 
 
-main()
+if __name__ == '__main__':
+    print_times(__doc__, ['shape', 'size', 'bytes'], cases())

@@ -1,0 +1,53 @@
+"""What the scripts that time `vector_tables` share: its path, the time that it takes for a case, and the printed table."""
+import pathlib, struct, subprocess, sys, time
+
+TOP = pathlib.Path(__file__).resolve().parent.parent
+BUILT = TOP / 'crates' / 'vector_tables' / 'out' / 'vector_tables'
+BUILDING = """
+Without PROGRAM it is crates/vector_tables/out/vector_tables, which this proves and builds (some minutes at first):
+
+    cd crates/vector_tables && rt run <stdin >/dev/null
+"""
+
+
+def u2(n):
+    """Two bytes of a class file."""
+    return struct.pack('>H', n)
+
+
+def program(usage):
+    """The path of the program that the words of the command name; ends with the usage text where there is none."""
+    path = pathlib.Path(sys.argv[1]) if len(sys.argv) == 2 else BUILT
+    if len(sys.argv) > 2 or not path.is_file():
+        sys.exit(usage.strip() + '\n' + BUILDING.rstrip())
+    return path.resolve()
+
+
+def answer_and_seconds(path, line):
+    """The program's answer to a line of input, and the least time of five runs."""
+    best = None
+    for _ in range(5):
+        start = time.perf_counter()
+        answer = subprocess.run([path], input=line, capture_output=True, check=True).stdout
+        took = time.perf_counter() - start
+        best = took if best is None else min(best, took)
+    return answer, best
+
+
+def print_row(words):
+    print(''.join('%-11s' % word for word in words).rstrip(), flush=True)
+
+
+def print_times(usage, heading, cases):
+    """A line for each case: its words, and the milliseconds that it takes beyond an empty input.
+
+    A case is a list of words to print, the fields of the program's input, and a test that its answer passes.
+    """
+    path = program(usage)
+    _, empty = answer_and_seconds(path, b'')
+    print_row(heading + ['ms'])
+    for words, fields, is_right in cases:
+        answer, took = answer_and_seconds(path, '\t'.join(fields).encode() + b'\n')
+        if not is_right(answer):
+            sys.exit('another answer than wanted: %r' % answer[:80])
+        print_row(words + ['%.1f' % (1000 * (took - empty))])
