@@ -1,7 +1,6 @@
 //! Instructions with their numbers and targets.
 
 ghost use Rattle.std.specs.Prelude.{◌≡◌, map, IfOk};
-ghost use Rattle.code_decode.specs.Texts.{is_rising};
 ghost use Rattle.class_asm.specs.Places.{place_in, IsNear};
 ghost use Rattle.class_asm.specs.Instructions.{target, byte_value, pair_value, local_insn, entry_insn, load_insn, interface_insn, member_insn, array_insn, increment, increment_insn, highest_fits, table_insn, cases_of, lookup_of, lookup_insn, insn_of};
 
@@ -9,7 +8,7 @@ use crate::labels::Labels;
 use crate::number::Number;
 use crate::operation::Operation;
 use crate::pooled::Need;
-use code_decode::{Case, Insn, plain, wide_local, with_byte, with_jump, with_pair};
+use code_decode::{Case, Insn, is_rising, plain, wide_local, with_byte, with_jump, with_pair};
 use list_views::Seq;
 use std::alloc::{AllocError, Global};
 
@@ -183,23 +182,6 @@ fn cases_of(
         cases.push(Case { key, target })?;
     }
     Ok(Some(cases))
-}
-
-/// Whether each key is above the one before it.
-fn is_rising(cases: &[Case]) -> bool
-    ensures { result ≡ is_rising cases.now }
-{
-    let Some((first, others)) = cases.split_first() else {
-        return true;
-    };
-    let mut key = first.key;
-    for case in others {
-        if case.key <= key {
-            return false;
-        }
-        key = case.key;
-    }
-    true
 }
 
 fn lookup_of(default: u16, cases: Seq<Case>) -> Option<Insn>
