@@ -1,17 +1,14 @@
 -- A listing without faults says a class that has a text.
-use Rattle.std.proofs.Common.{◌≡◌, ℕ, suc, ◌+◌, ◌*◌, ◌<◌, ◌≤◌, ◌^◌, Bool, true, false, cond, ◌&&◌, List, [], ◌∷◌, ◌++◌, length, map, Option, Some, None, is_some, refl, sym, ap, subst, ◌∙◌, arith}
-use Rattle.std.specs.Prelude.{nat_lt}
-use Rattle.std.specs.List.{flat_map, list_all, AllByRecursion}
+use Rattle.std.proofs.Common.{◌≡◌, ℕ, ◌+◌, ◌*◌, ◌<◌, ◌^◌, cond, List, [], ◌∷◌, ◌++◌, length, map, Option, Some, None, is_some, refl, arith}
+use Rattle.std.specs.List.{flat_map, AllByRecursion}
 use Rattle.std.specs.Option.{option_map_or}
 use Rattle.std.proofs.lemmas.List.{length-append}
 use Rattle.class_pool.specs.Entry.{HasText}
 use Rattle.class_read.specs.Content.{Handler}
 use Rattle.code_decode.specs.declared.table.Handler.{Handler as CodeHandler}
-use Rattle.class_read.specs.Names.{is_class_name}
-use Rattle.class_read.specs.Text.{u2, u4, counted, handler_text, attribute_text, code_text}
-use Rattle.class_read.specs.Writing.{HasAttributeText, HasAttrText, HasMemberText, HasClassText}
+use Rattle.class_read.specs.Text.{u2, u4, handler_text, attribute_text, code_text}
+use Rattle.class_read.specs.Writing.{HasAttrText, HasMemberText, HasClassText}
 use Rattle.class_read.specs.declared.text.AttrText.{AttrText}
-use Rattle.class_asm.specs.declared.fault.AsmFault.{AsmFault}
 use Rattle.class_asm.specs.declared.number.Number.{Number}
 use Rattle.class_asm.specs.declared.item.Item.{Item}
 use Rattle.class_asm.specs.declared.item.Item.TheVariants as items
@@ -23,13 +20,13 @@ use Rattle.class_asm.specs.declared.statement.ClassLine.{ClassLine}
 use Rattle.class_asm.specs.declared.statement.FieldLine.{FieldLine}
 use Rattle.class_asm.specs.declared.method_code.MethodCode.{MethodCode}
 use Rattle.class_asm.specs.Firsts.{with_faults}
-use Rattle.class_asm.specs.Needs.{line_needs, attribute_entries, super_of, listing_needs}
+use Rattle.class_asm.specs.Needs.{line_needs, attribute_entries, listing_needs}
 use Rattle.class_asm.specs.Pools.{Need, Numbered, unless, need_faults, count_faults, pool_entry, number_of}
 use Rattle.class_asm.specs.Entries.{Entry, Class}
-use Rattle.class_asm.specs.Rules.{past_count, seconds, field_key, method_key, fields_faults, methods_faults, attributes_faults, field_faults, method_faults, method_flags, sizes_fit, attribute_lines, attribute_faults, constant_faults, content_fits, major_of, class_is_good, rule_faults}
+use Rattle.class_asm.specs.Rules.{past_count, seconds, field_key, method_key, fields_faults, methods_faults, attributes_faults, field_faults, method_faults, attribute_lines, attribute_faults, constant_faults, content_fits, class_is_good, rule_faults}
 use Rattle.class_asm.specs.Classes as classes
 use Rattle.class_asm.specs.Classes.{code_said, code_in, said_faults, item_attributes, code_attributes, attributes_size, code_size, code_fits, code_faults, field_text, handlers_of, method_attributes, method_text, class_text, firsts_in, pool_in, pool_faults, all_faults}
-use Rattle.class_asm.proofs.CodeBounds.{IsFew, few}
+use Rattle.class_asm.proofs.CodeBounds.{few}
 use Rattle.class_asm.proofs.Faultless.{no_faults, left, right, each, is_good, first_of_both, second_of_both, within_count, is_less, mapped_length, all_mapped, all_both, all_one}
 use Rattle.class_asm.proofs.PoolBounds.{places_counted}
 
@@ -55,7 +52,7 @@ all_size : (attributes : List (ℕ × List ℕ)) → length (flat_map attribute_
 all_size [] = refl
 all_size (a ∷ attributes) = omega (arith, length-append (attribute_text a) (flat_map attribute_text attributes), attribute_size a, all_size attributes)
 
-content_size : (max_stack max_locals : ℕ) (code : MethodCode) (attributes : List (ℕ × List ℕ)) → length (code_text max_stack max_locals code.bytes (handlers_of code) attributes) ≡ code_size code attributes
+pub content_size : (max_stack max_locals : ℕ) (code : MethodCode) (attributes : List (ℕ × List ℕ)) → length (code_text max_stack max_locals code.bytes (handlers_of code) attributes) ≡ code_size code attributes
 content_size max_stack max_locals code attributes =
     let table = handlers_of code in
     let tables : List ℕ = flat_map handler_text table in
@@ -78,7 +75,7 @@ content_size max_stack max_locals code attributes =
       mapped_length four code.table,
     )
 
-each_short : (attributes : List (ℕ × List ℕ)) (most : ℕ) → attributes_size attributes < most → AllByRecursion (λ a. length a.1 < most) attributes
+pub each_short : (attributes : List (ℕ × List ℕ)) (most : ℕ) → attributes_size attributes < most → AllByRecursion (λ a. length a.1 < most) attributes
 each_short [] most h = tt
 each_short (a ∷ attributes) most h = (omega (arith, h), each_short attributes most (omega (arith, h)))
 
@@ -91,7 +88,7 @@ item_count pool line (items.Catch x) = refl
 item_count pool line (items.Attribute x) = refl
 item_count pool line items.End = refl
 
-attributes_count : (pool : Numbered) (lines : List CodeLine) → length (code_attributes pool lines) ≡ length (flat_map (line_needs attribute_entries) lines)
+pub attributes_count : (pool : Numbered) (lines : List CodeLine) → length (code_attributes pool lines) ≡ length (flat_map (line_needs attribute_entries) lines)
 attributes_count pool [] = refl
 attributes_count pool (code ∷ lines) =
     omega (

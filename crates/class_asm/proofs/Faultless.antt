@@ -1,12 +1,12 @@
 -- What a listing without faults keeps.
-use Rattle.std.proofs.Common.{◌≡◌, ℕ, zero, suc, ◌+◌, ◌<◌, ◌≤◌, ◌^◌, Bool, true, false, cond, ltb, ◌&&◌, List, [], ◌∷◌, ◌++◌, length, map, slice_get, Option, Some, None, refl, sym, ap, ◌∙◌, arith}
+use Rattle.std.proofs.Common.{◌≡◌, ℕ, zero, suc, ◌<◌, ◌≤◌, ◌^◌, Bool, true, false, cond, ◌&&◌, List, [], ◌∷◌, ◌++◌, length, map, slice_get, Option, Some, None, refl, ap, arith}
 use Rattle.std.specs.Prelude.{nat_lt}
-use Rattle.std.specs.List.{flat_map, list_all, AllByRecursion}
+use Rattle.std.specs.List.{flat_map, AllByRecursion}
 use Rattle.std.specs.Option.{option_map_or}
 use Rattle.std.proofs.lemmas.Bool.{ltb-true}
 use Rattle.class_asm.specs.declared.fault.AsmFault.{AsmFault}
 use Rattle.class_asm.specs.declared.fault.AsmFault.TheVariants.{OutOfRange}
-use Rattle.class_asm.specs.Firsts.{is_before, with_fault, with_faults}
+use Rattle.class_asm.specs.Firsts.{is_before, with_faults}
 use Rattle.class_asm.specs.Pools.{unless}
 use Rattle.class_asm.specs.Rules.{past_count}
 
@@ -16,7 +16,7 @@ kept : (x y : AsmFault) (fs : List AsmFault) → ((z : AsmFault) → with_faults
 kept x y fs more true h = more y h
 kept x y fs more false h = more x h
 
-stays : (fs : List AsmFault) (x : AsmFault) → with_faults (Some x) fs ≡ None → ⊥
+pub stays : (fs : List AsmFault) (x : AsmFault) → with_faults (Some x) fs ≡ None → ⊥
 stays [] x h = cc
 stays (y ∷ fs) x h = kept x y fs (stays fs) (is_before y x) h
 

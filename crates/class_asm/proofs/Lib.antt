@@ -1,6 +1,7 @@
 pub mod Assembled
 pub mod Cases
 pub mod ClassBounds
+pub mod ClassFile
 pub mod CodeBounds
 pub mod CodeFits
 pub mod CodeSizes
@@ -11,11 +12,17 @@ pub mod Faultless
 pub mod Faults
 pub mod FirstFaults
 pub mod FoundLabels
+pub mod GoodListings
+pub mod GoodNeeds
+pub mod KeptRules
 pub mod KeyCases
 pub mod Marks
 pub mod Opcodes
 pub mod Operands
 pub mod Outcomes
+pub mod PlainWords
 pub mod PoolBounds
+pub mod PoolEntries
+pub mod PoolRules
 pub mod Sizes
 pub mod Written

@@ -190,7 +190,7 @@ pub length-map : {A B : Type 0} (f : A → B) (xs : List A) → length (map f xs
 length-map f [] = refl
 length-map f (x ∷ xs) = ap suc (length-map f xs)
 
-int_fits : (n : Number) (v : ℤ) → int_of n ≡ Some v → FitsSigned w32 v
+pub int_fits : (n : Number) (v : ℤ) → int_of n ≡ Some v → FitsSigned w32 v
 int_fits n v h =
     let c = chained (λ m. if int_le (negsuc (2 ^ 31 - 1)) m && int_le m (pos (2 ^ 31 - 1)) then Some m else None) (signed_of n) v h in
     let g = guarded (int_le (negsuc (2 ^ 31 - 1)) c.0 && int_le c.0 (pos (2 ^ 31 - 1))) (Some c.0) v c.2 in

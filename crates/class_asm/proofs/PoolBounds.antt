@@ -1,12 +1,12 @@
 -- The entries of a faultless listing have texts, and a pool can count them.
-use Rattle.std.proofs.Common.{◌≡◌, ℕ, suc, ◌+◌, ◌<◌, ◌≤◌, ◌^◌, Bool, true, false, cond, List, [], ◌∷◌, ◌++◌, length, map, ◌&&◌, Option, Some, None, refl, sym, ap, subst, ◌∙◌, arith}
+use Rattle.std.proofs.Common.{◌≡◌, ℕ, ◌+◌, ◌<◌, ◌^◌, Bool, true, false, cond, List, [], ◌∷◌, ◌++◌, length, map, ◌&&◌, refl, sym, ap, subst, ◌∙◌, arith}
 use Rattle.std.proofs.lemmas.List.{length-append}
 use Rattle.std.specs.Prelude.{position, nat_lt, nat_le, is_some}
-use Rattle.std.specs.List.{flat_map, list_all, fold, AllByRecursion}
+use Rattle.std.specs.List.{flat_map, fold, AllByRecursion}
 use Rattle.class_pool.specs.Text.{slots_of, places_of}
 use Rattle.class_asm.specs.declared.entry.Entry.{Entry as Kept}
 use Rattle.class_asm.specs.Entries.{Entry, Utf8, Integer, Float, Long, Double, Class, Str, Member, NameAndType, same, with_named, has_text, width, seen}
-use Rattle.class_asm.specs.Pools.{Need, needed, brought, unless, with_first, firsts_of, count_faults, Numbered, pool_entry}
+use Rattle.class_asm.specs.Pools.{Need, needed, brought, unless, with_first, count_faults, Numbered, pool_entry}
 use Rattle.class_asm.specs.Classes.{firsts_in}
 use Rattle.class_asm.proofs.Faultless.{left, right, is_good, is_less, first_of_both, second_of_both, both_true}
 
@@ -24,7 +24,7 @@ counted next (n ∷ needs) b h =
     let more = counted (next + width n.0) needs own (right (unless (nat_lt (next + width n.0) (2 ^ 16)) n.1) rest h) in
     omega (arith, more)
 
-slots : (pool : Numbered) (e : Entry) → length (slots_of (pool_entry pool e)) ≡ width e
+pub slots : (pool : Numbered) (e : Entry) → length (slots_of (pool_entry pool e)) ≡ width e
 slots pool (Utf8 text) = refl
 slots pool (Integer value) = refl
 slots pool (Float bits) = refl

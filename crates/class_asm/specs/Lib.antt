@@ -15,3 +15,4 @@ pub mod Pools
 pub mod Needs
 pub mod Rules
 pub mod Classes
+pub mod ClassFiles

@@ -11,6 +11,7 @@ mod first;
 mod instruction;
 mod item;
 mod labels;
+mod laws;
 mod line_fault;
 mod listing;
 mod method_code;
@@ -27,6 +28,7 @@ mod texts;
 
 pub use assembly::assemble;
 pub use fault::AsmFault;
+pub use laws::assembled_keeps_rules;
 
 #[cfg(test)]
 mod tests;

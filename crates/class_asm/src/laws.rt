@@ -1,0 +1,12 @@
+//! What is true of every class file that a listing gives.
+
+ghost use Rattle.std.specs.Prelude.{◌≡◌, ℕ, List, Ok};
+ghost use Rattle.class_asm.specs.Classes.{assembled};
+ghost use Rattle.class_asm.specs.ClassFiles.{IsClassFile};
+
+/// What [`assemble`](crate::assemble) gives keeps every rule of class files that reading tests (JVM specification, sections
+/// 4.1 to 4.7): pool, names, descriptors, flags, code lengths, exception tables, distinct members. So where its major
+/// version is one that is read, the bytes spell exactly the class that the listing says.
+pub fn assembled_keeps_rules()
+    ensures { (text bytes : List ℕ) → assembled text ≡ Ok bytes → IsClassFile text bytes }
+{}
