@@ -307,47 +307,43 @@ fn a_listing_gives_the_bytes_of_its_class(rt: HostRuntime) -> Result<(), Fail> {
     Ok(())
 }
 
+// Whether `asm` says this of a listing that it refuses, and puts nothing on the output.
+fn refuses_listing(alloc: Global, listing: &[u8], line: &[u8]) -> Result<bool, AllocError> {
+    let outcome = call(alloc, &["asm", "l"], &[("l", listing)], &NONE, 200)?;
+    Ok(outcome.status == 3 && outcome.out.bytes().is_empty() && outcome.err.bytes() == line)
+}
+
 #[test]
 fn the_first_fault_of_a_listing_is_told_with_its_line(rt: HostRuntime) -> Result<(), Fail> {
-    for (listing, line) in [
-        (
-            b"class A\nfoo\n".as_slice(),
-            b"jterm: listing: Syntax line=2\n".as_slice(),
-        ),
-        (
-            b"class A\nmethod f ()I static stack 1 locals 0\nbipush 128\nireturn\n",
-            b"jterm: listing: OutOfRange line=3\n",
-        ),
-        (
-            b"class A\nmethod f ()I static stack 1 locals 0\nbipush 7\ngoto a\nend\n",
-            b"jterm: listing: UnknownLabel line=4\n",
-        ),
-        (
-            b"class A\nmethod f ()I static stack 1 locals 0\nbipush 7\nireturn\n",
-            b"jterm: listing: NoEnd line=4\n",
-        ),
-    ] {
-        let outcome = call(rt.alloc(), &["asm", "l"], &[("l", listing)], &NONE, 200)?;
-        assert_eq!(rt; outcome.status, 3);
-        assert_eq!(rt; outcome.out.bytes(), b"".as_slice());
-        assert_eq!(rt; outcome.err.bytes(), line);
-    }
+    let alloc = rt.alloc();
+    let syntax = b"jterm: listing: Syntax line=2\n";
+    assert!(rt; refuses_listing(alloc, b"class A\nfoo\n", syntax)?);
+    let range = b"jterm: listing: OutOfRange line=3\n";
+    let wide = b"class A\nmethod f ()I static stack 1 locals 0\nbipush 128\nireturn\n";
+    assert!(rt; refuses_listing(alloc, wide, range)?);
+    let label = b"jterm: listing: UnknownLabel line=3\n";
+    let stray = b"class A\nmethod f ()V static stack 0 locals 0\ngoto a\nend\n";
+    assert!(rt; refuses_listing(alloc, stray, label)?);
+    let end = b"jterm: listing: NoEnd line=3\n";
+    let unended = b"class A\nmethod f ()V static stack 0 locals 0\nreturn\n";
+    assert!(rt; refuses_listing(alloc, unended, end)?);
     Ok(())
+}
+
+fn is_no_command(alloc: Global, words: &[&str]) -> Result<bool, AllocError> {
+    let outcome = call(alloc, words, &[("l", LISTING)], &NONE, 100)?;
+    Ok(outcome.status == 4 && outcome.out.bytes().is_empty())
 }
 
 #[test]
 fn an_asm_of_other_words_than_one_file_is_no_command(rt: HostRuntime) -> Result<(), Fail> {
-    for words in [
-        ["asm"].as_slice(),
-        &["asm", "l", "l"],
-        &["asm", "-l"],
-        &["asm "],
-        &["l"],
-        &[],
-    ] {
-        let outcome = call(rt.alloc(), words, &[("l", LISTING)], &NONE, 100)?;
-        assert_eq!(rt; outcome.status, 4);
-    }
+    let alloc = rt.alloc();
+    assert!(rt; is_no_command(alloc, &["asm"])?);
+    assert!(rt; is_no_command(alloc, &["asm", "l", "l"])?);
+    assert!(rt; is_no_command(alloc, &["asm", "-l"])?);
+    assert!(rt; is_no_command(alloc, &["asm ", "l"])?);
+    assert!(rt; is_no_command(alloc, &["l"])?);
+    assert!(rt; is_no_command(alloc, &[])?);
     Ok(())
 }
 
