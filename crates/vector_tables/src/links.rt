@@ -1,63 +1,20 @@
 //! `link-50`: the entry method and class files, and the methods that the entry reaches, or the first fault of linking.
-ghost use Rattle.std.specs.Prelude.{◌≡◌, ◌<◌, length, IfOk};
-ghost use Rattle.std.specs.List.{AllByRecursion};
-ghost use Rattle.class_world.specs.Linking.{CanBeRead};
-ghost use Rattle.vector_tables.specs.ReadClasses.{AreRead};
+ghost use Rattle.std.specs.Prelude.{◌≡◌, ◌<◌, length};
 
 use crate::case::Case;
-use anyhow::{Context, Result, bail};
-use class_read::ClassView;
-use class_world::{LinkFault, MethodName, Program, World};
+use crate::entry::Entry;
+use anyhow::{Result, bail};
+use class_world::{LinkFault, MethodName, Program};
 use code_decode::CodeFault;
 use jvm_values::Types;
 use std::alloc::{AllocError, Global};
 
 pub fn answer(alloc: Global, case: &Case<'_>) -> Result<String> {
-    let mut files = Vec::new(alloc);
-    for n in 3..case.field_count() {
-        files.push(case.bytes(alloc, n)?)?;
-    }
-    let classes = read_all(alloc, files.as_slice())?;
-    let world = match World::link(alloc, classes) {
-        Ok(world) => world,
-        Err(fault) => return fault_line(alloc, fault),
-    };
-    let class = case.text(0)?.as_bytes();
-    let name = case.text(1)?.as_bytes();
-    let desc = case.text(2)?.as_bytes();
-    let entry = world
-        .find(class, name, desc)
-        .context("the entry is no method of the world")?;
-    if !world.has_body(entry) {
-        bail!("the entry is abstract");
-    }
-    match Program::close(alloc, world, entry) {
+    let entry = Entry::read(alloc, case, 0)?;
+    match entry.close(alloc)? {
         Ok(program) => Ok(reached_line(alloc, &program)?),
         Err(fault) => fault_line(alloc, fault),
     }
-}
-
-fn read(alloc: Global, bytes: &[u8]) -> Result<ClassView<'_>>
-    ensures { IfOk result (λ class. CanBeRead class) }
-{
-    match ClassView::read(alloc, bytes) {
-        Ok(class) => Ok(class),
-        Err(_) => bail!("a class file can't be read"),
-    }
-}
-
-/// The classes of the files, fewer than 1,000.
-fn read_all(alloc: Global, files: &[Vec<u8>]) -> Result<Vec<ClassView<'_>>>
-    ensures { IfOk result (λ classes. AreRead classes.items) }
-{
-    let mut classes = Vec::new(alloc);
-    for file in files {
-        if classes.len() >= 999 {
-            bail!("there are too many class files");
-        }
-        classes.push(read(alloc, file.as_slice())?)?;
-    }
-    Ok(classes)
 }
 
 /// The name of the class of that number, and nothing for a number that no class has.

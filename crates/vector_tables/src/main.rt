@@ -5,9 +5,11 @@
 mod case;
 mod classes;
 mod code;
+mod entry;
 mod json;
 mod links;
 mod listings;
+mod select;
 
 use anyhow::{Result, bail};
 use case::Case;
@@ -34,6 +36,7 @@ fn answer(alloc: Global, line: &str) -> Result<String> {
         "json" => json::answer(alloc, &case),
         "link-50" => links::answer(alloc, &case),
         "listings" => listings::answer(alloc, &case),
+        "select" => select::answer(alloc, &case),
         "table" => code::table_answer(alloc, &case),
         table => bail!("there is no table {table}"),
     }
