@@ -91,7 +91,7 @@ def link_case(shape, count):
 
 
 def cases():
-    for shape, whole in ((chain, 256), (calls, 10000), (sites, 16000)):
+    for shape, whole in ((chain, 256), (calls, 10000), (sites, 4000)):
         for part in (4, 2, 1):
             yield link_case(shape, whole // part)
 

@@ -1,5 +1,5 @@
 """What the scripts that time `vector_tables` share: its path, the time that it takes for a case, and the printed table."""
-import pathlib, struct, subprocess, sys, time
+import pathlib, resource, struct, subprocess, sys
 
 TOP = pathlib.Path(__file__).resolve().parent.parent
 BUILT = TOP / 'crates' / 'vector_tables' / 'out' / 'vector_tables'
@@ -23,13 +23,19 @@ def program(usage):
     return path.resolve()
 
 
+def processor_seconds():
+    """The processor time of the programs that were run so far, in them and in the system for them."""
+    used = resource.getrusage(resource.RUSAGE_CHILDREN)
+    return used.ru_utime + used.ru_stime
+
+
 def answer_and_seconds(path, line):
-    """The program's answer to a line of input, and the least time of five runs."""
+    """The program's answer to a line of input, and the least processor time of five runs."""
     best = None
     for _ in range(5):
-        start = time.perf_counter()
+        before = processor_seconds()
         answer = subprocess.run([path], input=line, capture_output=True, check=True).stdout
-        took = time.perf_counter() - start
+        took = processor_seconds() - before
         best = took if best is None else min(best, took)
     return answer, best
 
@@ -39,7 +45,7 @@ def print_row(words):
 
 
 def print_times(usage, heading, cases):
-    """A line for each case: its words, and the milliseconds that it takes beyond an empty input.
+    """A line for each case: its words, and the milliseconds of processor time that it takes beyond an empty input.
 
     A case is a list of words to print, the fields of the program's input, and a test that its answer passes.
     """
