@@ -29,6 +29,3 @@ mod texts;
 pub use assembly::assemble;
 pub use fault::AsmFault;
 pub use laws::assembled_keeps_rules;
-
-#[cfg(test)]
-mod tests;

@@ -18,6 +18,3 @@ pub use laws::{entries_of_text, one_pool, pool_has_texts, read_is_spelled, writt
 pub use pool::Pool;
 pub use rules::{has_texts, is_pool};
 pub use writing::write_pool;
-
-#[cfg(test)]
-mod tests;

@@ -22,8 +22,3 @@ pub use reading::one_class;
 pub use text::{AttrText, ClassText, MemberText};
 pub use view::{ClassView, CodeView, FieldView, MethodView};
 pub use writing::{class_has_text, write_class, written_is_spelled};
-
-#[cfg(test)]
-mod tests;
-#[cfg(test)]
-mod text_tests;

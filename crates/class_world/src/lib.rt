@@ -42,10 +42,3 @@ pub use op::{Call, FieldUse, Op};
 pub use program::{CatchRange, Method, Program, StaticField};
 pub use selected::Selected;
 pub use world::{MethodRef, World};
-
-#[cfg(test)]
-mod closing_tests;
-#[cfg(test)]
-mod selected_tests;
-#[cfg(test)]
-mod tests;

@@ -27,6 +27,3 @@ pub use names::name;
 pub use parts::{Parts, parts_of};
 pub use table::{Handler, check_table};
 pub use writing::{encode, put_insn};
-
-#[cfg(test)]
-mod tests;

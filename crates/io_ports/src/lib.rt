@@ -16,6 +16,3 @@ pub use memory_sink::MemorySink;
 pub use real_files::RealFiles;
 pub use sink::{Sink, SinkFault};
 pub use std_sink::StdSink;
-
-#[cfg(test)]
-mod tests;

@@ -5,8 +5,6 @@ mod fault;
 mod laws;
 mod names;
 mod place;
-#[cfg(test)]
-mod tests;
 mod view;
 
 pub use fault::JsonFault;

@@ -78,6 +78,3 @@ pub fn decide(alloc: Global, request: &Request, inputs: &[Vec<u8>]) -> Result<Ve
         Request::Asm => assemble_listing(alloc, inputs[0].as_slice()),
     }
 }
-
-#[cfg(test)]
-mod tests;

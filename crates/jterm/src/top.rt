@@ -215,6 +215,3 @@ pub fn jterm<F: Files, O: Sink, E: Sink>(
         },
     }
 }
-
-#[cfg(test)]
-mod tests;

@@ -54,21 +54,3 @@ impl<T> Pile<T> {
         self.items.pop()
     }
 }
-
-#[cfg(test)]
-mod tests {
-    use super::*;
-    use std::test::Fail;
-
-    #[test]
-    fn the_last_item_comes_first(rt: HostRuntime) -> Result<(), Fail> {
-        let mut pile = Pile::new(rt.alloc());
-        pile.push(1u8)?;
-        pile.push(2)?;
-        assert_eq!(rt; pile.len(), 2);
-        assert_eq!(rt; pile.pop(), Some(2));
-        assert_eq!(rt; pile.pop(), Some(1));
-        assert_eq!(rt; pile.pop(), None);
-        Ok(())
-    }
-}

@@ -11,8 +11,6 @@ mod laws;
 mod rows;
 mod showing;
 mod sums;
-#[cfg(test)]
-mod tests;
 mod wrapping;
 
 pub use combining::combine;

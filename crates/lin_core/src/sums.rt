@@ -115,14 +115,6 @@ impl Scratch {
         })
     }
 
-    /// The number of variables.
-    #[cfg(test)]
-    pub(crate) fn variables(&self) -> usize
-        ensures { result ≡ variables self.now }
-    {
-        self.cells.len()
-    }
-
     /// Begins a new sum with nothing in it.
     pub(crate) fn clear(&mut self)
         ensures { self.new ≡ zero_sum (variables self.old) }

@@ -11,6 +11,3 @@ mod stack;
 pub use bytes::Bytes;
 pub use seq::Seq;
 pub use stack::Stack;
-
-#[cfg(test)]
-mod tests;
