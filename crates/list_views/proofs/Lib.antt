@@ -1,1 +1,4 @@
+pub mod ByteLists
+pub mod Reversed
 pub mod Ring
+pub mod Steps

@@ -1,5 +1,7 @@
 //! A stack that contracts see as the list of its items from the top down, beside the room that it holds.
-ghost use Rattle.std.specs.Prelude.{◌≡◌, ◌+◌, ◌<◌, ◌≤◌, ◌==◌, List, ℕ, [], ◌∷◌, length, IfOk, IfErr, OnOk, OnErr, MatchOption, MatchResult, slice_index_or};
+ghost use Rattle.std.specs.Prelude.{◌≡◌, ◌+◌, ◌-◌, ◌<◌, ◌≤◌, ◌==◌, List, ℕ, [], ◌∷◌, length, drop, reverse, IfOk, IfErr, OnOk, OnErr, MatchOption, MatchResult, slice_index_or, slice_set};
+ghost use Rattle.std.specs.Borrow.{Lends, sem};
+ghost use Rattle.list_views.specs.contracts.stack.Stack.{the_row};
 
 use std::alloc::{AllocError, AllocFailed, Allocator, Global};
 use std::marker::Model;
@@ -20,6 +22,15 @@ impl<T> Model for Stack<T> {
 }
 
 impl<T> Stack<T> {
+    /// The empty stack. It takes no memory until the first item comes.
+    pub fn new(alloc: Global) -> Stack<T>
+        ensures { result.0 ≡ [] }
+    {
+        Stack {
+            items: Vec::new(alloc),
+        }
+    }
+
     /// The empty stack, with room for `room` items.
     ///
     /// # Errors
@@ -38,6 +49,37 @@ impl<T> Stack<T> {
         ensures { result ≡ length self.now.0 }
     {
         self.items.len()
+    }
+
+    /// Whether there is no item.
+    pub fn is_empty(&self) -> bool
+        ensures { result ≡ (length self.now.0 == 0) }
+    {
+        self.items.is_empty()
+    }
+
+    /// The items as a slice, the top last.
+    pub fn as_slice(&self) -> &[T]
+        ensures { result.now ≡ reverse self.now.0 }
+    {
+        self.items.as_slice()
+    }
+
+    /// The item under `depth` others; the top is at 0.
+    pub fn at(&self, depth: usize) -> &T
+        requires { depth < length self.now.0 }
+        ensures { result.now ≡ slice_index_or self.now.0 depth result.now }
+    {
+        &self.items[self.items.len() - 1 - depth]
+    }
+
+    /// A loan of the item under `depth` others; the top is at 0. The room stays.
+    pub fn at_mut(&mut self, depth: usize) -> &mut T
+        requires { depth < length self.old.0 }
+        ensures* { sem 𝓛 (Lends (the_row T.row) T.row self.entry result (λ item. (slice_set self.old.0 depth item, self.old.1))) }
+    {
+        let place = self.items.len() - 1 - depth;
+        &mut self.items[place]
     }
 
     /// Puts `item` on the top. Where the stack has room it takes no memory.
@@ -62,7 +104,17 @@ impl<T> Stack<T> {
         self.items.pop()
     }
 
-    /// Takes all items away and keeps the room.
+    /// Keeps the lowest `count` items. The room stays.
+    pub fn truncate(&mut self, count: usize)
+    where
+        T: Drop,
+        ensures items { self.new.0 ≡ drop (length self.old.0 - count) self.old.0 }
+        ensures room { self.new.1 ≡ self.old.1 }
+    {
+        self.items.truncate(count);
+    }
+
+    /// Takes all items away. The room stays.
     pub fn clear(&mut self)
     where
         T: Drop,
