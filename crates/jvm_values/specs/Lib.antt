@@ -1,1 +1,4 @@
+pub mod Ints
+pub mod Joins
+pub mod Kinds
 pub mod Subtyping

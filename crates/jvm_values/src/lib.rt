@@ -6,15 +6,19 @@
 #![tactic(auto)]
 
 mod heap;
+mod ints;
 mod pile;
 mod shape;
 mod state;
 mod types;
+mod typing;
 mod world_types;
 
 pub use heap::{Heap, Object, Value};
+pub use ints::{Cond, IntOp};
 pub use pile::Pile;
 pub use shape::{Shape, Term};
 pub use state::{Frame, Mode, State};
 pub use types::{Base, Kind, Slot, Ty};
+pub use typing::{FrameType, PlaceType};
 pub use world_types::Types;

@@ -1,4 +1,7 @@
 //! The types of fields, array items and references (JVM specification, sections 2.2 to 2.4).
+ghost use Rattle.std.specs.Prelude.{◌≡◌};
+ghost use Rattle.std.specs.Int.{w8, w16, int_wrap};
+ghost use Rattle.jvm_values.specs.Kinds.{kind_code, kind_of_code, least_of, greatest_of, narrowed, IsOfKind};
 
 /// The kinds of whole numbers that fields and arrays hold (JVM specification, section 2.3).
 ///
@@ -15,6 +18,93 @@ pub enum Kind {
     Short,
     /// 32 bits with a sign.
     Int,
+}
+
+impl Kind {
+    /// The number that stands for the kind in `newarray` (JVM specification, section 6.5, `newarray`).
+    pub fn code(self) -> u8
+        ensures { result ≡ kind_code self }
+    {
+        match self {
+            Kind::Boolean => 4,
+            Kind::Char => 5,
+            Kind::Byte => 8,
+            Kind::Short => 9,
+            Kind::Int => 10,
+        }
+    }
+
+    /// The kind that a number stands for in `newarray`, or None exactly where it stands for none of these.
+    pub fn of_code(code: u8) -> Option<Kind>
+        ensures { result ≡ kind_of_code code }
+    {
+        match code {
+            4 => Some(Kind::Boolean),
+            5 => Some(Kind::Char),
+            8 => Some(Kind::Byte),
+            9 => Some(Kind::Short),
+            10 => Some(Kind::Int),
+            _ => None,
+        }
+    }
+
+    /// The least number of the kind.
+    pub fn least(self) -> i32
+        ensures { result ≡ least_of self }
+    {
+        match self {
+            Kind::Boolean => 0,
+            Kind::Char => 0,
+            Kind::Byte => -128,
+            Kind::Short => -32_768,
+            Kind::Int => i32::MIN,
+        }
+    }
+
+    /// The greatest number of the kind.
+    pub fn greatest(self) -> i32
+        ensures { result ≡ greatest_of self }
+    {
+        match self {
+            Kind::Boolean => 1,
+            Kind::Char => 65_535,
+            Kind::Byte => 127,
+            Kind::Short => 32_767,
+            Kind::Int => i32::MAX,
+        }
+    }
+
+    /// What a field or an array item of the kind keeps of an int (JVM specification, section 6.5, `bastore`,
+    /// `castore`, `sastore`, `i2b`, `i2c`, `i2s`): the lowest bit of a boolean, the low bits of the others.
+    pub fn narrow(self, value: i32) -> i32
+        ensures value { result ≡ narrowed self value }
+        ensures in_range { IsOfKind self result }
+        ensures kept { IsOfKind self value → result ≡ value }
+    {
+        match self {
+            Kind::Boolean => value.rem_euclid(2),
+            Kind::Char => value.rem_euclid(1 << 16),
+            Kind::Byte => low_byte(value),
+            Kind::Short => low_short(value),
+            Kind::Int => value,
+        }
+    }
+}
+
+/// The low eight bits of an int, as a number with a sign.
+fn low_byte(value: i32) -> i32
+    ensures { result ≡ int_wrap w8 value }
+{
+    let low = value.rem_euclid(1 << 8);
+    i32::from((low as u8).cast_signed())
+}
+
+/// The low sixteen bits of an int, as a number with a sign.
+fn low_short(value: i32) -> i32
+    ensures { result ≡ int_wrap w16 value }
+{
+    let low = value.rem_euclid(1 << 16);
+    i32::from((low as u16).cast_signed())
 }
 
 /// What stands under the dimensions of a type.
