@@ -1,6 +1,6 @@
 -- What the library's operations on 32 bits give, as numbers; and where narrowed numbers lie.
-use Rattle.std.proofs.Common.{◌≡◌, ℕ, suc, ◌+◌, ◌-◌, ◌*◌, ◌/◌, ◌%◌, ◌^◌, ◌<◌, ◌≤◌, ℤ, pos, negsuc, ◌+ℤ◌, ◌*ℤ◌, ◌≤ℤ◌, Bool, true, false, Some, FitsSigned, to_z, of_z, w8, w16, w32, to_z-of_z, ◌∙◌, ap, sym, refl, lit<, arith}
-use Rattle.std.proofs.lemmas.Int.{ints, int_wrap_fits, SFits-int_wrap, wrapping_mul-bits, int_wrap-mul_right}
+use Rattle.std.proofs.Common.{◌≡◌, ℕ, suc, ◌*◌, ◌%◌, ◌^◌, ◌<◌, ◌≤◌, ℤ, pos, negsuc, ◌*ℤ◌, ◌≤ℤ◌, Bool, true, false, Some, FitsSigned, to_z, of_z, w8, w16, w32, to_z-of_z, ◌∙◌, ap, sym, refl, lit<, arith}
+use Rattle.std.proofs.lemmas.Int.{ints, SFits-int_wrap, wrapping_mul-bits, int_wrap-mul_right}
 use Rattle.std.specs.Int.{int_rem_euclid, int_wrap, int_shl}
 use Rattle.std.specs.Ordering.{int_eq}
 use Rattle.std.specs.Prelude.{unsigned_abs, int_div}

@@ -1,1 +1,5 @@
+pub mod AfterWrites
 pub mod IntLaws
+pub mod Lists
+pub mod Options
+pub mod PathLaws

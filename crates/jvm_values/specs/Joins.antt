@@ -1,5 +1,5 @@
 -- The join of two reference types: the least erased type that both are below.
-use Rattle.std.specs.Prelude.{◌≡◌, Bool, IsTrue}
+use Rattle.std.specs.Prelude.{Bool, IsTrue}
 use Rattle.jvm_values.specs.declared.types.Ty.{Ty}
 use Rattle.jvm_values.specs.Subtyping.{IsErased}
 

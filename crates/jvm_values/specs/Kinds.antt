@@ -1,5 +1,5 @@
 -- The kinds of numbers that fields and arrays hold: their codes, their ranges, and what is kept of an int.
-use Rattle.std.specs.Prelude.{ℕ, ◌^◌, ◌-◌, ◌==◌, ℤ, pos, negsuc, ◌≤ℤ◌, Option, Some, None, if◌then◌else◌}
+use Rattle.std.specs.Prelude.{ℕ, ◌==◌, ℤ, pos, negsuc, ◌≤ℤ◌, Option, Some, None, if◌then◌else◌}
 use Rattle.std.specs.Int.{w8, w16, int_wrap, int_rem_euclid}
 use Rattle.jvm_values.specs.declared.types.Kind.{Kind}
 use Rattle.jvm_values.specs.declared.types.Kind.TheVariants.{Boolean, Char, Byte, Short, Int}

@@ -13,6 +13,7 @@ mod state;
 mod types;
 mod typing;
 mod world_types;
+mod writes;
 
 pub use heap::{Heap, Object, Value};
 pub use ints::{Cond, IntOp};
@@ -22,3 +23,4 @@ pub use state::{Frame, Mode, State};
 pub use types::{Base, Kind, Slot, Ty};
 pub use typing::{FrameType, PlaceType};
 pub use world_types::Types;
+pub use writes::{null_keeps_shapes, path_splits, write_gains, write_keeps, write_makes_no_cycle};

@@ -1,4 +1,4 @@
-use Rattle.std.proofs.Common.{FitsSigned, w8, w16, w32, rules}
+use Rattle.std.proofs.Common.{rules}
 use Rattle.jvm_values.proofs.IntLaws.{short_is}
 use Rattle.jvm_values.proofs.types.low_short.Goals as goal
 
