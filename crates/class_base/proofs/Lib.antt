@@ -1,0 +1,4 @@
+pub mod Keys
+pub mod TypeLaws
+pub mod MethodLaws
+pub mod Turns

@@ -1,0 +1,6 @@
+pub mod Flags
+pub mod ClassNames
+pub mod Types
+pub mod MethodTypes
+pub mod MemberKinds
+pub mod Members
