@@ -5,7 +5,7 @@ use Rattle.std.proofs.lemmas.Bool.Decides.{nat_tests}
 use Rattle.std.proofs.lemmas.Int.{ints}
 use Rattle.lin_core.specs.declared.faults.LinFault.{LinFault}
 use Rattle.lin_core.specs.declared.faults.LinFault.TheVariants.{NegativeMultiplier, Limit}
-use Rattle.lin_core.specs.declared.rows.Row.{Row}
+use Rattle.lin_core.specs.Rows.{Row}
 use Rattle.lin_core.specs.declared.rows.RowKind.{RowKind}
 use Rattle.lin_core.specs.declared.rows.RowKind.TheVariants.{AtLeastZero, IsZero}
 use Rattle.lin_core.specs.Combination.{may_multiply, fault_at_row, fault_of_entry, first_of_two, first_fault_from, IsAllowedAt, AllAllowed}

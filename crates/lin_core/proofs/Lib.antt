@@ -7,3 +7,4 @@ pub mod Midway
 pub mod Partly
 pub mod Signs
 pub mod Soundness
+pub mod Weighs

@@ -4,15 +4,14 @@ use Rattle.std.proofs.lemmas.Int.{ints}
 use Rattle.std.proofs.lemmas.Bool.{eqb-true, eq-eqb}
 use Rattle.std.proofs.lemmas.List.Sums.{sum_by-cons}
 use Rattle.std.proofs.lemmas.List.{length-set, at_drop_more, at_drop_all}
-use Rattle.lin_core.specs.declared.rows.Row.{Row}
 use Rattle.lin_core.specs.declared.rows.Target.{Target}
 use Rattle.lin_core.specs.Combination.{Shows, Shown, AllAllowed, IsSumOf, summed_coefficient, summed_constant}
 use Rattle.lin_core.specs.Rounds.{is_nonzero}
-use Rattle.lin_core.specs.Rows.{coefficient_of, RiseFrom, Rise, AllRise, AllHold, value_of_terms, value_of_target}
+use Rattle.lin_core.specs.Rows.{Row, coefficient_of, RiseFrom, Rise, AllRise, AllHold, value_of_terms, value_of_target}
 use Rattle.lin_core.specs.Sums.{Sum, variables, coefficient_in, value_of_sum}
 use Rattle.lin_core.proofs.Cells.{recounted}
 use Rattle.lin_core.proofs.Midway.{written_at}
-use Rattle.lin_core.proofs.Soundness.{value_span, span_terms, span_same, span_summed, sum_of_add, combined_nonneg}
+use Rattle.lin_core.proofs.Soundness.{value_span, span_terms, span_same, span_summed, sum_of_add, combined_nonneg, bound_of, span_all, all_wider}
 
 -- `rest` is left of the terms `all`, and those before it are equal to the sum's: `others` is the sum's coefficients with
 -- theirs put to 0, and `found` of theirs are not 0
@@ -105,12 +104,12 @@ pub count_of_one : (b : Bool) → cond b 1 0 ≤ 1
 count_of_one true = omega arith
 count_of_one false = omega arith
 
-zeros_from_count : (zs : List ℤ) → count_by is_nonzero zs ≡ 0 → (x : ℕ) → get_or zs x (pos 0) ≡ pos 0
+pub zeros_from_count : (zs : List ℤ) → count_by is_nonzero zs ≡ 0 → (x : ℕ) → get_or zs x (pos 0) ≡ pos 0
 zeros_from_count [] h x = refl
 zeros_from_count (z ∷ zs) h zero = zero_from_test z (omega (arith, counted_cons z zs))
 zeros_from_count (z ∷ zs) h (suc x) = zeros_from_count zs (omega (arith, counted_cons z zs)) x
 
-count_from_zeros : (zs : List ℤ) → ((x : ℕ) → get_or zs x (pos 0) ≡ pos 0) → count_by is_nonzero zs ≡ 0
+pub count_from_zeros : (zs : List ℤ) → ((x : ℕ) → get_or zs x (pos 0) ≡ pos 0) → count_by is_nonzero zs ≡ 0
 count_from_zeros [] h = refl
 count_from_zeros (z ∷ zs) h =
     let head : ◌≡◌ {A = ℕ} (cond (is_nonzero z) 1 0) 0 = ap (λ (k : ℤ). cond {A = ℕ} (is_nonzero k) 1 0) (h 0) in
@@ -148,11 +147,12 @@ shown_sound numbers sum target rise shows h =
     above (value_of_terms numbers target.terms) sum.constant target.constant (subst (λ (z : ℤ). pos 0 ≤ℤ (z +ℤ sum.constant)) same h) shows.constant
 
 -- the same, for a target that is shown from rows
-pub shown_target_holds : (numbers : ℕ → ℤ) (end : ℕ) (rows : List Row) (target : Target) (entries : List (ℕ × ℤ)) → AllRise end rows → Rise end target.terms → Shown rows target entries → AllHold numbers rows → pos 0 ≤ℤ value_of_target numbers target
-shown_target_holds numbers end rows target entries rise low shown hold =
+pub shown_target_holds : (numbers : ℕ → ℤ) (end : ℕ) (rows : List Row) (target : Target) (entries : List (ℕ × ℤ)) → AllRise end rows → Shown rows target entries → AllHold numbers rows → pos 0 ≤ℤ value_of_target numbers target
+shown_target_holds numbers end rows target entries rise shown hold =
+    let wide = end + bound_of target.terms in
     let h = combined_nonneg numbers rows entries hold shown.allowed in
     let parts = sum_of_add (λ row. value_of_terms numbers row.terms) (λ row. row.constant) rows entries in
-    let same = sym (span_summed numbers end rows entries rise) ∙ span_same numbers (summed_coefficient rows entries) (λ x. coefficient_of x target.terms) shown.coefficients 0 end ∙ span_terms numbers target.terms 0 end low in
+    let same = sym (span_summed numbers wide rows entries (all_wider rows end (bound_of target.terms) rise)) ∙ span_same numbers (summed_coefficient rows entries) (λ x. coefficient_of x target.terms) shown.coefficients 0 wide ∙ span_all numbers target.terms wide (omega arith) in
     let whole : pos 0 ≤ℤ (value_of_terms numbers target.terms +ℤ summed_constant rows entries) = subst (λ (z : ℤ). pos 0 ≤ℤ (z +ℤ summed_constant rows entries)) same (subst (λ (z : ℤ). pos 0 ≤ℤ z) parts h) in
     above (value_of_terms numbers target.terms) (summed_constant rows entries) target.constant whole shown.constant
 

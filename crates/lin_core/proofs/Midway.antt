@@ -4,12 +4,11 @@ use Rattle.std.specs.Prelude.{unsigned_abs}
 use Rattle.std.proofs.lemmas.Int.{ints}
 use Rattle.std.proofs.lemmas.Bool.{eqb-true, eq-eqb}
 use Rattle.std.proofs.lemmas.List.{get_or-set_same, get_or-set_other, length-set, at_drop_more, at_drop_all}
-use Rattle.lin_core.specs.declared.rows.Row.{Row}
 use Rattle.lin_core.specs.Rows.{coefficient_of, RiseFrom}
 use Rattle.lin_core.specs.Sums.{Sum, variables, coefficient_in}
 use Rattle.list_views.proofs.Ring.{times_plus}
 use Rattle.lin_core.proofs.Signs.{mul-zero_ℤ}
-use Rattle.lin_core.specs.Steps.{AddsRow}
+use Rattle.lin_core.specs.Steps.{AddsMultiple}
 
 -- `rest` is left of the terms `all`: it rises from `low`, and from there on no coefficient has changed yet
 pub record IsMidway (all rest : List (ℕ × ℤ)) (by : ℤ) (old now : Sum) : Type 0 where
@@ -87,10 +86,10 @@ midway_more all items i by p old now next in' h product small e =
     midway_step all (drop (i + 1) items) (get_or items i (0, pos 0)) by p old now next (subst (λ (xs : List (ℕ × ℤ)). IsMidway all xs by old now) split h) product small e
 
 -- nothing is left
-pub midway_last : (row : Row) (items : List (ℕ × ℤ)) (i : ℕ) (by p : ℤ) (old now new : Sum) → length items ≤ i → IsMidway row.terms (drop i items) by old now → new.coefficients ≡ now.coefficients → new.constant ≡ old.constant +ℤ p → p ≡ by *ℤ row.constant → unsigned_abs p ≤ 2 ^ 94 → AddsRow row by old new
-midway_last row items i by p old now new end h same total product small =
+pub midway_last : (terms : List (ℕ × ℤ)) (constant : ℤ) (items : List (ℕ × ℤ)) (i : ℕ) (by p : ℤ) (old now new : Sum) → length items ≤ i → IsMidway terms (drop i items) by old now → new.coefficients ≡ now.coefficients → new.constant ≡ old.constant +ℤ p → p ≡ by *ℤ constant → unsigned_abs p ≤ 2 ^ 94 → AddsMultiple terms constant by old new
+midway_last terms constant items i by p old now new end h same total product small =
     let none = at_drop_all (λ (xs : List (ℕ × ℤ)). xs) items i end in
-    let m = subst (λ (xs : List (ℕ × ℤ)). IsMidway row.terms xs by old now) none h in
+    let m = subst (λ (xs : List (ℕ × ℤ)). IsMidway terms xs by old now) none h in
     record {
       count = ap length same ∙ m.count;
       coefficients = λ x. ap (λ (xs : List ℤ). get_or xs x (pos 0)) same ∙ no_rest (coefficient_in now x) by _ (m.sum x);

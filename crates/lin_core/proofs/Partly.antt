@@ -3,11 +3,9 @@ use Rattle.std.proofs.Common.{◌≡◌, ℕ, zero, suc, ◌+◌, ◌*◌, ◌�
 use Rattle.std.specs.Prelude.{slice_get}
 use Rattle.std.proofs.lemmas.Int.{ints}
 use Rattle.std.proofs.lemmas.List.{at_drop_more, at_drop_all, length-replicate}
-use Rattle.std.proofs.lemmas.Option.{slice_get_read}
-use Rattle.lin_core.specs.declared.rows.Row.{Row}
 use Rattle.lin_core.specs.Combination.{number_of, summed_coefficient, summed_constant, first_fault_from, IsSumOf}
-use Rattle.lin_core.specs.Rows.{coefficient_of, Rise, AllRise}
-use Rattle.lin_core.specs.Steps.{AddsRow}
+use Rattle.lin_core.specs.Rows.{Row, coefficient_of}
+use Rattle.lin_core.specs.Steps.{AddsMultiple}
 use Rattle.lin_core.specs.Sums.{Sum, zero_sum, variables, coefficient_in, IsWithin}
 use Rattle.lin_core.proofs.Admitted.{IsAdmitted, admitted_first}
 
@@ -42,7 +40,7 @@ one_entry next now by k number rest whole is e h =
     let m = rw is at h in
     omega (arith, ints)
 
-partly_step : (rows : List Row) (all rest : List (ℕ × ℤ)) (entry : ℕ × ℤ) (row : Row) (i end : ℕ) (now next : Sum) → slice_get rows entry.0 ≡ Some row → IsPartly rows all (entry ∷ rest) i end now → AddsRow row entry.1 now next → IsPartly rows all rest (suc i) end next
+partly_step : (rows : List Row) (all rest : List (ℕ × ℤ)) (entry : ℕ × ℤ) (row : Row) (i end : ℕ) (now next : Sum) → slice_get rows entry.0 ≡ Some row → IsPartly rows all (entry ∷ rest) i end now → AddsMultiple row.terms row.constant entry.1 now next → IsPartly rows all rest (suc i) end next
 partly_step rows all rest entry row i end now next found h adds =
     let at : (f : Row → ℤ) → number_of f (slice_get rows entry.0) ≡ f row = λ f. ap (number_of f) found in
     record {
@@ -63,18 +61,14 @@ partly_entry rows all i end now in' h =
     let m = subst (λ (xs : List (ℕ × ℤ)). IsPartly rows all xs i end now) split h in
     (admitted_first rows i (get_or all i (0, pos 0)) (drop (i + 1) all) m.faultless).0
 
-pub partly_more : (rows : List Row) (all : List (ℕ × ℤ)) (row : Row) (i end : ℕ) (now next : Sum) → i < length all → IsPartly rows all (drop i all) i end now → (get_or all i (0, pos 0)).0 < length rows → row ≡ get_or rows (get_or all i (0, pos 0)).0 row → AddsRow row (get_or all i (0, pos 0)).1 now next → IsPartly rows all (drop (i + 1) all) (i + 1) end next
-partly_more rows all row i end now next in' h inside is adds =
+pub partly_more : (rows : List Row) (all : List (ℕ × ℤ)) (row : Row) (i end : ℕ) (now next : Sum) → i < length all → IsPartly rows all (drop i all) i end now → slice_get rows (get_or all i (0, pos 0)).0 ≡ Some row → AddsMultiple row.terms row.constant (get_or all i (0, pos 0)).1 now next → IsPartly rows all (drop (i + 1) all) (i + 1) end next
+partly_more rows all row i end now next in' h found adds =
     let split = at_drop_more (λ (xs : List (ℕ × ℤ)). xs) all i (0, pos 0) in' in
     let m = subst (λ (xs : List (ℕ × ℤ)). IsPartly rows all xs i end now) split h in
-    let found = slice_get_read rows (length rows) (get_or all i (0, pos 0)).0 row refl inside is in
     let one : i + 1 ≡ suc i = add-one i in
     subst (λ (n : ℕ). IsPartly rows all (drop (i + 1) all) n end next) (sym one) (partly_step rows all (drop (i + 1) all) (get_or all i (0, pos 0)) row i end now next found m adds)
 
--- what the step asks of the row, and of the room in 128 bits
-pub row_rises : (rows : List Row) (index end : ℕ) (row : Row) (now : Sum) → index < length rows → row ≡ get_or rows index row → AllRise end rows → variables now ≡ end → Rise (variables now) row.terms
-row_rises rows index end row now inside is rise count = subst (λ (n : ℕ). Rise n row.terms) (sym count) (subst (λ (r : Row). Rise end r.terms) (sym is) (rise index row inside))
-
+-- what the step asks of the room in 128 bits
 pub within_more : (low high : ℕ) (now : Sum) → low ≤ high → IsWithin low now → IsWithin high now
 within_more low high now le h = record {
   coefficients = λ x. omega (arith, h.coefficients x);
@@ -93,3 +87,10 @@ partly_last rows all i end now past h =
       coefficients = λ x. plus_zero (coefficient_in now x) _ (m.coefficients x);
       constant = plus_zero now.constant _ m.constant;
     }
+
+-- no number is large at the end, nor in a sum with nothing in it
+pub partly_within : (rows : List Row) (all rest : List (ℕ × ℤ)) (i end : ℕ) (now : Sum) → i ≤ 65536 → IsPartly rows all rest i end now → IsWithin (2 ^ 110) now
+partly_within rows all rest i end now few h = within_more (i * 2 ^ 94) (2 ^ 110) now (omega arith) h.within
+
+pub zero_within : (end : ℕ) (now : Sum) → now ≡ zero_sum end → IsWithin (2 ^ 110) now
+zero_within end now e = rw e (record { coefficients = λ x. rw (zero_at end x) (omega arith); constant = omega arith })

@@ -5,11 +5,10 @@ use Rattle.std.proofs.lemmas.Int.{ints}
 use Rattle.std.proofs.lemmas.Bool.{eqb-true, eq-eqb}
 use Rattle.std.proofs.lemmas.Bool.Decides.{nat_tests}
 use Rattle.std.proofs.lemmas.Option.{get_or_from_slice_get, slice_get_within}
-use Rattle.lin_core.specs.declared.rows.Row.{Row}
 use Rattle.lin_core.specs.declared.rows.RowKind.{RowKind}
 use Rattle.lin_core.specs.declared.rows.RowKind.TheVariants.{AtLeastZero, IsZero}
 use Rattle.lin_core.specs.Combination.{number_of, sum_of, summed_coefficient, IsSumOf, IsAllowedAt, AllAllowed}
-use Rattle.lin_core.specs.Rows.{coefficient_of, value_of_terms, value_of_row, IsOfKind, Holds, AllHold, RiseFrom, Rise, AllRise}
+use Rattle.lin_core.specs.Rows.{Row, coefficient_of, value_of_terms, value_of_row, IsOfKind, Holds, AllHold, RiseFrom, Rise, AllRise}
 use Rattle.lin_core.specs.Sums.{Sum, value_from, value_of_sum}
 use Rattle.list_views.proofs.Ring.{times_plus, plus_times, times_assoc}
 use Rattle.lin_core.proofs.Signs.{mul-zero_ℤ, zero-mul_ℤ, mul_nonneg_ℤ}
@@ -82,6 +81,26 @@ span_terms numbers (term ∷ rest) low end h =
     let head = span_only numbers term.0 term.1 0 end (omega arith) (omega (arith, h.1)) in
     let tail = span_terms numbers rest (suc term.0) end h.2 in
     span_add numbers (only term.0 term.1) (λ x. coefficient_of x rest) 0 end ∙ ap (λ (z : ℤ). z +ℤ span numbers (λ x. coefficient_of x rest) 0 end) head ∙ ap (λ (z : ℤ). term.1 *ℤ numbers term.0 +ℤ z) tail
+
+-- a number that no variable of the terms reaches
+abbrev pub bound_of : List (ℕ × ℤ) → ℕ
+bound_of [] = 0
+bound_of (term ∷ rest) = suc term.0 + bound_of rest
+
+-- the same for terms in any order
+pub span_all : (numbers : ℕ → ℤ) (terms : List (ℕ × ℤ)) (end : ℕ) → bound_of terms ≤ end → span numbers (λ x. coefficient_of x terms) 0 end ≡ value_of_terms numbers terms
+span_all numbers [] end h = span_zero numbers 0 end
+span_all numbers (term ∷ rest) end h =
+    let head = span_only numbers term.0 term.1 0 end (omega arith) (omega arith) in
+    let tail = span_all numbers rest end (omega arith) in
+    span_add numbers (only term.0 term.1) (λ x. coefficient_of x rest) 0 end ∙ ap (λ (z : ℤ). z +ℤ span numbers (λ x. coefficient_of x rest) 0 end) head ∙ ap (λ (z : ℤ). term.1 *ℤ numbers term.0 +ℤ z) tail
+
+rise_wider : (terms : List (ℕ × ℤ)) (low end more : ℕ) → RiseFrom low end terms → RiseFrom low (end + more) terms
+rise_wider [] low end more h = tt
+rise_wider (term ∷ rest) low end more h = (h.0, omega (arith, h.1), rise_wider rest (suc term.0) end more h.2)
+
+pub all_wider : (rows : List Row) (end more : ℕ) → AllRise end rows → AllRise (end + more) rows
+all_wider rows end more h index d inside = rise_wider (get_or rows index d).terms 0 end more (h index d inside)
 
 -- a row that is found is one of the rows
 found_rises : (end : ℕ) (rows : List Row) (index : ℕ) (row : Row) → AllRise end rows → slice_get rows index ≡ Some row → Rise end row.terms

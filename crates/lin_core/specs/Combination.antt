@@ -3,11 +3,10 @@
 use Rattle.std.specs.Prelude.{ℕ, suc, ℤ, pos, ◌≡◌, ◌^◌, ◌+ℤ◌, ◌*ℤ◌, ◌≤ℤ◌, Bool, true, false, List, [], ◌∷◌, Option, Some, None, if◌then◌else◌, slice_get, nat_lt, int_lt, unsigned_abs}
 use Rattle.lin_core.specs.declared.faults.LinFault.{LinFault}
 use Rattle.lin_core.specs.declared.faults.LinFault.TheVariants.{BadIndex, NegativeMultiplier, Limit}
-use Rattle.lin_core.specs.declared.rows.Row.{Row}
 use Rattle.lin_core.specs.declared.rows.RowKind.{RowKind}
 use Rattle.lin_core.specs.declared.rows.RowKind.TheVariants.{AtLeastZero, IsZero}
 use Rattle.lin_core.specs.declared.rows.Target.{Target}
-use Rattle.lin_core.specs.Rows.{coefficient_of}
+use Rattle.lin_core.specs.Rows.{Row, coefficient_of}
 use Rattle.lin_core.specs.Sums.{Sum, variables, coefficient_in}
 
 -- a number of a row, such as its constant; 0 where there is no row

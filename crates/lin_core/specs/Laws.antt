@@ -1,15 +1,14 @@
 -- What the definitions of this crate say of one another.
 use Rattle.std.specs.Prelude.{ℕ, ℤ, pos, ◌≡◌, ◌≤◌, ◌^◌, ◌≤ℤ◌, ◌↔◌, List, None, unsigned_abs}
 use Rattle.std.specs.List.{AllByRecursion}
-use Rattle.lin_core.specs.declared.rows.Row.{Row}
 use Rattle.lin_core.specs.declared.rows.Target.{Target}
 use Rattle.lin_core.specs.Combination.{IsSumOf, Shows, Shown, AllAllowed, first_fault}
-use Rattle.lin_core.specs.Rows.{AllHold, AllRise, Rise, value_of_target}
+use Rattle.lin_core.specs.Rows.{Row, AllHold, AllRise, Rise, value_of_target}
 use Rattle.lin_core.specs.Sums.{Sum}
 
 -- a target that is shown is at least 0 wherever the rows hold
 abbrev pub ShownTargetsHold : Type 0
-ShownTargetsHold = (numbers : ℕ → ℤ) (end : ℕ) (rows : List Row) (target : Target) (multipliers : List (ℕ × ℤ)) → AllRise end rows → Rise end target.terms → Shown rows target multipliers → AllHold numbers rows → pos 0 ≤ℤ value_of_target numbers target
+ShownTargetsHold = (numbers : ℕ → ℤ) (end : ℕ) (rows : List Row) (target : Target) (multipliers : List (ℕ × ℤ)) → AllRise end rows → Shown rows target multipliers → AllHold numbers rows → pos 0 ≤ℤ value_of_target numbers target
 
 -- no multiplier is above 2^31 in size
 abbrev pub AllSmall : List (ℕ × ℤ) → Type 0

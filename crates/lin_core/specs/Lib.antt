@@ -6,4 +6,5 @@ pub mod Rounds
 pub mod Rows
 pub mod Steps
 pub mod Sums
+pub mod Weights
 pub mod Wrapping

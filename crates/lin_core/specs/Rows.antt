@@ -1,10 +1,15 @@
 -- Rows over variables that stand for whole numbers.
 use Rattle.std.specs.Prelude.{ℕ, suc, ℤ, pos, ◌≡◌, ◌<◌, ◌≤◌, ◌+ℤ◌, ◌*ℤ◌, ◌≤ℤ◌, ◌==◌, List, [], ◌∷◌, if◌then◌else◌}
 use Rattle.std.specs.List.{All}
-use Rattle.lin_core.specs.declared.rows.Row.{Row}
 use Rattle.lin_core.specs.declared.rows.RowKind.{RowKind}
 use Rattle.lin_core.specs.declared.rows.RowKind.TheVariants.{AtLeastZero, IsZero}
 use Rattle.lin_core.specs.declared.rows.Target.{Target}
+
+-- a row: a list of terms and a constant, and what is known of their sum
+pub record Row : Type 0 where
+  pub kind : RowKind
+  pub terms : List (ℕ × ℤ)
+  pub constant : ℤ
 
 -- the coefficient of a variable in a list of terms: the sum of the numbers that stand beside it
 abbrev pub coefficient_of : ℕ → List (ℕ × ℤ) → ℤ

@@ -1,5 +1,5 @@
 -- Sums over a number of variables.
-use Rattle.std.specs.Prelude.{ℕ, suc, ℤ, pos, ◌≤◌, ◌+ℤ◌, ◌*ℤ◌, List, [], ◌∷◌, slice_index_or, replicate, length, unsigned_abs}
+use Rattle.std.specs.Prelude.{ℕ, suc, ℤ, pos, ◌≡◌, ◌≤◌, ◌≤ℤ◌, ◌+ℤ◌, ◌*ℤ◌, List, [], ◌∷◌, slice_index_or, replicate, length, unsigned_abs}
 
 -- a sum: a coefficient for each variable, in order, and a constant
 pub record Sum : Type 0 where
@@ -31,3 +31,8 @@ zero_sum count = record { coefficients = replicate count (pos 0); constant = pos
 pub record IsWithin (bound : ℕ) (sum : Sum) : Type 0 where
   pub coefficients : (variable : ℕ) → unsigned_abs (coefficient_in sum variable) ≤ bound
   pub constant : unsigned_abs sum.constant ≤ bound
+
+-- every coefficient of a sum is 0, and its constant is at most `most`
+pub record Leaves (sum : Sum) (most : ℤ) : Type 0 where
+  pub coefficients : (variable : ℕ) → coefficient_in sum variable ≡ pos 0
+  pub constant : sum.constant ≤ℤ most

@@ -3,10 +3,9 @@ ghost use Rattle.std.specs.Prelude.{◌≡◌, ◌+◌, ◌<◌, ◌≤◌, ◌^
 ghost use Rattle.std.specs.Int.{w128};
 ghost use Rattle.lin_core.specs.Rows.{Rise, coefficient_of};
 ghost use Rattle.lin_core.specs.Rounds.{AllBelow, AllUpTo, is_nonzero};
-ghost use Rattle.lin_core.specs.Sums.{Sum, zero_sum, variables, coefficient_in, IsWithin};
-ghost use Rattle.lin_core.specs.Steps.{AddsRow};
+ghost use Rattle.lin_core.specs.Sums.{Sum, zero_sum, variables, coefficient_in, IsWithin, Leaves};
+ghost use Rattle.lin_core.specs.Steps.{AddsMultiple};
 
-use crate::rows::Row;
 use std::alloc::{AllocError, Global};
 use std::marker::Model;
 
@@ -171,16 +170,23 @@ impl Scratch {
         self.cells[variable as usize] = Cell::new(&after, self.round);
     }
 
-    /// Adds a row, multiplied.
-    pub(crate) fn add(&mut self, row: &Row, by: &i64)
+    /// Adds the terms and the constant, times a multiplier. It costs as many steps as there are terms.
+    pub fn add(&mut self, terms: &[(u32, i64)], constant: &i64, by: &i64)
         requires size { unsigned_abs by.now ≤ 2 ^ 31 }
-        requires rise { Rise (variables self.old) row.now.terms }
+        requires rise { Rise (variables self.old) terms.now }
         requires room { IsWithin (2 ^ 126) self.old }
-        ensures { AddsRow row.now by.now self.old self.new }
+        ensures { AddsMultiple terms.now constant.now by.now self.old self.new }
     {
-        for (variable, coefficient) in row.terms.as_slice() {
+        for (variable, coefficient) in terms {
             self.add_to(*variable, &product(by, coefficient));
         }
-        self.constant = added(&self.constant, &product(by, &row.constant));
+        self.constant = added(&self.constant, &product(by, constant));
+    }
+
+    /// Whether the sum has no coefficient but 0, and its constant is at most this one.
+    pub fn leaves(&self, constant: &i128) -> bool
+        ensures { IsTrue result ↔ Leaves self.now constant.now }
+    {
+        self.has_nonzero(0) && self.is_at_most(constant)
     }
 }
