@@ -152,8 +152,8 @@ keeps old new o place value w x lacks =
         same_shape old new x (λ a t p b e. sym (same p a t) ∙ e) shape,
       );
       term = λ term. (
-        λ t. record { depth = t.depth; is = sym (terms t.depth) ∙ t.is },
-        λ t. record { depth = t.depth; is = terms t.depth ∙ t.is },
+        λ t. record { acyclic = same_shape new old x (λ a t p b e. same p a t ∙ e) Dag t.acyclic; depth = t.depth; is = sym (terms t.depth) ∙ t.is },
+        λ t. record { acyclic = same_shape old new x (λ a t p b e. sym (same p a t) ∙ e) Dag t.acyclic; depth = t.depth; is = terms t.depth ∙ t.is },
       );
     }
 

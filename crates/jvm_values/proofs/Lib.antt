@@ -3,3 +3,4 @@ pub mod IntLaws
 pub mod Lists
 pub mod Options
 pub mod PathLaws
+pub mod Typed

@@ -3,6 +3,8 @@ pub mod Ints
 pub mod Joins
 pub mod Kinds
 pub mod Paths
+pub mod States
 pub mod Subtyping
 pub mod Terms
+pub mod TypedHeaps
 pub mod Writes

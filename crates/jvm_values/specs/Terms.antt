@@ -6,6 +6,7 @@ use Rattle.jvm_values.specs.declared.heap.Value.TheVariants as values
 use Rattle.jvm_values.specs.declared.heap.Object.{Object}
 use Rattle.jvm_values.specs.declared.heap.Object.TheVariants.{Instance, Nums, Refs}
 use Rattle.jvm_values.specs.declared.heap.Heap.{Heap}
+use Rattle.jvm_values.specs.Heaps.{IsDag}
 
 -- null, an array, or an instance of a class with the terms of its reference fields
 mutual
@@ -39,8 +40,9 @@ term_within depth heap values.Null = Some null
 term_within zero heap (values.Ref r) = None
 term_within (suc depth) heap (values.Ref r) = option_and_then (term_of_object (term_within depth heap)) (slice_get heap.objects r)
 
--- a term is that of a value
+-- a term is that of a value; only a value whose region has no cycle has one
 pub record IsTerm (heap : Heap) (value : Value) (term : HeapTerm) : Type 0 where
+  pub acyclic : IsDag heap value
   pub depth : ℕ
   pub is : term_within depth heap value ≡ Some term
 

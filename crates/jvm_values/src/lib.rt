@@ -7,7 +7,7 @@
 
 mod heap;
 mod ints;
-mod pile;
+mod laws;
 mod shape;
 mod state;
 mod types;
@@ -17,7 +17,7 @@ mod writes;
 
 pub use heap::{Heap, Object, Value};
 pub use ints::{Cond, IntOp};
-pub use pile::Pile;
+pub use laws::typed_heaps_are_closed;
 pub use shape::{Shape, Term};
 pub use state::{Frame, Mode, State};
 pub use types::{Base, Kind, Slot, Ty};

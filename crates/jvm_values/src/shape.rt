@@ -11,13 +11,13 @@ pub enum Shape {
     Any,
 }
 
-/// The unfolding of a heap from a value.
+/// The unfolding of a heap from a value whose region has no cycle.
 #[derive(Debug, Drop)]
 pub enum Term {
     /// Null.
     Null,
-    /// An object that holds no reference.
+    /// An array.
     Leaf,
-    /// An instance of the class of this number, with the terms of its references.
+    /// An instance of the class of this number, with the terms of its fields that are references.
     Node(u32, Vec<Term>),
 }
