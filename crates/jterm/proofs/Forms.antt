@@ -4,7 +4,7 @@ use Rattle.std.specs.Int.{w32, int_wrap}
 use Rattle.std.specs.Prelude.{◌+ℤ◌}
 use Rattle.jvm_values.specs.declared.heap.Value.{Value}
 use Rattle.jvm_values.specs.declared.heap.Value.TheVariants.{Int, Null, Ref}
-use Rattle.jvm_values.specs.States.{MachineFrame as Frame}
+use Rattle.jvm_values.specs.declared.state.Frame.{Frame}
 use Rattle.jterm.specs.Options.{◌>>=◌}
 use Rattle.jterm.specs.Machine.{top_int, int_of_local, iconst_of, iload_of, istore_of, iadd_of}
 use Rattle.jterm.specs.Typing.{PlaceType, UnsetPlace, IntPlace, NullPlace, RefPlace, FrameType, top_int_place, int_place, iconst_types, iload_types, istore_types, iadd_types}

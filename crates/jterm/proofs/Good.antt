@@ -5,7 +5,7 @@ use Rattle.jvm_values.specs.declared.heap.Value.{Value}
 use Rattle.jvm_values.specs.declared.heap.Value.TheVariants.{Int}
 use Rattle.jvm_values.specs.declared.types.Kind.TheVariants as kinds
 use Rattle.jvm_values.specs.declared.types.Slot.TheVariants.{Num}
-use Rattle.jvm_values.specs.States.{MachineState as State}
+use Rattle.jvm_values.specs.declared.state.State.{State}
 use Rattle.class_world.specs.World.{World, world_of}
 use Rattle.class_world.specs.declared.program.Method.{Method}
 use Rattle.jterm.specs.declared.form.Form.{Form}

@@ -1,7 +1,7 @@
 -- Runs of the machine from their first step.
 use Rattle.std.proofs.Common.{◌≡◌, ℕ, zero, suc, Option, ap, sym, ◌∙◌, subst}
 use Rattle.jvm_values.specs.declared.heap.Value.{Value}
-use Rattle.jvm_values.specs.States.{MachineState as State}
+use Rattle.jvm_values.specs.declared.state.State.{State}
 use Rattle.jterm.specs.Machine.{Program, Going, Returned, Stuck, step, step_on, run, IsEnd, Ends, IsNeverStuck}
 
 -- a run ends and is never stuck

@@ -2,9 +2,9 @@
 use Rattle.std.specs.Prelude.{◌≡◌, ℕ, ◌-◌, List, [], ◌∷◌, ◌++◌, length, map, All, replicate, slice_get, Option, Some, None, Ok, FitsSigned, ℤ}
 use Rattle.std.specs.Int.{w32}
 use Rattle.jvm_values.specs.declared.heap.Value.TheVariants.{Int}
-use Rattle.jvm_values.specs.States.{MachineFrame as Frame}
+use Rattle.jvm_values.specs.declared.state.Frame.{Frame}
 use Rattle.jvm_values.specs.declared.state.Mode.TheVariants.{Normal}
-use Rattle.jvm_values.specs.States.{MachineState as State}
+use Rattle.jvm_values.specs.declared.state.State.{State}
 use Rattle.class_read.specs.Content.{ClassContent}
 use Rattle.class_read.specs.Rules.{Spells}
 use Rattle.class_world.specs.World.{World, world_of}

@@ -7,10 +7,10 @@ use Rattle.std.specs.Prelude.{◌≡◌, ℕ, zero, suc, ◌==◌, nat_lt, if◌
 use Rattle.std.specs.Int.{w32, int_wrap}
 use Rattle.jvm_values.specs.declared.heap.Value.{Value}
 use Rattle.jvm_values.specs.declared.heap.Value.TheVariants.{Int, Null, Ref}
-use Rattle.jvm_values.specs.States.{MachineFrame as Frame}
+use Rattle.jvm_values.specs.declared.state.Frame.{Frame}
 use Rattle.jvm_values.specs.declared.state.Mode.TheVariants.{Normal, Throwing}
 use Rattle.jvm_values.specs.declared.state.Mode.{Mode}
-use Rattle.jvm_values.specs.States.{MachineState as State}
+use Rattle.jvm_values.specs.declared.state.State.{State}
 use Rattle.jterm.specs.declared.form.Form.{Form}
 use Rattle.jterm.specs.declared.form.Form.TheVariants.{Iconst, Iload, Istore, Iadd, Ireturn}
 use Rattle.class_world.specs.declared.op.Op.{Op}

@@ -8,6 +8,7 @@
 mod heap;
 mod ints;
 mod laws;
+mod pile;
 mod shape;
 mod state;
 mod types;
@@ -18,6 +19,7 @@ mod writes;
 pub use heap::{Heap, Object, Value};
 pub use ints::{Cond, IntOp};
 pub use laws::typed_heaps_are_closed;
+pub use pile::Pile;
 pub use shape::{Shape, Term};
 pub use state::{Frame, Mode, State};
 pub use types::{Base, Kind, Slot, Ty};
