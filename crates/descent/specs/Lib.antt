@@ -1,0 +1,9 @@
+pub mod Chains
+pub mod Components
+pub mod Conditions
+pub mod Lines
+pub mod Orders
+pub mod Rankings
+pub mod Splits
+pub mod Steps
+pub mod Valuations

@@ -1,0 +1,141 @@
+-- The steps of a proof, tested one by one, and the first fault.
+use Rattle.std.specs.Prelude.{ℕ, zero, suc, ◌≡◌, ◌==◌, ◌&&◌, not, Bool, true, false, List, [], ◌∷◌, Option, Some, None, if◌then◌else◌, nat_lt, slice_get, slice_set, length, filter, replicate, ℤ}
+use Rattle.std.specs.List.{filter_map}
+use Rattle.descent.specs.declared.faults.DescentFault.{DescentFault}
+use Rattle.descent.specs.declared.faults.DescentFault.TheVariants.{NotCovered, BadStep}
+use Rattle.descent.specs.declared.faults.StepFault.{StepFault}
+use Rattle.descent.specs.declared.faults.StepFault.TheVariants.{At}
+use Rattle.descent.specs.declared.proof.Proof.{Proof}
+use Rattle.descent.specs.declared.proof.ProofStep.{ProofStep}
+use Rattle.descent.specs.declared.proof.ProofStep.TheVariants.{Empty, Split, Rank, Dead}
+use Rattle.descent.specs.declared.proof.RankRule.{RankRule}
+use Rattle.descent.specs.declared.proof.RankRule.TheVariants.{Weak, Strict}
+use Rattle.descent.specs.declared.proof.RankStep.{RankStep}
+use Rattle.descent.specs.declared.rules.PathRule.{PathRule}
+use Rattle.descent.specs.Rankings.{Ranking, weak_fault, strict_fault, bounded_fault, dead_fault}
+use Rattle.descent.specs.Splits.{has, split_fault, edge_fault}
+
+-- so many numbers from `low` on
+abbrev pub numbers_from : ℕ → ℕ → List ℕ
+numbers_from low zero = []
+numbers_from low (suc count) = low ∷ numbers_from (suc low) count
+
+-- what a rank step ranks by: the order `size` counts sizes with the step's weights, the order `linear` ints alone
+abbrev pub ranking_of : RankStep → Ranking
+ranking_of step = record { forms = step.forms; weights = if step.size then step.weights else []; sizes = step.size }
+
+abbrev pub rule_of : RankRule → ℕ
+rule_of (Weak rule fall) = rule
+rule_of (Strict rule fall bound) = rule
+
+-- a listed rule: what is to be shown of it
+abbrev pub listed_fault : Ranking → RankRule → Option PathRule → Option DescentFault
+listed_fault ranking listed None = Some (NotCovered (rule_of listed))
+listed_fault ranking (Weak number fall) (Some rule) = weak_fault ranking number rule fall
+listed_fault ranking (Strict number fall bound) (Some rule) = edge_fault (strict_fault ranking number rule fall) (bounded_fault ranking number rule bound)
+
+-- the rules of the set and the listed ones, rising: each must stand in both, and a listed one must be as it says
+abbrev pub rank_fault : Ranking → List PathRule → List ℕ → List RankRule → Option DescentFault
+rank_fault ranking rules [] [] = None
+rank_fault ranking rules [] (listed ∷ more) = Some (NotCovered (rule_of listed))
+rank_fault ranking rules (rule ∷ rest) [] = Some (NotCovered rule)
+rank_fault ranking rules (rule ∷ rest) (listed ∷ more) =
+    if nat_lt rule (rule_of listed) then Some (NotCovered rule) else
+    (if nat_lt (rule_of listed) rule then Some (NotCovered (rule_of listed)) else
+    edge_fault (listed_fault ranking listed (slice_get rules rule)) (rank_fault ranking rules rest more))
+
+-- the rules that are listed as weak
+abbrev pub if_weak : RankRule → Option ℕ
+if_weak (Weak rule fall) = Some rule
+if_weak (Strict rule fall bound) = None
+
+abbrev pub weak_ones : List RankRule → List ℕ
+weak_ones listed = filter_map if_weak listed
+
+-- a set without a rule
+abbrev pub without : ℕ → List ℕ → List ℕ
+without rule set = filter (λ (other : ℕ). not (other == rule)) set
+
+abbrev pub dead_at : ℕ → Option PathRule → List (ℕ × ℤ) → Option DescentFault
+dead_at number None multipliers = Some (NotCovered number)
+dead_at number (Some rule) multipliers = dead_fault number rule multipliers
+
+abbrev pub empty_fault : List ℕ → Option DescentFault
+empty_fault [] = None
+empty_fault (rule ∷ rest) = Some (NotCovered rule)
+
+-- what a step breaks for its set, the naming of steps aside
+abbrev pub step_fault : List PathRule → List ℕ → ProofStep → Option DescentFault
+step_fault rules set Empty = empty_fault set
+step_fault rules set (Split parts steps) = split_fault rules set parts steps
+step_fault rules set (Rank step rest) = rank_fault (ranking_of step) rules set step.rules
+step_fault rules set (Dead rule multipliers rest) = if has set rule then dead_at rule (slice_get rules rule) multipliers else Some (NotCovered rule)
+
+-- what a step leaves to later steps: the step's number, and its set
+abbrev pub part_left : List ℕ → List ℕ → Option ℕ → Option (ℕ × List ℕ)
+part_left set part None = None
+part_left set part (Some step) = Some (step, filter (has part) set)
+
+abbrev pub parts_left : List ℕ → List (List ℕ) → List (Option ℕ) → List (Option (ℕ × List ℕ))
+parts_left set [] steps = []
+parts_left set (part ∷ rest) [] = []
+parts_left set (part ∷ rest) (step ∷ more) = part_left set part step ∷ parts_left set rest more
+
+abbrev pub same_option : Option (ℕ × List ℕ) → Option (ℕ × List ℕ)
+same_option left = left
+
+abbrev pub leaves : List ℕ → ProofStep → List (ℕ × List ℕ)
+leaves set Empty = []
+leaves set (Split parts steps) = filter_map same_option (parts_left set parts steps)
+leaves set (Rank step rest) = (rest, weak_ones step.rules) ∷ []
+leaves set (Dead rule multipliers rest) = (rest, without rule set) ∷ []
+
+-- the sets that steps were given, by their numbers; a step that no earlier one named has none yet
+abbrev pub Given : Type 0
+Given = List (Option (List ℕ))
+
+-- a set is given to a later step that is there and has none yet
+abbrev pub is_free : Option (Option (List ℕ)) → Bool
+is_free None = false
+is_free (Some None) = true
+is_free (Some (Some set)) = false
+
+-- the sets that step `number` leaves are given to the steps that it names, if each of these is a later one, is there and
+-- wasn't named before
+abbrev pub give : ℕ → List (ℕ × List ℕ) → Given → Option Given
+give number [] given = Some given
+give number (left ∷ rest) given = if nat_lt number left.0 && is_free (slice_get given left.0) then give number rest (slice_set given left.0 (Some left.1)) else None
+
+-- the set that a step was given
+abbrev pub set_of : Option (Option (List ℕ)) → Option (List ℕ)
+set_of None = None
+set_of (Some set) = set
+
+-- a step that names steps as it may breaks a rule for its set, or the next steps go on with what it gives
+abbrev pub go_on : ℕ → Option DescentFault → Option Given → (Given → Option StepFault) → Option StepFault
+go_on number fault None next = Some (At number BadStep)
+go_on number None (Some given) next = next given
+go_on number (Some fault) (Some given) next = Some (At number fault)
+
+abbrev pub try_step : List PathRule → ℕ → ProofStep → Given → Option (List ℕ) → (Given → Option StepFault) → Option StepFault
+try_step rules number step given None next = Some (At number BadStep)
+try_step rules number step given (Some set) next = go_on number (step_fault rules set step) (give number (leaves set step) given) next
+
+-- the first fault of the steps from `number` on
+abbrev pub first_fault_from : List PathRule → ℕ → Given → List ProofStep → Option StepFault
+first_fault_from rules number given [] = None
+first_fault_from rules number given (step ∷ rest) = try_step rules number step given (set_of (slice_get given number)) (λ (after : Given). first_fault_from rules (suc number) after rest)
+
+-- step 0 is given all rules
+abbrev pub given_first : ℕ → ℕ → Given
+given_first rules zero = []
+given_first rules (suc steps) = Some (numbers_from 0 rules) ∷ replicate steps None
+
+-- the first fault of a proof for the rules
+abbrev pub proof_fault : List PathRule → List ProofStep → Option StepFault
+proof_fault rules [] = Some (At 0 BadStep)
+proof_fault rules (step ∷ rest) = first_fault_from rules 0 (given_first (length rules) (length (step ∷ rest))) (step ∷ rest)
+
+-- a closed proof: every step holds
+abbrev pub Closed : List PathRule → Proof → Type 0
+Closed rules proof = proof_fault rules proof.steps ≡ None

@@ -1,0 +1,12 @@
+//! Proofs that no chain of path rules is infinite: what they are, and the check.
+#![tactic(auto)]
+
+mod faults;
+mod proof;
+mod ranking;
+mod rules;
+
+pub use faults::{DescentFault, StepFault};
+pub use lin_core::{LinFault, RowKind, Scratch, WRow};
+pub use proof::{CutForm, Proof, ProofStep, RankRule, RankStep};
+pub use rules::{PathRule, Place, SlotForm};
