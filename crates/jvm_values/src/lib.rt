@@ -7,6 +7,7 @@
 
 mod heap;
 mod ints;
+mod joins;
 mod laws;
 mod pile;
 mod shape;
@@ -18,6 +19,7 @@ mod writes;
 
 pub use heap::{Heap, Object, Value};
 pub use ints::{Cond, IntOp};
+pub use joins::join;
 pub use laws::typed_heaps_are_closed;
 pub use pile::Pile;
 pub use shape::{Shape, Term};
