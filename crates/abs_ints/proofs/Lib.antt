@@ -1,0 +1,4 @@
+pub mod Comparisons
+pub mod Covering
+pub mod Making
+pub mod SumCases

@@ -1,0 +1,5 @@
+pub mod Cases
+pub mod Comparing
+pub mod Falling
+pub mod Parts
+pub mod Sums

@@ -1,0 +1,55 @@
+-- Intervals of ints, and of exact sums, differences and products of ints.
+use Rattle.std.specs.Prelude.{ℤ, pos, negsuc, ◌+ℤ◌, ◌-ℤ◌, ◌*ℤ◌, int_le, Bool, ◌&&◌, Option, Some, if◌then◌else◌}
+use Rattle.std.specs.Ordering.{int_eq}
+use Rattle.std.specs.Int.{int_max, int_min}
+use Rattle.lin_core.specs.Intervals.{Bounds, interval_of}
+
+-- all ints: the numbers of 32 bits with a sign (JVM specification, section 2.3.1)
+abbrev pub all_ints : Bounds
+all_ints = record { lo = negsuc 2147483647; hi = pos 2147483647 }
+
+-- the interval of one number
+abbrev pub just : ℤ → Bounds
+just n = record { lo = n; hi = n }
+
+abbrev pub is_single : Bounds → Bool
+is_single a = int_eq a.lo a.hi
+
+-- the numbers that both intervals have, if any
+abbrev pub meet_of : Bounds → Bounds → Option Bounds
+meet_of a b = interval_of (int_max a.lo b.lo) (int_min a.hi b.hi)
+
+-- the numbers of `a` that are below, at most, above or at least some number of `b`, if any
+abbrev pub below_of : Bounds → Bounds → Option Bounds
+below_of a b = interval_of a.lo (int_min a.hi (b.hi -ℤ pos 1))
+
+abbrev pub up_to_of : Bounds → Bounds → Option Bounds
+up_to_of a b = interval_of a.lo (int_min a.hi b.hi)
+
+abbrev pub above_of : Bounds → Bounds → Option Bounds
+above_of a b = interval_of (int_max a.lo (b.lo +ℤ pos 1)) a.hi
+
+abbrev pub from_of : Bounds → Bounds → Option Bounds
+from_of a b = interval_of (int_max a.lo b.lo) a.hi
+
+-- the sums and the differences of the numbers of two intervals
+abbrev pub sum_of : Bounds → Bounds → Bounds
+sum_of a b = record { lo = a.lo +ℤ b.lo; hi = a.hi +ℤ b.hi }
+
+abbrev pub difference_of : Bounds → Bounds → Bounds
+difference_of a b = record { lo = a.lo -ℤ b.hi; hi = a.hi -ℤ b.lo }
+
+-- from the least to the greatest product of the ends of two intervals
+abbrev pub hull_of : Bounds → Bounds → Bounds
+hull_of a b = record {
+  lo = int_min (int_min (a.lo *ℤ b.lo) (a.lo *ℤ b.hi)) (int_min (a.hi *ℤ b.lo) (a.hi *ℤ b.hi));
+  hi = int_max (int_max (a.lo *ℤ b.lo) (a.lo *ℤ b.hi)) (int_max (a.hi *ℤ b.lo) (a.hi *ℤ b.hi));
+}
+
+-- all numbers of an interval are ints
+abbrev pub are_ints : Bounds → Bool
+are_ints a = int_le all_ints.lo a.lo && int_le a.hi all_ints.hi
+
+-- an interval of ints; all ints, where it has other numbers
+abbrev pub ints_or_all : Bounds → Option Bounds
+ints_or_all a = if are_ints a then interval_of a.lo a.hi else Some all_ints
