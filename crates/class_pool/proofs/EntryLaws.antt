@@ -4,12 +4,12 @@ use Rattle.std.specs.Prelude.{position}
 use Rattle.std.specs.Option.{option_map_or}
 use Rattle.std.proofs.lemmas.Bool.{eqb-true, ne_eqb, cases_lt}
 use Rattle.class_pool.specs.declared.entry.PoolEntry.{PoolEntry}
-use Rattle.class_pool.specs.declared.entry.PoolEntry.TheVariants.{Utf8, Integer, Float, Long, Double, Class, Str, Member, NameAndType}
+use Rattle.class_pool.specs.declared.entry.PoolEntry.TheVariants.{Utf8, Integer, Float, Long, Double, Class, Str, Member, NameAndType, MethodHandle, MethodType, InvokeDynamic}
 use Rattle.class_pool.specs.declared.fault.PoolFault.{PoolFault}
 use Rattle.class_pool.specs.declared.fault.PoolFault.TheVariants.{BadTag, BadUtf8}
 use Rattle.class_pool.specs.Entry.{tag_of, content_of, is_wide, entry_bytes, is_barred, HasText, IsAllowed, Fits}
-use Rattle.class_pool.specs.Reading.{◌>>=◌, Read, Unread, number_at, signed_at, counted_at, indexes_at, content_at, entry_text_at, text_rule, is_wide_tag, starts_wide, entry_at_place}
-use Rattle.class_pool.proofs.Fields.{IsBytes, bind_ok, guard_ok, ok_is, Takes, Takes-then, back_2, back_4, back_8, number_takes, number_again, byte_takes, byte_again, signed_takes, signed_again, counted_takes, counted_again, indexes_takes, indexes_again}
+use Rattle.class_pool.specs.Reading.{◌>>=◌, Read, Unread, number_at, signed_at, counted_at, indexes_at, handle_at, content_at, entry_text_at, text_rule, is_wide_tag, starts_wide, entry_at_place}
+use Rattle.class_pool.proofs.Fields.{IsBytes, bind_ok, guard_ok, ok_is, Takes, Takes-then, back_2, back_4, back_8, number_takes, number_again, byte_takes, byte_again, signed_takes, signed_again, counted_takes, counted_again, indexes_takes, indexes_again, handle_takes, handle_again}
 
 -- which way a test went
 chosen : {A : Type 0} (b : Bool) (x y z : A) → cond b x y ≡ z → ((b ≡ true) × (x ≡ z)) ⊎ ((b ≡ false) × (y ≡ z))
@@ -79,7 +79,25 @@ content_takes at tag u x fits e =
                           let m = mapped (indexes_at u) (λ p. NameAndType p.0 p.1) x e1 in
                           let t = indexes_takes u m.0 fits m.1 in
                           subst P m.2 (t.0, sym (eqb-true _ _ is), (t.1, t.2))
-                      | inr (_, e10) ↦ absurd cc
+                      | inr (_, e10) ↦ elim (chosen (eqb tag 15) _ _ _ e10) [
+                        | inl (is, e1) ↦
+                            let m = mapped (handle_at u) (λ p. MethodHandle p.0 p.1) x e1 in
+                            let t = handle_takes u m.0 fits m.1 in
+                            subst P m.2 (t.0, sym (eqb-true _ _ is), (t.1, t.2))
+                        | inr (_, e11) ↦ elim (chosen (eqb tag 16) _ _ _ e11) [
+                          | inl (is, e1) ↦
+                              let m = mapped (number_at 2 u) MethodType x e1 in
+                              let t = number_takes 2 back_2 u m.0 fits m.1 in
+                              subst P m.2 (t.0, sym (eqb-true _ _ is), t.1)
+                          | inr (_, e12) ↦ elim (chosen (eqb tag 18) _ _ _ e12) [
+                            | inl (is, e1) ↦
+                                let m = mapped (indexes_at u) (λ p. InvokeDynamic p.0 p.1) x e1 in
+                                let t = indexes_takes u m.0 fits m.1 in
+                                subst P m.2 (t.0, sym (eqb-true _ _ is), (t.1, t.2))
+                            | inr (_, e13) ↦ absurd cc
+                          ]
+                        ]
+                      ]
                     ]
                   ]
                 ]
@@ -125,6 +143,11 @@ content_again start at (Member tag class name_and_type) rest h =
     ]
 content_again start at (NameAndType name descriptor) rest h =
     moved _ (NameAndType name descriptor) (at + 2 + 2) _ rest (ap (λ (r : Read (ℕ × ℕ)). r >>= λ p. Ok (NameAndType p.0.0 p.0.1, p.1)) (indexes_again at name descriptor rest h.0 h.1)) (omega arith)
+content_again start at (MethodHandle kind entry) rest h =
+    moved _ (MethodHandle kind entry) (at + 1 + 2) _ rest (ap (λ (r : Read (ℕ × ℕ)). r >>= λ p. Ok (MethodHandle p.0.0 p.0.1, p.1)) (handle_again at kind entry rest h.1)) (omega arith)
+content_again start at (MethodType descriptor) rest h = ap (λ (r : Read ℕ). r >>= λ n. Ok (MethodType n.0, n.1)) (number_again 2 at descriptor rest h)
+content_again start at (InvokeDynamic first name_and_type) rest h =
+    moved _ (InvokeDynamic first name_and_type) (at + 2 + 2) _ rest (ap (λ (r : Read (ℕ × ℕ)). r >>= λ p. Ok (InvokeDynamic p.0.0 p.0.1, p.1)) (indexes_again at first name_and_type rest h.0 h.1)) (omega arith)
 
 pub entry_takes : (u : Unread) (x : PoolEntry × Unread) → IsBytes u.bytes → entry_text_at u ≡ Ok x → Takes u (entry_bytes x.0) x.1 × HasText x.0
 unfolding entry_text_at
@@ -151,25 +174,11 @@ none_from (Some k) f y e = absurd cc
 
 allowed : (e : PoolEntry) (next : ℕ) (y : Unit {0}) → text_rule e next ≡ Ok y → IsAllowed e
 allowed (Utf8 text) next y h = none_from (position is_barred text) (λ k. BadUtf8 (next - length text + k)) y h
-allowed (Integer value) next y h = tt
-allowed (Float bits) next y h = tt
-allowed (Long bits) next y h = tt
-allowed (Double bits) next y h = tt
-allowed (Class name) next y h = tt
-allowed (Str text) next y h = tt
-allowed (Member tag class name_and_type) next y h = tt
-allowed (NameAndType name descriptor) next y h = tt
+allowed _ next y h = tt
 
 allowed_again : (e : PoolEntry) (next : ℕ) → IsAllowed e → text_rule e next ≡ Ok tt
 allowed_again (Utf8 text) next h = ap (λ (o : Option ℕ). option_map_or (λ k. Err (BadUtf8 (next - length text + k))) o (Ok tt)) h
-allowed_again (Integer value) next h = refl
-allowed_again (Float bits) next h = refl
-allowed_again (Long bits) next h = refl
-allowed_again (Double bits) next h = refl
-allowed_again (Class name) next h = refl
-allowed_again (Str text) next h = refl
-allowed_again (Member tag class name_and_type) next h = refl
-allowed_again (NameAndType name descriptor) next h = refl
+allowed_again _ next h = refl
 
 pub record IsTaken (last : Bool) (u : Unread) (x : PoolEntry × Unread) : Type 0 where
   pub takes : Takes u (entry_bytes x.0) x.1
@@ -190,15 +199,8 @@ narrow_member tag low = rw (ne_eqb tag 5 (omega arith), ne_eqb tag 6 (omega arit
 
 -- the tags of the entries that take two places
 pub wide_tag : (e : PoolEntry) → HasText e → is_wide_tag (tag_of e) ≡ is_wide e
-wide_tag (Utf8 text) h = refl
-wide_tag (Integer value) h = refl
-wide_tag (Float bits) h = refl
-wide_tag (Long bits) h = refl
-wide_tag (Double bits) h = refl
-wide_tag (Class name) h = refl
-wide_tag (Str text) h = refl
 wide_tag (Member tag class name_and_type) h = narrow_member tag h.0
-wide_tag (NameAndType name descriptor) h = refl
+wide_tag _ h = refl
 
 pub place_takes : (last : Bool) (u : Unread) (x : PoolEntry × Unread) → IsBytes u.bytes → entry_at_place last u ≡ Ok x → IsTaken last u x
 place_takes last u x fits e =

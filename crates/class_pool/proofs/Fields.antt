@@ -1,46 +1,28 @@
 -- A field that is read is the field that was written, and what was written is read again.
-use Rattle.std.proofs.Common.{◌≡◌, ℕ, ℤ, ◌+◌, ◌^◌, ◌<◌, ◌≤◌, Bool, true, false, cond, ltb, List, [], ◌∷◌, ◌++◌, length, get_or, take, drop, Result, Ok, Err, refl, sym, ap, subst, ◌∙◌, append_assoc, arith, inl, inr}
+use Rattle.std.proofs.Common.{◌≡◌, ℕ, ℤ, ◌+◌, ◌^◌, ◌<◌, ◌≤◌, Bool, true, false, cond, ltb, List, [], ◌∷◌, ◌++◌, length, take, drop, Result, Ok, Err, refl, sym, ap, subst, ◌∙◌, append_assoc, arith}
 use Rattle.std.specs.Prelude.{FitsSigned, pos, negsuc}
 use borrow.Author.Gap.{read_sfits}
 use Rattle.std.specs.Int.{w32, cast_signed, cast_unsigned}
-use Rattle.std.proofs.lemmas.Bool.{cases_lt, ltb-false, le-ltb}
-use Rattle.std.proofs.lemmas.List.{append-nil, take_at, drop_at, take-append-drop, length-append, length-take, get_or-drop, get_or-take, get_or_past}
+use Rattle.std.proofs.lemmas.Bool.{ltb-false, le-ltb}
+use Rattle.std.proofs.lemmas.List.{append-nil, take_at, drop_at, take-append-drop, length-append, length-take}
 use Rattle.std.proofs.lemmas.Nat.{be_bytes_2, be_bytes_4, be_bytes_8}
 use Rattle.std.proofs.lemmas.Int.{to_z-of_z, of_z-to_z}
 use Rattle.byteorder.specs.Endian.{big_bytes, big_number}
 use Rattle.byteorder.specs.Numbers.{big_number-reads_back, big_from-lt, length-bytes_high_first}
+pub use Rattle.list_views.specs.ByteLists.{IsBytes}
+pub use Rattle.list_views.proofs.ByteLists.{IsBytes-drop, IsBytes-take}
+pub use Rattle.list_views.proofs.Steps.{bind_ok, ok_is}
 use Rattle.class_pool.specs.declared.fault.PoolFault.{PoolFault}
 use Rattle.class_pool.specs.declared.fault.PoolFault.TheVariants.{Truncated}
-use Rattle.class_pool.specs.Reading.{◌>>=◌, Read, Unread, field_at, number_at, signed_at, counted_at, indexes_at}
-
-abbrev pub IsBytes : List ℕ → Type 0
-IsBytes bytes = (i : ℕ) → get_or bytes i 0 < 256
-
-pub IsBytes-drop : (n : ℕ) (bytes : List ℕ) → IsBytes bytes → IsBytes (drop n bytes)
-IsBytes-drop n bytes h i = rw get_or-drop (h (n + i))
-
-pub IsBytes-take : (n : ℕ) (bytes : List ℕ) → IsBytes bytes → IsBytes (take n bytes)
-IsBytes-take n bytes h i =
-    elim (cases_lt i n) [
-      | inl lt ↦ rw (get_or-take n bytes i 0 lt) (h i)
-      | inr le ↦ rw (get_or_past (take n bytes) i 0 (omega (arith, length-take n bytes))) (omega arith)
-    ]
-
--- the value of a step that did not fail
-pub bind_ok : {A B : Type 0} (r : Result A PoolFault) (f : A → Result B PoolFault) (y : B) → (r >>= f) ≡ Ok y → (x : A) × (r ≡ Ok x) × (f x ≡ Ok y)
-bind_ok (Ok x) f y e = (x, refl, e)
-bind_ok (Err d) f y e = absurd cc
-
--- a test that did not fail
-pub guard_ok : {A : Type 0} (b : Bool) (d : PoolFault) (x : Result A PoolFault) (y : A) → cond b (Err d) x ≡ Ok y → (b ≡ false) × (x ≡ Ok y)
-guard_ok true d x y e = absurd cc
-guard_ok false d x y e = (refl, e)
+use Rattle.class_pool.specs.Reading.{◌>>=◌, Read, Unread, field_at, number_at, signed_at, counted_at, indexes_at, handle_at}
 
 abbrev pub done : {A : Type 0} → A → Result A PoolFault
 done x = Ok x
 
-pub ok_is : {A : Type 0} (x y : A) → done x ≡ done y → x ≡ y
-ok_is x y e = cc
+-- a test that found no fault
+pub guard_ok : {A : Type 0} (b : Bool) (d : PoolFault) (x : Result A PoolFault) (y : A) → cond b (Err d) x ≡ Ok y → (b ≡ false) × (x ≡ Ok y)
+guard_ok true d x y e = absurd cc
+guard_ok false d x y e = (refl, e)
 
 -- what a reader took from the front
 pub record Takes (from : Unread) (text : List ℕ) (rest : Unread) : Type 0 where
@@ -177,3 +159,23 @@ unfolding indexes_at
 indexes_again at a b rest la lb =
     ap (λ (r : Read ℕ). r >>= λ first. number_at 2 first.1 >>= λ second. Ok ((first.0, second.0), second.1)) (number_again 2 at a (big_bytes 2 b ++ rest) la)
     ∙ ap (λ (r : Read ℕ). r >>= λ second. Ok ((a, second.0), second.1)) (number_again 2 (at + 2) b rest lb)
+
+-- ---- a byte and an index
+
+pub handle_takes : (u : Unread) (x : (ℕ × ℕ) × Unread) → IsBytes u.bytes → handle_at u ≡ Ok x → Takes u (x.0.0 ∷ big_bytes 2 x.0.1) x.1 × (x.0.0 < 2 ^ 8) × (x.0.1 < 2 ^ 16)
+unfolding handle_at
+handle_takes u x fits e =
+    let a = bind_ok (number_at 1 u) (λ kind. number_at 2 kind.1 >>= λ entry. Ok ((kind.0, entry.0), entry.1)) x e in
+    let b = bind_ok (number_at 2 a.0.1) (λ entry. Ok ((a.0.0, entry.0), entry.1)) x a.2 in
+    let s = byte_takes u a.0 fits a.1 in
+    let below = number_takes 1 back_1 u a.0 fits a.1 in
+    let t = number_takes 2 back_2 a.0.1 b.0 s.fits b.1 in
+    let made : (ℕ × ℕ) × Unread = ((a.0.0, b.0.0), b.0.1) in
+    subst (λ (y : (ℕ × ℕ) × Unread). Takes u (y.0.0 ∷ big_bytes 2 y.0.1) y.1 × (y.0.0 < 2 ^ 8) × (y.0.1 < 2 ^ 16)) (ok_is made x b.2)
+    (Takes-then u (a.0.0 ∷ []) a.0.1 (big_bytes 2 b.0.0) b.0.1 s t.0, below.1, t.1)
+
+pub handle_again : (at kind entry : ℕ) (rest : List ℕ) → entry < 2 ^ 16 → handle_at (record { at = at; bytes = (kind ∷ big_bytes 2 entry) ++ rest }) ≡ Ok ((kind, entry), record { at = at + 1 + 2; bytes = rest })
+unfolding handle_at
+handle_again at kind entry rest lt =
+    ap (λ (r : Read ℕ). r >>= λ kind. number_at 2 kind.1 >>= λ entry. Ok ((kind.0, entry.0), entry.1)) (byte_again at kind (big_bytes 2 entry ++ rest))
+    ∙ ap (λ (r : Read ℕ). r >>= λ entry. Ok ((kind, entry.0), entry.1)) (number_again 2 (at + 1) entry rest lt)

@@ -1,5 +1,5 @@
 -- The places of the entries that were read, as a loop collects them.
-use Rattle.std.proofs.Common.{◌≡◌, ℕ, zero, suc, ◌+◌, ◌-◌, ◌<◌, ◌≤◌, Bool, true, false, cond, eqb, List, [], ◌∷◌, ◌++◌, length, Option, Some, None, Result, Ok, Err, refl, sym, ap, subst, ◌∙◌, append_assoc, arith, inl, inr}
+use Rattle.std.proofs.Common.{◌≡◌, ℕ, zero, suc, ◌+◌, ◌-◌, ◌<◌, ◌≤◌, Bool, true, false, cond, eqb, List, [], ◌∷◌, ◌++◌, length, Option, Some, None, Ok, Err, refl, sym, ap, subst, ◌∙◌, append_assoc, arith, inl, inr}
 use Rattle.std.specs.List.{flat_map, filter_map}
 use Rattle.std.specs.Option.{option_map}
 use Rattle.std.specs.Result.{result_ok}
@@ -9,10 +9,11 @@ use Rattle.std.proofs.lemmas.List.Elements.{filter_map-append}
 use Rattle.std.proofs.lemmas.Bool.{cases_Bool, cases_lt, false≢true, eq-eqb, ne_eqb, false_from_ne_true}
 use Rattle.class_pool.specs.declared.entry.PoolEntry.{PoolEntry}
 use Rattle.class_pool.specs.declared.fault.PoolFault.{PoolFault}
-use Rattle.class_pool.specs.declared.fault.PoolFault.TheVariants.{Truncated, BadTag, BadUtf8, BadIndex, Memory}
 use Rattle.class_pool.specs.Entry.{is_wide}
 use Rattle.class_pool.specs.Text.{slots_of, places_of}
-use Rattle.class_pool.specs.Reading.{◌>>=◌, Read, Unread, unread, Fails, entry_text_at, entry_at_place, entries_at}
+use Rattle.list_views.specs.Results.{IsDue}
+use Rattle.list_views.proofs.Steps.{is_due}
+use Rattle.class_pool.specs.Reading.{◌>>=◌, Read, Unread, unread, is_memory, entry_text_at, entry_at_place, entries_at}
 use Rattle.class_pool.specs.Places.{slot_in, slots_in, entries_in, Agrees}
 use Rattle.class_pool.proofs.Fields.{IsBytes, IsBytes-drop}
 use Rattle.class_pool.proofs.EntryLaws.{place_text, place_takes}
@@ -190,21 +191,14 @@ fault_step (suc m) last u f at_end read =
     let r : entry_at_place false u ≡ Err f = subst (λ (b : Bool). entry_at_place b u ≡ Err f) at_end read in
     ap (λ (r : Read PoolEntry). r >>= λ e. cond (is_wide e.0) (entries_at m e.1) (entries_at (suc m) e.1) >>= λ es. Ok (e.0 ∷ es.0, es.1)) r
 
-pub fails_from_err : {Y : Type 0} (f : PoolFault) (read : Result Y PoolFault) → read ≡ Err f → Fails f read
-fails_from_err (Truncated at) read e = e
-fails_from_err (BadTag at) read e = e
-fails_from_err (BadUtf8 at) read e = e
-fails_from_err (BadIndex entry) read e = e
-fails_from_err Memory read e = tt
-
 pub stops : (bytes : List ℕ) (at count : ℕ) (places : List ℕ) (next : ℕ) (last : Bool) (f : PoolFault) → Progress bytes at count places next
     → length places < count → last ≡ eqb (length places + 1) count → entry_at_place last (unread bytes next) ≡ Err f
-    → Fails f (entries_at (count - 1) (unread bytes at))
+    → IsDue is_memory f (entries_at (count - 1) (unread bytes at))
 stops bytes at count places next last f p lt at_end read =
     let len = length places in
     let one : count - len ≡ suc (count - (len + 1)) = omega arith in
     let step = ap (λ (n : ℕ). entries_at n (unread bytes next)) one ∙ fault_step (count - (len + 1)) last (unread bytes next) f (at_end ∙ is_last count len lt) read in
-    fails_from_err f (entries_at (count - 1) (unread bytes at)) (sym p.so_far ∙ ap (with_front (entries_in bytes places)) step)
+    is_due is_memory f (entries_at (count - 1) (unread bytes at)) (sym p.so_far ∙ ap (with_front (entries_in bytes places)) step)
 
 pub is_done : (bytes : List ℕ) (at count : ℕ) (places : List ℕ) (next : ℕ) → Progress bytes at count places next → count ≤ length places
     → entries_at (count - 1) (unread bytes at) ≡ Ok (entries_in bytes places, unread bytes next)

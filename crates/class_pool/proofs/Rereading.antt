@@ -3,9 +3,10 @@ use Rattle.std.proofs.Common.{◌≡◌, ℕ, ◌+◌, List, [], ◌++◌, lengt
 use Rattle.std.proofs.lemmas.List.{append-nil}
 use Rattle.class_pool.specs.declared.entry.PoolEntry.{PoolEntry}
 use Rattle.class_pool.specs.declared.fault.PoolFault.{PoolFault}
-use Rattle.class_pool.specs.declared.fault.PoolFault.TheVariants.{Truncated, BadTag, BadUtf8, BadIndex, Memory}
+use Rattle.class_pool.specs.declared.fault.PoolFault.TheVariants.{Memory}
 use Rattle.class_pool.specs.Text.{HasTexts, IsPool, pool_bytes, Unread, unread, Spells}
-use Rattle.class_pool.specs.Reading.{Fails}
+use Rattle.list_views.specs.Results.{IsDue}
+use Rattle.class_pool.specs.Reading.{is_memory}
 use Rattle.class_pool.proofs.Fields.{done}
 use Rattle.class_pool.proofs.PoolLaws.{pool_written, same_pool}
 
@@ -18,15 +19,12 @@ pool_from_text text es es' v same texts s =
     let t : Spells (record { at = 0; bytes = pool_bytes es ++ [] }) es' v = subst (λ (bytes : List ℕ). Spells (record { at = 0; bytes = bytes }) es' v) (sym (whole text es same)) s in
     subst IsPool (same_pool 0 es es' [] v texts t) s.pool
 
-refuses : {Y : Type 0} (f : PoolFault) (y : Y) → (f ≡ Memory → ⊥) → Fails f (done y) → ⊥
-refuses (Truncated at) y other h = cc
-refuses (BadTag at) y other h = cc
-refuses (BadUtf8 at) y other h = cc
-refuses (BadIndex entry) y other h = cc
+refuses : {Y : Type 0} (f : PoolFault) (y : Y) → (f ≡ Memory → ⊥) → IsDue is_memory f (done y) → ⊥
 refuses Memory y other h = other refl
+refuses _ y other h = cc
 
 pub no_pool_from_fault : (text : List ℕ) (es : List PoolEntry) (f : PoolFault) → text ≡ pool_bytes es → (f ≡ Memory → ⊥)
-    → ((entries : List PoolEntry) (rest : Unread) → Spells (unread text 0) entries rest → Fails f (done {A = List PoolEntry × Unread} (entries, rest))) → IsPool es → ⊥
+    → ((entries : List PoolEntry) (rest : Unread) → Spells (unread text 0) entries rest → IsDue is_memory f (done {A = List PoolEntry × Unread} (entries, rest))) → IsPool es → ⊥
 no_pool_from_fault text es f same other only pool =
     let v : Unread = record { at = 0 + length (pool_bytes es); bytes = [] } in
     let s : Spells (unread text 0) es v = subst (λ (bytes : List ℕ). Spells (record { at = 0; bytes = bytes }) es v) (whole text es same) (pool_written 0 es [] pool) in

@@ -1,4 +1,4 @@
--- One entry of a constant pool (JVM specification, SE 6, section 4.4). Numbers stand with the highest byte first.
+-- One entry of a constant pool (JVM specification, SE 8, section 4.4). Numbers stand with the highest byte first.
 --
 --   tag         entry                   content after the tag                              places   names
 --   1           Utf8                    the number of bytes in 2 bytes, then the bytes     1
@@ -11,13 +11,17 @@
 --   9, 10, 11   Fieldref, Methodref,    two indexes of 2 bytes                             1        a Class, a NameAndType
 --               InterfaceMethodref
 --   12          NameAndType             two indexes of 2 bytes                             1        two Utf8
+--   15          MethodHandle            a byte, an index of 2 bytes                        1        a Fieldref, Methodref or
+--                                                                                                   InterfaceMethodref
+--   16          MethodType              an index of 2 bytes                                1        a Utf8
+--   18          InvokeDynamic           a number of 2 bytes, an index of 2 bytes           1        a NameAndType
 --
--- The definitions below are this table: a tag of a later edition is one more equation in each.
+-- The definitions below are this table. The byte of a MethodHandle and the number of an InvokeDynamic are not compared.
 use Rattle.std.specs.Prelude.{◌≡◌, ℕ, ◌<◌, ◌≤◌, ◌^◌, Bool, true, false, ◌||◌, ◌==◌, nat_le, List, [], ◌∷◌, ◌++◌, length, position, None, FitsSigned}
 use Rattle.std.specs.Int.{w32, cast_unsigned}
 use Rattle.byteorder.specs.Endian.{big_bytes}
 use Rattle.class_pool.specs.declared.entry.PoolEntry.{PoolEntry}
-use Rattle.class_pool.specs.declared.entry.PoolEntry.TheVariants.{Utf8, Integer, Float, Long, Double, Class, Str, Member, NameAndType}
+use Rattle.class_pool.specs.declared.entry.PoolEntry.TheVariants.{Utf8, Integer, Float, Long, Double, Class, Str, Member, NameAndType, MethodHandle, MethodType, InvokeDynamic}
 
 -- the byte that an entry begins with
 abbrev pub tag_of : PoolEntry → ℕ
@@ -30,6 +34,9 @@ tag_of (Class name) = 7
 tag_of (Str text) = 8
 tag_of (Member tag class name_and_type) = tag
 tag_of (NameAndType name descriptor) = 12
+tag_of (MethodHandle kind entry) = 15
+tag_of (MethodType descriptor) = 16
+tag_of (InvokeDynamic first name_and_type) = 18
 
 -- the bytes after the tag
 abbrev pub content_of : PoolEntry → List ℕ
@@ -42,6 +49,9 @@ content_of (Class name) = big_bytes 2 name
 content_of (Str text) = big_bytes 2 text
 content_of (Member tag class name_and_type) = big_bytes 2 class ++ big_bytes 2 name_and_type
 content_of (NameAndType name descriptor) = big_bytes 2 name ++ big_bytes 2 descriptor
+content_of (MethodHandle kind entry) = kind ∷ big_bytes 2 entry
+content_of (MethodType descriptor) = big_bytes 2 descriptor
+content_of (InvokeDynamic first name_and_type) = big_bytes 2 first ++ big_bytes 2 name_and_type
 
 -- the entries that take two places
 abbrev pub is_wide : PoolEntry → Bool
@@ -78,6 +88,9 @@ names_of (Class name) = (name, is_utf8) ∷ []
 names_of (Str text) = (text, is_utf8) ∷ []
 names_of (Member tag class name_and_type) = (class, is_class) ∷ (name_and_type, is_name_and_type) ∷ []
 names_of (NameAndType name descriptor) = (name, is_utf8) ∷ (descriptor, is_utf8) ∷ []
+names_of (MethodHandle kind entry) = (entry, is_member) ∷ []
+names_of (MethodType descriptor) = (descriptor, is_utf8) ∷ []
+names_of (InvokeDynamic first name_and_type) = (name_and_type, is_name_and_type) ∷ []
 
 -- the text of an entry
 abbrev pub entry_bytes : PoolEntry → List ℕ
@@ -98,6 +111,9 @@ HasText (Class name) = name < 2 ^ 16
 HasText (Str text) = text < 2 ^ 16
 HasText (Member tag class name_and_type) = (9 ≤ tag) × (tag ≤ 11) × (class < 2 ^ 16) × (name_and_type < 2 ^ 16)
 HasText (NameAndType name descriptor) = (name < 2 ^ 16) × (descriptor < 2 ^ 16)
+HasText (MethodHandle kind entry) = (kind < 2 ^ 8) × (entry < 2 ^ 16)
+HasText (MethodType descriptor) = descriptor < 2 ^ 16
+HasText (InvokeDynamic first name_and_type) = (first < 2 ^ 16) × (name_and_type < 2 ^ 16)
 
 -- every byte of a Utf8 entry is allowed
 abbrev pub IsAllowed : PoolEntry → Type 0

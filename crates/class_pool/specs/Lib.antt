@@ -3,3 +3,4 @@ pub mod View
 pub mod Text
 pub mod Reading
 pub mod Places
+pub mod Faults

@@ -1,41 +1,33 @@
 -- A pool's first fault, by a plain computation on the bytes that are left and the place where they begin.
-use Rattle.std.specs.Prelude.{◌≡◌, ℕ, ℤ, zero, suc, ◌+◌, ◌-◌, Bool, true, false, ◌&&◌, ◌||◌, ◌==◌, nat_lt, nat_le, List, [], ◌∷◌, length, take, drop, position, Result, Ok, Err, if◌then◌else◌}
+use Rattle.std.specs.Prelude.{ℕ, ℤ, zero, suc, ◌+◌, ◌-◌, Bool, true, false, ◌&&◌, ◌||◌, ◌==◌, nat_lt, nat_le, List, [], ◌∷◌, length, take, drop, position, Result, Ok, Err, if◌then◌else◌}
 use Rattle.std.specs.Int.{w32, cast_signed}
 use Rattle.std.specs.Option.{option_map_or}
 use Rattle.byteorder.specs.Endian.{big_number}
 use Rattle.class_pool.specs.declared.entry.PoolEntry.{PoolEntry}
-use Rattle.class_pool.specs.declared.entry.PoolEntry.TheVariants.{Utf8, Integer, Float, Long, Double, Class, Str, Member, NameAndType}
+use Rattle.class_pool.specs.declared.entry.PoolEntry.TheVariants.{Utf8, Integer, Float, Long, Double, Class, Str, Member, NameAndType, MethodHandle, MethodType, InvokeDynamic}
 use Rattle.class_pool.specs.declared.fault.PoolFault.{PoolFault}
 use Rattle.class_pool.specs.declared.fault.PoolFault.TheVariants.{Truncated, BadTag, BadUtf8, BadIndex, Memory}
 use Rattle.class_pool.specs.Entry.{is_wide, is_barred}
 use Rattle.class_pool.specs.Text.{first_bad_index}
 pub use Rattle.class_pool.specs.Text.{Unread, unread}
+pub use Rattle.list_views.specs.Results.{◌>>=◌}
+use Rattle.list_views.specs.Results as results
 
 -- a step that reads, and what it leaves
 abbrev pub Read : Type 0 → Type 0
 Read A = Result (A × Unread) PoolFault
 
-infixl 10 ◌>>=◌
-abbrev pub ◌>>=◌ : {A B : Type 0} → Result A PoolFault → (A → Result B PoolFault) → Result B PoolFault
-(Ok x) >>= next = next x
-(Err fault) >>= next = Err fault
-
 -- What a call answers, seen by view, is what reading gives.
 abbrev pub Answers : {X Y : Type 0} → (X → Y) → Result X PoolFault → Result Y PoolFault → Type 0
-Answers view (Ok x) read = read ≡ Ok (view x)
-Answers view (Err fault) read = read ≡ Err fault
+Answers view answer read = results.Answers view answer read
+
+abbrev pub is_memory : PoolFault → Bool
+is_memory Memory = true
+is_memory fault = false
 
 -- The same of a call that takes memory, unless memory ran out.
-abbrev pub Fails : {Y : Type 0} → PoolFault → Result Y PoolFault → Type 0
-Fails Memory read = Unit {0}
-Fails (Truncated at) read = read ≡ Err (Truncated at)
-Fails (BadTag at) read = read ≡ Err (BadTag at)
-Fails (BadUtf8 at) read = read ≡ Err (BadUtf8 at)
-Fails (BadIndex entry) read = read ≡ Err (BadIndex entry)
-
 abbrev pub Gives : {X Y : Type 0} → (X → Y) → Result X PoolFault → Result Y PoolFault → Type 0
-Gives view (Ok x) read = read ≡ Ok (view x)
-Gives view (Err fault) read = Fails fault read
+Gives view answer read = results.Gives is_memory view answer read
 
 -- a field of n bytes
 abbrev pub field_at : ℕ → Unread → Read (List ℕ)
@@ -64,6 +56,13 @@ indexes_at u = do
   second ← number_at 2 first.1
   Ok ((first.0, second.0), second.1)
 
+-- the byte and the index of a method handle
+unfoldable pub handle_at : Unread → Read (ℕ × ℕ)
+handle_at u = do
+  kind ← number_at 1 u
+  entry ← number_at 2 kind.1
+  Ok ((kind.0, entry.0), entry.1)
+
 -- the content after a tag that stands at `at`
 unfoldable pub content_at : ℕ → ℕ → Unread → Read PoolEntry
 content_at at tag u =
@@ -76,7 +75,10 @@ content_at at tag u =
     else (if tag == 8 then (number_at 2 u >>= λ n. Ok (Str n.0, n.1))
     else (if (nat_le 9 tag && nat_le tag 11) then (indexes_at u >>= λ p. Ok (Member tag p.0.0 p.0.1, p.1))
     else (if tag == 12 then (indexes_at u >>= λ p. Ok (NameAndType p.0.0 p.0.1, p.1))
-    else Err (BadTag at)))))))))
+    else (if tag == 15 then (handle_at u >>= λ p. Ok (MethodHandle p.0.0 p.0.1, p.1))
+    else (if tag == 16 then (number_at 2 u >>= λ n. Ok (MethodType n.0, n.1))
+    else (if tag == 18 then (indexes_at u >>= λ p. Ok (InvokeDynamic p.0.0 p.0.1, p.1))
+    else Err (BadTag at))))))))))))
 
 -- an entry: a tag and its content
 unfoldable pub entry_text_at : Unread → Read PoolEntry

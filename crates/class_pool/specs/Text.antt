@@ -1,4 +1,4 @@
--- A constant pool and its text (JVM specification, SE 6, sections 4.1 and 4.4).
+-- A constant pool and its text (JVM specification, SE 8, sections 4.1 and 4.4).
 use Rattle.std.specs.Prelude.{◌≡◌, ℕ, ◌+◌, ◌-◌, ◌<◌, ◌^◌, Bool, false, not, List, [], ◌∷◌, ◌++◌, length, drop, position, slice_index_or, Option, Some, None, if◌then◌else◌}
 use Rattle.std.specs.List.{flat_map, list_all, AllByRecursion}
 use Rattle.std.specs.Option.{option_map, option_map_or, option_and_then}
@@ -93,6 +93,14 @@ value_of _ = None
 -- the number of an Integer entry
 abbrev pub integer_at : List PoolEntry → ℕ → Option ℤ
 integer_at entries i = option_and_then value_of (entry_at entries i)
+
+abbrev pub name_of : PoolEntry → Option ℕ
+name_of (Class name) = Some name
+name_of _ = None
+
+-- the number of the Utf8 entry that names a Class entry
+abbrev pub name_index_at : List PoolEntry → ℕ → Option ℕ
+name_index_at entries i = option_and_then name_of (entry_at entries i)
 
 abbrev pub class_of : List PoolEntry → PoolEntry → Option (List ℕ)
 class_of entries (Class name) = utf8_at entries name

@@ -14,3 +14,6 @@ entry_of (views.Class name) = entries.Class name
 entry_of (views.Str text) = entries.Str text
 entry_of (views.Member tag class name_and_type) = entries.Member tag class name_and_type
 entry_of (views.NameAndType name descriptor) = entries.NameAndType name descriptor
+entry_of (views.MethodHandle kind entry) = entries.MethodHandle kind entry
+entry_of (views.MethodType descriptor) = entries.MethodType descriptor
+entry_of (views.InvokeDynamic first name_and_type) = entries.InvokeDynamic first name_and_type

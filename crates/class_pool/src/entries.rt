@@ -3,9 +3,9 @@
 ghost use Rattle.std.specs.Prelude.{◌≡◌, ◌<◌, length};
 ghost use Rattle.std.specs.Option.{option_map, option_copied};
 ghost use Rattle.std.specs.List.{list_all};
-ghost use Rattle.class_pool.specs.Entry.{is_utf8, is_class, is_name_and_type, names_of};
+ghost use Rattle.class_pool.specs.Entry.{is_utf8, is_class, is_member, is_name_and_type, names_of};
 ghost use Rattle.class_pool.specs.View.{entry_of};
-ghost use Rattle.class_pool.specs.Text.{places_of, entry_at, tag_at, stands, names_badly, first_bad_index, utf8_at, integer_at, class_name_at, name_and_type_at, member_at};
+ghost use Rattle.class_pool.specs.Text.{places_of, entry_at, tag_at, stands, names_badly, first_bad_index, utf8_at, integer_at, name_index_at, class_name_at, name_and_type_at, member_at};
 
 use crate::entry::EntryView;
 use crate::reading::entry_at;
@@ -78,6 +78,12 @@ impl<'a> Entries<'a> {
         matches!(self.entry(i), Some(EntryView::NameAndType(_, _)))
     }
 
+    fn is_member(&self, i: u16) -> bool
+        ensures { result ≡ stands self.now (i, is_member) }
+    {
+        matches!(self.entry(i), Some(EntryView::Member { .. }))
+    }
+
     /// Whether all that `entry` names is there and of the right kind.
     fn names_stand(&self, entry: EntryView<'a>) -> bool
         ensures { result ≡ list_all (stands self.now) (names_of (entry_of entry.entry)) }
@@ -93,6 +99,9 @@ impl<'a> Entries<'a> {
             EntryView::NameAndType(name, descriptor) => {
                 self.is_utf8(name) && self.is_utf8(descriptor)
             }
+            EntryView::MethodHandle { entry, .. } => self.is_member(entry),
+            EntryView::MethodType(descriptor) => self.is_utf8(descriptor),
+            EntryView::InvokeDynamic { name_and_type, .. } => self.is_name_and_type(name_and_type),
             _ => true,
         }
     }
@@ -132,6 +141,15 @@ impl<'a> Entries<'a> {
     {
         match self.entry(i) {
             Some(EntryView::Integer(value)) => Some(value),
+            _ => None,
+        }
+    }
+
+    pub(crate) fn name_index(&self, i: u16) -> Option<u16>
+        ensures { result ≡ name_index_at self.now i }
+    {
+        match self.entry(i) {
+            Some(EntryView::Class(name)) => Some(name),
             _ => None,
         }
     }

@@ -27,6 +27,18 @@ pub enum PoolEntry {
     },
     /// A name and a descriptor, by their Utf8 entries.
     NameAndType(u16, u16),
+    /// A method handle: what it does, which isn't compared, and the Fieldref, Methodref or InterfaceMethodref entry.
+    MethodHandle {
+        kind: u8,
+        entry: u16,
+    },
+    /// A method's type, by the Utf8 entry of its descriptor.
+    MethodType(u16),
+    /// A call site: a number that isn't compared, and its NameAndType entry.
+    InvokeDynamic {
+        first: u16,
+        name_and_type: u16,
+    },
 }
 
 /// An entry that stands in the input.
@@ -45,6 +57,15 @@ pub(crate) enum EntryView<'a> {
         name_and_type: u16,
     },
     NameAndType(u16, u16),
+    MethodHandle {
+        kind: u8,
+        entry: u16,
+    },
+    MethodType(u16),
+    InvokeDynamic {
+        first: u16,
+        name_and_type: u16,
+    },
 }
 
 impl EntryView<'_> {
@@ -65,6 +86,9 @@ impl EntryView<'_> {
             EntryView::Str(_) => 8,
             EntryView::Member { tag, .. } => tag,
             EntryView::NameAndType(_, _) => 12,
+            EntryView::MethodHandle { .. } => 15,
+            EntryView::MethodType(_) => 16,
+            EntryView::InvokeDynamic { .. } => 18,
         }
     }
 
@@ -103,6 +127,18 @@ impl PoolEntry {
             PoolEntry::NameAndType(name, descriptor) => {
                 EntryView::NameAndType(*name, *descriptor)
             }
+            PoolEntry::MethodHandle { kind, entry } => EntryView::MethodHandle {
+                kind: *kind,
+                entry: *entry,
+            },
+            PoolEntry::MethodType(descriptor) => EntryView::MethodType(*descriptor),
+            PoolEntry::InvokeDynamic {
+                first,
+                name_and_type,
+            } => EntryView::InvokeDynamic {
+                first: *first,
+                name_and_type: *name_and_type,
+            },
         }
     }
 }

@@ -1,9 +1,12 @@
 //! Why bytes spell no pool.
 
-ghost use Rattle.std.specs.Prelude.{◌≡◌};
+ghost use Rattle.std.specs.Prelude.{◌≡◌, IfOk};
 ghost use Rattle.class_pool.specs.declared.fault.PoolFault.TheVariants.{Memory};
+ghost use Rattle.class_pool.specs.Faults.{fault_name, fault_fields, fault_text};
 
-use std::alloc::{AllocError, AllocFailed};
+use fault_words::{joined, number_field};
+use list_views::Seq;
+use std::alloc::{AllocError, AllocFailed, Global};
 
 /// The first fault of a pool. Places are counted from the start of the input.
 ///
@@ -20,6 +23,50 @@ pub enum PoolFault {
     BadIndex { entry: u16 },
     /// Want of memory.
     Memory,
+}
+
+impl PoolFault {
+    /// The fault's name.
+    pub fn name(&self) -> &'static [u8]
+        ensures { result.now ≡ fault_name self.now }
+    {
+        match self {
+            PoolFault::Truncated { .. } => b"Truncated",
+            PoolFault::BadTag { .. } => b"BadTag",
+            PoolFault::BadUtf8 { .. } => b"BadUtf8",
+            PoolFault::BadIndex { .. } => b"BadIndex",
+            PoolFault::Memory => b"Memory",
+        }
+    }
+
+    /// The fault's fields, each as ` name=value`.
+    ///
+    /// # Errors
+    ///
+    /// Want of memory.
+    pub fn fields(&self, alloc: Global) -> Result<Seq<u8>, AllocError>
+        ensures { IfOk result (λ text. text ≡ fault_fields self.now) }
+    {
+        match self {
+            PoolFault::Truncated { at } => number_field(alloc, b"at", *at),
+            PoolFault::BadTag { at } => number_field(alloc, b"at", *at),
+            PoolFault::BadUtf8 { at } => number_field(alloc, b"at", *at),
+            PoolFault::BadIndex { entry } => number_field(alloc, b"entry", usize::from(*entry)),
+            PoolFault::Memory => Ok(Seq::new(alloc)),
+        }
+    }
+
+    /// The fault in words: its name and its fields.
+    ///
+    /// # Errors
+    ///
+    /// Want of memory.
+    pub fn text(&self, alloc: Global) -> Result<Seq<u8>, AllocError>
+        ensures { IfOk result (λ text. text ≡ fault_text self.now) }
+    {
+        let fields = self.fields(alloc)?;
+        joined(alloc, &[self.name(), fields.as_slice()])
+    }
 }
 
 impl From<AllocError> for PoolFault {

@@ -1,7 +1,7 @@
 //! Fields of the input at a place. Each call answers the field and the place after it.
 
 ghost use Rattle.std.specs.Prelude.{◌≡◌, ◌≤◌, take, drop, length};
-ghost use Rattle.class_pool.specs.Reading.{Answers, unread, field_at, number_at, signed_at, counted_at, indexes_at};
+ghost use Rattle.class_pool.specs.Reading.{Answers, unread, field_at, number_at, signed_at, counted_at, indexes_at, handle_at};
 
 use crate::fault::PoolFault;
 use byteorder::{BigEndian, ByteOrder};
@@ -76,4 +76,14 @@ pub(crate) fn indexes_at(bytes: &[u8], at: usize) -> Result<((u16, u16), usize),
     let (first, next) = u16_at(bytes, at)?;
     let (second, next) = u16_at(bytes, next)?;
     Ok(((first, second), next))
+}
+
+/// The kind and the index of a method handle at `at`.
+#[tactic(auto, unfolding(crate::specs::Reading::handle_at))]
+pub(crate) fn handle_at(bytes: &[u8], at: usize) -> Result<((u8, u16), usize), PoolFault>
+    ensures { Answers (λ x. (x.0, unread bytes.now x.1)) result (handle_at (unread bytes.now at)) }
+{
+    let (kind, next) = u8_at(bytes, at)?;
+    let (entry, next) = u16_at(bytes, next)?;
+    Ok(((kind, entry), next))
 }

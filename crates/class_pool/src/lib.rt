@@ -1,4 +1,4 @@
-//! Constant pools of Java class files (JVM specification, SE 6, section 4.4): read exactly as the bytes spell them,
+//! Constant pools of Java class files (JVM specification, SE 8, section 4.4): read exactly as the bytes spell them,
 //! asked by index without copies, and written.
 #![tactic(auto)]
 
@@ -16,5 +16,5 @@ pub use entry::PoolEntry;
 pub use fault::PoolFault;
 pub use laws::{entries_of_text, one_pool, pool_has_texts, read_is_spelled, written_is_spelled};
 pub use pool::Pool;
-pub use rules::{has_texts, is_pool};
+pub use rules::has_texts;
 pub use writing::write_pool;

@@ -4,7 +4,7 @@ ghost use Rattle.std.specs.Prelude.{◌≡◌, List, length, false, IfOk, is_som
 ghost use Rattle.std.specs.Option.{option_copied, option_map, option_map_or};
 ghost use Rattle.class_pool.specs.Entry.{is_class, is_member};
 ghost use Rattle.class_pool.specs.declared.entry.PoolEntry.{PoolEntry};
-ghost use Rattle.class_pool.specs.Text.{places_of, entry_at, tag_at, utf8_at, integer_at, class_name_at, member_at, Unread, unread, Spells};
+ghost use Rattle.class_pool.specs.Text.{places_of, entry_at, tag_at, utf8_at, integer_at, name_index_at, class_name_at, member_at, Unread, unread, Spells};
 ghost use Rattle.class_pool.specs.Reading.{Gives, pool_at};
 
 use crate::entries::Entries;
@@ -93,6 +93,13 @@ impl<'a> Pool<'a> {
         ensures { result ≡ integer_at self.now i }
     {
         self.entries.integer(i)
+    }
+
+    /// The number of the Utf8 entry that names the Class entry `i`. None exactly where no Class entry has that number.
+    pub fn name_index(&self, i: u16) -> Option<u16>
+        ensures { result ≡ name_index_at self.now i }
+    {
+        self.entries.name_index(i)
     }
 
     /// The bytes that name the Class entry `i`.

@@ -8,7 +8,7 @@ ghost use Rattle.class_pool.specs.Places.{entries_in, Agrees};
 
 use crate::entry::EntryView;
 use crate::fault::PoolFault;
-use crate::field::{counted_at, i32_at, indexes_at, u8_at, u16_at, u32_at, u64_at};
+use crate::field::{counted_at, handle_at, i32_at, indexes_at, u8_at, u16_at, u32_at, u64_at};
 use std::alloc::{AllocError, Global};
 
 /// The content at `next` of an entry whose tag stands at `at`.
@@ -62,6 +62,22 @@ fn content(
         12 => {
             let ((name, descriptor), next) = indexes_at(bytes, next)?;
             Ok((EntryView::NameAndType(name, descriptor), next))
+        }
+        15 => {
+            let ((kind, entry), next) = handle_at(bytes, next)?;
+            Ok((EntryView::MethodHandle { kind, entry }, next))
+        }
+        16 => {
+            let (descriptor, next) = u16_at(bytes, next)?;
+            Ok((EntryView::MethodType(descriptor), next))
+        }
+        18 => {
+            let ((first, name_and_type), next) = indexes_at(bytes, next)?;
+            let site = EntryView::InvokeDynamic {
+                first,
+                name_and_type,
+            };
+            Ok((site, next))
         }
         _ => Err(PoolFault::BadTag { at }),
     }

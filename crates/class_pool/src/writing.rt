@@ -39,6 +39,18 @@ fn put_entry(out: &mut Seq<u8>, entry: EntryView<'_>) -> Result<(), AllocError>
             out.extend_from_slice(&name.to_be_bytes())?;
             out.extend_from_slice(&descriptor.to_be_bytes())
         }
+        EntryView::MethodHandle { kind, entry } => {
+            out.push(kind)?;
+            out.extend_from_slice(&entry.to_be_bytes())
+        }
+        EntryView::MethodType(descriptor) => out.extend_from_slice(&descriptor.to_be_bytes()),
+        EntryView::InvokeDynamic {
+            first,
+            name_and_type,
+        } => {
+            out.extend_from_slice(&first.to_be_bytes())?;
+            out.extend_from_slice(&name_and_type.to_be_bytes())
+        }
     }
 }
 

@@ -14,7 +14,7 @@ use Rattle.class_read.specs.declared.text.AttrText.{AttrText}
 use Rattle.class_read.specs.declared.text.AttrText.TheVariants.{Skipped, Code}
 use Rattle.class_read.specs.Reading.{Read, and_then, ◌>>=◌, named_at}
 use Rattle.class_read.specs.Content.{Handler, CodeContent}
-use Rattle.class_read.specs.Names.{is_class_name}
+use Rattle.class_base.specs.ClassNames.{is_class_name}
 use Rattle.class_read.specs.Text.{u2, u4, counted, attribute_text, handler_text, code_text, attr_text}
 use Rattle.class_read.specs.Rules.{text_of, name_of, IsText, IsClass, code_name, IsAttribute, IsHandler, IsMethodAttribute, IsOtherAttribute, codes_in, first_of, skipped_in}
 use Rattle.class_read.specs.FirstFault.{class_index_at, is_catch, content_at, skipped_at, attributes_at, handler_at, table_at, is_code_length, code_at, is_code_name, Found, may_stand, method_name_at, code_found_at, one_more_at, method_attribute_at, method_attributes_at}
@@ -138,10 +138,10 @@ pub handler_exact : (total : ℕ) (pool : List PoolEntry) → Exact (handler_at 
 unfolding handler_at
 handler_exact total pool =
     told_exact (then_exact (u2_exact total) (λ start. then_exact (u2_exact total) (λ end. then_exact (u2_exact total) (λ handler.
-    made_exact {B = Handler} (λ (catch : ℕ). (start, end, handler, catch)) (passing_exact (is_catch pool) (λ _. BadDescriptor) total (u2_exact total))))))
-    (λ (h : Handler). (h.0, (h.1, (h.2, h.3)))) (λ (p : ℕ × (ℕ × (ℕ × ℕ))). (p.0, p.1.0, p.1.1.0, p.1.1.1))
+    made_exact {B = Handler} (λ (catch : ℕ). record { start = start; end = end; handler = handler; catch = catch }) (passing_exact (is_catch pool) (λ _. BadDescriptor) total (u2_exact total))))))
+    (λ (h : Handler). (h.start, (h.end, (h.handler, h.catch)))) (λ (p : ℕ × (ℕ × (ℕ × ℕ))). record { start = p.0; end = p.1.0; handler = p.1.1.0; catch = p.1.1.1 })
     (λ p h. refl) (λ p h. record { start = h.0; end = h.1.0; handler = h.1.1.0; catch = catch_to pool p.1.1.1 h.1.1.1.1 h.1.1.1.0 })
-    (λ p h. (h.start, (h.end, (h.handler, catch_from pool p.3 h.catch)))) (λ p h. refl) (λ p h. refl)
+    (λ p h. (h.start, (h.end, (h.handler, catch_from pool p.catch h.catch)))) (λ p h. refl) (λ p h. refl)
 
 pub table_exact : (total : ℕ) (pool : List PoolEntry) → Exact (table_at total pool) (counted handler_text) (λ hs. (length hs < 2 ^ 16) × AllByRecursion (IsHandler pool) hs) (map (λ h. h))
 unfolding table_at

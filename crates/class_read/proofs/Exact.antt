@@ -7,23 +7,12 @@ use Rattle.std.proofs.lemmas.Bool.{cases_lt, ltb-false, le-ltb, eqb-true, eq-eqb
 use Rattle.std.proofs.lemmas.List.{take_at, drop_at, take-append-drop, length-append, length-take, get_or-drop, get_or-take, get_or_past, append-nil}
 use Rattle.std.proofs.lemmas.List.Concat.{flat_map-cons}
 use Rattle.std.proofs.lemmas.Nat.{be_bytes_2, be_bytes_4, from_be_bytes-to_be_bytes_2, from_be_bytes-to_be_bytes_4}
+pub use Rattle.list_views.specs.ByteLists.{IsBytes}
+pub use Rattle.list_views.proofs.ByteLists.{IsBytes-drop, IsBytes-take}
 use Rattle.class_read.specs.declared.fault.ClassFault.{ClassFault}
 use Rattle.class_read.specs.declared.fault.ClassFault.TheVariants.{Truncated, BadDescriptor, CodeLength}
 use Rattle.class_read.specs.Reading.{Read, and_then, ◌>>=◌, pure, place, passing, holding, u2_at, u4_at, bytes_at, found, named_at, sized_at, repeated, collected}
 use Rattle.class_read.specs.Text.{u2, u4, counted}
-
-abbrev pub IsBytes : List ℕ → Type 0
-IsBytes bytes = (i : ℕ) → get_or bytes i 0 < 256
-
-pub IsBytes-drop : (n : ℕ) (bytes : List ℕ) → IsBytes bytes → IsBytes (drop n bytes)
-IsBytes-drop n bytes h i = rw get_or-drop (h (n + i))
-
-IsBytes-take : (n : ℕ) (bytes : List ℕ) → IsBytes bytes → IsBytes (take n bytes)
-IsBytes-take n bytes h i =
-    elim (cases_lt i n) [
-      | inl lt ↦ rw (get_or-take n bytes i 0 lt) (h i)
-      | inr le ↦ rw (get_or_past (take n bytes) i 0 (omega (arith, length-take n bytes))) (omega arith)
-    ]
 
 -- what a reading took from the front of the bytes
 pub record Taken {T V : Type 0} (text : T → List ℕ) (Fits : T → Type 0) (view : T → V) (bytes : List ℕ) (v : V) (rest : List ℕ) : Type 0 where

@@ -1,12 +1,9 @@
-pub mod Turns
 pub mod Loop
 pub mod Members
 pub mod Exact
-pub mod Types
 pub mod AttributeLaws
 pub mod MemberLaws
 pub mod ClassLaws
 pub mod Outcome
 pub mod WritingLaws
-pub mod Keys
 pub mod RuleLaws

@@ -1,22 +1,12 @@
 -- One more step of a repeated reading.
 use Rattle.std.proofs.Common.{◌≡◌, ℕ, suc, ◌+◌, ◌-◌, ◌<◌, ◌≤◌, List, [], ◌∷◌, ◌++◌, Result, Ok, Err, refl, sym, ◌∙◌, arith}
 use Rattle.class_read.specs.declared.fault.ClassFault.{ClassFault}
-use Rattle.class_read.specs.declared.fault.ClassFault.TheVariants as faults
-use Rattle.class_read.specs.Reading.{Read, repeated, collected, Fails, Gives}
+use Rattle.list_views.proofs.Steps.{handed_on}
+use Rattle.class_read.specs.Reading.{Read, repeated, collected, is_memory, Fails, Gives}
 
 -- a fault of a part is the fault of the whole
 pub fails_along : {X Y : Type 0} (e : ClassFault) (f : Result X ClassFault) (g : Result Y ClassFault) → (f ≡ Err e → g ≡ Err e) → Fails e f → Fails e g
-fails_along faults.BadMagic f g h q = h q
-fails_along (faults.Version major) f g h q = h q
-fails_along (faults.Pool fault) f g h q = h q
-fails_along (faults.Truncated at) f g h q = h q
-fails_along (faults.BadDescriptor at) f g h q = h q
-fails_along (faults.DuplicateMember at) f g h q = h q
-fails_along (faults.CodeLength at) f g h q = h q
-fails_along (faults.MissingCode at) f g h q = h q
-fails_along (faults.ExtraCode at) f g h q = h q
-fails_along (faults.TrailingBytes at) f g h q = h q
-fails_along faults.Memory f g h q = tt
+fails_along e f g h q = handed_on is_memory e f g h q
 
 pub goes : {S : Type 0} (step : S → List ℕ → Read S) (count i : ℕ) (made next : S) (bytes rest : List ℕ) (all : Read S)
     → i < count → step made bytes ≡ Ok (next, rest) → repeated step (count - i) made bytes ≡ all → repeated step (count - (i + 1)) next rest ≡ all

@@ -8,16 +8,16 @@ use Rattle.class_pool.specs.declared.entry.PoolEntry.{PoolEntry}
 use Rattle.class_read.specs.declared.fault.ClassFault.TheVariants.{BadDescriptor, DuplicateMember}
 use Rattle.class_read.specs.declared.text.AttrText.{AttrText}
 use Rattle.class_read.specs.declared.text.MemberText.{MemberText}
-use Rattle.class_read.specs.declared.names.MemberKind.{MemberKind}
-use Rattle.class_read.specs.declared.names.MemberKind.TheVariants.{Field, Method}
+use Rattle.class_base.specs.declared.member_kind.MemberKind.{MemberKind}
+use Rattle.class_base.specs.declared.member_kind.MemberKind.TheVariants.{Field, Method}
 use Rattle.class_read.specs.Content.{FieldContent, MethodContent}
-use Rattle.class_read.specs.Names.{is_descriptor}
+use Rattle.class_base.specs.MemberKinds.{is_descriptor}
 use Rattle.class_read.specs.Text.{u2, counted, member_text}
 use Rattle.class_read.specs.Rules.{text_of, IsText, has_code, IsField, IsMethod, key_of, same_key, AreDistinct, skipped_in, skipped_of, field_of, method_of}
 use Rattle.class_read.specs.FirstFault.{Key, Found, is_new, head_at, field_at, method_at, field_keys, method_keys, more_fields_at, more_methods_at, fields_at, methods_at}
 use Rattle.class_read.proofs.Exact.{Exact, then_exact, made_exact, told_exact, passing_exact, u2_exact, FitAll, next_all, counted_exact}
-use Rattle.class_read.proofs.Keys.{same_swapped}
-use Rattle.class_read.proofs.Types.{descriptor_found, descriptor_again}
+use Rattle.class_base.proofs.Keys.{same_swapped}
+use Rattle.class_base.proofs.MethodLaws.{descriptor_found, descriptor_again}
 use Rattle.class_read.proofs.AttributeLaws.{text_exact, others_exact, method_attributes_exact}
 
 -- ---- a member up to its attributes

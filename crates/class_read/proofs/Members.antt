@@ -7,8 +7,8 @@ use Rattle.class_pool.specs.declared.entry.PoolEntry.{PoolEntry}
 use Rattle.class_pool.specs.Text.{utf8_at}
 use Rattle.class_read.specs.declared.fault.ClassFault.{ClassFault}
 use Rattle.class_read.specs.declared.fault.ClassFault.TheVariants.{DuplicateMember}
-use Rattle.class_read.specs.declared.names.MemberKind.{MemberKind}
-use Rattle.class_read.specs.declared.names.MemberKind.TheVariants.{Field, Method}
+use Rattle.class_base.specs.declared.member_kind.MemberKind.{MemberKind}
+use Rattle.class_base.specs.declared.member_kind.MemberKind.TheVariants.{Field, Method}
 use Rattle.class_read.specs.declared.view.FieldView.{FieldView}
 use Rattle.class_read.specs.declared.view.MethodView.{MethodView}
 use Rattle.class_read.specs.Content.{FieldContent, MethodContent}

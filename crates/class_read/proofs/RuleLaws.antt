@@ -14,7 +14,7 @@ use Rattle.class_read.specs.Content.{Handler}
 use Rattle.class_read.specs.Text.{counted, attribute_text, handler_text, code_text}
 use Rattle.class_read.specs.Rules.{text_of, IsClass, IsOtherAttribute, IsField, IsMethod, key_of, same_key, AreDistinct, WellFormed}
 use Rattle.class_read.specs.FirstFault.{Key}
-use Rattle.class_read.proofs.Keys.{or_swap, same_swapped}
+use Rattle.class_base.proofs.Keys.{or_swap, same_swapped}
 use Rattle.class_read.proofs.Members.{SameKeys}
 
 -- ---- the length of a Code's content

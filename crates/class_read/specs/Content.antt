@@ -1,10 +1,7 @@
 -- What a class file says: the names and descriptors themselves, in place of the indexes by which the file names them.
 use Rattle.std.specs.Prelude.{ℕ, List, Option}
+pub use Rattle.class_base.specs.declared.handler.Handler.{Handler}
 use Rattle.class_pool.specs.declared.entry.PoolEntry.{PoolEntry}
-
--- a range of code, where its exceptions are handled, and the index of the caught class, or 0: start, end, handler, catch
-abbrev pub Handler : Type 0
-Handler = ℕ × ℕ × ℕ × ℕ
 
 pub record FieldContent : Type 0 where
   pub flags : ℕ

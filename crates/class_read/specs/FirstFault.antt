@@ -12,9 +12,11 @@ use Rattle.class_pool.specs.Text.{Unread}
 use Rattle.class_pool.specs.Reading.{pool_at}
 use Rattle.class_read.specs.declared.fault.ClassFault.{ClassFault}
 use Rattle.class_read.specs.declared.fault.ClassFault.TheVariants.{BadMagic, Version, Pool, BadDescriptor, DuplicateMember, CodeLength, MissingCode, ExtraCode, TrailingBytes, Memory}
-use Rattle.class_read.specs.declared.names.MemberKind.{MemberKind}
-use Rattle.class_read.specs.declared.names.MemberKind.TheVariants.{Field, Method}
-use Rattle.class_read.specs.Names.{is_class_name, is_descriptor}
+use Rattle.class_base.specs.declared.member_kind.MemberKind.{MemberKind}
+use Rattle.class_base.specs.declared.member_kind.MemberKind.TheVariants.{Field, Method}
+use Rattle.class_base.specs.ClassNames.{is_class_name}
+use Rattle.class_base.specs.MemberKinds.{is_descriptor}
+pub use Rattle.class_base.specs.Members.{Key}
 use Rattle.class_read.specs.Content.{Handler, FieldContent, CodeContent, MethodContent, ClassContent}
 use Rattle.class_read.specs.Reading.{Read, ◌>>=◌, pure, place, passing, holding, u2_at, u4_at, bytes_at, named_at, sized_at, repeated, collected}
 use Rattle.class_read.specs.Text.{magic_number}
@@ -67,7 +69,7 @@ handler_at total pool = do
   end ← u2_at total
   handler ← u2_at total
   catch ← catch_at total pool
-  pure (start, end, handler, catch)
+  pure (record { start = start; end = end; handler = handler; catch = catch })
 
 unfoldable pub table_at : ℕ → List PoolEntry → List ℕ → Read (List Handler)
 table_at total pool = do
@@ -129,9 +131,6 @@ method_attributes_at total pool coded = do
   pure found
 
 -- ---- members
-
-abbrev pub Key : Type 0
-Key = List ℕ × List ℕ
 
 abbrev pub is_new : List Key → Key → Bool
 is_new earlier key = not (list_any (same_key key) earlier)

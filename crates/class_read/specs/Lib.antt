@@ -6,3 +6,4 @@ pub mod Rules
 pub mod FirstFault
 pub mod View
 pub mod Writing
+pub mod Faults

@@ -1,6 +1,8 @@
 -- Reading from left to right: a field's value and the bytes after it, or the first fault and its place.
-use Rattle.std.specs.Prelude.{◌≡◌, ℕ, zero, suc, ◌-◌, Bool, List, [], ◌∷◌, ◌++◌, length, take, drop, Option, Some, None, Result, Ok, Err, nat_lt, ◌==◌, if◌then◌else◌}
+use Rattle.std.specs.Prelude.{◌≡◌, ℕ, zero, suc, ◌-◌, Bool, true, false, List, [], ◌∷◌, ◌++◌, length, take, drop, Option, Some, None, Result, Ok, Err, nat_lt, ◌==◌, if◌then◌else◌}
 use Rattle.std.specs.Int.{w16, w32, from_be_bytes}
+use Rattle.list_views.specs.Results as results
+use Rattle.list_views.specs.Results.{IsDue}
 use Rattle.class_read.specs.declared.fault.ClassFault.{ClassFault}
 use Rattle.class_read.specs.declared.fault.ClassFault.TheVariants.{Truncated, BadDescriptor, CodeLength, Memory}
 
@@ -71,11 +73,14 @@ collected read made = do
   more ← read
   pure (made ++ more ∷ [])
 
+-- want of memory
+abbrev pub is_memory : ClassFault → Bool
+is_memory Memory = true
+is_memory fault = false
+
 abbrev pub Fails : {Y : Type 0} → ClassFault → Result Y ClassFault → Type 0
-Fails Memory read = Unit {0}
-Fails e read = read ≡ Err e
+Fails fault read = IsDue is_memory fault read
 
 -- What a function returned, seen by `view`, is what reading gives, unless memory ran out.
 abbrev pub Gives : {X Y : Type 0} → (X → Y) → Result X ClassFault → Result Y ClassFault → Type 0
-Gives view (Ok x) read = read ≡ Ok (view x)
-Gives view (Err e) read = Fails e read
+Gives view answer read = results.Gives is_memory view answer read

@@ -8,9 +8,12 @@ use Rattle.class_read.specs.declared.text.ClassText.{ClassText}
 use Rattle.class_read.specs.declared.text.MemberText.{MemberText}
 use Rattle.class_read.specs.declared.text.AttrText.{AttrText}
 use Rattle.class_read.specs.declared.text.AttrText.TheVariants.{Skipped, Code}
-use Rattle.class_read.specs.declared.names.MemberKind.{MemberKind}
-use Rattle.class_read.specs.declared.names.MemberKind.TheVariants.{Field, Method}
-use Rattle.class_read.specs.Names.{is_class_name, is_abstract, is_native, IsDescriptor}
+use Rattle.class_base.specs.declared.member_kind.MemberKind.{MemberKind}
+use Rattle.class_base.specs.declared.member_kind.MemberKind.TheVariants.{Field, Method}
+use Rattle.class_base.specs.ClassNames.{is_class_name}
+use Rattle.class_base.specs.Flags.{is_abstract, is_native}
+use Rattle.class_base.specs.MemberKinds.{IsDescriptor}
+pub use Rattle.class_base.specs.Members.{Key, same_key}
 use Rattle.class_read.specs.Content.{Handler, FieldContent, CodeContent, MethodContent, ClassContent}
 use Rattle.class_read.specs.Text.{code_text, class_bytes}
 
@@ -47,10 +50,10 @@ pub record IsAttribute (pool : List PoolEntry) (a : ℕ × List ℕ) : Type 0 wh
 
 -- an entry of an exception table: what it catches is a class, or everything (0)
 pub record IsHandler (pool : List PoolEntry) (h : Handler) : Type 0 where
-  pub start : h.0 < 2 ^ 16
-  pub end : h.1 < 2 ^ 16
-  pub handler : h.2 < 2 ^ 16
-  pub catch : (h.3 ≡ 0) ⊎ IsClass pool h.3
+  pub start : h.start < 2 ^ 16
+  pub end : h.end < 2 ^ 16
+  pub handler : h.handler < 2 ^ 16
+  pub catch : (h.catch ≡ 0) ⊎ IsClass pool h.catch
 
 -- A method's attribute. The one that is named `Code` is read as code, with 1 to 65,535 bytes of code.
 pub record IsCode (pool : List PoolEntry) (name max_stack max_locals : ℕ) (code : List ℕ) (table : List Handler) (attributes : List (ℕ × List ℕ)) : Type 0 where
@@ -124,9 +127,6 @@ pub record IsMethod (pool : List PoolEntry) (m : MemberText) : Type 0 where
 abbrev pub key_of : List PoolEntry → MemberText → List ℕ × List ℕ
 key_of pool m = (text_of pool m.name, text_of pool m.desc)
 
-abbrev pub same_key : List ℕ × List ℕ → List ℕ × List ℕ → Bool
-same_key a b = bytes_eq a.0 b.0 && bytes_eq a.1 b.1
-
 -- no two members have the same name and descriptor
 abbrev pub AreDistinct : List PoolEntry → List MemberText → Type 0
 AreDistinct pool members = IsDistinct same_key (map (key_of pool) members)
@@ -154,7 +154,7 @@ pub record WellFormed (c : ClassText) : Type 0 where
 
 -- the majors that are read
 abbrev pub is_read_major : ℕ → Bool
-is_read_major major = nat_le 46 major && nat_le major 50
+is_read_major major = nat_le 46 major && nat_le major 52
 
 -- ---- the content
 

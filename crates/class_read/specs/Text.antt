@@ -26,7 +26,7 @@ attribute_text a = u2 a.0 ++ (u4 (length a.1) ++ a.1)
 
 -- an entry of an exception table
 abbrev pub handler_text : Handler → List ℕ
-handler_text h = u2 h.0 ++ (u2 h.1 ++ (u2 h.2 ++ u2 h.3))
+handler_text h = u2 h.start ++ (u2 h.end ++ (u2 h.handler ++ u2 h.catch))
 
 -- the content of a Code attribute
 abbrev pub code_text : ℕ → ℕ → List ℕ → List Handler → List (ℕ × List ℕ) → List ℕ

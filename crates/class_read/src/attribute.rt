@@ -7,7 +7,7 @@ ghost use Rattle.class_pool.specs.Text.{utf8_at, class_name_at};
 
 use crate::fault::ClassFault;
 use crate::field::{bytes_of, place, u2, u4};
-use crate::names::is_class_name;
+use class_base::is_class_name;
 use class_pool::Pool;
 
 /// The text of a Utf8 entry, whose index stands at the front.

@@ -9,13 +9,11 @@ ghost use Rattle.class_read.specs.FirstFault.{is_catch, catch_at, code_length_at
 use crate::attribute::attributes;
 use crate::fault::ClassFault;
 use crate::field::{bytes_of, place, u2, u4};
-use crate::names::is_class_name;
 use crate::view::CodeView;
+use class_base::{Handler, is_class_name};
 use class_pool::Pool;
 use list_views::Seq;
 use std::alloc::Global;
-
-type Handler = (u16, u16, u16, u16);
 
 fn is_catch(pool: &Pool<'_>, index: u16) -> bool
     ensures { result ≡ is_catch pool.now index }
@@ -53,7 +51,13 @@ fn handler<'a>(
     let (end, rest) = u2(total, rest)?;
     let (handler, rest) = u2(total, rest)?;
     let (caught, rest) = catch(total, pool, rest)?;
-    Ok(((start, end, handler, caught), rest))
+    let entry = Handler {
+        start,
+        end,
+        handler,
+        catch: caught,
+    };
+    Ok((entry, rest))
 }
 
 fn handlers<'a>(

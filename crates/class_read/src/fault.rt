@@ -1,10 +1,13 @@
 //! Why bytes spell no class.
 
-ghost use Rattle.std.specs.Prelude.{◌≡◌};
+ghost use Rattle.std.specs.Prelude.{◌≡◌, IfOk};
 ghost use Rattle.class_read.specs.declared.fault.ClassFault.TheVariants.{Memory};
+ghost use Rattle.class_read.specs.Faults.{fault_name, fault_fields, fault_text};
 
 use class_pool::PoolFault;
-use std::alloc::{AllocError, AllocFailed};
+use fault_words::{joined, number_field};
+use list_views::Seq;
+use std::alloc::{AllocError, AllocFailed, Global};
 
 /// The first rule that a class file breaks.
 ///
@@ -35,6 +38,62 @@ pub enum ClassFault {
     TrailingBytes { at: usize },
     /// Want of memory.
     Memory,
+}
+
+impl ClassFault {
+    /// The fault's name; a pool's fault stands for it.
+    pub fn name(&self) -> &'static [u8]
+        ensures { result.now ≡ fault_name self.now }
+    {
+        match self {
+            ClassFault::BadMagic => b"BadMagic",
+            ClassFault::Version { .. } => b"Version",
+            ClassFault::Pool(fault) => fault.name(),
+            ClassFault::Truncated { .. } => b"Truncated",
+            ClassFault::BadDescriptor { .. } => b"BadDescriptor",
+            ClassFault::DuplicateMember { .. } => b"DuplicateMember",
+            ClassFault::CodeLength { .. } => b"CodeLength",
+            ClassFault::MissingCode { .. } => b"MissingCode",
+            ClassFault::ExtraCode { .. } => b"ExtraCode",
+            ClassFault::TrailingBytes { .. } => b"TrailingBytes",
+            ClassFault::Memory => b"Memory",
+        }
+    }
+
+    /// The fault's fields, each as ` name=value`.
+    ///
+    /// # Errors
+    ///
+    /// Want of memory.
+    pub fn fields(&self, alloc: Global) -> Result<Seq<u8>, AllocError>
+        ensures { IfOk result (λ text. text ≡ fault_fields self.now) }
+    {
+        match self {
+            ClassFault::BadMagic => Ok(Seq::new(alloc)),
+            ClassFault::Version { major } => { number_field(alloc, b"major", usize::from(*major)) }
+            ClassFault::Pool(fault) => fault.fields(alloc),
+            ClassFault::Truncated { at } => number_field(alloc, b"at", *at),
+            ClassFault::BadDescriptor { at } => number_field(alloc, b"at", *at),
+            ClassFault::DuplicateMember { at } => number_field(alloc, b"at", *at),
+            ClassFault::CodeLength { at } => number_field(alloc, b"at", *at),
+            ClassFault::MissingCode { at } => number_field(alloc, b"at", *at),
+            ClassFault::ExtraCode { at } => number_field(alloc, b"at", *at),
+            ClassFault::TrailingBytes { at } => number_field(alloc, b"at", *at),
+            ClassFault::Memory => Ok(Seq::new(alloc)),
+        }
+    }
+
+    /// The fault in words: its name and its fields.
+    ///
+    /// # Errors
+    ///
+    /// Want of memory.
+    pub fn text(&self, alloc: Global) -> Result<Seq<u8>, AllocError>
+        ensures { IfOk result (λ text. text ≡ fault_text self.now) }
+    {
+        let fields = self.fields(alloc)?;
+        joined(alloc, &[self.name(), fields.as_slice()])
+    }
 }
 
 impl From<AllocError> for ClassFault {

@@ -11,9 +11,8 @@ use crate::attribute::{attributes, text};
 use crate::fault::ClassFault;
 use crate::field::{place, u2};
 use crate::method;
-use crate::names::{MemberKind, is_abstract, is_descriptor, is_native};
-use crate::seen::Seen;
 use crate::view::{FieldView, MethodView};
+use class_base::{ABSTRACT, MemberKind, NATIVE, Seen, has_flag, is_descriptor};
 use class_pool::Pool;
 use list_views::Seq;
 use std::alloc::Global;
@@ -93,7 +92,7 @@ fn field<'a>(
 pub(crate) fn has_code(flags: u16) -> bool
     ensures { result ≡ has_code flags }
 {
-    !(is_abstract(flags) || is_native(flags))
+    !(has_flag(flags, ABSTRACT) || has_flag(flags, NATIVE))
 }
 
 /// A method, and how many of its attributes are no code.

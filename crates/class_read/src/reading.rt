@@ -1,6 +1,7 @@
 //! A whole class file.
 
 ghost use Rattle.std.specs.Prelude.{◌≡◌, ◌≤◌, ◌<◌, ◌^◌, ◌+◌, ℕ, List, [], map, length, IfOk, Ok};
+ghost use Rattle.list_views.specs.ByteLists.{IsBytes};
 ghost use Rattle.class_read.specs.Reading.{Gives, repeated, collected};
 ghost use Rattle.class_read.specs.Content.{ClassContent};
 ghost use Rattle.class_read.specs.Rules.{is_read_major, Spells};
@@ -30,7 +31,7 @@ fn magic(total: usize, bytes: &[u8]) -> Result<(u32, &[u8]), ClassFault>
 fn is_read_major(major: u16) -> bool
     ensures { result ≡ is_read_major major }
 {
-    major >= 46 && major <= 50
+    major >= 46 && major <= 52
 }
 
 fn major(total: usize, bytes: &[u8]) -> Result<(u16, &[u8]), ClassFault>
@@ -191,6 +192,12 @@ impl<'a> ClassView<'a> {
         class(alloc, bytes)
     }
 }
+
+/// The reading from left to right gives a class exactly where the bytes spell it.
+pub fn read_is_spelled()
+    ensures found { (bytes : List ℕ) (c : ClassContent) → IsBytes bytes → class_in bytes ≡ Ok c → Spells bytes c }
+    ensures only { (bytes : List ℕ) (c : ClassContent) → Spells bytes c → class_in bytes ≡ Ok c }
+{}
 
 /// No bytes spell two classes.
 pub fn one_class()

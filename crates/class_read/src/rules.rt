@@ -4,13 +4,13 @@ ghost use Rattle.std.specs.Prelude.{◌≡◌, ◌≢◌, ◌↔◌, ◌≤◌, 
 ghost use Rattle.std.specs.List.{flat_map, AllByRecursion};
 ghost use Rattle.class_read.specs.Text.{attribute_text, code_text};
 ghost use Rattle.class_read.specs.Writing.{HasAttributeText};
-ghost use Rattle.class_read.specs.Names.{IsDescriptor};
+ghost use Rattle.class_base.specs.MemberKinds.{IsDescriptor};
 ghost use Rattle.class_read.specs.Rules.{text_of, IsText, IsClass, code_name, IsAttribute, IsHandler, IsCode, IsMethodAttribute, IsOtherAttribute, is_code_attribute, codes_in, has_code, IsMember, IsField, IsMethod};
 
 use crate::member::has_code;
 use crate::method::is_code_name;
-use crate::names::{MemberKind, is_class_name, is_descriptor};
 use crate::text::{AttrText, MemberText};
+use class_base::{Handler, MemberKind, is_class_name, is_descriptor};
 use class_pool::Pool;
 use list_views::Seq;
 
@@ -68,14 +68,19 @@ fn is_catch(pool: &Pool<'_>, catch: u16) -> bool
     catch == 0 || is_class(pool, catch)
 }
 
-fn is_handler(pool: &Pool<'_>, handler: &(u16, u16, u16, u16)) -> bool
+fn is_handler(pool: &Pool<'_>, handler: &Handler) -> bool
     ensures { IsTrue result ↔ IsHandler pool.now handler.now }
 {
-    let (_start, _end, _target, catch) = *handler;
+    let Handler {
+        start: _start,
+        end: _end,
+        handler: _handler,
+        catch,
+    } = *handler;
     is_catch(pool, catch)
 }
 
-fn are_handlers(pool: &Pool<'_>, table: &[(u16, u16, u16, u16)]) -> bool
+fn are_handlers(pool: &Pool<'_>, table: &[Handler]) -> bool
     ensures { IsTrue result ↔ All (IsHandler pool.now) table.now }
 {
     table.iter().all(|handler| is_handler(pool, handler))
@@ -96,7 +101,7 @@ fn attributes_size(attributes: &[(u16, Seq<u8>)]) -> usize
 }
 
 /// Whether the length of a `Code` attribute's content fits its field.
-fn content_fits(code: &[u8], table: &[(u16, u16, u16, u16)], attributes: &[(u16, Seq<u8>)]) -> bool
+fn content_fits(code: &[u8], table: &[Handler], attributes: &[(u16, Seq<u8>)]) -> bool
     requires code_fits { length code.now < 2 ^ 16 }
     requires table_fits { length table.now < 2 ^ 16 }
     requires attributes_fit { length attributes.now < 2 ^ 16 }
@@ -115,7 +120,7 @@ fn names_code(pool: &Pool<'_>, name: u16) -> bool
     }
 }
 
-fn counts_fit(code: &[u8], table: &[(u16, u16, u16, u16)], attributes: &[(u16, Seq<u8>)]) -> bool
+fn counts_fit(code: &[u8], table: &[Handler], attributes: &[(u16, Seq<u8>)]) -> bool
     ensures { IsTrue result ↔ ((0 < length code.now) × (length code.now < 2 ^ 16) × (length table.now < 2 ^ 16) × (length attributes.now < 2 ^ 16)) }
 {
     0 < code.len() && code.len() <= 0xffff && table.len() <= 0xffff && attributes.len() <= 0xffff
@@ -127,7 +132,7 @@ fn is_code(
     max_stack: u16,
     max_locals: u16,
     code: &[u8],
-    table: &[(u16, u16, u16, u16)],
+    table: &[Handler],
     attributes: &[(u16, Seq<u8>)],
 ) -> bool
     ensures { IsTrue result ↔ IsCode pool.now name max_stack max_locals code.now table.now attributes.now }

@@ -1,5 +1,6 @@
 //! The text of a class file: what its bytes say, with indexes where the file has indexes.
 
+use class_base::Handler;
 use class_pool::PoolEntry;
 use list_views::Seq;
 
@@ -49,14 +50,13 @@ pub enum AttrText {
         name: u16,
         content: Seq<u8>,
     },
-    /// A method's code: its exception table has start, end, handler and catch type; its own attributes are a name and a
-    /// content each.
+    /// A method's code. Its own attributes are a name and a content each.
     Code {
         name: u16,
         max_stack: u16,
         max_locals: u16,
         code: Seq<u8>,
-        table: Seq<(u16, u16, u16, u16)>,
+        table: Seq<Handler>,
         attributes: Seq<(u16, Seq<u8>)>,
     },
 }

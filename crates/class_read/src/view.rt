@@ -1,5 +1,6 @@
 //! The content of a class file, with names and code as slices of the file.
 
+use class_base::Handler;
 use class_pool::Pool;
 use list_views::Seq;
 use std::marker::Model;
@@ -61,8 +62,8 @@ pub struct CodeView<'a> {
     pub max_locals: u16,
     /// The instructions, 1 to 65,535 bytes.
     pub code: &'a [u8],
-    /// The exception table: start, end, handler and catch type, which is 0 or the index of a Class entry.
-    pub table: Seq<(u16, u16, u16, u16)>,
+    /// The exception table. What an entry catches is 0 or the index of a Class entry.
+    pub table: Seq<Handler>,
 }
 
 impl<'a> Model for ClassView<'a> {

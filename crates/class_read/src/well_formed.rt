@@ -6,8 +6,8 @@ ghost use Rattle.class_pool.specs.Text.{IsPool, HasTexts};
 ghost use Rattle.class_read.specs.Rules.{IsClass, IsOtherAttribute, IsField, IsMethod, AreDistinct, WellFormed};
 
 use crate::rules::{are_classes, are_fields, are_methods, are_other_attributes, is_class, text};
-use crate::seen::Seen;
 use crate::text::{AttrText, ClassText, MemberText};
+use class_base::Seen;
 use class_pool::{Pool, PoolFault, has_texts, write_pool};
 use list_views::Seq;
 use std::alloc::{AllocError, Global};

@@ -8,6 +8,7 @@ ghost use Rattle.class_read.specs.Rules.{WellFormed, Spells, content_of, is_read
 ghost use Rattle.class_read.specs.declared.text.ClassText.{ClassText};
 
 use crate::text::{AttrText, ClassText, MemberText};
+use class_base::Handler;
 use class_pool::write_pool;
 use list_views::Seq;
 use std::alloc::{AllocError, Global};
@@ -59,16 +60,16 @@ fn put_attributes(out: &mut Seq<u8>, attributes: &[(u16, Seq<u8>)]) -> Result<()
     Ok(())
 }
 
-fn put_handler(out: &mut Seq<u8>, handler: &(u16, u16, u16, u16)) -> Result<(), AllocError>
+fn put_handler(out: &mut Seq<u8>, handler: &Handler) -> Result<(), AllocError>
     ensures { OnOk result (out.new ≡ out.old ++ handler_text handler.now) }
 {
-    put_u2(out, handler.0)?;
-    put_u2(out, handler.1)?;
-    put_u2(out, handler.2)?;
-    put_u2(out, handler.3)
+    put_u2(out, handler.start)?;
+    put_u2(out, handler.end)?;
+    put_u2(out, handler.handler)?;
+    put_u2(out, handler.catch)
 }
 
-fn put_handlers(out: &mut Seq<u8>, table: &[(u16, u16, u16, u16)]) -> Result<(), AllocError>
+fn put_handlers(out: &mut Seq<u8>, table: &[Handler]) -> Result<(), AllocError>
     ensures { OnOk result (out.new ≡ out.old ++ flat_map handler_text table.now) }
 {
     for handler in table {
@@ -82,7 +83,7 @@ fn put_code(
     max_stack: u16,
     max_locals: u16,
     code: &[u8],
-    table: &[(u16, u16, u16, u16)],
+    table: &[Handler],
     attributes: &[(u16, Seq<u8>)],
 ) -> Result<(), AllocError>
     requires code_fits { length code.now < 2 ^ 32 }
@@ -106,7 +107,7 @@ fn code_content(
     max_stack: u16,
     max_locals: u16,
     code: &[u8],
-    table: &[(u16, u16, u16, u16)],
+    table: &[Handler],
     attributes: &[(u16, Seq<u8>)],
 ) -> Result<Seq<u8>, AllocError>
     requires code_fits { length code.now < 2 ^ 32 }

@@ -1,0 +1,23 @@
+-- The faults of pools in words.
+use Rattle.std.specs.Prelude.{ℕ, List, [], ◌∷◌, codes}
+use Rattle.fault_words.specs.Words.{joined, number_field}
+use Rattle.class_pool.specs.declared.fault.PoolFault.{PoolFault}
+use Rattle.class_pool.specs.declared.fault.PoolFault.TheVariants.{Truncated, BadTag, BadUtf8, BadIndex, Memory}
+
+abbrev pub fault_name : PoolFault → List ℕ
+fault_name (Truncated at) = codes "Truncated"
+fault_name (BadTag at) = codes "BadTag"
+fault_name (BadUtf8 at) = codes "BadUtf8"
+fault_name (BadIndex entry) = codes "BadIndex"
+fault_name Memory = codes "Memory"
+
+abbrev pub fault_fields : PoolFault → List ℕ
+fault_fields (Truncated at) = number_field (codes "at") at
+fault_fields (BadTag at) = number_field (codes "at") at
+fault_fields (BadUtf8 at) = number_field (codes "at") at
+fault_fields (BadIndex entry) = number_field (codes "entry") entry
+fault_fields Memory = []
+
+-- the name, and then the fields
+abbrev pub fault_text : PoolFault → List ℕ
+fault_text fault = joined (fault_name fault ∷ fault_fields fault ∷ [])

@@ -1,9 +1,0 @@
-use Rattle.std.proofs.Common.{◌∙◌, sym}
-use Rattle.class_read.proofs.Types.{descriptor_found, descriptor_again}
-use Rattle.class_read.proofs.names.is_descriptor.Goals as goal
-
-pub returns-clause-exact : goal.returns-clause-exact
-returns-clause-exact c = (
-  λ is. descriptor_found c.args.kind c.args.flags c.args.descriptor.now (sym c.describes.ensures ∙ is),
-  λ rule. c.describes.ensures ∙ descriptor_again c.args.kind c.args.flags c.args.descriptor.now rule,
-)
