@@ -4,3 +4,4 @@ pub mod Located
 pub mod Names
 pub mod Place
 pub mod Reading
+pub mod Faults

@@ -1,5 +1,5 @@
 -- What each reader of a value with its place answers: the value asked for, or the fault that is due.
-use Rattle.std.specs.Prelude.{ℕ, ℤ, List, Bool, Option, Some, None, option_map, option_and_then, Result, Ok, Err, ◌&&◌, if◌then◌else◌, int_le}
+use Rattle.std.specs.Prelude.{ℕ, ℤ, List, Bool, false, is_some, Option, Some, None, option_map, option_and_then, Result, Ok, Err, ◌&&◌, if◌then◌else◌, int_le}
 use Rattle.std.specs.Option.{ok_or, option_map_or}
 use Rattle.serde_json.specs.Data.{Data}
 use Rattle.serde_json.specs.Events.{items_len}
@@ -41,6 +41,10 @@ at_member place name value = record { value = value; place = member_pointer plac
 -- the value of an object's member
 unfoldable pub field_of : List ℕ → Located → Result Located JsonFault
 field_of name here = result_and_then (λ members. ok_or (option_map (at_member here.place name) (get_member name members)) (missing_field here.place name)) (of_kind as_object here)
+
+-- whether the value is an object that has the member
+abbrev pub has_field : List ℕ → Located → Bool
+has_field name here = option_map_or (λ members. is_some (get_member name members)) (as_object here.value) false
 
 -- how many items a list has, and 0 for what is no list
 abbrev pub item_count : Data → ℕ

@@ -1,8 +1,11 @@
 //! Why a text or a field of a value isn't read.
 ghost use Rattle.json_view.specs.Answers.{StandsFor};
 ghost use Rattle.json_view.specs.Place.{pointer_of};
+ghost use Rattle.json_view.specs.Faults.{fault_name, fault_fields, fault_text};
+ghost use Rattle.std.specs.Prelude.{◌≡◌, IfOk};
 
 use crate::place::Place;
+use fault_words::{bytes_field, joined};
 use list_views::Seq;
 use std::alloc::{AllocError, AllocFailed, Global};
 
@@ -27,7 +30,6 @@ pub enum JsonFault {
 
 impl From<AllocError> for JsonFault {
     ghost use Rattle.json_view.specs.declared.fault.JsonFault.TheVariants.{Memory};
-    ghost use Rattle.std.specs.Prelude.{◌≡◌};
 
     ghost from_gives = { λ _ e. e ≡ Memory };
 
@@ -38,7 +40,6 @@ impl From<AllocError> for JsonFault {
 
 impl<T: Drop> From<AllocFailed<T>> for JsonFault {
     ghost use Rattle.json_view.specs.declared.fault.JsonFault.TheVariants.{Memory};
-    ghost use Rattle.std.specs.Prelude.{◌≡◌};
 
     ghost from_gives = { λ _ e. e ≡ Memory };
 
@@ -48,6 +49,50 @@ impl<T: Drop> From<AllocFailed<T>> for JsonFault {
 }
 
 impl JsonFault {
+    /// The fault's name.
+    pub fn name(&self) -> &'static [u8]
+        ensures { result.now ≡ fault_name self.now }
+    {
+        match self {
+            JsonFault::NotJson => b"NotJson",
+            JsonFault::WrongKind { .. } => b"WrongKind",
+            JsonFault::MissingField { .. } => b"MissingField",
+            JsonFault::UnknownField { .. } => b"UnknownField",
+            JsonFault::OutOfRange { .. } => b"OutOfRange",
+            JsonFault::Memory => b"Memory",
+        }
+    }
+
+    /// The fault's fields, each as ` name=value`.
+    ///
+    /// # Errors
+    ///
+    /// Want of memory.
+    pub fn fields(&self, alloc: Global) -> Result<Seq<u8>, AllocError>
+        ensures { IfOk result (λ text. text ≡ fault_fields self.now) }
+    {
+        match self {
+            JsonFault::NotJson => Ok(Seq::new(alloc)),
+            JsonFault::WrongKind { place } => bytes_field(alloc, b"place", place.as_slice()),
+            JsonFault::MissingField { place } => bytes_field(alloc, b"place", place.as_slice()),
+            JsonFault::UnknownField { place } => bytes_field(alloc, b"place", place.as_slice()),
+            JsonFault::OutOfRange { place } => bytes_field(alloc, b"place", place.as_slice()),
+            JsonFault::Memory => Ok(Seq::new(alloc)),
+        }
+    }
+
+    /// The fault in words: its name and its fields.
+    ///
+    /// # Errors
+    ///
+    /// Want of memory.
+    pub fn text(&self, alloc: Global) -> Result<Seq<u8>, AllocError>
+        ensures { IfOk result (λ text. text ≡ fault_text self.now) }
+    {
+        let fields = self.fields(alloc)?;
+        joined(alloc, &[self.name(), fields.as_slice()])
+    }
+
     pub(crate) fn wrong_kind(alloc: Global, place: &Place<'_>) -> JsonFault
         ensures { StandsFor result (JsonFault.WrongKind (pointer_of place.now)) }
     {

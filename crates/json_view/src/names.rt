@@ -23,7 +23,8 @@ pub(crate) fn first_missing<'n>(members: &Map<String, Value>, names: &'n str) ->
     names.split(' ').find(|name| !has_member(members, name))
 }
 
-fn has_member(members: &Map<String, Value>, name: &str) -> bool
+/// Whether a member has the name.
+pub(crate) fn has_member(members: &Map<String, Value>, name: &str) -> bool
     ensures { result ≡ is_some (get_member name.now (members_view members.now.entries)) }
 {
     members.contains_key(name)

@@ -2,15 +2,16 @@
 ghost use Rattle.std.specs.Prelude.{◌≡◌, ◌<◌, Some, IfOk, is_some};
 ghost use Rattle.serde_json.specs.Find.{as_null};
 ghost use Rattle.serde_json.specs.View.{view as value_of};
-ghost use Rattle.json_view.specs.Answers.{Answers, Parses, now_of, same, nothing};
+ghost use Rattle.json_view.specs.Answers.{Answers, StandsFor, Parses, now_of, same, nothing};
 ghost use Rattle.json_view.specs.Located.{located, root_of};
-ghost use Rattle.json_view.specs.Reading.{only_of, field_of, items_of, item_of, item_count, int_of, text_of, flag_of, whole_number_of};
+ghost use Rattle.json_view.specs.Reading.{only_of, field_of, items_of, item_of, item_count, int_of, text_of, flag_of, whole_number_of, has_field};
 
 use crate::fault::JsonFault;
-use crate::names::{first_missing, least_unlisted};
+use crate::names::{first_missing, has_member, least_unlisted};
 use crate::place::Place;
+use list_views::Seq;
 use serde_json::Value;
-use std::alloc::Global;
+use std::alloc::{AllocError, Global};
 
 /// The value that `serde_json` reads of `bytes`.
 ///
@@ -29,22 +30,62 @@ pub fn parse(alloc: Global, bytes: &[u8]) -> Result<Value, JsonFault>
 
 /// A value with its place in the text's value.
 ///
-/// A view lends the view that it was reached by, and costs no memory.
+/// A view lends the view that it was reached by, and costs no memory. Its value lives for `'v`, as long as the text's: what
+/// is read of it may be handed out of the function that made the view. Its place lives for `'p`.
 #[derive(Clone, Copy)]
-pub struct View<'a> {
-    value: &'a Value,
-    place: Place<'a>,
+pub struct View<'v, 'p> {
+    value: &'v Value,
+    place: Place<'p>,
 }
 
-impl<'a> View<'a> {
+impl<'v, 'p> View<'v, 'p> {
     /// The value of a whole text.
     #[tactic(auto, unfolding(crate::specs::Located::located))]
-    pub fn root(value: &'a Value) -> View<'a>
+    pub fn root(value: &'v Value) -> View<'v, 'p>
         ensures { located result ≡ root_of (value_of value.now) }
     {
         View {
             value,
             place: Place::Root,
+        }
+    }
+
+    /// The place of the value, as a JSON pointer (RFC 6901): a caller's own fault may name it.
+    ///
+    /// # Errors
+    ///
+    /// Want of memory.
+    #[tactic(auto, unfolding(crate::specs::Located::located))]
+    pub fn place(&self, alloc: Global) -> Result<Seq<u8>, AllocError>
+        ensures { IfOk result (λ place. place ≡ (located self.now).place) }
+    {
+        self.place.pointer(alloc)
+    }
+
+    /// `WrongKind` at this value, or want of memory for its place.
+    #[tactic(auto, unfolding(crate::specs::Located::located))]
+    pub fn wrong_kind(&self, alloc: Global) -> JsonFault
+        ensures { StandsFor result (JsonFault.WrongKind (located self.now).place) }
+    {
+        JsonFault::wrong_kind(alloc, &self.place)
+    }
+
+    /// `OutOfRange` at this value, or want of memory for its place.
+    #[tactic(auto, unfolding(crate::specs::Located::located))]
+    pub fn out_of_range(&self, alloc: Global) -> JsonFault
+        ensures { StandsFor result (JsonFault.OutOfRange (located self.now).place) }
+    {
+        JsonFault::out_of_range(alloc, &self.place)
+    }
+
+    /// Whether the value is an object that has the field `name`.
+    #[tactic(auto, unfolding(crate::specs::Located::located))]
+    pub fn has(&self, name: &str) -> bool
+        ensures { result ≡ has_field name.now (located self.now) }
+    {
+        match self.value.as_object() {
+            Some(members) => has_member(members, name),
+            None => false,
         }
     }
 
@@ -79,7 +120,7 @@ impl<'a> View<'a> {
     ///
     /// `WrongKind` where the value is no object, `MissingField` where it has no such field.
     #[tactic(auto, unfolding(crate::specs::Located::located, crate::specs::Reading::field_of))]
-    pub fn field<'p>(&'p self, alloc: Global, name: &'p str) -> Result<View<'p>, JsonFault>
+    pub fn field<'q>(&'q self, alloc: Global, name: &'q str) -> Result<View<'v, 'q>, JsonFault>
         ensures { Answers located result (field_of name.now (located self.now)) }
     {
         if !self.value.is_object() {
@@ -110,7 +151,7 @@ impl<'a> View<'a> {
 
     /// The item `n`, counted from 0, of a list.
     #[tactic(auto, using(crate::proofs::Items::at_below), unfolding(crate::specs::Located::located, crate::specs::Reading::item_of))]
-    pub fn item<'p>(&'p self, n: usize) -> View<'p>
+    pub fn item<'q>(&'q self, n: usize) -> View<'v, 'q>
         requires { n < item_count (located self.now).value }
         ensures { item_of n (located self.now) ≡ Some (located result) }
     {
@@ -145,7 +186,7 @@ impl<'a> View<'a> {
     ///
     /// `WrongKind` where the value is no string.
     #[tactic(auto, unfolding(crate::specs::Located::located, crate::specs::Reading::text_of))]
-    pub fn text(&self, alloc: Global) -> Result<&'a str, JsonFault>
+    pub fn text(&self, alloc: Global) -> Result<&'v str, JsonFault>
         ensures { Answers now_of result (text_of (located self.now)) }
     {
         match self.value.as_str() {
