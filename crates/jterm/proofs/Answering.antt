@@ -48,6 +48,6 @@ pub is_answered : (request : Request) (names : List (List ℕ)) (held : List ℕ
 is_answered request names held contents given verdict same are answer =
     record { contents = given; read = subst (AreContents request 0 held names) (sym same) are; answer = answer; done = done_of request given verdict answer }
 
-pub is_broken : (request : Request) (names : List (List ℕ)) (held : List ℕ → Told) (before after : ℕ) (contents given : List (List ℕ)) (place : Place) (fault : Fault) → given ≡ contents
-    → AreContents request 0 held names contents → IsAnswer request given (Err (At place fault)) → HasCause request names held before after (Broken place fault)
-is_broken request names held before after contents given place fault same are answer = (given, subst (AreContents request 0 held names) (sym same) are, answer)
+pub is_broken : {F : Type 0} (held : F → List ℕ → Told) (faults : F → ℕ) (leaves : F → List ℕ → F → Type 0) (request : Request) (names : List (List ℕ)) (old new : F) (contents given : List (List ℕ)) (place : Place) (fault : Fault) → given ≡ contents
+    → AreContents request 0 (held old) names contents → IsAnswer request given (Err (At place fault)) → HasCause held faults leaves request names old new (Broken place fault)
+is_broken held faults leaves request names old new contents given place fault same are answer = (given, subst (AreContents request 0 (held old) names) (sym same) are, answer)

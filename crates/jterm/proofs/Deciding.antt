@@ -13,11 +13,11 @@ use Rattle.jterm.specs.declared.verdict.Refused.{Refused}
 use Rattle.jterm.specs.declared.verdict.Refused.TheVariants.{At, Memory}
 use Rattle.jterm.specs.declared.verdict.Place.TheVariants as places
 use Rattle.jterm.specs.declared.verdict.Fault.TheVariants as faults
-use Rattle.jterm.specs.Decision.{SaysYes, Answers, Assembles, IsAnswer, YesOrMemory, IsEntry, AreLinked, HasEntry}
+use Rattle.jterm.specs.Decision.{SaysYes, Answers, Assembles, IsAnswer, YesOrMemory}
 use Rattle.jterm.specs.FirstPath.{IsFirstPath}
-use Rattle.jterm.specs.Machine.{program_of}
+use Rattle.jterm.specs.Machine.{Program, program_of}
 use Rattle.jterm.specs.Description.{IsLine}
-use Rattle.jterm.specs.Headline.{AllSpell, AllEnd}
+use Rattle.jterm.specs.Headline.{AllSpell, NameClasses, NameWorld, IsEntry, NameEntry, NameProgram, AllEnd}
 use Rattle.jterm.specs.Refusals.{RefusesClasses, RefusesWorld, RefusesProgram}
 use Rattle.jterm.proofs.Files.{take_all}
 use Rattle.jterm.proofs.Good.{AllEnd-good}
@@ -37,9 +37,12 @@ classes_refused desc files Memory r = tt
 pub line_refused : (desc : List ℕ) (files : List (List ℕ)) (classes : List ClassContent) → AllSpell files classes → ((line : Line) → IsLine desc line → ⊥) → Answers desc files (Err (At places.Description faults.NotBuilt))
 line_refused desc files classes spelled none = inl (record { classes = classes; spelled = spelled; no_line = none })
 
+abbrev named_classes : (desc : List ℕ) (files : List (List ℕ)) (classes : List ClassContent) (line : Line) → AllSpell files classes → IsLine desc line → NameClasses files desc classes line
+named_classes desc files classes line spelled is = record { spelled = spelled; described = is }
+
 pub world_refused : (desc : List ℕ) (files : List (List ℕ)) (classes : List ClassContent) (line : Line) (refused : Refused) → AllSpell files classes → IsLine desc line → RefusesWorld (world_of classes) refused → Answers desc files (Err refused)
 world_refused desc files classes line (At places.Link (faults.Link fault)) spelled is r =
-    inl (record { read = record { classes = classes; spelled = spelled; line = line; described = is }; first = r })
+    inl (record { classes = classes; line = line; read = named_classes desc files classes line spelled is; first = r })
 world_refused desc files classes line (At places.Link (faults.Class fault)) spelled is r = absurd r
 world_refused desc files classes line (At places.Link (faults.Listing fault)) spelled is r = absurd r
 world_refused desc files classes line (At places.Link faults.NotBuilt) spelled is r = absurd r
@@ -48,47 +51,36 @@ world_refused desc files classes line (At places.Listing fault) spelled is r = a
 world_refused desc files classes line (At places.Description fault) spelled is r = absurd r
 world_refused desc files classes line Memory spelled is r = tt
 
-abbrev linked_of : (desc : List ℕ) (files : List (List ℕ)) (classes : List ClassContent) (line : Line) → AllSpell files classes → IsLine desc line → link_fault (world_of classes) ≡ None → AreLinked desc files
-linked_of desc files classes line spelled is links = record { read = record { classes = classes; spelled = spelled; line = line; described = is }; links = links }
+pub named_world : (desc : List ℕ) (files : List (List ℕ)) (classes : List ClassContent) (line : Line) (world : World) → AllSpell files classes → IsLine desc line → link_fault (world_of classes) ≡ None → world ≡ world_of classes → NameWorld files desc world line
+named_world desc files classes line world spelled is links same =
+    record { classes = classes; read = named_classes desc files classes line spelled is; world_is = same; links = ap link_fault same ∙ links }
 
-pub entry_refused : (desc : List ℕ) (files : List (List ℕ)) (classes : List ClassContent) (line : Line) (world : World) → AllSpell files classes → IsLine desc line → link_fault (world_of classes) ≡ None → world ≡ world_of classes → ((entry : MethodRef) → IsEntry world line entry → ⊥) → Answers desc files (Err (At places.Description faults.NotBuilt))
-entry_refused desc files classes line world spelled is links same none =
-    inr (record { linked = linked_of desc files classes line spelled is links; no_entry = λ entry e. none entry (subst (λ (w : World). IsEntry w line entry) (sym same) e) })
+pub entry_refused : (desc : List ℕ) (files : List (List ℕ)) (line : Line) (world : World) → NameWorld files desc world line → ((entry : MethodRef) → IsEntry world line entry → ⊥) → Answers desc files (Err (At places.Description faults.NotBuilt))
+entry_refused desc files line world linked none = inr (record { world = world; line = line; linked = linked; no_entry = none })
 
-abbrev entered : (desc : List ℕ) (files : List (List ℕ)) (classes : List ClassContent) (line : Line) (entry : MethodRef) (world : World) → AllSpell files classes → IsLine desc line → link_fault (world_of classes) ≡ None → world ≡ world_of classes → IsEntry world line entry → HasEntry desc files
-entered desc files classes line entry world spelled is links same e = record { linked = linked_of desc files classes line spelled is links; entry = entry; is_entry = subst (λ (w : World). IsEntry w line entry) same e }
+pub closing_refused : (desc : List ℕ) (files : List (List ℕ)) (line : Line) (entry : MethodRef) (world : World) (refused : Refused) → NameEntry files desc world line entry → RefusesProgram world entry refused → Answers desc files (Err refused)
+closing_refused desc files line entry world (At places.Link (faults.Link fault)) entered r =
+    inr (record { world = world; line = line; entry = entry; entered = entered; first = r })
+closing_refused desc files line entry world (At places.Link (faults.Class fault)) entered r = absurd r
+closing_refused desc files line entry world (At places.Link (faults.Listing fault)) entered r = absurd r
+closing_refused desc files line entry world (At places.Link faults.NotBuilt) entered r = absurd r
+closing_refused desc files line entry world (At (places.Class n) fault) entered r = absurd r
+closing_refused desc files line entry world (At places.Listing fault) entered r = absurd r
+closing_refused desc files line entry world (At places.Description fault) entered r = absurd r
+closing_refused desc files line entry world Memory entered r = tt
 
-pub closing_refused : (desc : List ℕ) (files : List (List ℕ)) (classes : List ClassContent) (line : Line) (entry : MethodRef) (world : World) (refused : Refused) → AllSpell files classes → IsLine desc line → link_fault (world_of classes) ≡ None → world ≡ world_of classes → IsEntry world line entry → RefusesProgram world entry refused → Answers desc files (Err refused)
-closing_refused desc files classes line entry world (At places.Link (faults.Link fault)) spelled is links same e r =
-    inr (record { entered = entered desc files classes line entry world spelled is links same e; first = subst (λ (w : World). close_of w entry ≡ Err fault) same r })
-closing_refused desc files classes line entry world (At places.Link (faults.Class fault)) spelled is links same e r = absurd r
-closing_refused desc files classes line entry world (At places.Link (faults.Listing fault)) spelled is links same e r = absurd r
-closing_refused desc files classes line entry world (At places.Link faults.NotBuilt) spelled is links same e r = absurd r
-closing_refused desc files classes line entry world (At (places.Class n) fault) spelled is links same e r = absurd r
-closing_refused desc files classes line entry world (At places.Listing fault) spelled is links same e r = absurd r
-closing_refused desc files classes line entry world (At places.Description fault) spelled is links same e r = absurd r
-closing_refused desc files classes line entry world Memory spelled is links same e r = tt
+pub named_program : (desc : List ℕ) (files : List (List ℕ)) (line : Line) (entry : MethodRef) (world : World) (methods : List Method) → NameEntry files desc world line entry → close_of world entry ≡ Ok methods → NameProgram files desc line (program_of world methods)
+named_program desc files line entry world methods entered closed = record { entry = entry; entered = entered; closed = closed }
 
-pub program_refused : (desc : List ℕ) (files : List (List ℕ)) (classes : List ClassContent) (line : Line) (entry : MethodRef) (world : World) (methods : List Method) → AllSpell files classes → IsLine desc line → link_fault (world_of classes) ≡ None → world ≡ world_of classes → IsEntry world line entry → close_of world entry ≡ Ok methods → ((w : World) → IsFirstPath line.params (program_of w methods) → ⊥) → Answers desc files (Err (At places.Link faults.NotBuilt))
-program_refused desc files classes line entry world methods spelled is links same e closed none = record {
-  entered = entered desc files classes line entry world spelled is links same e;
-  methods = methods;
-  closed = subst (λ (w : World). close_of w entry ≡ Ok methods) same closed;
-  not_built = none (world_of classes);
-}
+pub program_refused : (desc : List ℕ) (files : List (List ℕ)) (line : Line) (program : Program) → NameProgram files desc line program → (IsFirstPath line.params program → ⊥) → Answers desc files (Err (At places.Link faults.NotBuilt))
+program_refused desc files line program named none = record { line = line; program = program; named = named; not_built = none }
 
 -- ---- yes
 
-pub said_yes : (desc : List ℕ) (files : List (List ℕ)) (classes : List ClassContent) (line : Line) (entry : MethodRef) (world : World) (methods : List Method) (result : Result Verdict Refused) → AllSpell files classes → IsLine desc line → link_fault (world_of classes) ≡ None → world ≡ world_of classes → IsEntry world line entry → close_of world entry ≡ Ok methods → ((w : World) → IsFirstPath line.params (program_of w methods)) → YesOrMemory result → Answers desc files result
-said_yes desc files classes line entry world methods (Ok verdict) spelled is links same e closed path y = (
-  y,
-  record {
-    entered = entered desc files classes line entry world spelled is links same e;
-    built = record { methods = methods; closed = subst (λ (w : World). close_of w entry ≡ Ok methods) same closed; first_path = path (world_of classes) };
-  },
-)
-said_yes desc files classes line entry world methods (Err (At place fault)) spelled is links same e closed path y = absurd (cc)
-said_yes desc files classes line entry world methods (Err Memory) spelled is links same e closed path y = tt
+pub said_yes : (desc : List ℕ) (files : List (List ℕ)) (line : Line) (program : Program) (result : Result Verdict Refused) → NameProgram files desc line program → IsFirstPath line.params program → YesOrMemory result → Answers desc files result
+said_yes desc files line program (Ok verdict) named path y = (y, record { line = line; program = program; named = named; built = path })
+said_yes desc files line program (Err (At place fault)) named path y = absurd (cc)
+said_yes desc files line program (Err Memory) named path y = tt
 
 -- a yes that has its cause gives the headline
 pub headline_of : (desc : List ℕ) (files : List (List ℕ)) (result : Result Verdict Refused) → Answers desc files result → IfOk result (λ verdict. SaysYes verdict → AllEnd files desc)

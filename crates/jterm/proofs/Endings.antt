@@ -1,6 +1,7 @@
 -- From what stopped a call, or the verdict that it has, to what the call says.
 use Rattle.std.proofs.Common.{◌≡◌, ◌⊎◌, ◌≤◌, ◌<◌, ◌+◌, ◌++◌, ℕ, suc, zero, List, [], ◌∷◌, length, map, Option, Some, None, Ok, Err, refl, sym, ap, ◌∙◌, subst, arith, inl, inr, IfSome, slice_get, append-nil, length-append}
-use Rattle.std.specs.List.{slice_index_or, AllByRecursion}
+use Rattle.std.specs.Prelude.{◌≢◌, ◌↔◌, Result}
+use Rattle.std.specs.Io.KnownBytes.{Appends}
 use Rattle.io_ports.specs.Count.{Rose}
 use Rattle.io_ports.specs.Told.{Told, IsContent, IsPastLimit, IsNotHeld}
 use Rattle.io_ports.specs.Told.Told.{Content}
@@ -12,53 +13,19 @@ use Rattle.jterm.specs.declared.verdict.Request.{Request}
 use Rattle.jterm.specs.declared.verdict.Request.TheVariants.{Prove, Asm}
 use Rattle.jterm.specs.declared.verdict.Verdict.{Verdict}
 use Rattle.jterm.specs.declared.verdict.Place.{Place}
-use Rattle.jterm.specs.declared.verdict.Place.TheVariants as places
-use Rattle.jterm.specs.declared.verdict.Fault.TheVariants as faults
-use Rattle.jterm.specs.declared.line.Line.{Line}
-use Rattle.jterm.specs.Description.{IsLine}
-use Rattle.class_read.specs.Content.{ClassContent}
-use Rattle.class_read.specs.declared.fault.ClassFault.{ClassFault}
-use Rattle.class_read.proofs.ClassLaws.{class_one}
-use Rattle.class_world.specs.World.{world_of}
-use Rattle.class_world.specs.Said.{Said}
-use Rattle.class_world.specs.Reached.{close_of}
-use Rattle.class_world.specs.declared.program.Method.{Method}
-use Rattle.jterm.specs.FirstPath.{IsFirstPath}
-use Rattle.jterm.specs.Machine.{program_of}
-use Rattle.class_world.specs.Linking.{link_fault}
-use Rattle.class_world.specs.declared.fault.LinkFault.{LinkFault}
-use Rattle.class_world.specs.declared.world.MethodRef.{MethodRef}
 use Rattle.jterm.specs.declared.verdict.Fault.{Fault}
 use Rattle.jterm.specs.declared.verdict.Refused.{Refused}
+use Rattle.jterm.specs.declared.verdict.Refused.TheVariants as answers
 use Rattle.jterm.specs.declared.verdict.Refused.TheVariants.{At}
 use Rattle.jterm.specs.Words.{IsProve, IsCommand}
 use Rattle.jterm.specs.Lines.{memory_line, read_line, refusal_line}
-use Rattle.jterm.specs.Decision.{Answers, IsAnswer, SaysYes, IsEntry, HasEntry, IsRefused, IsFirstBroken, IsGood, yes_line}
-use Rattle.jterm.specs.Headline.{AllEnd, AllSpell, named_method}
-use Rattle.jterm.specs.Outside.{AreTold, AreContents, IsUnread, ReadFails, Decided, Claims, IsWritten, limit_of}
-use Rattle.jterm.specs.Stop.{IsAnswered, HasCause, IsNamed, HasLine, status_of, line_of}
-use Rattle.jterm.proofs.Words.{first_word_unique, IsLine-class, IsLine-name, IsLine-params, params_marks, IsEnclosed-params}
-use Rattle.std.proofs.lemmas.List.{length-replicate}
-use Rattle.std.specs.Prelude.{replicate, Result}
-use Rattle.std.specs.Io.KnownBytes.{Appends}
+use Rattle.jterm.specs.Decision.{Answers, IsAnswer, SaysYes, yes_line}
+use Rattle.jterm.specs.Headline.{AllEnd}
+use Rattle.jterm.specs.Outside.{AreTold, AreContents, AreWithin, AreHanded, AreRead, IsUnread, ReadFails, Decided, Claims, IsWritten, limit_of}
+use Rattle.jterm.specs.Stop.{IsAnswered, HasCause, HasLine, status_of, line_of}
 use Rattle.jterm.proofs.Deciding.{headline_of}
+use Rattle.jterm.proofs.OneAnswer.{answers_one}
 use Rattle.jterm.proofs.WordsLemmas.{other_verbs}
-
-get_below : (names : List (List ℕ)) (place : ℕ) (name : List ℕ) → slice_get names place ≡ Some name → place < length names
-get_below [] place name e = cc
-get_below (n ∷ names) zero name e = omega arith
-get_below (n ∷ names) (suc place) name e = let h = get_below names place name e in omega arith
-
-get_is : (names : List (List ℕ)) (place : ℕ) (name : List ℕ) → slice_get names place ≡ Some name → slice_index_or names place [] ≡ name
-get_is [] place name e = cc
-get_is (n ∷ names) zero name e = cc
-get_is (n ∷ names) (suc place) name e = get_is names place name e
-
--- an unread file is one of the named ones
-pub is_named : (request : Request) (names : List (List ℕ)) (held : List ℕ → Told) (before after : ℕ) (stop : Stop) → HasCause request names held before after stop → IsNamed names stop
-is_named request names held before after (Unread place fault) cause = get_below names place cause.name cause.is_named
-is_named request names held before after (Broken place fault) cause = tt
-is_named request names held before after NoMemory cause = tt
 
 -- nothing is claimed where nothing is put
 pub unclaimed : {S : Type 0} (taken : S → Option (List ℕ)) (sink : S) (status : ℕ) → (status ≡ 0 → ⊥) → Claims taken sink sink status → ⊥
@@ -68,34 +35,51 @@ unclaimed taken sink status more claims = elim claims [
       omega (arith, ap length e, length-append (put.0 ++ yes_line) put.1, length-append put.0 yes_line)
 ]
 
+-- what `report` says of a stop
+abbrev pub Reports : (List ℕ → Type 0) → Stop → ℕ → Type 0
+Reports Puts stop status = ((status ≡ status_of stop) × HasLine stop × Puts (line_of stop)) ⊎ ((status ≡ 7) × Puts memory_line)
+
 -- status 3 comes where the input is refused
-pub refused : (words : List (List ℕ)) (request : Request) (names : List (List ℕ)) (held : List ℕ → Told) (before after : ℕ) (stop : Stop) (status : ℕ) (Puts : List ℕ → Type 0)
-    → IsCommand words request names → HasCause request names held before after stop
-    → ((status ≡ status_of stop) × HasLine stop × Puts (line_of names stop)) ⊎ ((status ≡ 7) × Puts memory_line)
-    → status ≡ 3 → (place : Place) × (fault : Fault) × Decided words held (Err (At place fault)) × Puts (refusal_line place fault)
-refused words request names held before after (Unread place fault) status Puts command cause says three = elim says [ inl said ↦ absurd (omega arith) | inr said ↦ absurd (omega arith) ]
-refused words request names held before after (Broken place fault) status Puts command cause says three = elim says [
-  | inl said ↦ (place, fault, record { request = request; names = names; is_command = command; contents = cause.0; read = cause.1; answer = cause.2 }, said.2)
-  | inr said ↦ absurd (omega arith)
-]
-refused words request names held before after NoMemory status Puts command cause says three = elim says [ inl said ↦ absurd said.1 | inr said ↦ absurd (omega arith) ]
+pub refused : {F : Type 0} (held : F → List ℕ → Told) (faults : F → ℕ) (leaves : F → List ℕ → F → Type 0) (words : List (List ℕ)) (request : Request) (names : List (List ℕ)) (old new : F) (stop : Stop) (status : ℕ) (Puts : List ℕ → Type 0)
+    → IsCommand words request names → HasCause held faults leaves request names old new stop → Reports Puts stop status
+    → status ≡ 3 → (place : Place) × (fault : Fault) × Decided words (held old) (Err (At place fault)) × Puts (refusal_line place fault)
+refused held faults leaves words request names old new (Unread name fault) status Puts command cause (inl said) three = absurd (omega (arith, said.0, three))
+refused held faults leaves words request names old new (Broken place fault) status Puts command cause (inl said) three =
+    (place, fault, record { request = request; names = names; is_command = command; contents = cause.0; read = cause.1; answer = cause.2 }, said.2)
+refused held faults leaves words request names old new NoMemory status Puts command cause (inl said) three = absurd said.1
+refused held faults leaves words request names old new stop status Puts command cause (inr said) three = absurd (omega (arith, said.0, three))
 
 -- status 5 comes where a file was not read
-pub unread : (words : List (List ℕ)) (request : Request) (names : List (List ℕ)) (held : List ℕ → Told) (before after : ℕ) (stop : Stop) (status : ℕ) (Puts : List ℕ → Type 0)
-    → IsCommand words request names → HasCause request names held before after stop
-    → ((status ≡ status_of stop) × HasLine stop × Puts (line_of names stop)) ⊎ ((status ≡ 7) × Puts memory_line)
-    → status ≡ 5 → (request : Request) × (names : List (List ℕ)) × (place : ℕ) × (fault : FileFault) × IsCommand words request names
-    × ((unread : IsUnread request names held before after place fault) × Puts (read_line unread.name fault))
-unread words request names held before after (Unread place fault) status Puts command cause says five = elim says [
-  | inl said ↦ (request, names, place, fault, command, (cause, subst (λ n. Puts (read_line n fault)) (get_is names place cause.name cause.is_named) said.2))
-  | inr said ↦ absurd (omega arith)
-]
-unread words request names held before after (Broken place fault) status Puts command cause says five = elim says [ inl said ↦ absurd (omega arith) | inr said ↦ absurd (omega arith) ]
-unread words request names held before after NoMemory status Puts command cause says five = elim says [ inl said ↦ absurd said.1 | inr said ↦ absurd (omega arith) ]
+pub unread : {F : Type 0} (held : F → List ℕ → Told) (faults : F → ℕ) (leaves : F → List ℕ → F → Type 0) (words : List (List ℕ)) (request : Request) (names : List (List ℕ)) (old new : F) (stop : Stop) (status : ℕ) (Puts : List ℕ → Type 0)
+    → IsCommand words request names → HasCause held faults leaves request names old new stop → Reports Puts stop status
+    → status ≡ 5 → (request : Request) × (names : List (List ℕ)) × (name : List ℕ) × (fault : FileFault) × IsCommand words request names
+    × IsUnread held faults leaves request names old new name fault × Puts (read_line name fault)
+unread held faults leaves words request names old new (Unread name fault) status Puts command cause (inl said) five = (request, names, name, fault, command, cause, said.2)
+unread held faults leaves words request names old new (Broken place fault) status Puts command cause (inl said) five = absurd (omega (arith, said.0, five))
+unread held faults leaves words request names old new NoMemory status Puts command cause (inl said) five = absurd said.1
+unread held faults leaves words request names old new stop status Puts command cause (inr said) five = absurd (omega (arith, said.0, five))
+
+-- want of memory is said with status 7
+pub says_memory : (stop : Stop) (status : ℕ) (Puts : List ℕ → Type 0) → Reports Puts stop status → status ≡ 7 → Puts memory_line
+says_memory (Unread name fault) status Puts (inl said) seven = absurd (omega (arith, said.0, seven))
+says_memory (Broken place fault) status Puts (inl said) seven = absurd (omega (arith, said.0, seven))
+says_memory NoMemory status Puts (inl said) seven = absurd said.1
+says_memory stop status Puts (inr said) seven = said.1
+
+-- a call whose words are a command does not end with 4
+pub not_four : (words : List (List ℕ)) (r : Request) (m : List (List ℕ)) (stop : Stop) (status : ℕ) (Puts : List ℕ → Type 0) → IsCommand words r m → Reports Puts stop status
+    → (status ≡ 4) ↔ ((request : Request) (names : List (List ℕ)) → IsCommand words request names → ⊥)
+not_four words r m stop status Puts command says = (λ four. absurd (never stop says four), λ none. absurd (none r m command))
+  where
+    never : (stop : Stop) → Reports Puts stop status → status ≡ 4 → ⊥
+    never (Unread name fault) (inl said) four = omega (arith, said.0, four)
+    never (Broken place fault) (inl said) four = omega (arith, said.0, four)
+    never NoMemory (inl said) four = said.1
+    never stop (inr said) four = omega (arith, said.0, four)
 
 -- a call without a verdict does not end with 0
 pub not_zero : (stop : Stop) (status : ℕ) (P Q R : Type 0) → ((status ≡ status_of stop) × P × Q) ⊎ ((status ≡ 7) × R) → status ≡ 0 → ⊥
-not_zero (Unread place fault) status P Q R says none = elim says [ inl said ↦ omega arith | inr said ↦ omega arith ]
+not_zero (Unread name fault) status P Q R says none = elim says [ inl said ↦ omega arith | inr said ↦ omega arith ]
 not_zero (Broken place fault) status P Q R says none = elim says [ inl said ↦ omega arith | inr said ↦ omega arith ]
 not_zero NoMemory status P Q R says none = elim says [ inl said ↦ omega arith | inr said ↦ omega arith ]
 
@@ -115,23 +99,32 @@ told_contents request place held (n ∷ names) (c ∷ contents) (t ∷ told) are
     let same : c ≡ t = subst (λ h. IsContent h c) first are.0 in
     cc
 
--- what the words of a `prove` ask for, and its file words
-pub prove_names : (words : List (List ℕ)) (request : Request) (names : List (List ℕ)) (d : List ℕ) (cs : List (List ℕ)) → IsCommand words request names → IsProve words d cs → (request ≡ Prove 4000) × (names ≡ d ∷ cs)
-prove_names words request names d cs (inl row) prove =
-    let here = row.is_prove.spelled in
-    let there = prove.spelled in
-    let named = row.named in
-    (row.asked, cc)
-prove_names words request names d cs (inr row) prove =
-    absurd (other_verbs (row.listing ∷ []) (d ∷ cs) (sym row.is_asm.spelled ∙ prove.spelled))
+-- words are one command
+commands_one : (words : List (List ℕ)) (r s : Request) (m n : List (List ℕ)) → IsCommand words r m → IsCommand words s n → (r ≡ s) × (m ≡ n)
+commands_one words r s m n (inl a) (inl b) =
+    let here : words ≡ _ = a.is_prove.spelled in
+    let there : words ≡ _ = b.is_prove.spelled in
+    let same : a.desc ∷ a.classes ≡ b.desc ∷ b.classes = cc in
+    (a.asked ∙ sym b.asked, a.named ∙ same ∙ sym b.named)
+commands_one words r s m n (inl a) (inr b) = absurd (other_verbs (b.listing ∷ []) (a.desc ∷ a.classes) (sym b.is_asm.spelled ∙ a.is_prove.spelled))
+commands_one words r s m n (inr a) (inl b) = absurd (other_verbs (a.listing ∷ []) (b.desc ∷ b.classes) (sym a.is_asm.spelled ∙ b.is_prove.spelled))
+commands_one words r s m n (inr a) (inr b) =
+    let here : words ≡ _ = a.is_asm.spelled in
+    let there : words ≡ _ = b.is_asm.spelled in
+    let same : a.listing ∷ [] ≡ b.listing ∷ [] = cc in
+    (a.asked ∙ sym b.asked, a.named ∙ same ∙ sym b.named)
 
--- the answer for the contents of a `prove`
-pub proved_answer : (words : List (List ℕ)) (request : Request) (names : List (List ℕ)) (held : List ℕ → Told) (d : List ℕ) (cs contents : List (List ℕ)) (desc : List ℕ) (classes : List (List ℕ)) (result : Result Verdict Refused)
-    → IsCommand words request names → IsProve words d cs → AreContents request 0 held names contents → AreTold held (d ∷ cs) (desc ∷ classes) → IsAnswer request contents result → Answers desc classes result
-proved_answer words request names held d cs contents desc classes result command prove are tells answer =
-    let asked = prove_names words request names d cs command prove in
-    let same : contents ≡ desc ∷ classes = told_contents request 0 held names contents (desc ∷ classes) are (subst (λ n. AreTold held n (desc ∷ classes)) (sym asked.1) tells) in
-    subst (λ (r : Request). IsAnswer r (desc ∷ classes) result) asked.0 (subst (λ (fs : List (List ℕ)). IsAnswer request fs result) same answer)
+-- an answer for what was read under the names of a command is one for what is told under them
+told_answer : (words : List (List ℕ)) (held : List ℕ → Told) (r s : Request) (m n contents told : List (List ℕ)) (result : Result Verdict Refused)
+    → IsCommand words r m → IsCommand words s n → AreContents r 0 held m contents → AreTold held n told → IsAnswer r contents result → IsAnswer s told result
+told_answer words held r s m n contents told result here there are tells answer =
+    let one = commands_one words r s m n here there in
+    let same : contents ≡ told = told_contents r 0 held m contents told are (subst (λ (names : List (List ℕ)). AreTold held names told) (sym one.1) tells) in
+    subst (λ (q : Request). IsAnswer q told result) one.0 (subst (λ (fs : List (List ℕ)). IsAnswer r fs result) same answer)
+
+-- the words of a `prove` are a command
+pub prove_is_command : (words : List (List ℕ)) (d : List ℕ) (cs : List (List ℕ)) → IsProve words d cs → IsCommand words (Prove 4000) (d ∷ cs)
+prove_is_command words d cs prove = inl (record { desc = d; classes = cs; is_prove = prove; asked = refl; named = refl })
 
 says_yes : (desc : List ℕ) (classes : List (List ℕ)) (verdict : Verdict) → Answers desc classes (Ok verdict) → SaysYes verdict
 says_yes desc classes verdict answer = ([], ap (λ v. v.out) answer.0 ∙ sym (append-nil yes_line))
@@ -140,150 +133,120 @@ says_yes desc classes verdict answer = ([], ap (λ v. v.out) answer.0 ∙ sym (a
 pub headline : (words : List (List ℕ)) (request : Request) (names : List (List ℕ)) (held : List ℕ → Told) (verdict : Verdict) (d : List ℕ) (cs : List (List ℕ)) (desc : List ℕ) (classes : List (List ℕ))
     → IsCommand words request names → IsAnswered request names held verdict → IsProve words d cs → AreTold held (d ∷ cs) (desc ∷ classes) → AllEnd classes desc
 headline words request names held verdict d cs desc classes command answered prove tells =
-    let answer = proved_answer words request names held d cs answered.contents desc classes (Ok verdict) command prove answered.read tells answered.answer in
+    let answer : Answers desc classes (Ok verdict) =
+    told_answer words held request (Prove 4000) names (d ∷ cs) answered.contents (desc ∷ classes) (Ok verdict) command (prove_is_command words d cs prove) answered.read tells answered.answer in
     headline_of desc classes (Ok verdict) answer (says_yes desc classes verdict answer)
 
 -- ---- completeness
 
--- the words of a `prove` are a command
-pub prove_is_command : (words : List (List ℕ)) (d : List ℕ) (cs : List (List ℕ)) → IsProve words d cs → IsCommand words (Prove 4000) (d ∷ cs)
-prove_is_command words d cs prove = inl (record { desc = d; classes = cs; is_prove = prove; asked = refl; named = refl })
-
 -- a name has its content, of the size that is allowed
-pub record IsHeld (held : List ℕ → Told) (name : List ℕ) : Type 0 where
+record IsHeld (held : List ℕ → Told) (name : List ℕ) (limit : ℕ) : Type 0 where
   content : List ℕ
   is_told : held name ≡ Content content
-  is_within : length content ≤ 1048576
+  is_within : length content ≤ limit
 
-pub held_name : (held : List ℕ → Told) (names told : List (List ℕ)) (name : List ℕ) (place : ℕ) → slice_get names place ≡ Some name → AreTold held names told → AllByRecursion (λ file. length file ≤ 1048576) told → IsHeld held name
-held_name held [] told name place e tells small = absurd (cc)
-held_name held (n ∷ names) [] name place e tells small = absurd (cc)
-held_name held (n ∷ names) (t ∷ told) name zero e tells small = record { content = t; is_told = (let first : held n ≡ Content t = cc in cc); is_within = small.0 }
-held_name held (n ∷ names) (t ∷ told) name (suc place) e tells small = (let others : map held names ≡ map Content told = cc in held_name held names told name place e others small.1)
+held_name : (request : Request) (held : List ℕ → Told) (names told : List (List ℕ)) (name : List ℕ) (at place : ℕ) → slice_get names place ≡ Some name → AreTold held names told → AreWithin request at told → IsHeld held name (limit_of request (at + place))
+held_name request held [] told name at place e tells within = absurd (cc)
+held_name request held (n ∷ names) [] name at place e tells within = absurd (cc)
+held_name request held (n ∷ names) (t ∷ told) name at zero e tells within =
+    let first : held n ≡ Content t = cc in
+    let named : n ≡ name = cc in
+    record {
+      content = t;
+      is_told = ap held (sym named) ∙ first;
+      is_within = subst (λ (k : ℕ). length t ≤ limit_of request k) (let here : at ≡ at + 0 = omega arith in here) within.0;
+    }
+held_name request held (n ∷ names) (t ∷ told) name at (suc place) e tells within =
+    let others : map held names ≡ map Content told = cc in
+    subst (λ (k : ℕ). IsHeld held name (limit_of request k)) (let next : at + 1 + place ≡ at + suc place = omega arith in next)
+    (held_name request held names told name (at + 1) place e others within.1)
 
--- what is held within its limit is read, where no count rose
-pub held_is_read : (request : Request) (place : ℕ) (held : List ℕ → Told) (name : List ℕ) (before after : ℕ) (fault : FileFault) → IsHeld held name → (Rose before after → ⊥)
-    → ReadFails fault (held name) (limit_of request place) before after → ⊥
-held_is_read request place held name before after Failed is none fails = none fails
-held_is_read (Prove nodes) place held name before after TooLong is none fails =
-    let longer : IsPastLimit (Content is.content) 1048576 = subst (λ t. IsPastLimit t 1048576) is.is_told fails in
-    let small = is.is_within in
-    omega arith
-held_is_read Asm place held name before after TooLong is none fails =
-    let longer : IsPastLimit (Content is.content) 1048576 = subst (λ t. IsPastLimit t 1048576) is.is_told fails in
-    let small = is.is_within in
-    omega arith
-held_is_read request place held name before after Missing is none fails = subst IsNotHeld is.is_told fails
-held_is_read request place held name before after Memory is none fails = fails
+-- what is held within its limit is read, where the count did not rise
+held_is_read : (held : Told) (limit before after : ℕ) (fault : FileFault) (content : List ℕ) → held ≡ Content content → length content ≤ limit → (Rose before after → ⊥) → ReadFails fault held limit before after → ⊥
+held_is_read held limit before after Failed content told within none fails = none fails
+held_is_read held limit before after TooLong content told within none fails =
+    let longer : IsPastLimit (Content content) limit = subst (λ t. IsPastLimit t limit) told fails in
+    omega (arith, longer, within)
+held_is_read held limit before after Missing content told within none fails = subst IsNotHeld told fails
+held_is_read held limit before after Memory content told within none fails = fails
 
--- bytes are one line at most
-pub IsLine-unique : (bytes : List ℕ) (a b : Line) → IsLine bytes a → IsLine bytes b → a ≡ b
-IsLine-unique bytes a b la lb =
-    let word = IsLine-class bytes a la in
-    let class = first_word_unique bytes a.class _ b.class _ la.text lb.text la.class.unbroken lb.class.unbroken in
-    let rest = IsLine-params bytes a.class _ a.name _ b word (IsLine-name bytes a.class _ a word la) lb in
-    let marks = params_marks _ (replicate a.params 73) b.params (IsEnclosed-params _ a.params refl) rest.1.text in
-    let params : a.params ≡ b.params = sym (length-replicate a.params 73) ∙ ap length marks ∙ length-replicate b.params 73 in
-    λ i. record { class = class.0 i; name = rest.0 i; params = params i }
+rose_since : (before between after : ℕ) → before ≤ between → Rose between after → Rose before after
+rose_since before between after le (inl more) = inl (omega arith)
+rose_since before between after le (inr greatest) = inr greatest
 
--- ---- good input breaks no rule
+-- the files of a command that are told within their limits are read
+all_read : {F : Type 0} (held : F → List ℕ → Told) (faults : F → ℕ) (leaves : F → List ℕ → F → Type 0) (words : List (List ℕ)) (r s : Request) (m n told : List (List ℕ)) (old new : F) (name : List ℕ) (fault : FileFault)
+    → IsCommand words r m → IsUnread held faults leaves r m old new name fault → AreHanded words (held old) s n told → (Rose (faults old) (faults new) → ⊥) → ⊥
+all_read held faults leaves words r s m n told old new name fault command unread handed none =
+    let one = commands_one words r s m n command handed.is_command in
+    let named : slice_get n unread.place ≡ Some name = subst (λ (names : List (List ℕ)). slice_get names unread.place ≡ Some name) one.1 unread.is_named in
+    let here : 0 + unread.place ≡ unread.place = omega arith in
+    let is : IsHeld (held old) name (limit_of s unread.place) = subst (λ (k : ℕ). IsHeld (held old) name (limit_of s k)) here (held_name s (held old) n told name 0 unread.place named handed.told handed.within) in
+    let within : length is.content ≤ limit_of r unread.place = subst (λ (q : Request). length is.content ≤ limit_of q unread.place) (sym one.0) is.is_within in
+    held_is_read (held old name) (limit_of r unread.place) (faults unread.between) (faults new) fault is.content is.is_told within
+    (λ rose. none (rose_since (faults old) (faults unread.between) (faults new) unread.counted rose)) unread.cause
 
-spell_unique : (files : List (List ℕ)) (a b : List ClassContent) → AllSpell files a → AllSpell files b → a ≡ b
-spell_unique [] [] [] h k = refl
-spell_unique [] [] (d ∷ b) h k = absurd k
-spell_unique [] (c ∷ a) b h k = absurd h
-spell_unique (f ∷ files) [] b h k = absurd h
-spell_unique (f ∷ files) (c ∷ a) [] h k = absurd k
-spell_unique (f ∷ files) (c ∷ a) (d ∷ b) h k =
-    let first : c ≡ d = class_one f c d h.0 k.0 in
-    let rest = spell_unique files a b h.1 k.1 in
-    λ i. first i ∷ rest i
+abbrev no_memory : Refused
+no_memory = answers.Memory
 
-never_broken : (files : List (List ℕ)) (classes : List ClassContent) (number : ℕ) (fault : ClassFault) → AllSpell files classes → IsFirstBroken files number fault → ⊥
-never_broken [] classes number fault all broken = broken
-never_broken (f ∷ files) [] number fault all broken = absurd all
-never_broken (f ∷ files) (c ∷ classes) zero fault all broken = broken.none c all.0
-never_broken (f ∷ files) (c ∷ classes) (suc number) fault all broken = never_broken files classes number fault all.1 broken.2
+ok_is : (a b : Verdict) → (let r : Result Verdict Refused = Ok a in r) ≡ Ok b → a ≡ b
+ok_is a b e = cc
 
-same_entry : (a b : MethodRef) → (let o : Option MethodRef = Some a in o) ≡ Some b → a ≡ b
-same_entry a b e = cc
+some_answer : (verdict : Verdict) → (let r : Result Verdict Refused = Ok verdict in r) ≢ Err no_memory
+some_answer verdict e = cc
 
-same_methods : (a b : List Method) → (let said : Said (List Method) = Ok a in said) ≡ Ok b → a ≡ b
-same_methods a b e = cc
+some_refusal : (place : Place) (fault : Fault) → (let r : Result Verdict Refused = Err (At place fault) in r) ≢ Err no_memory
+some_refusal place fault e = cc
 
--- the same files and description have the same entry in the same world
-same_close : (desc : List ℕ) (files : List (List ℕ)) (a b : HasEntry desc files) → close_of (world_of a.linked.read.classes) a.entry ≡ close_of (world_of b.linked.read.classes) b.entry
-same_close desc files a b =
-    let one = a.linked.read in
-    let two = b.linked.read in
-    let classes = spell_unique files one.classes two.classes one.spelled two.spelled in
-    let line = IsLine-unique desc one.line two.line one.described two.described in
-    let named : named_method (world_of two.classes) two.line ≡ Some a.entry =
-    subst (λ (l : Line). named_method (world_of two.classes) l ≡ Some a.entry) line (subst (λ (cs : List ClassContent). named_method (world_of cs) one.line ≡ Some a.entry) classes a.is_entry.named) in
-    let entry : a.entry ≡ b.entry = same_entry _ _ (sym named ∙ b.is_entry.named) in
-    ap (λ (cs : List ClassContent). close_of (world_of cs) a.entry) classes ∙ ap (close_of (world_of two.classes)) entry
+-- the verdict of a call is the one that the contents have
+pub complete_written : {S : Type 0} (faults : S → ℕ) (taken : S → Option (List ℕ)) (old new : S) (words : List (List ℕ)) (r s : Request) (m n told : List (List ℕ)) (held : List ℕ → Told) (given verdict : Verdict) (status : ℕ)
+    → IsCommand words r m → IsAnswered r m held given → IsWritten faults taken old new given status → AreHanded words held s n told → IsAnswer s told (Ok verdict)
+    → (Rose (faults old) (faults new) → ⊥) → ((status ≡ verdict.status) × Appends (taken old) (taken new) verdict.out) ⊎ (status ≡ 7)
+complete_written faults taken old new words r s m n told held given verdict status command answered (inl put) handed answer none =
+    let here : IsAnswer s told (Ok given) = told_answer words held r s m n answered.contents told (Ok given) command handed.is_command answered.read handed.told answered.answer in
+    let same : given ≡ verdict = ok_is given verdict (answers_one s told (Ok given) (Ok verdict) here answer (some_answer given) (some_answer verdict)) in
+    inl (put.0 ∙ ap (λ v. v.status) same, subst (λ (l : List ℕ). Appends (taken old) (taken new) l) (ap (λ v. v.out) same) put.1)
+complete_written faults taken old new words r s m n told held given verdict status command answered (inr failed) handed answer none = absurd (none failed.1)
 
-not_broken : (desc : List ℕ) (files : List (List ℕ)) (place : Place) (fault : Fault) → IsGood desc files → IsRefused desc files place fault → ⊥
-not_broken desc files (places.Class number) (faults.Class fault) g r = never_broken files g.entered.linked.read.classes number fault g.entered.linked.read.spelled r
-not_broken desc files (places.Class number) (faults.Listing fault) g r = r
-not_broken desc files (places.Class number) (faults.Link fault) g r = r
-not_broken desc files (places.Class number) faults.NotBuilt g r = r
-not_broken desc files places.Listing fault g r = r
-not_broken desc files places.Description (faults.Class fault) g r = r
-not_broken desc files places.Description (faults.Listing fault) g r = r
-not_broken desc files places.Description (faults.Link fault) g r = r
-not_broken desc files places.Description faults.NotBuilt g (inl none) = none.no_line g.entered.linked.read.line g.entered.linked.read.described
-not_broken desc files places.Description faults.NotBuilt g (inr none) =
-    let good = g.entered.linked.read in
-    let bad = none.linked.read in
-    let classes = spell_unique files good.classes bad.classes good.spelled bad.spelled in
-    let line = IsLine-unique desc good.line bad.line good.described bad.described in
-    none.no_entry g.entered.entry (subst (λ (l : Line). IsEntry (world_of bad.classes) l g.entered.entry) line (subst (λ (cs : List ClassContent). IsEntry (world_of cs) good.line g.entered.entry) classes g.entered.is_entry))
-not_broken desc files places.Link (faults.Class fault) g r = r
-not_broken desc files places.Link (faults.Listing fault) g r = r
-not_broken desc files places.Link (faults.Link fault) g (inr r) =
-    let closed = subst (λ (said : Said (List Method)). said ≡ Ok g.built.methods) (same_close desc files g.entered r.entered) g.built.closed in
-    let e : (let said : Said (List Method) = Ok g.built.methods in said) ≡ Err fault = sym closed ∙ r.first in
+-- where the contents have a verdict, a call without one wants memory
+pub complete : {F : Type 0} (held : F → List ℕ → Told) (faults : F → ℕ) (leaves : F → List ℕ → F → Type 0) (words : List (List ℕ)) (r s : Request) (m n told : List (List ℕ)) (old new : F) (stop : Stop) (status : ℕ) (verdict : Verdict) (Puts : List ℕ → Type 0) (R : Type 0)
+    → IsCommand words r m → HasCause held faults leaves r m old new stop → Reports Puts stop status → AreHanded words (held old) s n told → IsAnswer s told (Ok verdict)
+    → (Rose (faults old) (faults new) → ⊥) → R ⊎ (status ≡ 7)
+complete held faults leaves words r s m n told old new (Unread name fault) status verdict Puts R command cause says handed answer none =
+    absurd (all_read held faults leaves words r s m n told old new name fault command cause handed none)
+complete held faults leaves words r s m n told old new (Broken place fault) status verdict Puts R command cause says handed answer none =
+    let here : IsAnswer s told (Err (At place fault)) = told_answer words (held old) r s m n cause.0 told (Err (At place fault)) command handed.is_command cause.1 handed.told cause.2 in
+    let same : (let result : Result Verdict Refused = Err (At place fault) in result) ≡ Ok verdict = answers_one s told (Err (At place fault)) (Ok verdict) here answer (some_refusal place fault) (some_answer verdict) in
+    absurd (cc)
+complete held faults leaves words r s m n told old new NoMemory status verdict Puts R command cause (inl said) handed answer none = absurd said.1
+complete held faults leaves words r s m n told old new NoMemory status verdict Puts R command cause (inr said) handed answer none = inr said.0
+
+-- where the contents have a cause of refusal, a call has no verdict
+pub never_answered : (words : List (List ℕ)) (r s : Request) (m n told : List (List ℕ)) (held : List ℕ → Told) (given : Verdict) (place : Place) (fault : Fault)
+    → IsCommand words r m → IsAnswered r m held given → AreHanded words held s n told → IsAnswer s told (Err (At place fault)) → ⊥
+never_answered words r s m n told held given place fault command answered handed answer =
+    let here : IsAnswer s told (Ok given) = told_answer words held r s m n answered.contents told (Ok given) command handed.is_command answered.read handed.told answered.answer in
+    let same : (let result : Result Verdict Refused = Ok given in result) ≡ Err (At place fault) = answers_one s told (Ok given) (Err (At place fault)) here answer (some_answer given) (some_refusal place fault) in
     cc
-not_broken desc files places.Link (faults.Link fault) g (inl r) =
-    let good = g.entered.linked.read in
-    let classes = spell_unique files good.classes r.read.classes good.spelled r.read.spelled in
-    let none = subst (λ (cs : List ClassContent). link_fault (world_of cs) ≡ None) classes g.entered.linked.links in
-    let first = r.first in
-    let e : (let o : Option LinkFault = None in o) ≡ Some fault = sym none ∙ first in
-    cc
-not_broken desc files places.Link faults.NotBuilt g r =
-    let closed = subst (λ (said : Said (List Method)). said ≡ Ok g.built.methods) (same_close desc files g.entered r.entered) g.built.closed in
-    let methods : g.built.methods ≡ r.methods = same_methods g.built.methods r.methods (sym closed ∙ r.closed) in
-    let line = IsLine-unique desc g.entered.linked.read.line r.entered.linked.read.line g.entered.linked.read.described r.entered.linked.read.described in
-    let classes = spell_unique files g.entered.linked.read.classes r.entered.linked.read.classes g.entered.linked.read.spelled r.entered.linked.read.spelled in
-    r.not_built (subst (λ (ms : List Method). IsFirstPath r.entered.linked.read.line.params (program_of (world_of r.entered.linked.read.classes) ms)) methods
-    (subst (λ (l : Line). IsFirstPath l.params (program_of (world_of r.entered.linked.read.classes) g.built.methods)) line
-    (subst (λ (cs : List ClassContent). IsFirstPath g.entered.linked.read.line.params (program_of (world_of cs) g.built.methods)) classes g.built.first_path)))
 
--- the only other ending of a good `prove` without a verdict is want of memory
-pub complete : (words : List (List ℕ)) (request : Request) (names : List (List ℕ)) (held : List ℕ → Told) (before after : ℕ) (stop : Stop) (status : ℕ) (P Q R : Type 0) (d : List ℕ) (cs : List (List ℕ)) (desc : List ℕ) (classes : List (List ℕ))
-    → IsCommand words request names → HasCause request names held before after stop
-    → ((status ≡ status_of stop) × HasLine stop × P) ⊎ ((status ≡ 7) × Q)
-    → IsProve words d cs → AreTold held (d ∷ cs) (desc ∷ classes) → AllByRecursion (λ file. length file ≤ 1048576) (desc ∷ classes)
-    → IsGood desc classes → (Rose before after → ⊥) → ((status ≡ 0) × R) ⊎ (status ≡ 7)
-complete words request names held before after (Unread place fault) status P Q R d cs desc classes command cause says prove tells small good none =
-    let asked = prove_names words request names d cs command prove in
-    let there : slice_get (d ∷ cs) place ≡ Some cause.name = subst (λ (n : List (List ℕ)). slice_get n place ≡ Some cause.name) asked.1 cause.is_named in
-    absurd (held_is_read request place held cause.name before after fault (held_name held (d ∷ cs) (desc ∷ classes) cause.name place there tells small) none cause.cause)
-complete words request names held before after (Broken place fault) status P Q R d cs desc classes command cause says prove tells small good none =
-    absurd (not_broken desc classes place fault good (proved_answer words request names held d cs cause.0 desc classes (Err (At place fault)) command prove cause.1 tells cause.2))
-complete words request names held before after NoMemory status P Q R d cs desc classes command cause says prove tells small good none =
-    elim says [ inl said ↦ absurd said.1 | inr said ↦ inr said.0 ]
+at_is : (place : Place) (fault : Fault) (p : Place) (f : Fault) → (let r : Result Verdict Refused = Err (At place fault) in r) ≡ Err (At p f) → (place ≡ p) × (fault ≡ f)
+at_is place fault p f e = (cc, cc)
 
--- the output of a good `prove` is a yes
-pub complete_written : {S : Type 0} (faults : S → ℕ) (taken : S → Option (List ℕ)) (old new : S) (words : List (List ℕ)) (request : Request) (names : List (List ℕ)) (held : List ℕ → Told) (verdict : Verdict) (status : ℕ) (d : List ℕ) (cs : List (List ℕ)) (desc : List ℕ) (classes : List (List ℕ))
-    → IsCommand words request names → IsAnswered request names held verdict → IsWritten faults taken old new verdict status → IsProve words d cs → AreTold held (d ∷ cs) (desc ∷ classes)
-    → (Rose (faults old) (faults new) → ⊥) → ((status ≡ 0) × Appends (taken old) (taken new) yes_line) ⊎ (status ≡ 7)
-complete_written faults taken old new words request names held verdict status d cs desc classes command answered (inl put) prove tells none =
-    let answer = proved_answer words request names held d cs answered.contents desc classes (Ok verdict) command prove answered.read tells answered.answer in
-    inl (put.0 ∙ answered.done, subst (λ (l : List ℕ). Appends (taken old) (taken new) l) (ap (λ v. v.out) answer.0) put.1)
-complete_written faults taken old new words request names held verdict status d cs desc classes command answered (inr failed) prove tells none = absurd (none failed.1)
+-- and is refused for it, or memory is wanting
+pub refuses : {F : Type 0} (held : F → List ℕ → Told) (faults : F → ℕ) (leaves : F → List ℕ → F → Type 0) (words : List (List ℕ)) (r s : Request) (m n told : List (List ℕ)) (old new : F) (stop : Stop) (status : ℕ) (p : Place) (f : Fault) (Puts : List ℕ → Type 0)
+    → IsCommand words r m → HasCause held faults leaves r m old new stop → Reports Puts stop status → AreHanded words (held old) s n told → IsAnswer s told (Err (At p f))
+    → (Rose (faults old) (faults new) → ⊥) → ((status ≡ 3) × Puts (refusal_line p f)) ⊎ (status ≡ 7)
+refuses held faults leaves words r s m n told old new (Unread name fault) status p f Puts command cause says handed answer none =
+    absurd (all_read held faults leaves words r s m n told old new name fault command cause handed none)
+refuses held faults leaves words r s m n told old new (Broken place fault) status p f Puts command cause (inl said) handed answer none =
+    let here : IsAnswer s told (Err (At place fault)) = told_answer words (held old) r s m n cause.0 told (Err (At place fault)) command handed.is_command cause.1 handed.told cause.2 in
+    let same = at_is place fault p f (answers_one s told (Err (At place fault)) (Err (At p f)) here answer (some_refusal place fault) (some_refusal p f)) in
+    inl (said.0, subst (λ (g : Fault). Puts (refusal_line p g)) same.1 (subst (λ (q : Place). Puts (refusal_line q fault)) same.0 said.2))
+refuses held faults leaves words r s m n told old new (Broken place fault) status p f Puts command cause (inr said) handed answer none = inr said.0
+refuses held faults leaves words r s m n told old new NoMemory status p f Puts command cause (inl said) handed answer none = absurd said.1
+refuses held faults leaves words r s m n told old new NoMemory status p f Puts command cause (inr said) handed answer none = inr said.0
+
+-- ---- verdicts
 
 -- a verdict that was written is the answer for the contents of the files that the words name
 pub decided : (words : List (List ℕ)) (request : Request) (names : List (List ℕ)) (held : List ℕ → Told) (verdict : Verdict) (told : Option Verdict) → IsCommand words request names → IsAnswered request names held verdict → told ≡ Some verdict → IfSome told (λ v. Decided words held (Ok v))

@@ -1,12 +1,18 @@
 -- Input that breaks no rule, and whose program is decided, gives the headline.
-use Rattle.std.proofs.Common.{◌≡◌, ℕ, zero, suc, ◌-◌, List, [], ◌∷◌, ◌++◌, length, map, replicate, slice_get, Option, Some, None, refl, ap, sym, ◌∙◌, subst, arith, ℤ}
-use Rattle.std.proofs.lemmas.List.{length-replicate}
+use Rattle.std.proofs.Common.{◌≡◌, ℕ, zero, suc, ◌+◌, ◌-◌, ◌≤◌, List, [], ◌∷◌, ◌++◌, length, map, replicate, slice_get, Option, Some, None, refl, ap, sym, ◌∙◌, subst, arith, ℤ, pos, length-append}
+use Rattle.std.proofs.lemmas.List.{length-replicate, length-map}
+use Rattle.std.proofs.lemmas.List.Elements.{All-replicate}
+use Rattle.std.specs.Prelude.{FitsSigned}
+use Rattle.std.proofs.lemmas.Int.{fits_signed_from_abs}
+use Rattle.std.specs.Int.{w32}
 use Rattle.jvm_values.specs.declared.heap.Value.{Value}
 use Rattle.jvm_values.specs.declared.heap.Value.TheVariants.{Int}
 use Rattle.jvm_values.specs.declared.types.Kind.TheVariants as kinds
 use Rattle.jvm_values.specs.declared.types.Slot.TheVariants.{Num}
+use Rattle.jvm_values.specs.declared.state.Frame.{Frame}
+use Rattle.jvm_values.specs.declared.state.Mode.TheVariants.{Normal}
 use Rattle.jvm_values.specs.declared.state.State.{State}
-use Rattle.class_world.specs.World.{World, world_of}
+use Rattle.class_world.specs.World.{World}
 use Rattle.class_world.specs.declared.program.Method.{Method}
 use Rattle.jterm.specs.declared.form.Form.{Form}
 use Rattle.jterm.specs.declared.form.Form.TheVariants.{Ireturn}
@@ -15,10 +21,11 @@ use Rattle.jterm.specs.Decision.{IsGood}
 use Rattle.jterm.specs.FirstPath.{IsStraight}
 use Rattle.jterm.specs.Forms.{AreRising, FirstAtZero}
 use Rattle.jterm.specs.Headline.{AllEnd, FitsDescription}
-use Rattle.jterm.specs.Machine.{Program, program_of}
+use Rattle.jterm.specs.Machine.{Program}
 use Rattle.jterm.specs.Typing.{PlaceType, UnsetPlace, entry_types, type_of_slot}
 use Rattle.jterm.proofs.Closed.{closed_rising, first_rising}
 use Rattle.jterm.proofs.Forms.{FillLocals, FillStack}
+use Rattle.jterm.proofs.PassComplete.{within_length}
 use Rattle.jterm.proofs.Places.{Reads, reads_of}
 use Rattle.jterm.proofs.Runs.{Finishes}
 use Rattle.jterm.proofs.Straight.{Stands, FillLocals-within, FillStack-within, finishes_from}
@@ -42,15 +49,23 @@ head_of : (is before : List (ℕ × Form)) (last : ℕ × Form) → is ≡ befor
 head_of is [] last e = record { first = last; rest = []; split = e }
 head_of is (i ∷ before) last e = record { first = i; rest = before ++ last ∷ []; split = e }
 
+same_first : (methods : List Method) (a b : Method) → methods ≡ a ∷ [] → slice_get methods 0 ≡ Some b → b ≡ a
+same_first methods a b only first =
+    let there : Some a ≡ Some b = sym (ap (λ (ms : List Method). slice_get ms 0) only) ∙ first in
+    cc
+
 -- a state that the line fits stands at the start of its straight method
-stands : (program : Program) (method : Method) (line : Line) (s : IsStraight program.world line.params method) (state : State) → program.methods ≡ method ∷ [] → FitsDescription line method state → (place : ℕ) → place ≡ 0 → Stands program.world program method s.typed.0 place state
+stands : (program : Program) (method : Method) (line : Line) (s : IsStraight program.world line.params method) (state : State) → program.methods ≡ method ∷ [] → FitsDescription line program state → (place : ℕ) → place ≡ 0 → Stands program.world program method s.typed.0 place state
 stands program method line s state only f place z =
     let world : World = program.world in
     let entry = s.typed.1.entry in
     let takes = s.of_ints.takes in
     let counted : length method.params ≡ line.params = ap length takes ∙ length-replicate line.params (Num kinds.Int) in
+    let same : f.method ≡ method = same_first program.methods method f.method only f.first in
+    let unset : replicate (f.method.max_locals - line.params) None ≡ replicate (method.max_locals - line.params) None = ap (λ (m : Method). replicate {A = Option Value} (m.max_locals - line.params) None) same in
+    let held : f.frame.locals ≡ map (λ v. Some (Int v)) f.ints ++ replicate (method.max_locals - line.params) None = f.locals ∙ ap (λ (os : List (Option Value)). map (λ v. Some (Int v)) f.ints ++ os) unset in
     let locals : FillLocals (entry_types world method).locals f.frame.locals =
-    rw (counted, takes, f.locals) (fill_ints world f.ints line.params (replicate (method.max_locals - line.params) UnsetPlace) (replicate (method.max_locals - line.params) None) f.count (fill_unset (method.max_locals - line.params))) in
+    rw (counted, takes, held) (fill_ints world f.ints line.params (replicate (method.max_locals - line.params) UnsetPlace) (replicate (method.max_locals - line.params) None) f.count (fill_unset (method.max_locals - line.params))) in
     let stack : FillStack [] f.frame.stack = rw f.stack tt in
     record {
       frame = f.frame;
@@ -67,7 +82,7 @@ stands program method line s state only f place z =
     }
 
 -- and its run finishes
-finishes : (program : Program) (method : Method) (line : Line) → IsStraight program.world line.params method → AreRising method.insns → program.methods ≡ method ∷ [] → (state : State) → FitsDescription line method state → Finishes program state
+finishes : (program : Program) (method : Method) (line : Line) → IsStraight program.world line.params method → AreRising method.insns → program.methods ≡ method ∷ [] → (state : State) → FitsDescription line program state → Finishes program state
 finishes program method line s rising only state f =
     let reads : Reads method.insns s.forms = reads_of method.insns s.forms s.forms_are rising in
     let head = head_of s.forms s.returns.before (s.returns.place, Ireturn) s.returns.last in
@@ -75,32 +90,77 @@ finishes program method line s rising only state f =
     finishes_from program.world program method s.typed.0 s.forms head.rest [] head.first s.typed.1 reads head.split state
     (stands program method line s state only f head.first.0 first)
 
-first_is : (methods : List Method) (method : Method) → methods ≡ method ∷ [] → slice_get methods 0 ≡ Some method
-first_is methods method e = ap (λ (ms : List Method). slice_get ms 0) e
+-- ---- a state that the line fits
+
+zero_fits : FitsSigned w32 (pos 0)
+zero_fits = fits_signed_from_abs w32 (pos 0) (omega arith)
+
+-- the parameters fit in the locals
+params_fit : (world : World) (params : ℕ) (method : Method) → IsStraight world params method → params ≤ method.max_locals
+params_fit world params method s =
+    let entry = s.typed.1.entry in
+    let same = within_length world (entry_types world method).locals entry.there.locals entry.locals in
+    let wide : length entry.there.locals ≡ method.max_locals = (s.typed.1.each 0 entry.there entry.is_there).locals in
+    let counted : length method.params ≡ params = ap length s.of_ints.takes ∙ length-replicate params (Num kinds.Int) in
+    let split : length (entry_types world method).locals ≡ length (map (type_of_slot world) method.params) + length (replicate (method.max_locals - length method.params) UnsetPlace) = length-append _ _ in
+    let front : length (map (type_of_slot world) method.params) ≡ length method.params = length-map method.params (type_of_slot world) in
+    omega (arith, same, wide, counted, split, front)
+
+-- zero for each parameter, and the other locals unset
+abbrev zeros : ℕ → ℕ → List (Option Value)
+zeros params max_locals = map (λ v. Some (Int v)) (replicate params (pos 0)) ++ replicate (max_locals - params) None
+
+zeros_length : (params max_locals : ℕ) → params ≤ max_locals → length (zeros params max_locals) ≡ max_locals
+zeros_length params max_locals fits =
+    let split : length (zeros params max_locals) ≡ length (map (λ v. Some (Int v)) (replicate params (pos 0))) + length (replicate (max_locals - params) None) = length-append _ _ in
+    let front : length (map (λ v. Some (Int v)) (replicate params (pos 0))) ≡ length (replicate params (pos 0)) = length-map _ _ in
+    let ints : length (replicate params (pos 0)) ≡ params = length-replicate params (pos 0) in
+    let back : length (replicate {A = Option Value} (max_locals - params) None) ≡ max_locals - params = length-replicate (max_locals - params) None in
+    omega (arith, split, front, ints, back, fits)
+
+abbrev frame_of : List (Option Value) → Frame
+frame_of locals = record { method = 0; pc = 0; locals = locals; stack = [] }
+
+abbrev state_of : Frame → State
+state_of frame = record { frames = frame ∷ []; heap = record { objects = [] }; mode = Normal; statics = [] }
+
+fitting : (program : Program) (method : Method) (line : Line) → IsStraight program.world line.params method → program.methods ≡ method ∷ [] → (state : State) × FitsDescription line program state
+fitting program method line s only = (
+  state_of (frame_of (zeros line.params method.max_locals)),
+  record {
+    method = method;
+    first = ap (λ (ms : List Method). slice_get ms 0) only;
+    takes = s.of_ints.takes;
+    frame = frame_of (zeros line.params method.max_locals);
+    frames = refl;
+    method_is = refl;
+    start = refl;
+    ints = replicate line.params (pos 0);
+    count = length-replicate line.params (pos 0);
+    range = All-replicate (FitsSigned w32) line.params (pos 0) (zero_fits);
+    locals = refl;
+    as_many = zeros_length line.params method.max_locals (params_fit program.world line.params method s);
+    stack = refl;
+    mode = refl;
+    statics = refl;
+  },
+)
+
+-- where nothing is refused, some state fits
+pub good_fits : (desc : List ℕ) (files : List (List ℕ)) (g : IsGood desc files) → (state : State) × FitsDescription g.line g.program state
+good_fits desc files g = fitting g.program g.built.method g.line g.built.straight g.built.only
 
 -- every state that the line fits ends
 pub AllEnd-good : (desc : List ℕ) (files : List (List ℕ)) → IsGood desc files → AllEnd files desc
 AllEnd-good desc files g =
-    let entered = g.entered in
-    let read = entered.linked.read in
-    let built = g.built in
-    let path = built.first_path in
-    let world : World = world_of read.classes in
-    let program : Program = program_of world built.methods in
-    let rising : AreRising path.method.insns = first_rising path.method built.methods path.only (closed_rising world entered.entry built.methods built.closed) in
-    let done : (state : State) → FitsDescription read.line path.method state → Finishes program state = finishes program path.method read.line path.straight rising path.only in
+    let program : Program = g.program in
+    let path = g.built in
+    let rising : AreRising path.method.insns = first_rising path.method program.methods path.only (closed_rising program.world g.named.entry program.methods g.named.closed) in
+    let done : (state : State) → FitsDescription g.line program state → Finishes program state = finishes program path.method g.line path.straight rising path.only in
     record {
-      classes = read.classes;
-      spelled = read.spelled;
-      links = entered.linked.links;
-      line = read.line;
-      described = read.described;
-      entry = entered.entry;
-      named = entered.is_entry.named;
-      methods = built.methods;
-      closed = built.closed;
-      method = path.method;
-      method_is = first_is built.methods path.method path.only;
+      line = g.line;
+      program = program;
+      named = g.named;
       ends = λ state f. (done state f).ends;
       never_stuck = λ state f. (done state f).never_stuck;
     }

@@ -1,6 +1,7 @@
 pub mod WordsLemmas
 pub mod ReadingOrder
 pub mod Answering
+pub mod OneAnswer
 pub mod Endings
 pub mod Runs
 pub mod Forms
@@ -20,4 +21,3 @@ pub mod Files
 pub mod Rising
 pub mod Closed
 pub mod Good
-pub mod Assembling

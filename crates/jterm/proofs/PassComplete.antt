@@ -80,7 +80,7 @@ stack_length world zero (p ∷ wide) h = absurd h
 stack_length world (suc depth) [] h = absurd h
 stack_length world (suc depth) (p ∷ wide) h = let e = stack_length world depth wide h.1 in ap suc e
 
-within_length : (world : World) (narrow wide : List PlaceType) → AreWithin world narrow wide → length narrow ≡ length wide
+pub within_length : (world : World) (narrow wide : List PlaceType) → AreWithin world narrow wide → length narrow ≡ length wide
 within_length world [] [] h = refl
 within_length world [] (p ∷ wide) h = absurd h
 within_length world (b ∷ narrow) [] h = absurd h

@@ -1,5 +1,5 @@
 -- One file more is read.
-use Rattle.std.proofs.Common.{◌≡◌, ℕ, suc, zero, ◌+◌, ◌<◌, ◌≤◌, List, [], ◌∷◌, ◌++◌, length, map, take, get_or, slice_get, Some, refl, sym, ap, ◌∙◌, subst, arith, inl, inr, IsErrOf, Err}
+use Rattle.std.proofs.Common.{◌≡◌, ℕ, suc, zero, ◌+◌, ◌<◌, ◌≤◌, List, [], ◌∷◌, ◌++◌, length, map, take, get_or, slice_get, Some, refl, sym, ap, ◌∙◌, subst, arith, IsErrOf, Err}
 use Rattle.std.proofs.lemmas.List.{map-append}
 use Rattle.io_ports.specs.Count.{Rose}
 use Rattle.io_ports.specs.Told.{Told, IsContent, IsPastLimit, IsNotHeld}
@@ -63,28 +63,29 @@ first_contents_more request held between names contents all k name content limit
     let both = contents_more request 0 held (take k names) contents name content limit at are is' within e in
     subst (λ n. AreContents request 0 held n all) (sym more) (subst (AreContents request 0 held (take k names ++ name ∷ [])) (sym grown) both)
 
--- a count that rose since a later moment rose since an earlier one
-pub rose_since : (before between after : ℕ) → before ≤ between → Rose between after → Rose before after
-rose_since before between after le rose = elim rose [ inl more ↦ inl (omega arith) | inr greatest ↦ inr greatest ]
-
 -- why the file at this place was not read
-pub has_cause : {T : Type 0} (request : Request) (names : List (List ℕ)) (held now : List ℕ → Told) (before between after place : ℕ) (name : List ℕ) (contents : List (List ℕ)) (fault : FileFault) (limit : ℕ)
-    → now ≡ held → limit ≡ limit_of request place → before ≤ between
-    → slice_get names place ≡ Some name → AreContents request 0 held (take place names) contents
-    → (IsErrOf {T = T} (Err fault) Failed → Rose between after)
-    → (IsErrOf {T = T} (Err fault) TooLong → IsPastLimit (now name) limit)
-    → (IsErrOf {T = T} (Err fault) Missing → IsNotHeld (now name))
-    → HasCause request names held before after (stopped_at place fault)
-has_cause request names held now before between after place name contents Failed limit same e le named earlier failed too_long missing =
-    record { name = name; is_named = named; contents = contents; earlier = earlier; cause = rose_since before between after le (failed refl) }
-has_cause request names held now before between after place name contents TooLong limit same e le named earlier failed too_long missing =
+pub has_cause : {T F : Type 0} (held : F → List ℕ → Told) (faults : F → ℕ) (leaves : F → List ℕ → F → Type 0) (request : Request) (names : List (List ℕ)) (old between new : F) (place : ℕ) (name : List ℕ) (contents : List (List ℕ)) (fault : FileFault) (limit : ℕ)
+    → held between ≡ held old → limit ≡ limit_of request place → faults old ≤ faults between
+    → slice_get names place ≡ Some name → AreContents request 0 (held old) (take place names) contents
+    → AreRead leaves (take place names) old between → leaves between name new
+    → (IsErrOf {T = T} (Err fault) Failed → Rose (faults between) (faults new))
+    → (IsErrOf {T = T} (Err fault) TooLong → IsPastLimit (held between name) limit)
+    → (IsErrOf {T = T} (Err fault) Missing → IsNotHeld (held between name))
+    → HasCause held faults leaves request names old new (stopped_at name fault)
+has_cause held faults leaves request names old between new place name contents Failed limit same e le named earlier led last failed too_long missing =
+    record { place = place; is_named = named; contents = contents; earlier = earlier; between = between; led = led; counted = le; last = last; cause = failed refl }
+has_cause held faults leaves request names old between new place name contents TooLong limit same e le named earlier led last failed too_long missing =
     record {
-      name = name;
+      place = place;
       is_named = named;
       contents = contents;
       earlier = earlier;
-      cause = subst (λ h. IsPastLimit (h name) (limit_of request place)) same (subst (IsPastLimit (now name)) e (too_long refl));
+      between = between;
+      led = led;
+      counted = le;
+      last = last;
+      cause = subst (λ h. IsPastLimit (h name) (limit_of request place)) same (subst (IsPastLimit (held between name)) e (too_long refl));
     }
-has_cause request names held now before between after place name contents Missing limit same e le named earlier failed too_long missing =
-    record { name = name; is_named = named; contents = contents; earlier = earlier; cause = subst (λ h. IsNotHeld (h name)) same (missing refl) }
-has_cause request names held now before between after place name contents Memory limit same e le named earlier failed too_long missing = tt
+has_cause held faults leaves request names old between new place name contents Missing limit same e le named earlier led last failed too_long missing =
+    record { place = place; is_named = named; contents = contents; earlier = earlier; between = between; led = led; counted = le; last = last; cause = subst (λ h. IsNotHeld (h name)) same (missing refl) }
+has_cause held faults leaves request names old between new place name contents Memory limit same e le named earlier led last failed too_long missing = tt

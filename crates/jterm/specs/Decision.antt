@@ -1,5 +1,5 @@
 -- What `decide` answers, and why.
-use Rattle.std.specs.Prelude.{◌≡◌, ◌⊎◌, ℕ, zero, suc, ◌≤◌, List, [], ◌∷◌, ◌++◌, length, Some, None, Result, Ok, Err, IsTrue}
+use Rattle.std.specs.Prelude.{◌≡◌, ◌⊎◌, ℕ, zero, suc, ◌≤◌, List, [], ◌∷◌, ◌++◌, length, Some, Result, Ok, Err}
 use Rattle.class_asm.specs.Classes.{assembled}
 use Rattle.class_read.specs.Content.{ClassContent}
 use Rattle.class_read.specs.Rules.{Spells}
@@ -7,8 +7,7 @@ use Rattle.class_read.specs.FirstFault.{class_in}
 use Rattle.class_read.specs.declared.fault.ClassFault.{ClassFault}
 use Rattle.class_world.specs.World.{World, world_of}
 use Rattle.class_world.specs.Linking.{link_fault}
-use Rattle.class_world.specs.Reached.{has_body, close_of}
-use Rattle.class_world.specs.declared.program.Method.{Method}
+use Rattle.class_world.specs.Reached.{close_of}
 use Rattle.class_world.specs.declared.world.MethodRef.{MethodRef}
 use Rattle.class_world.specs.declared.fault.LinkFault.{LinkFault}
 use Rattle.jterm.specs.declared.line.Line.{Line}
@@ -23,8 +22,8 @@ use Rattle.jterm.specs.declared.verdict.Fault.{Fault}
 use Rattle.jterm.specs.declared.verdict.Fault.TheVariants as faults
 use Rattle.jterm.specs.Description.{IsLine}
 use Rattle.jterm.specs.FirstPath.{IsFirstPath}
-use Rattle.jterm.specs.Machine.{program_of}
-use Rattle.jterm.specs.Headline.{AllSpell, named_method}
+use Rattle.jterm.specs.Machine.{Program}
+use Rattle.jterm.specs.Headline.{AllSpell, NameClasses, NameWorld, IsEntry, NameEntry, NameProgram}
 
 -- the request's number is in its range, and there are as many files as its command has file words
 abbrev pub Takes : Request → List (List ℕ) → Type 0
@@ -56,67 +55,47 @@ IsFirstBroken [] number fault = ⊥
 IsFirstBroken (file ∷ files) zero fault = IsBrokenFile file fault
 IsFirstBroken (file ∷ files) (suc number) fault = (class : ClassContent) × Spells file class × IsFirstBroken files number fault
 
--- the files spell classes, and the description is a line
-pub record AreRead (desc : List ℕ) (files : List (List ℕ)) : Type 0 where
-  pub classes : List ClassContent
-  pub spelled : AllSpell files classes
-  pub line : Line
-  pub described : IsLine desc line
-
--- and the classes make a world
-pub record AreLinked (desc : List ℕ) (files : List (List ℕ)) : Type 0 where
-  pub read : AreRead desc files
-  pub links : link_fault (world_of read.classes) ≡ None
-
--- the line names this method of the world, and it is not abstract
-pub record IsEntry (world : World) (line : Line) (entry : MethodRef) : Type 0 where
-  pub named : named_method world line ≡ Some entry
-  pub not_abstract : IsTrue (has_body world entry)
-
 -- the files spell classes, and the description is no line
 pub record IsNoLine (desc : List ℕ) (files : List (List ℕ)) : Type 0 where
   pub classes : List ClassContent
   pub spelled : AllSpell files classes
   pub no_line : (line : Line) → IsLine desc line → ⊥
 
--- the classes make a world in which the line names no method, or an abstract one
-pub record HasNoEntry (desc : List ℕ) (files : List (List ℕ)) : Type 0 where
-  pub linked : AreLinked desc files
-  pub no_entry : (entry : MethodRef) → IsEntry (world_of linked.read.classes) linked.read.line entry → ⊥
-
 -- the classes break this rule first
 pub record IsUnlinked (desc : List ℕ) (files : List (List ℕ)) (fault : LinkFault) : Type 0 where
-  pub read : AreRead desc files
-  pub first : link_fault (world_of read.classes) ≡ Some fault
+  pub classes : List ClassContent
+  pub line : Line
+  pub read : NameClasses files desc classes line
+  pub first : link_fault (world_of classes) ≡ Some fault
 
--- the line names a method that is not abstract
-pub record HasEntry (desc : List ℕ) (files : List (List ℕ)) : Type 0 where
-  pub linked : AreLinked desc files
-  pub entry : MethodRef
-  pub is_entry : IsEntry (world_of linked.read.classes) linked.read.line entry
+-- the classes make a world in which the line names no method, or an abstract one
+pub record HasNoEntry (desc : List ℕ) (files : List (List ℕ)) : Type 0 where
+  pub world : World
+  pub line : Line
+  pub linked : NameWorld files desc world line
+  pub no_entry : (entry : MethodRef) → IsEntry world line entry → ⊥
 
--- the program of the method breaks this rule first
+-- the program of the method that the line names breaks this rule first
 pub record IsUnclosed (desc : List ℕ) (files : List (List ℕ)) (fault : LinkFault) : Type 0 where
-  pub entered : HasEntry desc files
-  pub first : close_of (world_of entered.linked.read.classes) entered.entry ≡ Err fault
+  pub world : World
+  pub line : Line
+  pub entry : MethodRef
+  pub entered : NameEntry files desc world line entry
+  pub first : close_of world entry ≡ Err fault
 
--- the method is closed, and its program is one of those that are decided so far
-pub record IsBuilt (world : World) (entry : MethodRef) (params : ℕ) : Type 0 where
-  pub methods : List Method
-  pub closed : close_of world entry ≡ Ok methods
-  pub first_path : IsFirstPath params (program_of world methods)
-
--- the method is closed, and its program is none of those that are decided so far
+-- they name a program that is none of those that are decided so far
 pub record IsNotBuilt (desc : List ℕ) (files : List (List ℕ)) : Type 0 where
-  pub entered : HasEntry desc files
-  pub methods : List Method
-  pub closed : close_of (world_of entered.linked.read.classes) entered.entry ≡ Ok methods
-  pub not_built : IsFirstPath entered.linked.read.line.params (program_of (world_of entered.linked.read.classes) methods) → ⊥
+  pub line : Line
+  pub program : Program
+  pub named : NameProgram files desc line program
+  pub not_built : IsFirstPath line.params program → ⊥
 
--- nothing is refused
+-- nothing is refused: they name a program that is decided
 pub record IsGood (desc : List ℕ) (files : List (List ℕ)) : Type 0 where
-  pub entered : HasEntry desc files
-  pub built : IsBuilt (world_of entered.linked.read.classes) entered.entry entered.linked.read.line.params
+  pub line : Line
+  pub program : Program
+  pub named : NameProgram files desc line program
+  pub built : IsFirstPath line.params program
 
 -- the cause of a refusal
 abbrev pub IsRefused : List ℕ → List (List ℕ) → Place → Fault → Type 0

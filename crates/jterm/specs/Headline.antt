@@ -1,41 +1,25 @@
 -- What the headline says of the bytes of a description and of class files.
-use Rattle.std.specs.Prelude.{◌≡◌, ℕ, ◌-◌, List, [], ◌∷◌, ◌++◌, length, map, All, replicate, slice_get, Option, Some, None, Ok, FitsSigned, ℤ}
+use Rattle.std.specs.Prelude.{◌≡◌, ℕ, ◌-◌, List, [], ◌∷◌, ◌++◌, length, map, All, replicate, slice_get, Option, Some, None, Ok, FitsSigned, ℤ, IsTrue}
 use Rattle.std.specs.Int.{w32}
 use Rattle.jvm_values.specs.declared.heap.Value.TheVariants.{Int}
 use Rattle.jvm_values.specs.declared.state.Frame.{Frame}
 use Rattle.jvm_values.specs.declared.state.Mode.TheVariants.{Normal}
 use Rattle.jvm_values.specs.declared.state.State.{State}
+use Rattle.jvm_values.specs.declared.types.Kind.TheVariants as kinds
+use Rattle.jvm_values.specs.declared.types.Slot.TheVariants.{Num}
 use Rattle.class_read.specs.Content.{ClassContent}
 use Rattle.class_read.specs.Rules.{Spells}
 use Rattle.class_world.specs.World.{World, world_of}
 use Rattle.class_world.specs.Linking.{link_fault}
 use Rattle.class_world.specs.Members.{find_method}
-use Rattle.class_world.specs.Reached.{close_of}
+use Rattle.class_world.specs.Reached.{has_body, close_of}
 use Rattle.class_world.specs.declared.world.MethodRef.{MethodRef}
 use Rattle.class_world.specs.declared.program.Method.{Method}
 use Rattle.jterm.specs.declared.line.Line.{Line}
-use Rattle.jterm.specs.Machine.{program_of, Ends, IsNeverStuck}
+use Rattle.jterm.specs.Machine.{Program, Ends, IsNeverStuck}
 use Rattle.jterm.specs.Description.{IsLine, int_descriptor}
 
--- ---- the states that the line fits
-
--- the state fits the line: one frame of the method at its start, an int in each parameter's local, the other locals
--- unset, an empty stack, and normal mode. The heap is any, since none of the forms reads it, and there are no values of
--- static fields
-pub record FitsDescription (line : Line) (method : Method) (state : State) : Type 0 where
-  pub frame : Frame
-  pub frames : state.frames ≡ frame ∷ []
-  pub method_is : frame.method ≡ 0
-  pub start : frame.pc ≡ 0
-  pub ints : List ℤ
-  pub count : length ints ≡ line.params
-  pub range : All (FitsSigned w32) ints
-  pub locals : frame.locals ≡ map (λ v. Some (Int v)) ints ++ replicate (method.max_locals - line.params) None
-  pub stack : frame.stack ≡ []
-  pub mode : state.mode ≡ Normal
-  pub statics : state.statics ≡ []
-
--- ---- the headline
+-- ---- what class files and a description name
 
 -- each file spells a class, in order
 abbrev pub AllSpell : List (List ℕ) → List ClassContent → Type 0
@@ -44,24 +28,67 @@ AllSpell (file ∷ files) (class ∷ classes) = Spells file class × AllSpell fi
 AllSpell [] (class ∷ classes) = ⊥
 AllSpell (file ∷ files) [] = ⊥
 
--- the method of a world that the line names
+-- they name these classes and this line: the files spell the classes, and the description is the line
+pub record NameClasses (files : List (List ℕ)) (desc : List ℕ) (classes : List ClassContent) (line : Line) : Type 0 where
+  pub spelled : AllSpell files classes
+  pub described : IsLine desc line
+
+-- and this world: the classes link, and make it
+pub record NameWorld (files : List (List ℕ)) (desc : List ℕ) (world : World) (line : Line) : Type 0 where
+  pub classes : List ClassContent
+  pub read : NameClasses files desc classes line
+  pub world_is : world ≡ world_of classes
+  pub links : link_fault world ≡ None
+
+-- the method of a world that a line names
 abbrev pub named_method : World → Line → Option MethodRef
 named_method world line = find_method world line.class line.name (int_descriptor line.params)
 
--- the files spell classes that link to a world, the description is read and names a method of it, that method is closed,
--- which gives the methods that it reaches, itself first, and every state that the description fits comes to a return or to
--- a throw that nothing catches after some number of steps, and no state on the way is stuck
-pub record AllEnd (files : List (List ℕ)) (desc : List ℕ) : Type 0 where
-  pub classes : List ClassContent
-  pub spelled : AllSpell files classes
-  pub links : link_fault (world_of classes) ≡ None
-  pub line : Line
-  pub described : IsLine desc line
+-- the line names this method of the world, and it is not abstract
+pub record IsEntry (world : World) (line : Line) (entry : MethodRef) : Type 0 where
+  pub named : named_method world line ≡ Some entry
+  pub not_abstract : IsTrue (has_body world entry)
+
+-- and this entry method: the line names it in the world
+pub record NameEntry (files : List (List ℕ)) (desc : List ℕ) (world : World) (line : Line) (entry : MethodRef) : Type 0 where
+  pub linked : NameWorld files desc world line
+  pub is_entry : IsEntry world line entry
+
+-- and this program: the entry method is closed, which gives the methods that it reaches, itself first
+pub record NameProgram (files : List (List ℕ)) (desc : List ℕ) (line : Line) (program : Program) : Type 0 where
   pub entry : MethodRef
-  pub named : named_method (world_of classes) line ≡ Some entry
-  pub methods : List Method
-  pub closed : close_of (world_of classes) entry ≡ Ok methods
+  pub entered : NameEntry files desc program.world line entry
+  pub closed : close_of program.world entry ≡ Ok program.methods
+
+-- ---- the states that a line fits
+
+-- The state fits the line in the program, whose first method takes the line's ints and nothing else: one frame of that
+-- method at its start, as many locals as it may have, an int in each parameter's local, the other locals unset, an empty
+-- stack, and normal mode. The program has no static fields. The heap is any, since none of the forms reads it.
+pub record FitsDescription (line : Line) (program : Program) (state : State) : Type 0 where
   pub method : Method
-  pub method_is : slice_get methods 0 ≡ Some method
-  pub ends : (state : State) → FitsDescription line method state → Ends (program_of (world_of classes) methods) state
-  pub never_stuck : (state : State) → FitsDescription line method state → IsNeverStuck (program_of (world_of classes) methods) state
+  pub first : slice_get program.methods 0 ≡ Some method
+  pub takes : method.params ≡ replicate line.params (Num kinds.Int)
+  pub frame : Frame
+  pub frames : state.frames ≡ frame ∷ []
+  pub method_is : frame.method ≡ 0
+  pub start : frame.pc ≡ 0
+  pub ints : List ℤ
+  pub count : length ints ≡ line.params
+  pub range : All (FitsSigned w32) ints
+  pub locals : frame.locals ≡ map (λ v. Some (Int v)) ints ++ replicate (method.max_locals - line.params) None
+  pub as_many : length frame.locals ≡ method.max_locals
+  pub stack : frame.stack ≡ []
+  pub mode : state.mode ≡ Normal
+  pub statics : state.statics ≡ []
+
+-- ---- the headline
+
+-- The files and the description name a program; every state that the description fits comes to a return, or to a throw that
+-- nothing catches, after some number of steps; and no state on the way is stuck.
+pub record AllEnd (files : List (List ℕ)) (desc : List ℕ) : Type 0 where
+  pub line : Line
+  pub program : Program
+  pub named : NameProgram files desc line program
+  pub ends : (state : State) → FitsDescription line program state → Ends program state
+  pub never_stuck : (state : State) → FitsDescription line program state → IsNeverStuck program state

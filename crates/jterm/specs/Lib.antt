@@ -1,9 +1,4 @@
 pub mod Texts
-pub mod Faults
-pub mod Words
-pub mod Lines
-pub mod Outside
-pub mod Stop
 pub mod Options
 pub mod Forms
 pub mod Machine
@@ -12,5 +7,11 @@ pub mod Description
 pub mod Headline
 pub mod FirstPath
 pub mod Decision
+pub mod Laws
+pub mod Words
+pub mod Faults
+pub mod Lines
+pub mod Outside
+pub mod Stop
 pub mod Refusals
 pub mod Pass

@@ -34,7 +34,12 @@ AreContents request place held (name ∷ names) (content ∷ contents) =
 AreContents request place held [] (content ∷ contents) = ⊥
 AreContents request place held (name ∷ names) [] = ⊥
 
--- why a file was not read: reading failed, and the count of the files' faults rose; or the content, where one is told,
+-- the contents are within their limits; the first stands at `place` among the file words
+abbrev pub AreWithin : Request → ℕ → List (List ℕ) → Type 0
+AreWithin request place [] = ⊤
+AreWithin request place (content ∷ contents) = (length content ≤ limit_of request place) × AreWithin request (place + 1) contents
+
+-- why a file was not read: the read failed, and the count of the files' faults rose in it; or the content, where one is told,
 -- is past its limit; or none is held, where that is told
 abbrev pub ReadFails : FileFault → Told → ℕ → ℕ → ℕ → Type 0
 ReadFails Failed told limit before after = Rose before after
@@ -42,24 +47,36 @@ ReadFails TooLong told limit before after = IsPastLimit told limit
 ReadFails Missing told limit before after = IsNotHeld told
 ReadFails Memory told limit before after = ⊥
 
--- the file at this place among the file words is the first that was not read, for this cause
-pub record IsUnread (request : Request) (names : List (List ℕ)) (held : List ℕ → Told) (before after place : ℕ) (fault : FileFault) : Type 0 where
-  pub name : List ℕ
-  pub is_named : slice_get names place ≡ Some name
-  pub contents : List (List ℕ)
-  pub earlier : AreContents request 0 held (take place names) contents
-  pub cause : ReadFails fault (held name) (limit_of request place) before after
-
 -- reads of these names, in their order, lead from old files to new ones
 abbrev pub AreRead : {F : Type 0} → (F → List ℕ → F → Type 0) → List (List ℕ) → F → F → Type 0
 AreRead leaves [] old new = old ≡ new
 AreRead {F} leaves (name ∷ names) old new = (between : F) × leaves old name between × AreRead leaves names between new
+
+-- The file of this name is the first of the named ones that was not read, for this cause. The files before it were read, one
+-- after the other, which led from the old files to those between; the read of this very file led on from there to the new
+-- ones, and is the one that failed.
+pub record IsUnread {F : Type 0} (held : F → List ℕ → Told) (faults : F → ℕ) (leaves : F → List ℕ → F → Type 0) (request : Request) (names : List (List ℕ)) (old new : F) (name : List ℕ) (fault : FileFault) : Type 0 where
+  pub place : ℕ
+  pub is_named : slice_get names place ≡ Some name
+  pub contents : List (List ℕ)
+  pub earlier : AreContents request 0 (held old) (take place names) contents
+  pub between : F
+  pub led : AreRead leaves (take place names) old between
+  pub counted : faults old ≤ faults between
+  pub last : leaves between name new
+  pub cause : ReadFails fault (held old name) (limit_of request place) (faults between) (faults new)
 
 -- nothing but reads of the first of these names, in their order, changed the files
 abbrev pub FirstAreRead : {F : Type 0} → (F → List ℕ → F → Type 0) → List (List ℕ) → F → F → Type 0
 FirstAreRead leaves names old new = (count : ℕ) × AreRead leaves (take count names) old new
 
 -- ---- the answer
+
+-- the words are this command, and what the files tell under the names that it has are these contents, within their limits
+pub record AreHanded (words : List (List ℕ)) (held : List ℕ → Told) (request : Request) (names contents : List (List ℕ)) : Type 0 where
+  pub is_command : IsCommand words request names
+  pub told : AreTold held names contents
+  pub within : AreWithin request 0 contents
 
 -- this is the answer for the contents of the files that the words of a command name
 pub record Decided (words : List (List ℕ)) (held : List ℕ → Told) (result : Result Verdict Refused) : Type 0 where

@@ -1,6 +1,5 @@
 -- Why a call ends without a verdict.
-use Rattle.std.specs.Prelude.{◌≡◌, ◌<◌, ℕ, List, [], length, Ok, Err, ⊤}
-use Rattle.std.specs.List.{slice_index_or}
+use Rattle.std.specs.Prelude.{◌≡◌, ℕ, List, Ok, Err, ⊤}
 use Rattle.io_ports.specs.Told.{Told}
 use Rattle.io_ports.specs.declared.files.FileFault.{FileFault}
 use Rattle.io_ports.specs.declared.files.FileFault.TheVariants.{Failed, TooLong, Missing, Memory}
@@ -14,31 +13,31 @@ use Rattle.jterm.specs.Words.{IsCommand}
 use Rattle.jterm.specs.Lines.{read_line, refusal_line, memory_line}
 use Rattle.jterm.specs.Outside.{AreContents, IsUnread}
 
--- a call with this request and these file words has this cause to stop
-abbrev pub HasCause : Request → List (List ℕ) → (List ℕ → Told) → ℕ → ℕ → Stop → Type 0
-HasCause request names held before after (Unread place fault) = IsUnread request names held before after place fault
-HasCause request names held before after (Broken place fault) =
-    (contents : List (List ℕ)) × AreContents request 0 held names contents × IsAnswer request contents (Err (At place fault))
-HasCause request names held before after NoMemory = ⊤
+-- a call with this request and these file words, which led from old files to new ones, has this cause to stop
+abbrev pub HasCause : {F : Type 0} → (F → List ℕ → Told) → (F → ℕ) → (F → List ℕ → F → Type 0) → Request → List (List ℕ) → F → F → Stop → Type 0
+HasCause held faults leaves request names old new (Unread name fault) = IsUnread held faults leaves request names old new name fault
+HasCause held faults leaves request names old new (Broken place fault) =
+    (contents : List (List ℕ)) × AreContents request 0 (held old) names contents × IsAnswer request contents (Err (At place fault))
+HasCause held faults leaves request names old new NoMemory = ⊤
 
 -- the exit status
 abbrev pub status_of : Stop → ℕ
-status_of (Unread place fault) = 5
+status_of (Unread name fault) = 5
 status_of (Broken place fault) = 3
 status_of NoMemory = 7
 
 -- the line that says so
-abbrev pub line_of : List (List ℕ) → Stop → List ℕ
-line_of names (Unread place fault) = read_line (slice_index_or names place []) fault
-line_of names (Broken place fault) = refusal_line place fault
-line_of names NoMemory = memory_line
+abbrev pub line_of : Stop → List ℕ
+line_of (Unread name fault) = read_line name fault
+line_of (Broken place fault) = refusal_line place fault
+line_of NoMemory = memory_line
 
--- the call stops where the file at this place was not read
-abbrev pub stopped_at : ℕ → FileFault → Stop
-stopped_at place Failed = Unread place Failed
-stopped_at place TooLong = Unread place TooLong
-stopped_at place Missing = Unread place Missing
-stopped_at place Memory = NoMemory
+-- the call stops where the file of this name was not read
+abbrev pub stopped_at : List ℕ → FileFault → Stop
+stopped_at name Failed = Unread name Failed
+stopped_at name TooLong = Unread name TooLong
+stopped_at name Missing = Unread name Missing
+stopped_at name Memory = NoMemory
 
 -- the request and the file words are those of a command
 abbrev pub AreOfCommand : Request → List (List ℕ) → Type 0
@@ -51,14 +50,8 @@ pub record IsAnswered (request : Request) (names : List (List ℕ)) (held : List
   pub answer : IsAnswer request contents (Ok verdict)
   pub done : verdict.status ≡ 0
 
--- an unread file is one of the named ones
-abbrev pub IsNamed : List (List ℕ) → Stop → Type 0
-IsNamed names (Unread place fault) = place < length names
-IsNamed names (Broken place fault) = ⊤
-IsNamed names NoMemory = ⊤
-
 -- want of memory has no line of its own
 abbrev pub HasLine : Stop → Type 0
-HasLine (Unread place fault) = ⊤
+HasLine (Unread name fault) = ⊤
 HasLine (Broken place fault) = ⊤
 HasLine NoMemory = ⊥

@@ -6,8 +6,7 @@ ghost use Rattle.class_world.specs.Worlds.{classes_of};
 ghost use Rattle.class_world.specs.Linking.{link_fault, CanBeRead};
 ghost use Rattle.class_world.specs.Reached.{has_body, close_of};
 ghost use Rattle.std.specs.List.{AllByRecursion};
-ghost use Rattle.jterm.specs.Decision.{IsEntry};
-ghost use Rattle.jterm.specs.Headline.{AllSpell};
+ghost use Rattle.jterm.specs.Headline.{AllSpell, IsEntry};
 ghost use Rattle.jterm.specs.Refusals.{class_refusal, RefusesFile, RefusesClasses, RefusesWorld, RefusesProgram};
 ghost use Rattle.jterm.specs.declared.verdict.Refused.TheVariants.{Memory};
 

@@ -7,15 +7,16 @@ ghost use Rattle.jterm.specs.declared.inputs.Stop.TheVariants.{NoMemory};
 use crate::commands::Command;
 use crate::{Fault, Place, Request};
 use io_ports::{FileFault, Files};
+use list_views::Bytes;
 use std::alloc::{AllocError, AllocFailed, Global};
 
 /// Why a call ends without a verdict.
 #[derive(Drop)]
-pub(crate) enum Stop {
-    /// The file at this place among the file words was not read.
+pub(crate) enum Stop<'a> {
+    /// The file of this name was not read.
     Unread {
-        /// Counted from 0.
-        place: usize,
+        /// The word that names it.
+        name: Bytes<'a>,
         /// Why.
         fault: FileFault,
     },
@@ -30,18 +31,18 @@ pub(crate) enum Stop {
     NoMemory,
 }
 
-impl From<AllocError> for Stop {
+impl<'a> From<AllocError> for Stop<'a> {
     ghost from_gives = { λ _ stop. stop ≡ NoMemory };
 
-    fn from(_error: AllocError) -> Stop {
+    fn from(_error: AllocError) -> Stop<'a> {
         Stop::NoMemory
     }
 }
 
-impl<T: Drop> From<AllocFailed<T>> for Stop {
+impl<'a, T: Drop> From<AllocFailed<T>> for Stop<'a> {
     ghost from_gives = { λ _ stop. stop ≡ NoMemory };
 
-    fn from(_failed: AllocFailed<T>) -> Stop {
+    fn from(_failed: AllocFailed<T>) -> Stop<'a> {
         Stop::NoMemory
     }
 }
@@ -56,34 +57,38 @@ fn limit(request: &Request, _place: usize) -> usize
     }
 }
 
-// The call stops where the file at this place was not read.
-fn stop_at(place: usize, fault: FileFault) -> Stop
-    ensures { result ≡ stopped_at place fault }
+// The call stops where the file of this name was not read.
+fn stop_at(name: &str, fault: FileFault) -> Stop<'_>
+    ensures { result ≡ stopped_at name.now fault }
 {
     match fault {
         FileFault::Memory => Stop::NoMemory,
-        fault => Stop::Unread { place, fault },
+        fault => Stop::Unread {
+            name: Bytes::new(name.as_bytes()),
+            fault,
+        },
     }
 }
 
 /// The contents of the files that a command names, in their order.
-pub(crate) fn read_inputs<F: Files>(
+pub(crate) fn read_inputs<'a, F: Files>(
     alloc: Global,
-    command: &Command<'_>,
+    command: &Command<'a>,
     files: &mut F,
-) -> Result<Vec<Vec<u8>>, Stop>
+) -> Result<Vec<Vec<u8>>, Stop<'a>>
     ensures contents { IfOk result (λ inputs. AreContents command.now.request 0 (F.held files.old)
         (map string_bytes command.now.files.now) (map (λ file. file.items) inputs.items)) }
-    ensures cause { IfErr result (λ stop. HasCause command.now.request (map string_bytes command.now.files.now)
-        (F.held files.old) (F.faults files.old) (F.faults files.new) stop) }
+    ensures cause { IfErr result (λ stop. HasCause F.held F.faults F.leaves command.now.request
+        (map string_bytes command.now.files.now) files.old files.new stop) }
     ensures reads { FirstAreRead F.leaves (map string_bytes command.now.files.now) files.old files.new }
 {
     let mut inputs = Vec::new(alloc);
     for (place, name) in command.files.iter().enumerate() {
+        let name = name.as_str();
         let limit = limit(&command.request, place);
-        match files.read(alloc, name.as_str(), limit) {
+        match files.read(alloc, name, limit) {
             Ok(content) => inputs.push(content)?,
-            Err(fault) => return Err(stop_at(place, fault)),
+            Err(fault) => return Err(stop_at(name, fault)),
         }
     }
     Ok(inputs)

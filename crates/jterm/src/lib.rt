@@ -8,6 +8,7 @@ mod faults;
 mod first_path;
 mod form;
 mod inputs;
+mod laws;
 mod line;
 mod lines;
 mod listing;
@@ -18,6 +19,7 @@ mod verdict;
 
 pub use decision::decide;
 pub use form::Form;
+pub use laws::{answers_are_one, some_state_fits};
 pub use line::Line;
 pub use top::{Done, jterm};
 pub use verdict::{Fault, Place, Refused, Request, Verdict};

@@ -31,10 +31,10 @@ pub(crate) fn write_text() -> &'static [u8]
 }
 
 /// This file was not read.
-pub(crate) fn read_text(alloc: Global, name: &str, fault: FileFault) -> Result<Seq<u8>, AllocError>
+pub(crate) fn read_text(alloc: Global, name: &[u8], fault: FileFault) -> Result<Seq<u8>, AllocError>
     ensures { IfOk result (λ line. line ≡ read_line name.now fault) }
 {
-    file_line(alloc, name.as_bytes(), file_fault_name(fault))
+    file_line(alloc, name, file_fault_name(fault))
 }
 
 fn file_line(alloc: Global, name: &[u8], cause: &[u8]) -> Result<Seq<u8>, AllocError>

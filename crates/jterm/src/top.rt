@@ -1,23 +1,19 @@
 //! The call behind the program: from the words of the command line to the exit status.
-ghost use Rattle.std.specs.Prelude.{◌≡◌, ◌≢◌, ◌≤◌, ◌↔◌, ◌⊎◌, ℕ, List, [], ◌∷◌, length, All, map, string_bytes, Some, Ok, Err, IfOk, IfErr, IfSome, IfNone};
-ghost use Rattle.std.specs.List.{AllByRecursion};
+ghost use Rattle.std.specs.Prelude.{◌≡◌, ◌↔◌, ◌⊎◌, ℕ, List, [], ◌∷◌, map, string_bytes, Some, Ok, Err, IfOk, IfErr, IfSome, IfNone};
 ghost use Rattle.std.specs.Io.KnownBytes.{Appends};
 ghost use Rattle.io_ports.specs.Count.{Rose};
 ghost use Rattle.io_ports.specs.declared.files.FileFault.{FileFault};
 ghost use Rattle.jterm.specs.declared.verdict.Request.{Request};
+ghost use Rattle.jterm.specs.declared.verdict.Verdict.{Verdict};
 ghost use Rattle.jterm.specs.declared.verdict.Place.{Place};
 ghost use Rattle.jterm.specs.declared.verdict.Fault.{Fault};
 ghost use Rattle.jterm.specs.declared.verdict.Refused.TheVariants.{At};
-ghost use Rattle.jterm.specs.declared.verdict.Place.TheVariants as places;
-ghost use Rattle.jterm.specs.declared.verdict.Fault.TheVariants as faults;
-ghost use Rattle.class_asm.specs.Classes.{assembled};
-ghost use Rattle.class_asm.specs.declared.fault.AsmFault.{AsmFault};
-ghost use Rattle.jterm.specs.Words.{IsProve, IsAsm, IsCommand};
-ghost use Rattle.jterm.specs.Decision.{IsGood, yes_line};
+ghost use Rattle.jterm.specs.Words.{IsProve, IsCommand};
+ghost use Rattle.jterm.specs.Decision.{IsAnswer};
 ghost use Rattle.jterm.specs.Headline.{AllEnd};
 ghost use Rattle.jterm.specs.Lines.{usage_lines, memory_line, write_line, read_line, refusal_line};
-ghost use Rattle.jterm.specs.Outside.{AreTold, IsUnread, FirstAreRead, Decided, Puts, Claims, IsWithoutVerdict, IsWritten};
-ghost use Rattle.jterm.specs.Stop.{HasCause, AreOfCommand, IsAnswered, IsNamed, HasLine, status_of, line_of};
+ghost use Rattle.jterm.specs.Outside.{AreTold, AreHanded, IsUnread, FirstAreRead, Decided, Puts, Claims, IsWithoutVerdict, IsWritten};
+ghost use Rattle.jterm.specs.Stop.{HasCause, AreOfCommand, IsAnswered, HasLine, status_of, line_of};
 
 use crate::commands::Command;
 use crate::inputs::{Stop, read_inputs};
@@ -37,11 +33,15 @@ pub struct Done {
 }
 
 // Reads the files of a command and decides over their contents.
-fn answer<F: Files>(alloc: Global, command: &Command<'_>, files: &mut F) -> Result<Verdict, Stop>
+fn answer<'a, F: Files>(
+    alloc: Global,
+    command: &Command<'a>,
+    files: &mut F,
+) -> Result<Verdict, Stop<'a>>
     requires { AreOfCommand command.now.request (map string_bytes command.now.files.now) }
     ensures answered { IfOk result (λ verdict. IsAnswered command.now.request (map string_bytes command.now.files.now) (F.held files.old) verdict) }
-    ensures cause { IfErr result (λ stop. HasCause command.now.request (map string_bytes command.now.files.now)
-        (F.held files.old) (F.faults files.old) (F.faults files.new) stop) }
+    ensures cause { IfErr result (λ stop. HasCause F.held F.faults F.leaves command.now.request
+        (map string_bytes command.now.files.now) files.old files.new stop) }
     ensures reads { FirstAreRead F.leaves (map string_bytes command.now.files.now) files.old files.new }
 {
     let inputs = read_inputs(alloc, command, files)?;
@@ -60,19 +60,18 @@ fn put_line<E: Sink>(err: &mut E, line: &[u8])
 }
 
 // The line that says why a call has no verdict. Want of memory has none of its own.
-fn line(alloc: Global, names: &[String], stop: &Stop) -> Result<Seq<u8>, AllocError>
-    requires { IsNamed (map string_bytes names.now) stop.now }
-    ensures text { IfOk result (λ line. line ≡ line_of (map string_bytes names.now) stop.now) }
+fn line(alloc: Global, stop: &Stop<'_>) -> Result<Seq<u8>, AllocError>
+    ensures text { IfOk result (λ line. line ≡ line_of stop.now) }
     ensures has_line { IfOk result (λ line. HasLine stop.now) }
 {
     match stop {
-        Stop::Unread { place, fault } => read_text(alloc, names[*place].as_str(), *fault),
+        Stop::Unread { name, fault } => read_text(alloc, name.as_slice(), *fault),
         Stop::Broken { place, fault } => refusal_text(alloc, *place, fault),
         Stop::NoMemory => Err(AllocError),
     }
 }
 
-fn status(stop: &Stop) -> u8
+fn status(stop: &Stop<'_>) -> u8
     ensures { result ≡ status_of stop.now }
 {
     match stop {
@@ -83,15 +82,14 @@ fn status(stop: &Stop) -> u8
 }
 
 // Says why there is no verdict, and gives the exit status.
-fn report<E: Sink>(alloc: Global, names: &[String], stop: Stop, err: &mut E) -> u8
-    requires { IsNamed (map string_bytes names.now) stop }
-    ensures { ((result ≡ status_of stop) × HasLine stop × Puts E.faults E.taken err.old err.new (line_of (map string_bytes names.now) stop))
+fn report<E: Sink>(alloc: Global, stop: &Stop<'_>, err: &mut E) -> u8
+    ensures { ((result ≡ status_of stop.now) × HasLine stop.now × Puts E.faults E.taken err.old err.new (line_of stop.now))
         ⊎ ((result ≡ 7) × Puts E.faults E.taken err.old err.new memory_line) }
 {
-    match line(alloc, names, &stop) {
+    match line(alloc, stop) {
         Ok(line) => {
             put_line(err, line.as_slice());
-            status(&stop)
+            status(stop)
         }
         Err(_) => {
             put_line(err, memory_text());
@@ -157,11 +155,11 @@ pub fn jterm<F: Files, O: Sink, E: Sink>(
     ensures usage { (result.status ≡ 4) ↔ ((request : Request) (names : List (List ℕ)) → ¬ IsCommand (map string_bytes words.now) request names) }
     ensures says_usage { result.status ≡ 4 → Puts E.faults E.taken err.old err.new usage_lines }
 
-    // Status 5: a file was not read, for a cause that the files show.
-    ensures read { result.status ≡ 5 → (request : Request) × (names : List (List ℕ)) × (place : ℕ) × (fault : FileFault)
+    // Status 5: a file was not read. It is the first that was not, and its own read is what failed.
+    ensures read { result.status ≡ 5 → (request : Request) × (names : List (List ℕ)) × (name : List ℕ) × (fault : FileFault)
         × IsCommand (map string_bytes words.now) request names
-        × ((unread : IsUnread request names (F.held files.old) (F.faults files.old) (F.faults files.new) place fault)
-        × Puts E.faults E.taken err.old err.new (read_line unread.name fault)) }
+        × IsUnread F.held F.faults F.leaves request names files.old files.new name fault
+        × Puts E.faults E.taken err.old err.new (read_line name fault) }
 
     // Status 6: the output was not taken.
     ensures write { result.status ≡ 6 → Rose (O.faults out.old) (O.faults out.new)
@@ -173,27 +171,16 @@ pub fn jterm<F: Files, O: Sink, E: Sink>(
     // Status 0: nothing is said on `err`.
     ensures says_nothing { result.status ≡ 0 → err.new ≡ err.old }
 
-    // Input that breaks no rule, and whose program is built, gives YES, or want of memory, where no count rose. A file may
-    // have 1 MiB.
-    ensures complete { (d : List ℕ) (cs : List (List ℕ)) (desc : List ℕ) (classes : List (List ℕ))
-        → IsProve (map string_bytes words.now) d cs → AreTold (F.held files.old) (d ∷ cs) (desc ∷ classes)
-        → AllByRecursion (λ file. length file ≤ 1048576) (desc ∷ classes) → IsGood desc classes
+    // Where the contents of the named files are told and within their limits, and no count rose: what has a verdict
+    // gives it, and what has a cause of refusal is refused for it; or memory is wanting.
+    ensures complete { (request : Request) (names contents : List (List ℕ)) (verdict : Verdict)
+        → AreHanded (map string_bytes words.now) (F.held files.old) request names contents → IsAnswer request contents (Ok verdict)
         → ¬ Rose (F.faults files.old) (F.faults files.new) → ¬ Rose (O.faults out.old) (O.faults out.new)
-        → ((result.status ≡ 0) × Appends (O.taken out.old) (O.taken out.new) yes_line) ⊎ (result.status ≡ 7) }
-
-    // `asm`: a verdict has status 0 and the class file's bytes, and status 3 comes with the listing's first fault.
-    ensures assembles { (name listing : List ℕ) → IsAsm (map string_bytes words.now) name → AreTold (F.held files.old) (name ∷ []) (listing ∷ [])
-        → IfSome result.verdict (λ v. (v.status ≡ 0) × (assembled listing ≡ Ok v.out)) }
-    ensures asm_fault { (name listing : List ℕ) → IsAsm (map string_bytes words.now) name → AreTold (F.held files.old) (name ∷ []) (listing ∷ [])
-        → result.status ≡ 3 → (fault : AsmFault) × (assembled listing ≡ Err fault)
-        × Puts E.faults E.taken err.old err.new (refusal_line places.Listing (faults.Listing fault)) }
-
-    // A listing gives its class with status 0 or its first fault with status 3, or want of memory, where no count rose. It
-    // may have 1 MiB.
-    ensures complete_asm { (name listing : List ℕ) → IsAsm (map string_bytes words.now) name → AreTold (F.held files.old) (name ∷ []) (listing ∷ [])
-        → length listing ≤ 1048576 → ¬ Rose (F.faults files.old) (F.faults files.new) → ¬ Rose (O.faults out.old) (O.faults out.new)
-        → ((bytes : List ℕ) × (assembled listing ≡ Ok bytes) × (result.status ≡ 0) × Appends (O.taken out.old) (O.taken out.new) bytes)
-        ⊎ ((fault : AsmFault) × (assembled listing ≡ Err fault) × (result.status ≡ 3)) ⊎ (result.status ≡ 7) }
+        → ((result.status ≡ verdict.status) × Appends (O.taken out.old) (O.taken out.new) verdict.out) ⊎ (result.status ≡ 7) }
+    ensures refuses { (request : Request) (names contents : List (List ℕ)) (place : Place) (fault : Fault)
+        → AreHanded (map string_bytes words.now) (F.held files.old) request names contents → IsAnswer request contents (Err (At place fault))
+        → ¬ Rose (F.faults files.old) (F.faults files.new)
+        → ((result.status ≡ 3) × Puts E.faults E.taken err.old err.new (refusal_line place fault)) ⊎ (result.status ≡ 7) }
 
     // Nothing but reads of the file words, in their order, changes the files.
     ensures reads { (request : Request) (names : List (List ℕ)) → IsCommand (map string_bytes words.now) request names
@@ -210,7 +197,7 @@ pub fn jterm<F: Files, O: Sink, E: Sink>(
     match answer(alloc, &command, files) {
         Ok(verdict) => write_out(verdict, out, err),
         Err(stop) => Done {
-            status: report(alloc, command.files, stop, err),
+            status: report(alloc, &stop, err),
             verdict: None,
         },
     }

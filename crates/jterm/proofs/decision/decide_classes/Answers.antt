@@ -1,11 +1,13 @@
-use Rattle.std.proofs.Common.{map, sym, subst, arith, Err}
+use Rattle.std.proofs.Common.{map, sym, subst, arith, Err, Some, None, Result}
 use Rattle.std.proofs.lemmas.List.{length-map}
 use Rattle.class_world.specs.Worlds.{classes_of}
 use Rattle.jterm.specs.declared.verdict.Refused.{Refused}
 use Rattle.jterm.specs.Decision.{Answers}
+use Rattle.jterm.specs.Headline.{NameWorld, NameEntry, NameProgram}
+use Rattle.jterm.specs.Machine.{program_of}
 use Rattle.jterm.proofs.Files.{spell_length, spell_read}
 use Rattle.jterm.proofs.Closed.{closed_rising}
-use Rattle.jterm.proofs.Deciding.{world_refused, entry_refused, entry_body, closing_refused, program_refused, said_yes}
+use Rattle.jterm.proofs.Deciding.{world_refused, named_world, entry_refused, entry_body, closing_refused, named_program, program_refused, said_yes}
 use Rattle.jterm.proofs.decision.decide_classes.Goals as goal
 
 pub link-requires-clause-few : goal.link-requires-clause-few
@@ -22,26 +24,41 @@ returns-in-Err c = world_refused _ _ _ c.in-Some.line c.in-Err.refused c.in_ok-c
 
 pub returns-in_default-2 : goal.returns-in_default-2
 returns-in_default-2 c =
+    let world = classes_of c.in-Ok.world in
+    let linked = named_world _ _ _ c.in-Some.line world c.in_ok-classes.ensures.classes c.in-Some.ensures c.in-Ok.ensures.links c.in-Ok.ensures.world in
     subst (λ (r : Refused). Answers c.args.description.now (map (λ file. file.items) c.args.files.now) (Err r)) (sym c.not_built-in_default-2.ensures)
-    (entry_refused _ _ _ c.in-Some.line (classes_of c.in-Ok.world) c.in_ok-classes.ensures.classes c.in-Some.ensures c.in-Ok.ensures.links c.in-Ok.ensures.world (rw c.in_default-2.is at c.in_ok-entry.ensures))
+    (entry_refused _ _ c.in-Some.line world linked (rw c.in_default-2.is at c.in_ok-entry.ensures))
 
 pub close-requires : goal.close-requires
 close-requires c = entry_body (classes_of c.in-Ok.world) c.in-Some.line c.in-Some-2.entry (rw c.in-Some-2.is at c.in_ok-entry.ensures)
 
 pub returns-in-Err-close : goal.returns-in-Err-close
 returns-in-Err-close c =
-    closing_refused _ _ _ c.in-Some.line c.in-Some-2.entry (classes_of c.in-Ok.world) c.in-Err-close.refused c.in_ok-classes.ensures.classes c.in-Some.ensures c.in-Ok.ensures.links c.in-Ok.ensures.world (rw c.in-Some-2.is at c.in_ok-entry.ensures) c.in-Err-close.ensures.refused
+    let world = classes_of c.in-Ok.world in
+    let linked = named_world _ _ _ c.in-Some.line world c.in_ok-classes.ensures.classes c.in-Some.ensures c.in-Ok.ensures.links c.in-Ok.ensures.world in
+    let entered : NameEntry _ _ world c.in-Some.line c.in-Some-2.entry = record { linked = linked; is_entry = rw c.in-Some-2.is at c.in_ok-entry.ensures } in
+    closing_refused _ _ c.in-Some.line c.in-Some-2.entry world c.in-Err-close.refused entered c.in-Err-close.ensures.refused
 
 pub is_first_path-requires : goal.is_first_path-requires
 is_first_path-requires c = rw c.as_slice.ensures (closed_rising (classes_of c.in-Ok.world) c.in-Some-2.entry c.in-Ok-close.program.methods c.in-Ok-close.ensures.closed)
 
 pub returns-then-not-branch : goal.returns-then-not-branch
 returns-then-not-branch c =
+    let world = classes_of c.in-Ok.world in
+    let methods = c.in-Ok-close.program.methods in
+    let linked = named_world _ _ _ c.in-Some.line world c.in_ok-classes.ensures.classes c.in-Some.ensures c.in-Ok.ensures.links c.in-Ok.ensures.world in
+    let entered : NameEntry _ _ world c.in-Some.line c.in-Some-2.entry = record { linked = linked; is_entry = rw c.in-Some-2.is at c.in_ok-entry.ensures } in
+    let answer = rw c.as_slice.ensures at c.in_ok-is_first_path.ensures in
     subst (λ (r : Refused). Answers c.args.description.now (map (λ file. file.items) c.args.files.now) (Err r)) (sym c.not_built-then-not-branch.ensures)
-    (program_refused _ _ _ c.in-Some.line c.in-Some-2.entry (classes_of c.in-Ok.world) c.in-Ok-close.program.methods c.in_ok-classes.ensures.classes c.in-Some.ensures c.in-Ok.ensures.links c.in-Ok.ensures.world (rw c.in-Some-2.is at c.in_ok-entry.ensures) c.in-Ok-close.ensures.closed
-    (λ w p. let answer = rw c.as_slice.ensures at c.in_ok-is_first_path.ensures in let t = (answer w).1 p in let f = c.if-not-branch.true in cc))
+    (program_refused _ _ c.in-Some.line (program_of world methods) (named_program _ _ c.in-Some.line c.in-Some-2.entry world methods entered c.in-Ok-close.ensures.closed)
+    (λ p. let t = (answer world).1 p in let f = c.if-not-branch.true in cc))
 
 pub returns : goal.returns
 returns c =
-    said_yes _ _ _ c.in-Some.line c.in-Some-2.entry (classes_of c.in-Ok.world) c.in-Ok-close.program.methods c.yes.result c.in_ok-classes.ensures.classes c.in-Some.ensures c.in-Ok.ensures.links c.in-Ok.ensures.world (rw c.in-Some-2.is at c.in_ok-entry.ensures) c.in-Ok-close.ensures.closed
-    (λ w. let answer = rw c.as_slice.ensures at c.in_ok-is_first_path.ensures in (answer w).0 c.if-not-branch.false) c.yes.ensures
+    let world = classes_of c.in-Ok.world in
+    let methods = c.in-Ok-close.program.methods in
+    let linked = named_world _ _ _ c.in-Some.line world c.in_ok-classes.ensures.classes c.in-Some.ensures c.in-Ok.ensures.links c.in-Ok.ensures.world in
+    let entered : NameEntry _ _ world c.in-Some.line c.in-Some-2.entry = record { linked = linked; is_entry = rw c.in-Some-2.is at c.in_ok-entry.ensures } in
+    let answer = rw c.as_slice.ensures at c.in_ok-is_first_path.ensures in
+    said_yes _ _ c.in-Some.line (program_of world methods) c.yes.result (named_program _ _ c.in-Some.line c.in-Some-2.entry world methods entered c.in-Ok-close.ensures.closed)
+    ((answer world).0 c.if-not-branch.false) c.yes.ensures

@@ -8,7 +8,7 @@ returns-in-Ok-clause-answered g c =
 
 pub returns-in-Err-At-clause-cause : goal.returns-in-Err-At-clause-cause
 returns-in-Err-At-clause-cause g c =
-    is_broken _ _ _ 0 0 _ _ _ _ (ap (map (λ file. file.items)) c.deref.ensures.value) c.in_ok-inputs.ensures.contents
+    is_broken g.F.Files.held g.F.Files.faults g.F.Files.leaves _ _ c.args.files.now c.args.files.now _ _ _ _ (ap (map (λ file. file.items)) c.deref.ensures.value) c.in_ok-inputs.ensures.contents
     (rw c.in-Err-At.field-0-is at c.in-Err-At.ensures.answer)
 
 pub decide-requires : goal.decide-requires
