@@ -1,0 +1,4 @@
+pub mod InLists
+pub mod MarkLaws
+pub mod MarkTurns
+pub mod Places
