@@ -3,7 +3,7 @@ use Rattle.std.proofs.Common.{◌≡◌, ℕ, Bool, true, false, not, cond, List
 use Rattle.std.specs.Prelude.{OnOk}
 use Rattle.std.specs.List.{AllByRecursion}
 use Rattle.code_decode.specs.declared.fault.CodeFault.{CodeFault}
-use Rattle.code_decode.specs.declared.table.Handler.{Handler}
+use Rattle.class_base.specs.declared.handler.Handler.{Handler}
 use Rattle.code_decode.specs.Reading.{Gives}
 use Rattle.code_decode.specs.Tables.{may_end, bad_boundary, earlier, first_bad_boundary, boundary_fault, IsEntry}
 
@@ -46,3 +46,6 @@ is_good begins length hs (Err e) given = tt
 
 pub passes_good : (begins : ℕ → Bool) (length : ℕ) (hs : List Handler) → AllByRecursion (IsEntry begins length) hs → boundary_fault (first_bad_boundary begins length hs) ≡ Ok tt
 passes_good begins length hs g = ap boundary_fault (table_passes begins length hs g)
+
+pub without_fault : (begins : ℕ → Bool) (length : ℕ) (hs : List Handler) → boundary_fault (first_bad_boundary begins length hs) ≡ Ok tt → AllByRecursion (IsEntry begins length) hs
+without_fault begins length hs e = good_table begins length hs (no_fault (first_bad_boundary begins length hs) tt e)

@@ -89,7 +89,7 @@ stray_checked : (xs ys : Insns) (o : Option ℕ) → with_targets xs o ≡ Ok ys
 stray_checked xs ys None e = (refl, ok_is xs ys e)
 stray_checked xs ys (Some pc) e = absurd cc
 
-reads : (code : List ℕ) (ys : Insns) → IsBytes code → length code < 2 ^ 16 → decode_of code ≡ Ok ys → IsReading code ys
+pub reads : (code : List ℕ) (ys : Insns) → IsBytes code → length code < 2 ^ 16 → decode_of code ≡ Ok ys → IsReading code ys
 unfolding decode_of
 reads code ys fits short e =
     let a = bind_ok (insns_from 0 0 code) (λ xs. with_targets xs (first_stray (stands (starts xs)) xs)) ys e in
@@ -126,6 +126,15 @@ spelled_again pc (x ∷ xs) bytes h =
 pub reads_again : (code : List ℕ) (xs : Insns) → IsReading code xs → decode_of code ≡ Ok xs
 unfolding decode_of
 reads_again code xs h = rw (spelled_again 0 xs code h.spelled, h.targets) refl
+
+abbrev read_to : Insns → Result Insns CodeFault
+read_to xs = Ok xs
+
+same_read : (xs ys : Insns) → read_to xs ≡ read_to ys → xs ≡ ys
+same_read xs ys e = cc
+
+pub read_once : (code : List ℕ) (xs ys : Insns) → IsReading code xs → IsReading code ys → xs ≡ ys
+read_once code xs ys h k = same_read xs ys (sym (reads_again code xs h) ∙ reads_again code ys k)
 
 pub all_same : (p q : ℕ → Bool) (ts : List ℕ) → ((k : ℕ) → p k ≡ q k) → list_all p ts ≡ list_all q ts
 all_same p q [] h = refl

@@ -2,9 +2,9 @@
 use Rattle.std.proofs.Common.{◌≡◌, ℕ, suc, ◌-◌, ◌+◌, ◌≤◌, ◌<◌, List, [], ◌∷◌, ◌++◌, length, Result, Ok, Err, refl, sym, ap, ◌∙◌, subst, append_assoc, arith}
 use Rattle.std.proofs.lemmas.List.{append-nil, length-append, nil_from_length}
 use Rattle.code_decode.specs.declared.fault.CodeFault.{CodeFault}
-use Rattle.code_decode.specs.declared.fault.CodeFault.TheVariants.{Truncated, UnsupportedOpcode, UnknownOpcode, BadSwitch, BadTarget, BadOperand, Memory}
 use Rattle.code_decode.specs.declared.insn.Insn.{Insn}
-use Rattle.code_decode.specs.Reading.{◌>>=◌, Fails, insn_at}
+use Rattle.list_views.proofs.Steps.{handed_on}
+use Rattle.code_decode.specs.Reading.{◌>>=◌, is_memory, Fails, insn_at}
 use Rattle.code_decode.specs.Codes.{insns_from}
 use Rattle.code_decode.proofs.Fields.{IsBytes, IsBytes-rest}
 use Rattle.code_decode.proofs.Readings.{insn_takes}
@@ -80,15 +80,7 @@ fault code front op bytes f g e = sym g.whole ∙ rw e refl
 
 pub ends : (code : List ℕ) (front : Insns) (op : ℕ) (bytes : List ℕ) (f : CodeFault) → Goes code front (op ∷ bytes) → Fails f (insn_at (length code - suc (length bytes)) op bytes) → Fails f (insns_from 0 0 code)
 ends code front op bytes f g h =
-    elim f as (λ (f : CodeFault). Fails f (insn_at (length code - suc (length bytes)) op bytes) → Fails f (insns_from 0 0 code)) [
-      | Truncated pc ↦ fault code front op bytes (Truncated pc) g
-      | UnsupportedOpcode pc o ↦ fault code front op bytes (UnsupportedOpcode pc o) g
-      | UnknownOpcode pc o ↦ fault code front op bytes (UnknownOpcode pc o) g
-      | BadSwitch pc ↦ fault code front op bytes (BadSwitch pc) g
-      | BadTarget pc ↦ fault code front op bytes (BadTarget pc) g
-      | BadOperand pc ↦ fault code front op bytes (BadOperand pc) g
-      | Memory ↦ λ _. tt
-    ] h
+    handed_on is_memory f (insn_at (length code - suc (length bytes)) op bytes) (insns_from 0 0 code) (fault code front op bytes f g) h
 
 pub is_done : (code : List ℕ) (front : Insns) → Goes code front [] → insns_from 0 0 code ≡ Ok front
 unfolding insns_from

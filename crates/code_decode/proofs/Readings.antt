@@ -6,7 +6,7 @@ use Rattle.std.proofs.lemmas.Bool.{eqb-true}
 use Rattle.code_decode.specs.declared.insn.Insn.{Insn}
 use Rattle.code_decode.specs.Shapes.{shape, Plain, Byte, Pair, Jump}
 use Rattle.code_decode.specs.Reading as reading
-use Rattle.code_decode.specs.Reading.{opcode_of, find, find_by, plain_low, plain_high, with_byte, with_pair, with_jump, Form, first_of, single_form, operand_form, plain, form, operands_at, insn_at}
+use Rattle.code_decode.specs.Reading.{opcode_of, find, find_by, plain_low, plain_high, with_byte, with_pair, with_jump, OperandLayout, first_of, single_layout, operand_layout, plain, layout, operands_at, insn_at}
 use Rattle.code_decode.proofs.Fields.{IsBytes, ok_is}
 use Rattle.code_decode.proofs.Takes.{TakesShape, plain_takes, byte_operand_takes, pair_operand_takes, jump_operand_takes, far_jump_takes, signed_byte_takes, sipush_takes, increment_takes, array_takes, interface_takes, table_takes, lookup_takes, wide_takes, chosen, some_is, found_by}
 
@@ -40,18 +40,18 @@ found_either : (op : ℕ) (a b : Option Insn) (i : Insn) → find plain_low op �
 found_either op (Some j) b i ea eb e = found plain_low op i low_rows (ea ∙ e)
 found_either op None b i ea eb e = found plain_high op i high_rows (eb ∙ e)
 
-abbrev Reads : ℕ → ℕ → Option Form → List ℕ → Insn × List ℕ → Type 0
+abbrev Reads : ℕ → ℕ → Option OperandLayout → List ℕ → Insn × List ℕ → Type 0
 Reads pc op f bytes x = IsBytes bytes → operands_at pc op f bytes ≡ Ok x → TakesShape pc op bytes (shape x.0) x.1
 
 -- a test for one opcode, and what follows where it fails
-tested : (pc op k : ℕ) (f : Form) (rest : Option Form) (bytes : List ℕ) (x : Insn × List ℕ) (b : Bool) → eqb op k ≡ b → Reads pc k (Some f) bytes x → Reads pc op rest bytes x → Reads pc op (cond b (Some f) rest) bytes x
+tested : (pc op k : ℕ) (f : OperandLayout) (rest : Option OperandLayout) (bytes : List ℕ) (x : Insn × List ℕ) (b : Bool) → eqb op k ≡ b → Reads pc k (Some f) bytes x → Reads pc op rest bytes x → Reads pc op (cond b (Some f) rest) bytes x
 tested pc op k f rest bytes x true e this other fits h = subst (λ (o : ℕ). TakesShape pc o bytes (shape x.0) x.1) (sym (eqb-true op k e)) (this fits h)
 tested pc op k f rest bytes x false e this other fits h = other fits h
 
 unread : (pc op : ℕ) (bytes : List ℕ) (x : Insn × List ℕ) → Reads pc op None bytes x
 unread pc op bytes x fits h = absurd cc
 
-single_reads : (pc op : ℕ) (bytes : List ℕ) (x : Insn × List ℕ) → Reads pc op (single_form op) bytes x
+single_reads : (pc op : ℕ) (bytes : List ℕ) (x : Insn × List ℕ) → Reads pc op (single_layout op) bytes x
 single_reads pc op bytes x =
     tested pc op 16 reading.SignedByte _ bytes x (eqb op 16) refl (signed_byte_takes pc bytes x)
     (tested pc op 17 reading.SignedPair _ bytes x (eqb op 17) refl (sipush_takes pc bytes x)
@@ -64,27 +64,27 @@ single_reads pc op bytes x =
     (tested pc op 200 reading.FarJump _ bytes x (eqb op 200) refl (far_jump_takes pc bytes x)
     (unread pc op bytes x)))))))))
 
-byte_reads : (pc op : ℕ) (bytes : List ℕ) (x : Insn × List ℕ) (a : Option (ℕ → Insn)) (rest : Option Form) → find_by with_byte op ≡ a → Reads pc op rest bytes x → Reads pc op (first_of (option_map reading.Byte a) rest) bytes x
+byte_reads : (pc op : ℕ) (bytes : List ℕ) (x : Insn × List ℕ) (a : Option (ℕ → Insn)) (rest : Option OperandLayout) → find_by with_byte op ≡ a → Reads pc op rest bytes x → Reads pc op (first_of (option_map reading.Byte a) rest) bytes x
 byte_reads pc op bytes x (Some make) rest e other fits h = byte_operand_takes pc op make bytes x fits (found_by Byte with_byte op make byte_rows e) h
 byte_reads pc op bytes x None rest e other fits h = other fits h
 
-pair_reads : (pc op : ℕ) (bytes : List ℕ) (x : Insn × List ℕ) (a : Option (ℕ → Insn)) (rest : Option Form) → find_by with_pair op ≡ a → Reads pc op rest bytes x → Reads pc op (first_of (option_map reading.Pair a) rest) bytes x
+pair_reads : (pc op : ℕ) (bytes : List ℕ) (x : Insn × List ℕ) (a : Option (ℕ → Insn)) (rest : Option OperandLayout) → find_by with_pair op ≡ a → Reads pc op rest bytes x → Reads pc op (first_of (option_map reading.Pair a) rest) bytes x
 pair_reads pc op bytes x (Some make) rest e other fits h = pair_operand_takes pc op make bytes x fits (found_by Pair with_pair op make pair_rows e) h
 pair_reads pc op bytes x None rest e other fits h = other fits h
 
-jump_reads : (pc op : ℕ) (bytes : List ℕ) (x : Insn × List ℕ) (a : Option (ℕ → Insn)) (rest : Option Form) → find_by with_jump op ≡ a → Reads pc op rest bytes x → Reads pc op (first_of (option_map reading.Jump a) rest) bytes x
+jump_reads : (pc op : ℕ) (bytes : List ℕ) (x : Insn × List ℕ) (a : Option (ℕ → Insn)) (rest : Option OperandLayout) → find_by with_jump op ≡ a → Reads pc op rest bytes x → Reads pc op (first_of (option_map reading.Jump a) rest) bytes x
 jump_reads pc op bytes x (Some make) rest e other fits h = jump_operand_takes pc op make bytes x fits (found_by Jump with_jump op make jump_rows e) h
 jump_reads pc op bytes x None rest e other fits h = other fits h
 
-plain_reads : (pc op : ℕ) (bytes : List ℕ) (x : Insn × List ℕ) (a : Option Insn) (rest : Option Form) → plain op ≡ a → Reads pc op rest bytes x → Reads pc op (first_of (option_map reading.Plain a) rest) bytes x
+plain_reads : (pc op : ℕ) (bytes : List ℕ) (x : Insn × List ℕ) (a : Option Insn) (rest : Option OperandLayout) → plain op ≡ a → Reads pc op rest bytes x → Reads pc op (first_of (option_map reading.Plain a) rest) bytes x
 plain_reads pc op bytes x (Some i) rest e other fits h = plain_takes pc op bytes i x fits (found_either op (find plain_low op) (find plain_high op) i refl refl e) (ok_is (i, bytes) x h)
 plain_reads pc op bytes x None rest e other fits h = other fits h
 
 pub insn_takes : (pc op : ℕ) (bytes : List ℕ) (x : Insn × List ℕ) → IsBytes bytes → insn_at pc op bytes ≡ Ok x → TakesShape pc op bytes (shape x.0) x.1
 unfolding insn_at
 insn_takes pc op bytes x =
-    plain_reads pc op bytes x (plain op) (operand_form op) refl
-    (byte_reads pc op bytes x (find_by with_byte op) (first_of (option_map reading.Pair (find_by with_pair op)) (first_of (option_map reading.Jump (find_by with_jump op)) (single_form op))) refl
-    (pair_reads pc op bytes x (find_by with_pair op) (first_of (option_map reading.Jump (find_by with_jump op)) (single_form op)) refl
-    (jump_reads pc op bytes x (find_by with_jump op) (single_form op) refl
+    plain_reads pc op bytes x (plain op) (operand_layout op) refl
+    (byte_reads pc op bytes x (find_by with_byte op) (first_of (option_map reading.Pair (find_by with_pair op)) (first_of (option_map reading.Jump (find_by with_jump op)) (single_layout op))) refl
+    (pair_reads pc op bytes x (find_by with_pair op) (first_of (option_map reading.Jump (find_by with_jump op)) (single_layout op)) refl
+    (jump_reads pc op bytes x (find_by with_jump op) (single_layout op) refl
     (single_reads pc op bytes x))))

@@ -2,8 +2,8 @@
 use Rattle.std.proofs.Common.{◌≡◌, ℕ, suc, ◌-◌, ◌+◌, ◌≤◌, ◌<◌, List, [], ◌∷◌, ◌++◌, Result, Ok, Err, refl, sym, ap, ◌∙◌, append_assoc, arith}
 use Rattle.std.proofs.lemmas.List.{append-nil}
 use Rattle.code_decode.specs.declared.fault.CodeFault.{CodeFault}
-use Rattle.code_decode.specs.declared.fault.CodeFault.TheVariants.{Truncated, UnsupportedOpcode, UnknownOpcode, BadSwitch, BadTarget, BadOperand, Memory}
-use Rattle.code_decode.specs.Reading.{◌>>=◌, Fails, repeat_at}
+use Rattle.list_views.proofs.Steps.{handed_on}
+use Rattle.code_decode.specs.Reading.{◌>>=◌, is_memory, Fails, repeat_at}
 
 -- what was read before, and what is still read
 abbrev pub with_front : {A : Type 0} → List A → Result (List A × List ℕ) CodeFault → Result (List A × List ℕ) CodeFault
@@ -27,15 +27,7 @@ unfolding repeat_at
 ends {A} e read front count i bytes total lt h so_far =
     let k : count - i ≡ suc (count - (i + 1)) = omega arith in
     let one : (f : CodeFault) → read bytes ≡ Err f → total ≡ Err f = λ f g. sym so_far ∙ rw (k, g) refl in
-    elim e as (λ (f : CodeFault). Fails f (read bytes) → Fails f total) [
-      | Truncated pc ↦ one (Truncated pc)
-      | UnsupportedOpcode pc op ↦ one (UnsupportedOpcode pc op)
-      | UnknownOpcode pc op ↦ one (UnknownOpcode pc op)
-      | BadSwitch pc ↦ one (BadSwitch pc)
-      | BadTarget pc ↦ one (BadTarget pc)
-      | BadOperand pc ↦ one (BadOperand pc)
-      | Memory ↦ λ _. tt
-    ] h
+    handed_on is_memory e (read bytes) total (one e) h
 
 pub is_done : {A : Type 0} (read : List ℕ → Result (A × List ℕ) CodeFault) (front : List A) (count i : ℕ) (bytes : List ℕ) (total : Result (List A × List ℕ) CodeFault) → count ≤ i → with_front front (repeat_at read (count - i) bytes) ≡ total → total ≡ Ok (front, bytes)
 unfolding repeat_at

@@ -8,3 +8,4 @@ pub mod Reading
 pub mod Shapes
 pub mod Tables
 pub mod Texts
+pub mod Faults

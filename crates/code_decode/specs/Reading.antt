@@ -1,10 +1,13 @@
 -- Reading instructions from left to right, with the first fault that is met.
-use Rattle.std.specs.Prelude.{◌≡◌, ℕ, zero, suc, ◌+◌, ℤ, pos, negsuc, ◌+ℤ◌, List, [], ◌∷◌, length, take, drop, Option, Some, None, option_map, Result, Ok, Err, nat_lt, ◌==◌, ◌&&◌, if◌then◌else◌}
+use Rattle.std.specs.Prelude.{Bool, true, false, ℕ, zero, suc, ◌+◌, ℤ, pos, negsuc, ◌+ℤ◌, List, [], ◌∷◌, length, take, drop, Option, Some, None, option_map, Result, Ok, Err, nat_lt, ◌==◌, ◌&&◌, if◌then◌else◌}
 use Rattle.std.specs.Int.{Width, w8, w16, w32, byte_len, from_be_bytes, cast_signed}
 use Rattle.std.specs.Int.RustNames.{int_lt, unsigned_abs}
 use Rattle.std.proofs.Common.{◌-ℤ◌}
+pub use Rattle.list_views.specs.Results.{◌>>=◌}
+use Rattle.list_views.specs.Results as results
+use Rattle.list_views.specs.Results.{IsDue}
 use Rattle.code_decode.specs.declared.fault.CodeFault.{CodeFault}
-use Rattle.code_decode.specs.declared.fault.CodeFault.TheVariants.{Truncated, UnsupportedOpcode, UnknownOpcode, BadSwitch, BadTarget, BadOperand, Memory}
+use Rattle.code_decode.specs.declared.fault.CodeFault.TheVariants.{Truncated, UnsupportedOpcode, UnknownOpcode, BadSwitch, BadOperand, Memory}
 use Rattle.code_decode.specs.declared.insn.Case.{Case}
 use Rattle.code_decode.specs.declared.insn.Insn.{Insn}
 use Rattle.code_decode.specs.declared.insn.Insn.TheVariants.{Aaload, Aastore, AconstNull, Aload, Aload0, Aload1, Aload2, Aload3, Anewarray, Areturn, Arraylength, Astore, Astore0, Astore1, Astore2, Astore3, Athrow, Baload, Bastore, Bipush, Caload, Castore, Checkcast, Dup, Dup2, Dup2X1, Dup2X2, DupX1, DupX2, Getfield, Getstatic, Goto, GotoW, I2b, I2c, I2s, Iadd, Iaload, Iand, Iastore, Iconst0, Iconst1, Iconst2, Iconst3, Iconst4, Iconst5, IconstM1, Idiv, IfAcmpeq, IfAcmpne, IfIcmpeq, IfIcmpge, IfIcmpgt, IfIcmple, IfIcmplt, IfIcmpne, Ifeq, Ifge, Ifgt, Ifle, Iflt, Ifne, Ifnonnull, Ifnull, Iinc, Iload, Iload0, Iload1, Iload2, Iload3, Imul, Ineg, Instanceof, Invokeinterface, Invokespecial, Invokestatic, Invokevirtual, Ior, Irem, Ireturn, Ishl, Ishr, Istore, Istore0, Istore1, Istore2, Istore3, Isub, Iushr, Ixor, Ldc, LdcW, Lookupswitch, New, Newarray, Nop, Pop, Pop2, Putfield, Putstatic, Return, Saload, Sastore, Sipush, Swap, Tableswitch, WideAload, WideAstore, WideIinc, WideIload, WideIstore}
@@ -12,24 +15,17 @@ use Rattle.code_decode.specs.Shapes as shapes
 use Rattle.code_decode.specs.Shapes.{Shape, shape}
 use Rattle.code_decode.specs.Texts.{padding_of, is_rising}
 
-infixl 10 ◌>>=◌
-abbrev pub ◌>>=◌ : {A B : Type 0} → Result A CodeFault → (A → Result B CodeFault) → Result B CodeFault
-(Ok x) >>= f = f x
-(Err e) >>= f = Err e
+-- want of memory
+abbrev pub is_memory : CodeFault → Bool
+is_memory Memory = true
+is_memory fault = false
+
+abbrev pub Fails : {Y : Type 0} → CodeFault → Result Y CodeFault → Type 0
+Fails fault read = IsDue is_memory fault read
 
 -- What a function returned, seen by view, is what reading gives, unless memory ran out.
-abbrev pub Fails : {Y : Type 0} → CodeFault → Result Y CodeFault → Type 0
-Fails Memory read = Unit {0}
-Fails (Truncated pc) read = read ≡ Err (Truncated pc)
-Fails (UnsupportedOpcode pc op) read = read ≡ Err (UnsupportedOpcode pc op)
-Fails (UnknownOpcode pc op) read = read ≡ Err (UnknownOpcode pc op)
-Fails (BadSwitch pc) read = read ≡ Err (BadSwitch pc)
-Fails (BadTarget pc) read = read ≡ Err (BadTarget pc)
-Fails (BadOperand pc) read = read ≡ Err (BadOperand pc)
-
 abbrev pub Gives : {X Y : Type 0} → (X → Y) → Result X CodeFault → Result Y CodeFault → Type 0
-Gives view (Ok x) read = read ≡ Ok (view x)
-Gives view (Err e) read = Fails e read
+Gives view answer read = results.Gives is_memory view answer read
 
 -- ---- fields: a value and the bytes after it
 
@@ -127,28 +123,28 @@ abbrev pub wide_local : List (ℕ → Insn)
 wide_local = WideIload ∷ WideAload ∷ WideIstore ∷ WideAstore ∷ []
 
 -- What stands behind an opcode.
-pub data Form : Type 0 where
-  Plain : Insn → Form
-  Byte : (ℕ → Insn) → Form
-  Pair : (ℕ → Insn) → Form
-  Jump : (ℕ → Insn) → Form
-  SignedByte : Form
-  SignedPair : Form
-  Increment : Form
-  Table : Form
-  Lookup : Form
-  Interface : Form
-  Array : Form
-  Wide : Form
-  FarJump : Form
+pub data OperandLayout : Type 0 where
+  Plain : Insn → OperandLayout
+  Byte : (ℕ → Insn) → OperandLayout
+  Pair : (ℕ → Insn) → OperandLayout
+  Jump : (ℕ → Insn) → OperandLayout
+  SignedByte : OperandLayout
+  SignedPair : OperandLayout
+  Increment : OperandLayout
+  Table : OperandLayout
+  Lookup : OperandLayout
+  Interface : OperandLayout
+  Array : OperandLayout
+  Wide : OperandLayout
+  FarJump : OperandLayout
 
 abbrev pub first_of : {A : Type 0} → Option A → Option A → Option A
 first_of (Some f) other = Some f
 first_of None other = other
 
 -- the forms of a single opcode each
-abbrev pub single_form : ℕ → Option Form
-single_form op =
+abbrev pub single_layout : ℕ → Option OperandLayout
+single_layout op =
     if op == 16 then Some SignedByte else (
     if op == 17 then Some SignedPair else (
     if op == 132 then Some Increment else (
@@ -160,19 +156,19 @@ single_form op =
     if op == 200 then Some FarJump else None))))))))
 
 -- the forms with operands
-abbrev pub operand_form : ℕ → Option Form
-operand_form op =
+abbrev pub operand_layout : ℕ → Option OperandLayout
+operand_layout op =
     first_of (option_map Byte (find_by with_byte op)) (
     first_of (option_map Pair (find_by with_pair op)) (
     first_of (option_map Jump (find_by with_jump op)) (
-    single_form op)))
+    single_layout op)))
 
 -- the instruction of an opcode without operands
 abbrev pub plain : ℕ → Option Insn
 plain op = first_of (find plain_low op) (find plain_high op)
 
-abbrev pub form : ℕ → Option Form
-form op = first_of (option_map Plain (plain op)) (operand_form op)
+abbrev pub layout : ℕ → Option OperandLayout
+layout op = first_of (option_map Plain (plain op)) (operand_layout op)
 
 -- ---- instructions: the instruction and the bytes after it
 
@@ -281,8 +277,8 @@ jump_operand_at pc make bytes = do
   target ← target_at w16 pc bytes
   Ok (make target.0, target.1)
 
--- what stands behind an opcode at a place, by its form
-abbrev pub operands_at : ℕ → ℕ → Option Form → List ℕ → Result (Insn × List ℕ) CodeFault
+-- what stands behind an opcode at a place, by its layout
+abbrev pub operands_at : ℕ → ℕ → Option OperandLayout → List ℕ → Result (Insn × List ℕ) CodeFault
 operands_at pc op None bytes = Err (if nat_lt op 202 then UnsupportedOpcode pc op else UnknownOpcode pc op)
 operands_at pc op (Some (Plain i)) bytes = Ok (i, bytes)
 operands_at pc op (Some (Byte make)) bytes = byte_operand_at pc make bytes
@@ -300,4 +296,4 @@ operands_at pc op (Some FarJump) bytes = far_jump_at pc bytes
 
 -- the instruction at a place, whose opcode is given
 unfoldable pub insn_at : ℕ → ℕ → List ℕ → Result (Insn × List ℕ) CodeFault
-insn_at pc op bytes = operands_at pc op (form op) bytes
+insn_at pc op bytes = operands_at pc op (layout op) bytes

@@ -4,7 +4,7 @@
 use Rattle.std.specs.Prelude.{ℕ, List, [], ◌∷◌, Option, Some, None, Result, Ok, Err, Bool, not, ◌&&◌, ◌||◌, ◌==◌, nat_lt, if◌then◌else◌, IsTrue}
 use Rattle.code_decode.specs.declared.fault.CodeFault.{CodeFault}
 use Rattle.code_decode.specs.declared.fault.CodeFault.TheVariants.{BadTarget}
-use Rattle.code_decode.specs.declared.table.Handler.{Handler}
+use Rattle.class_base.specs.declared.handler.Handler.{Handler}
 
 -- whether a range that begins at start may end at a place
 abbrev pub may_end : (ℕ → Bool) → ℕ → ℕ → ℕ → Bool

@@ -1,8 +1,11 @@
 //! Why a code is none.
-ghost use Rattle.std.specs.Prelude.{◌≡◌};
+ghost use Rattle.std.specs.Prelude.{◌≡◌, IfOk};
 ghost use Rattle.code_decode.specs.declared.fault.CodeFault.TheVariants.{Memory};
+ghost use Rattle.code_decode.specs.Faults.{fault_name, pc_field, op_fields, fault_fields, fault_text};
 
-use std::alloc::{AllocError, AllocFailed};
+use fault_words::{joined, number_field};
+use list_views::Seq;
+use std::alloc::{AllocError, AllocFailed, Global};
 
 /// What is wrong with a code or with an exception table. `pc` is the place of an instruction, counted in bytes from the
 /// start of the code.
@@ -22,6 +25,68 @@ pub enum CodeFault {
     BadOperand { pc: u16 },
     /// Want of memory.
     Memory,
+}
+
+fn pc_field(alloc: Global, pc: u16) -> Result<Seq<u8>, AllocError>
+    ensures { IfOk result (λ text. text ≡ pc_field pc) }
+{
+    number_field(alloc, b"pc", usize::from(pc))
+}
+
+fn op_fields(alloc: Global, pc: u16, op: u8) -> Result<Seq<u8>, AllocError>
+    ensures { IfOk result (λ text. text ≡ op_fields pc op) }
+{
+    let place = pc_field(alloc, pc)?;
+    let opcode = number_field(alloc, b"op", usize::from(op))?;
+    joined(alloc, &[place.as_slice(), opcode.as_slice()])
+}
+
+impl CodeFault {
+    /// The fault's name.
+    pub fn name(&self) -> &'static [u8]
+        ensures { result.now ≡ fault_name self.now }
+    {
+        match self {
+            CodeFault::Truncated { .. } => b"Truncated",
+            CodeFault::UnsupportedOpcode { .. } => b"UnsupportedOpcode",
+            CodeFault::UnknownOpcode { .. } => b"UnknownOpcode",
+            CodeFault::BadSwitch { .. } => b"BadSwitch",
+            CodeFault::BadTarget { .. } => b"BadTarget",
+            CodeFault::BadOperand { .. } => b"BadOperand",
+            CodeFault::Memory => b"Memory",
+        }
+    }
+
+    /// The fault's fields, each as ` name=value`.
+    ///
+    /// # Errors
+    ///
+    /// Want of memory.
+    pub fn fields(&self, alloc: Global) -> Result<Seq<u8>, AllocError>
+        ensures { IfOk result (λ text. text ≡ fault_fields self.now) }
+    {
+        match self {
+            CodeFault::Truncated { pc } => pc_field(alloc, *pc),
+            CodeFault::UnsupportedOpcode { pc, op } => op_fields(alloc, *pc, *op),
+            CodeFault::UnknownOpcode { pc, op } => op_fields(alloc, *pc, *op),
+            CodeFault::BadSwitch { pc } => pc_field(alloc, *pc),
+            CodeFault::BadTarget { pc } => pc_field(alloc, *pc),
+            CodeFault::BadOperand { pc } => pc_field(alloc, *pc),
+            CodeFault::Memory => Ok(Seq::new(alloc)),
+        }
+    }
+
+    /// The fault in words: its name and its fields.
+    ///
+    /// # Errors
+    ///
+    /// Want of memory.
+    pub fn text(&self, alloc: Global) -> Result<Seq<u8>, AllocError>
+        ensures { IfOk result (λ text. text ≡ fault_text self.now) }
+    {
+        let fields = self.fields(alloc)?;
+        joined(alloc, &[self.name(), fields.as_slice()])
+    }
 }
 
 impl From<AllocError> for CodeFault {

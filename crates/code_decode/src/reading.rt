@@ -1,7 +1,7 @@
 //! Reading one instruction. A reader gives a value and the bytes after it.
 ghost use Rattle.std.specs.Prelude.{◌≡◌, IsTrue, is_some, option_map};
 ghost use Rattle.std.specs.Int.{w16, w32, cast_signed};
-ghost use Rattle.code_decode.specs.Reading.{Gives, Byte, Pair, Jump, byte_at, number_at, signed_at, place_of, target_at, skip_at, find_by, with_byte, with_pair, with_jump, operands_at, repeat_at, case_at, table_at, lookup_at, interface_at, array_at, wide_at, increment_at, signed_byte_at, sipush_at, far_jump_at, table_targets_at, counted_cases_at, wide_increment_at, wide_local, wide_operand_at, single_form, operand_form, insn_at};
+ghost use Rattle.code_decode.specs.Reading.{Gives, Byte, Pair, Jump, byte_at, number_at, signed_at, place_of, target_at, skip_at, find_by, with_byte, with_pair, with_jump, operands_at, repeat_at, case_at, table_at, lookup_at, interface_at, array_at, wide_at, increment_at, signed_byte_at, sipush_at, far_jump_at, table_targets_at, counted_cases_at, wide_increment_at, wide_local, wide_operand_at, single_layout, operand_layout, insn_at};
 ghost use Rattle.code_decode.specs.Texts.{padding_of};
 
 use crate::cases::is_rising;
@@ -359,7 +359,7 @@ fn wide_at(pc: u16, bytes: &[u8]) -> Result<(Insn, &[u8]), CodeFault>
 
 /// An instruction whose form no other opcode has.
 fn single_at(alloc: Global, pc: u16, op: u8, bytes: &[u8]) -> Result<(Insn, &[u8]), CodeFault>
-    ensures { Gives (λ x. (x.0, x.1.now)) result (operands_at pc op (single_form op) bytes.now) }
+    ensures { Gives (λ x. (x.0, x.1.now)) result (operands_at pc op (single_layout op) bytes.now) }
 {
     match op {
         16 => signed_byte_at(pc, bytes),
@@ -378,7 +378,7 @@ fn single_at(alloc: Global, pc: u16, op: u8, bytes: &[u8]) -> Result<(Insn, &[u8
 
 /// An instruction that has operands.
 fn operand_insn_at(alloc: Global, pc: u16, op: u8, bytes: &[u8]) -> Result<(Insn, &[u8]), CodeFault>
-    ensures { Gives (λ x. (x.0, x.1.now)) result (operands_at pc op (operand_form op) bytes.now) }
+    ensures { Gives (λ x. (x.0, x.1.now)) result (operands_at pc op (operand_layout op) bytes.now) }
 {
     if takes_byte(op) {
         return byte_operand_at(pc, op, bytes);

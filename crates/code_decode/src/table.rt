@@ -9,20 +9,8 @@ ghost use Rattle.code_decode.specs.Tables.{may_end, bad_boundary, first_bad_boun
 use crate::fault::CodeFault;
 use crate::insn::Insn;
 use crate::starts::Starts;
+use class_base::Handler;
 use std::alloc::Global;
-
-/// An entry of an exception table. Places are counted in bytes from the start of the code.
-#[derive(Clone, Copy, Debug, PartialEq, Eq)]
-pub struct Handler {
-    /// Where the range begins.
-    pub start: u16,
-    /// Where the range ends; the instruction there is not part of it.
-    pub end: u16,
-    /// Where the handler begins.
-    pub handler: u16,
-    /// The pool entry of the class that is caught, or 0 for all.
-    pub catch: u16,
-}
 
 fn may_end(starts: &Starts, length: u32, start: u16, end: u16) -> bool
     ensures { result ≡ may_end (marked starts.now) length start end }

@@ -1,0 +1,8 @@
+use Rattle.code_decode.proofs.Boundaries.{without_fault, passes_good}
+use Rattle.code_decode.proofs.one_way.table_is_good.Goals as goal
+
+pub returns-clause-found : goal.returns-clause-found
+returns-clause-found c = λ begins length table none. without_fault begins length table none
+
+pub returns-clause-only : goal.returns-clause-only
+returns-clause-only c = λ begins length table good. passes_good begins length table good
