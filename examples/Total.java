@@ -1,0 +1,6 @@
+class Total {
+    static int total(int first, int second, int third) {
+        int sum = first + second;
+        return sum + third;
+    }
+}
