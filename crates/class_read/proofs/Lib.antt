@@ -7,3 +7,4 @@ pub mod ClassLaws
 pub mod Outcome
 pub mod WritingLaws
 pub mod RuleLaws
+pub mod KnownLaws

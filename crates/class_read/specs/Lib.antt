@@ -7,3 +7,4 @@ pub mod FirstFault
 pub mod View
 pub mod Writing
 pub mod Faults
+pub mod Known

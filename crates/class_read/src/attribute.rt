@@ -7,13 +7,12 @@ ghost use Rattle.class_pool.specs.Text.{utf8_at, class_name_at};
 
 use crate::fault::ClassFault;
 use crate::field::{bytes_of, place, u2, u4};
-use class_base::is_class_name;
-use class_pool::Pool;
+use crate::known::KnownPool;
 
 /// The text of a Utf8 entry, whose index stands at the front.
 pub(crate) fn text<'a>(
     total: usize,
-    pool: &Pool<'a>,
+    pool: &KnownPool<'a>,
     bytes: &'a [u8],
 ) -> Result<(&'a [u8], &'a [u8]), ClassFault>
     ensures { Gives (λ x. (x.0.now, x.1.now)) result (named_at (utf8_at pool.now) total bytes.now) }
@@ -27,33 +26,22 @@ pub(crate) fn text<'a>(
     }
 }
 
-fn class_entry<'a>(
-    total: usize,
-    pool: &Pool<'a>,
-    bytes: &'a [u8],
-) -> Result<(&'a [u8], &'a [u8]), ClassFault>
-    ensures { Gives (λ x. (x.0.now, x.1.now)) result (named_at (class_name_at pool.now) total bytes.now) }
-{
-    let (index, rest) = u2(total, bytes)?;
-    match pool.class_name(index) {
-        Some(name) => Ok((name, rest)),
-        None => Err(ClassFault::BadDescriptor {
-            at: place(total, bytes),
-        }),
-    }
-}
-
 /// The name of a class, whose Class entry's index stands at the front.
 #[tactic(auto, unfolding(crate::specs::FirstFault::class_index_at))]
 pub(crate) fn class_index<'a>(
     total: usize,
-    pool: &Pool<'a>,
+    pool: &KnownPool<'a>,
     bytes: &'a [u8],
 ) -> Result<(&'a [u8], &'a [u8]), ClassFault>
     ensures { Gives (λ x. (x.0.now, x.1.now)) result (class_index_at total pool.now bytes.now) }
 {
-    let (name, rest) = class_entry(total, pool, bytes)?;
-    if !is_class_name(name) {
+    let (index, rest) = u2(total, bytes)?;
+    let Some(name) = pool.class_name(index) else {
+        return Err(ClassFault::BadDescriptor {
+            at: place(total, bytes),
+        });
+    };
+    if !pool.is_class(index) {
         return Err(ClassFault::BadDescriptor {
             at: place(total, bytes),
         });
@@ -71,7 +59,7 @@ pub(crate) fn content(total: usize, bytes: &[u8]) -> Result<&[u8], ClassFault>
 }
 
 #[tactic(auto, unfolding(crate::specs::FirstFault::skipped_at))]
-fn skipped<'a>(total: usize, pool: &Pool<'a>, bytes: &'a [u8]) -> Result<&'a [u8], ClassFault>
+fn skipped<'a>(total: usize, pool: &KnownPool<'a>, bytes: &'a [u8]) -> Result<&'a [u8], ClassFault>
     ensures { Gives (λ x. (tt, x.now)) result (skipped_at total pool.now tt bytes.now) }
 {
     let (_, rest) = text(total, pool, bytes)?;
@@ -80,7 +68,7 @@ fn skipped<'a>(total: usize, pool: &Pool<'a>, bytes: &'a [u8]) -> Result<&'a [u8
 
 fn skipped_times<'a>(
     total: usize,
-    pool: &Pool<'a>,
+    pool: &KnownPool<'a>,
     count: u16,
     bytes: &'a [u8],
 ) -> Result<&'a [u8], ClassFault>
@@ -98,7 +86,7 @@ fn skipped_times<'a>(
 #[tactic(auto, unfolding(crate::specs::FirstFault::attributes_at))]
 pub(crate) fn attributes<'a>(
     total: usize,
-    pool: &Pool<'a>,
+    pool: &KnownPool<'a>,
     bytes: &'a [u8],
 ) -> Result<(u16, &'a [u8]), ClassFault>
     ensures { Gives (λ x. (x.0, x.1.now)) result (attributes_at total pool.now bytes.now) }

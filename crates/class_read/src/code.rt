@@ -9,25 +9,26 @@ ghost use Rattle.class_read.specs.FirstFault.{is_catch, catch_at, code_length_at
 use crate::attribute::attributes;
 use crate::fault::ClassFault;
 use crate::field::{bytes_of, place, u2, u4};
+use crate::known::KnownPool;
 use crate::view::CodeView;
-use class_base::{Handler, is_class_name};
-use class_pool::Pool;
+use class_base::Handler;
 use list_views::Seq;
 use std::alloc::Global;
 
-fn is_catch(pool: &Pool<'_>, index: u16) -> bool
+fn is_catch(pool: &KnownPool<'_>, index: u16) -> bool
     ensures { result ≡ is_catch pool.now index }
 {
     if index == 0 {
         return true;
     }
-    match pool.class_name(index) {
-        Some(name) => is_class_name(name),
-        None => false,
-    }
+    pool.is_class(index)
 }
 
-fn catch<'a>(total: usize, pool: &Pool<'_>, bytes: &'a [u8]) -> Result<(u16, &'a [u8]), ClassFault>
+fn catch<'a>(
+    total: usize,
+    pool: &KnownPool<'_>,
+    bytes: &'a [u8],
+) -> Result<(u16, &'a [u8]), ClassFault>
     ensures { Gives (λ x. (x.0, x.1.now)) result (catch_at total pool.now bytes.now) }
 {
     let (index, rest) = u2(total, bytes)?;
@@ -42,7 +43,7 @@ fn catch<'a>(total: usize, pool: &Pool<'_>, bytes: &'a [u8]) -> Result<(u16, &'a
 #[tactic(auto, unfolding(crate::specs::FirstFault::handler_at))]
 fn handler<'a>(
     total: usize,
-    pool: &Pool<'_>,
+    pool: &KnownPool<'_>,
     bytes: &'a [u8],
 ) -> Result<(Handler, &'a [u8]), ClassFault>
     ensures { Gives (λ x. (x.0, x.1.now)) result (handler_at total pool.now bytes.now) }
@@ -63,7 +64,7 @@ fn handler<'a>(
 fn handlers<'a>(
     alloc: Global,
     total: usize,
-    pool: &Pool<'a>,
+    pool: &KnownPool<'a>,
     count: u16,
     bytes: &'a [u8],
 ) -> Result<(Seq<Handler>, &'a [u8]), ClassFault>
@@ -83,7 +84,7 @@ fn handlers<'a>(
 fn table<'a>(
     alloc: Global,
     total: usize,
-    pool: &Pool<'a>,
+    pool: &KnownPool<'a>,
     bytes: &'a [u8],
 ) -> Result<(Seq<Handler>, &'a [u8]), ClassFault>
     ensures { Gives (λ x. (x.0, x.1.now)) result (table_at total pool.now bytes.now) }
@@ -109,7 +110,7 @@ fn code_length(total: usize, bytes: &[u8]) -> Result<(u32, &[u8]), ClassFault>
 fn content<'a>(
     alloc: Global,
     total: usize,
-    pool: &Pool<'a>,
+    pool: &KnownPool<'a>,
     bytes: &'a [u8],
 ) -> Result<((CodeView<'a>, u16), &'a [u8]), ClassFault>
     ensures { Gives (λ x. ((code_content x.0.0, x.0.1), x.1.now)) result (code_at total pool.now bytes.now) }
@@ -133,7 +134,7 @@ fn content<'a>(
 pub(crate) fn code<'a>(
     alloc: Global,
     total: usize,
-    pool: &Pool<'a>,
+    pool: &KnownPool<'a>,
     bytes: &'a [u8],
 ) -> Result<((CodeView<'a>, u16), &'a [u8]), ClassFault>
     ensures { Gives (λ x. ((code_content x.0.0, x.0.1), x.1.now)) result (sized_at total (code_at total pool.now) bytes.now) }

@@ -5,6 +5,7 @@ mod attribute;
 mod code;
 mod fault;
 mod field;
+mod known;
 mod member;
 mod method;
 mod reading;

@@ -10,24 +10,29 @@ ghost use Rattle.class_read.specs.FirstFault.{is_new, descriptor_at, new_descrip
 use crate::attribute::{attributes, text};
 use crate::fault::ClassFault;
 use crate::field::{place, u2};
+use crate::known::KnownPool;
 use crate::method;
 use crate::view::{FieldView, MethodView};
-use class_base::{ABSTRACT, MemberKind, NATIVE, Seen, has_flag, is_descriptor};
-use class_pool::Pool;
+use class_base::{ABSTRACT, MemberKind, NATIVE, Seen, has_flag};
 use list_views::Seq;
 use std::alloc::Global;
 
 fn descriptor<'a>(
     total: usize,
-    pool: &Pool<'a>,
+    pool: &KnownPool<'a>,
     kind: MemberKind,
     flags: u16,
     bytes: &'a [u8],
 ) -> Result<(&'a [u8], &'a [u8]), ClassFault>
     ensures { Gives (λ x. (x.0.now, x.1.now)) result (descriptor_at total pool.now kind flags bytes.now) }
 {
-    let (desc, rest) = text(total, pool, bytes)?;
-    if !is_descriptor(kind, flags, desc) {
+    let (index, rest) = u2(total, bytes)?;
+    let Some(desc) = pool.utf8(index) else {
+        return Err(ClassFault::BadDescriptor {
+            at: place(total, bytes),
+        });
+    };
+    if !pool.describes(kind, flags, index) {
         return Err(ClassFault::BadDescriptor {
             at: place(total, bytes),
         });
@@ -38,7 +43,7 @@ fn descriptor<'a>(
 /// The descriptor of a member whose name and descriptor no earlier one has.
 fn new_descriptor<'a>(
     total: usize,
-    pool: &Pool<'a>,
+    pool: &KnownPool<'a>,
     kind: MemberKind,
     seen: &Seen<'a>,
     flags: u16,
@@ -60,7 +65,7 @@ fn new_descriptor<'a>(
 #[tactic(auto, unfolding(crate::specs::FirstFault::head_at))]
 fn head<'a>(
     total: usize,
-    pool: &Pool<'a>,
+    pool: &KnownPool<'a>,
     kind: MemberKind,
     seen: &Seen<'a>,
     bytes: &'a [u8],
@@ -77,7 +82,7 @@ fn head<'a>(
 #[tactic(auto, unfolding(crate::specs::FirstFault::field_at))]
 fn field<'a>(
     total: usize,
-    pool: &Pool<'a>,
+    pool: &KnownPool<'a>,
     seen: &Seen<'a>,
     bytes: &'a [u8],
 ) -> Result<((FieldView<'a>, u64), &'a [u8]), ClassFault>
@@ -100,7 +105,7 @@ pub(crate) fn has_code(flags: u16) -> bool
 fn method<'a>(
     alloc: Global,
     total: usize,
-    pool: &Pool<'a>,
+    pool: &KnownPool<'a>,
     seen: &Seen<'a>,
     bytes: &'a [u8],
 ) -> Result<((MethodView<'a>, u64), &'a [u8]), ClassFault>
@@ -121,7 +126,7 @@ fn method<'a>(
 fn field_times<'a>(
     alloc: Global,
     total: usize,
-    pool: &Pool<'a>,
+    pool: &KnownPool<'a>,
     count: u16,
     bytes: &'a [u8],
 ) -> Result<((Seq<FieldView<'a>>, u64), &'a [u8]), ClassFault>
@@ -147,7 +152,7 @@ fn field_times<'a>(
 pub(crate) fn fields<'a>(
     alloc: Global,
     total: usize,
-    pool: &Pool<'a>,
+    pool: &KnownPool<'a>,
     bytes: &'a [u8],
 ) -> Result<((Seq<FieldView<'a>>, u64), &'a [u8]), ClassFault>
     ensures fields { Gives (λ x. ((map field_content x.0.0, x.0.1), x.1.now)) result (fields_at total pool.now bytes.now) }
@@ -160,7 +165,7 @@ pub(crate) fn fields<'a>(
 fn method_times<'a>(
     alloc: Global,
     total: usize,
-    pool: &Pool<'a>,
+    pool: &KnownPool<'a>,
     count: u16,
     bytes: &'a [u8],
 ) -> Result<((Seq<MethodView<'a>>, u64), &'a [u8]), ClassFault>
@@ -186,7 +191,7 @@ fn method_times<'a>(
 pub(crate) fn methods<'a>(
     alloc: Global,
     total: usize,
-    pool: &Pool<'a>,
+    pool: &KnownPool<'a>,
     bytes: &'a [u8],
 ) -> Result<((Seq<MethodView<'a>>, u64), &'a [u8]), ClassFault>
     ensures methods { Gives (λ x. ((map method_content x.0.0, x.0.1), x.1.now)) result (methods_at total pool.now bytes.now) }

@@ -10,8 +10,8 @@ use crate::attribute::{content, text};
 use crate::code::code;
 use crate::fault::ClassFault;
 use crate::field::{place, u2};
+use crate::known::KnownPool;
 use crate::view::CodeView;
-use class_pool::Pool;
 use std::alloc::Global;
 
 /// What was found among a method's attributes so far.
@@ -26,7 +26,7 @@ pub(crate) struct Found<'a> {
 /// The name of an attribute that may stand there.
 fn name<'a>(
     total: usize,
-    pool: &Pool<'a>,
+    pool: &KnownPool<'a>,
     coded: bool,
     found: &Found<'a>,
     bytes: &'a [u8],
@@ -58,7 +58,7 @@ fn may_stand(coded: bool, found: &Found<'_>, name: &[u8]) -> bool
 fn with_code<'a>(
     alloc: Global,
     total: usize,
-    pool: &Pool<'a>,
+    pool: &KnownPool<'a>,
     found: Found<'a>,
     bytes: &'a [u8],
 ) -> Result<(Found<'a>, &'a [u8]), ClassFault>
@@ -96,7 +96,7 @@ fn with_one_more<'a>(
 fn attribute<'a>(
     alloc: Global,
     total: usize,
-    pool: &Pool<'a>,
+    pool: &KnownPool<'a>,
     coded: bool,
     found: Found<'a>,
     bytes: &'a [u8],
@@ -116,7 +116,7 @@ fn attribute<'a>(
 fn attribute_times<'a>(
     alloc: Global,
     total: usize,
-    pool: &Pool<'a>,
+    pool: &KnownPool<'a>,
     coded: bool,
     count: u16,
     bytes: &'a [u8],
@@ -142,7 +142,7 @@ fn attribute_times<'a>(
 pub(crate) fn attributes<'a>(
     alloc: Global,
     total: usize,
-    pool: &Pool<'a>,
+    pool: &KnownPool<'a>,
     coded: bool,
     bytes: &'a [u8],
 ) -> Result<(Found<'a>, &'a [u8]), ClassFault>

@@ -10,6 +10,7 @@ ghost use Rattle.class_read.specs.FirstFault.{class_index_at, interfaces_at, mag
 use crate::attribute::{attributes, class_index};
 use crate::fault::ClassFault;
 use crate::field::{place, u2, u4};
+use crate::known::KnownPool;
 use crate::member::{fields, methods};
 use crate::view::ClassView;
 use class_pool::{Pool, PoolFault};
@@ -47,7 +48,7 @@ fn major(total: usize, bytes: &[u8]) -> Result<(u16, &[u8]), ClassFault>
 fn interface_times<'a>(
     alloc: Global,
     total: usize,
-    pool: &Pool<'a>,
+    pool: &KnownPool<'a>,
     count: u16,
     bytes: &'a [u8],
 ) -> Result<(Seq<&'a [u8]>, &'a [u8]), ClassFault>
@@ -67,7 +68,7 @@ fn interface_times<'a>(
 fn interfaces<'a>(
     alloc: Global,
     total: usize,
-    pool: &Pool<'a>,
+    pool: &KnownPool<'a>,
     bytes: &'a [u8],
 ) -> Result<(Seq<&'a [u8]>, &'a [u8]), ClassFault>
     ensures { Gives (λ x. (map (λ i. i.now) x.0, x.1.now)) result (interfaces_at total pool.now bytes.now) }
@@ -120,7 +121,7 @@ fn body<'a>(
     alloc: Global,
     total: usize,
     major: u16,
-    pool: Pool<'a>,
+    pool: KnownPool<'a>,
     bytes: &'a [u8],
 ) -> Result<(ClassView<'a>, &'a [u8]), ClassFault>
     ensures { Gives (λ x. (x.0, x.1.now)) result (body_at total major pool.entry bytes.now) }
@@ -140,7 +141,7 @@ fn body<'a>(
         interfaces,
         fields,
         methods,
-        pool,
+        pool: pool.into_pool(),
         skipped: of_fields + of_methods + u64::from(of_class),
     };
     Ok((class, rest))
@@ -155,6 +156,7 @@ fn file<'a>(alloc: Global, bytes: &'a [u8]) -> Result<(ClassView<'a>, &'a [u8]),
     let (_, rest) = u2(total, rest)?;
     let (major, rest) = major(total, rest)?;
     let (pool, rest) = pool(alloc, bytes, rest)?;
+    let pool = KnownPool::new(alloc, pool)?;
     body(alloc, total, major, pool, rest)
 }
 
