@@ -1,5 +1,5 @@
 //! Files that are read whole, by name.
-ghost use Rattle.std.specs.Prelude.{◌≡◌, ◌≤◌, ◌^◌, ℕ, List, length, IfOk, IsErrOf};
+ghost use Rattle.std.specs.Prelude.{◌≡◌, ◌≤◌, ◌^◌, ℕ, List, length, IfOk, IsOk, IsErrOf};
 ghost use Rattle.io_ports.specs.Count.{Rose};
 ghost use Rattle.io_ports.specs.Told.{Told, IsContent, IsPastLimit, IsNotHeld};
 ghost use Rattle.io_ports.specs.declared.files.FileFault.TheVariants.{Memory};
@@ -49,7 +49,7 @@ pub trait Files {
     ghost faults: { Self → ℕ };
 
     /// What a read of that name may make of the files. Nothing else changes them, so a caller's
-    /// contract can say which names were read.
+    /// contract can say which names were read, and name the state in which one of them was.
     ghost leaves: { Self → List ℕ → Self → Type 0 };
 
     /// The whole content under a name, of at most `limit` bytes.
@@ -66,7 +66,8 @@ pub trait Files {
         ensures failed { IsErrOf result FileFault.Failed → Rose (faults self.old) (faults self.new) }
         ensures too_long { IsErrOf result FileFault.TooLong → IsPastLimit (held self.old name.now) limit }
         ensures missing { IsErrOf result FileFault.Missing → IsNotHeld (held self.old name.now) }
-        // Neither of these two is a fault of the files.
+        // None of these three is a fault of the files.
+        ensures read_is_no_fault { IsOk result → faults self.new ≡ faults self.old }
         ensures too_long_is_no_fault { IsErrOf result FileFault.TooLong → faults self.new ≡ faults self.old }
         ensures missing_is_no_fault { IsErrOf result FileFault.Missing → faults self.new ≡ faults self.old }
         ensures keeps { held self.new ≡ held self.old }

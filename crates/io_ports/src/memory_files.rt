@@ -78,7 +78,7 @@ fn find<'a>(files: &'a [(String, Vec<u8>)], name: &str) -> Option<&'a Vec<u8>>
 }
 
 impl Files for MemoryFiles {
-    ghost use Rattle.std.specs.Prelude.{◌≡◌, ◌≤◌, ◌^◌, length, IfOk, IsErrOf};
+    ghost use Rattle.std.specs.Prelude.{◌≡◌, ◌≤◌, ◌^◌, length, IfOk, IsOk, IsErrOf};
     ghost use Rattle.io_ports.specs.Count.{Rose};
     ghost use Rattle.io_ports.specs.Told.{IsContent, IsPastLimit, IsNotHeld};
     ghost use Rattle.io_ports.specs.MemoryFiles.{content_of, is_failing, after_read};
@@ -97,6 +97,7 @@ impl Files for MemoryFiles {
         ensures failed { IsErrOf result FileFault.Failed → Rose self.old.faults self.new.faults }
         ensures too_long { IsErrOf result FileFault.TooLong → IsPastLimit (content_of self.old.files name.now) limit }
         ensures missing { IsErrOf result FileFault.Missing → IsNotHeld (content_of self.old.files name.now) }
+        ensures read_is_no_fault { IsOk result → self.new.faults ≡ self.old.faults }
         ensures too_long_is_no_fault { IsErrOf result FileFault.TooLong → self.new.faults ≡ self.old.faults }
         ensures missing_is_no_fault { IsErrOf result FileFault.Missing → self.new.faults ≡ self.old.faults }
         ensures keeps { content_of self.new.files ≡ content_of self.old.files }

@@ -57,7 +57,7 @@ fn read_all<R: Read>(alloc: Global, reader: &mut R, limit: usize) -> Result<Vec<
 }
 
 impl<R: FileSystem> Files for RealFiles<R> {
-    ghost use Rattle.std.specs.Prelude.{◌≡◌, ◌≤◌, ◌^◌, ⊤, length, IfOk, IsErrOf, if◌then◌else◌};
+    ghost use Rattle.std.specs.Prelude.{◌≡◌, ◌≤◌, ◌^◌, ⊤, length, IfOk, IsOk, IsErrOf, if◌then◌else◌};
     ghost use Rattle.io_ports.specs.Count.{Rose, counted};
     ghost use Rattle.io_ports.specs.FileFault.{has_failed};
     ghost use Rattle.io_ports.specs.Told.Told.{Untold};
@@ -72,6 +72,7 @@ impl<R: FileSystem> Files for RealFiles<R> {
         requires { limit ≤ 2 ^ 31 }
         ensures within { IfOk result (λ content. length content.items ≤ limit) }
         ensures failed { IsErrOf result FileFault.Failed → Rose self.old.faults self.new.faults }
+        ensures read_is_no_fault { IsOk result → self.new.faults ≡ self.old.faults }
         ensures too_long_is_no_fault { IsErrOf result FileFault.TooLong → self.new.faults ≡ self.old.faults }
         ensures missing_is_no_fault { IsErrOf result FileFault.Missing → self.new.faults ≡ self.old.faults }
         ensures counts { self.old.faults ≤ self.new.faults }
