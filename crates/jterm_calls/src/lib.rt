@@ -1,0 +1,5 @@
+//! The public call `jterm` over ports in memory: tests alone.
+#![tactic(auto)]
+
+#[cfg(test)]
+mod rows;
