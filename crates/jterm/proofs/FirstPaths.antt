@@ -52,7 +52,7 @@ IsStraight-Passes world params method forms rising e of_ints passes = record {
   forms = forms;
   forms_are = e;
   returns = ReturnsLast-Passes params method.max_stack method.max_locals forms passes;
-  typed = HasTyping-Passes world method params kinds.Int forms of_ints.takes of_ints.gives (reads_of method.insns forms e rising) passes;
+  typed = HasTyping-Passes world method params kinds.Int forms of_ints.takes of_ints.gives of_ints.no_table (reads_of method.insns forms e rising) passes;
 }
 
 some_is : {A : Type 0} (a b : A) → (let o : Option A = Some a in o) ≡ Some b → a ≡ b

@@ -125,7 +125,7 @@ record KnownAfter (world : World) (max_stack : ℕ) (form : Form) (known : Known
 nat_lt-true : (a b : ℕ) → a < b → nat_lt a b ≡ true
 nat_lt-true a b h = grind (arith, nat_tests)
 
-knows : (world : World) (method : Method) (form : Form) (known : Known) (types after : FrameType) → (form ≡ Ireturn → ⊥) → Known_within world known types → types_after method form types ≡ Some after → length after.stack ≤ method.max_stack → KnownAfter world method.max_stack form known after
+knows : (world : World) (method : Method) (form : Form) (known : Known) (types after : FrameType) → (form ≡ Ireturn → ⊥) → Known_within world known types → types_after world method form types ≡ Some after → length after.stack ≤ method.max_stack → KnownAfter world method.max_stack form known after
 unfolding iconst_types iload_types istore_types iadd_types
 knows world method (Iconst v) known types after other w e room =
     let same : (let t : FrameType = record types { stack = IntPlace ∷ types.stack } in t) ≡ after = some-same _ _ e in

@@ -1,8 +1,8 @@
 -- A straight code that the pass takes has a typing.
-use Rattle.std.proofs.Common.{◌≡◌, ℕ, zero, suc, ◌+◌, ◌-◌, ◌<◌, ◌≤◌, ◌==◌, ◌&&◌, nat_lt, List, [], ◌∷◌, ◌++◌, length, map, replicate, slice_get, slice_set, slice_index_or, Option, Some, None, refl, ap, sym, ◌∙◌, subst, true, false, Bool, arith, append_assoc, if◌then◌else◌, All, add-one, length-append}
+use Rattle.std.proofs.Common.{◌≡◌, ℕ, zero, suc, ◌+◌, ◌-◌, ◌<◌, ◌≤◌, ◌==◌, ◌&&◌, nat_lt, List, [], ◌∷◌, ◌++◌, length, map, replicate, slice_get, slice_set, slice_index_or, Option, Some, None, refl, ap, sym, ◌∙◌, subst, true, false, Bool, arith, append_assoc, if◌then◌else◌, get_or, All, add-one, length-append}
 use Rattle.std.proofs.lemmas.Bool.Decides.{nat_tests}
 use Rattle.std.proofs.lemmas.List.{length-replicate, length-map, length-set}
-use Rattle.std.proofs.lemmas.List.Elements.{All-replicate}
+use Rattle.std.proofs.lemmas.List.Elements.{All-append, All-map, All-replicate}
 use Rattle.std.specs.Prelude.{◌≢◌}
 use Rattle.jvm_values.specs.declared.types.Kind.{Kind}
 use Rattle.jvm_values.specs.declared.types.Kind.TheVariants as kinds
@@ -12,10 +12,11 @@ use Rattle.jterm.specs.declared.form.Form.TheVariants.{Iconst, Iload, Istore, Ia
 use Rattle.jterm.specs.declared.typing.Known.{Known}
 use Rattle.jterm.specs.Options.{◌>>=◌}
 use Rattle.class_world.specs.World.{World}
+use Rattle.class_world.specs.declared.program.CatchRange.{CatchRange}
 use Rattle.class_world.specs.declared.program.Method.{Method}
 use Rattle.jterm.specs.Machine.{first_place}
 use Rattle.jterm.specs.Pass.{Passes, entry_known, pushed, known_after, known_along}
-use Rattle.jterm.specs.Typing.{PlaceType, UnsetPlace, IntPlace, FrameType, AreWithin, Types, Leads, LeadsTo, IsTyped, HasTyping, types_after, places_after, iconst_types, iload_types, istore_types, iadd_types, ireturn_types, type_of_slot}
+use Rattle.jterm.specs.Typing.{PlaceType, UnsetPlace, IntPlace, FrameType, AreWithin, Types, Leads, LeadsTo, LeadsToHandler, CanCatch, IsOfWorld, IsTyped, HasTyping, types_after, places_after, iconst_types, iload_types, istore_types, iadd_types, ireturn_types, type_of_slot}
 use Rattle.jterm.proofs.Forms.{some-same, and_then-some}
 use Rattle.jterm.proofs.Tests.{by_if, eq-of-test}
 use Rattle.jterm.specs.Forms.{RiseFrom, FirstAtZero}
@@ -52,9 +53,9 @@ pub record Fine (max_stack max_locals : ℕ) (known : Known) : Type 0 where
   pub locals : length known.set ≡ max_locals
   pub stack : known.depth ≤ max_stack
 
-record Agrees (max_stack max_locals : ℕ) (method : Method) (form : Form) (known after : Known) : Type 0 where
+record Agrees (world : World) (max_stack max_locals : ℕ) (method : Method) (form : Form) (known after : Known) : Type 0 where
   fine : Fine max_stack max_locals after
-  types : types_after method form (types_of known) ≡ Some (types_of after)
+  types : types_after world method form (types_of known) ≡ Some (types_of after)
 
 taken : {A : Type 0} (b : Bool) (x y : A) → (if b then Some x else None) ≡ Some y → (b ≡ true) × (x ≡ y)
 taken true x y e = (refl, some-same x y e)
@@ -98,16 +99,16 @@ pushes max_stack max_locals known after f e =
       ap (λ (s : List PlaceType). let types : FrameType = record { locals = map place_of known.set; stack = s } in types) (replicate-add-one known.depth) ∙ ap types_of t.1,
     )
 
-agrees : (max_stack max_locals : ℕ) (method : Method) (form : Form) (known after : Known) → Fine max_stack max_locals known → known_after max_stack form known ≡ Some after → Agrees max_stack max_locals method form known after
+agrees : (world : World) (max_stack max_locals : ℕ) (method : Method) (form : Form) (known after : Known) → Fine max_stack max_locals known → known_after max_stack form known ≡ Some after → Agrees world max_stack max_locals method form known after
 unfolding iconst_types iload_types istore_types iadd_types
-agrees max_stack max_locals method (Iconst v) known after f e =
+agrees world max_stack max_locals method (Iconst v) known after f e =
     let p = pushes max_stack max_locals known after f e in
     record { fine = p.0; types = ap Some p.1 }
-agrees max_stack max_locals method (Iload n) known after f e =
+agrees world max_stack max_locals method (Iload n) known after f e =
     let t = chosen_by (slice_index_or known.set n false) (pushed max_stack known) after e in
     let p = pushes max_stack max_locals known after f t.1 in
     record { fine = p.0; types = rw (slice_get-set known.set n t.0) (ap Some p.1) }
-agrees max_stack max_locals method (Istore n) known after f e =
+agrees world max_stack max_locals method (Istore n) known after f e =
     let t = taken (nat_lt 0 known.depth && nat_lt n (length known.set)) (record { set = slice_set known.set n true; depth = known.depth - 1 }) after e in
     let both = and-both (nat_lt 0 known.depth) (nat_lt n (length known.set)) t.0 in
     let some = nat_lt-of 0 known.depth both.0 in
@@ -118,7 +119,7 @@ agrees max_stack max_locals method (Istore n) known after f e =
       fine = subst (Fine max_stack max_locals) t.1 made;
       types = rw (stack_less known.depth some, n_fits, slice_set-map known.set n) (ap (λ (k : Known). Some (types_of k)) t.1);
     }
-agrees max_stack max_locals method Iadd known after f e =
+agrees world max_stack max_locals method Iadd known after f e =
     let t = taken (nat_lt 1 known.depth) (record known { depth = known.depth - 1 }) after e in
     let two = nat_lt-of 1 known.depth t.0 in
     let first = stack_less known.depth (omega arith) in
@@ -128,7 +129,7 @@ agrees max_stack max_locals method Iadd known after f e =
       fine = subst (Fine max_stack max_locals) t.1 made;
       types = rw (first, second) (ap (λ (s : List PlaceType). let types : FrameType = record { locals = map place_of known.set; stack = s } in Some types) (sym second) ∙ ap (λ (k : Known). Some (types_of k)) t.1);
     }
-agrees max_stack max_locals method Ireturn known after f e = absurd (cc)
+agrees world max_stack max_locals method Ireturn known after f e = absurd (cc)
 
 -- ---- the typing that the pass gives
 
@@ -185,29 +186,39 @@ record Whole (world : World) (method : Method) (known : Known) (forms : List (�
   number : Kind
   result : method.result ≡ Some (Num number)
   reading : Reads method.insns forms
+  no_table : method.table ≡ []
 
 int_is_set : IntPlace ≢ UnsetPlace
 int_is_set e = cc
 
-typed_at : (world : World) (method : Method) (first known : Known) (forms : List (ℕ × Form)) (w : Whole world method first forms) (done rest : List (ℕ × Form)) (i : ℕ × Form) (after : FrameType) → forms ≡ done ++ i ∷ rest → Fine method.max_stack method.max_locals known → types_after method i.1 (types_of known) ≡ Some after → All (LeadsTo world (typing_of method.max_stack forms first) after) (places_after i.1 (first_place rest)) → IsTyped world method (typing_of method.max_stack forms first) i.0 (types_of known)
+all_none : {A : Type 0} (P : A → Type 0) → All P []
+all_none P k d h = absurd (omega arith)
+
+place_of_world : (world : World) (b : Bool) → IsOfWorld world (place_of b)
+place_of_world world true = tt
+place_of_world world false = tt
+
+places_of_world : (world : World) (set : List Bool) → All (IsOfWorld world) (map place_of set)
+places_of_world world set = All-map (IsOfWorld world) place_of set (λ k d h. place_of_world world (get_or set k d))
+
+typed_at : (world : World) (method : Method) (first known : Known) (forms : List (ℕ × Form)) (w : Whole world method first forms) (done rest : List (ℕ × Form)) (i : ℕ × Form) (after : FrameType) → forms ≡ done ++ i ∷ rest → Fine method.max_stack method.max_locals known → types_after world method i.1 (types_of known) ≡ Some after → All (LeadsTo world (typing_of method.max_stack forms first) after) (places_after i.1 (first_place rest)) → IsTyped world method (typing_of method.max_stack forms first) i.0 (types_of known)
 typed_at world method first known forms w done rest i after split fine runs leads = record {
   locals = length-map known.set place_of ∙ fine.locals;
   stack = subst (λ (n : ℕ). n ≤ method.max_stack) (sym (length-replicate known.depth IntPlace)) fine.stack;
   set = All-replicate (λ entry. entry ≢ UnsetPlace) known.depth IntPlace int_is_set;
+  of_world = All-append (IsOfWorld world) (map place_of known.set) (replicate known.depth IntPlace) (places_of_world world known.set) (All-replicate (IsOfWorld world) known.depth IntPlace tt);
   form = i.1;
   next = first_place rest;
   stands = form_at-place method.insns forms done i rest w.reading split;
   after = after;
   runs = runs;
   leads = leads;
+  handlers = subst (λ (table : List CatchRange). All (LeadsToHandler world (typing_of method.max_stack forms first) (types_of known) i.0) table) (sym w.no_table) (all_none _);
 }
 
 all_one : {A : Type 0} (P : A → Type 0) (x : A) → P x → All P (x ∷ [])
 all_one P x p zero d h = p
 all_one P x p (suc k) d h = absurd (omega arith)
-
-all_none : {A : Type 0} (P : A → Type 0) → All P []
-all_none P k d h = absurd (omega arith)
 
 -- every form but a return leads to the next place
 leads_next : (P : Option ℕ → Type 0) (form : Form) (next : Option ℕ) → (form ≡ Ireturn → ⊥) → P next → All P (places_after form next)
@@ -223,9 +234,9 @@ leads_none P form next e = subst (λ (f : Form). All P (places_after f next)) (s
 pub not_return : (max_stack : ℕ) (form : Form) (known after : Known) → known_after max_stack form known ≡ Some after → form ≡ Ireturn → ⊥
 not_return max_stack form known after e r = let n : known_after max_stack form known ≡ None = ap (λ (f : Form). known_after max_stack f known) r in cc
 
-returns_int : (method : Method) (number : Kind) (form : Form) (known : Known) → method.result ≡ Some (Num number) → form ≡ Ireturn → 0 < known.depth → types_after method form (types_of known) ≡ Some (record { locals = map place_of known.set; stack = replicate (known.depth - 1) IntPlace })
+returns_int : (world : World) (method : Method) (number : Kind) (form : Form) (known : Known) → method.result ≡ Some (Num number) → form ≡ Ireturn → 0 < known.depth → types_after world method form (types_of known) ≡ Some (record { locals = map place_of known.set; stack = replicate (known.depth - 1) IntPlace })
 unfolding ireturn_types
-returns_int method number form known result r some = rw (r, result, stack_less known.depth some) refl
+returns_int world method number form known result r some = rw (r, result, stack_less known.depth some) refl
 
 at_same : (world : World) (method : Method) (typing : Types) (place place' : ℕ) (known known' : Known) → place ≡ place' → known ≡ known' → IsTyped world method typing place (types_of known) → IsTyped world method typing place' (types_of known')
 at_same world method typing place place' known known' e f h =
@@ -239,11 +250,11 @@ each_from world method first known forms w (i ∷ []) done split low rises fine 
     (λ here s.
     at_same world method (typing_of method.max_stack forms first) i.0 place known there (eq-of-test i.0 place here) (some-same known there s)
     (typed_at world method first known forms w done [] i _ split fine
-    (returns_int method w.number i.1 known w.result goes.0 goes.1)
+    (returns_int world method w.number i.1 known w.result goes.0 goes.1)
     (leads_none (LeadsTo world (typing_of method.max_stack forms first) _) i.1 None goes.0)))
     (λ other s. let next = and_then-some (known_after method.max_stack i.1 known) (λ after. known_at method.max_stack [] after place) there s in let none : (let o : Option Known = None in o) ≡ Some there = next.2 in absurd (cc))
 each_from world method first known forms w (i ∷ j ∷ rest) done split low rises fine goes whole place there e =
-    let a = agrees method.max_stack method.max_locals method i.1 known goes.0 fine goes.1 in
+    let a = agrees world method.max_stack method.max_locals method i.1 known goes.0 fine goes.1 in
     let later : (place : ℕ) (there : Known) → known_at method.max_stack (j ∷ rest) goes.0 place ≡ Some there → known_at method.max_stack (i ∷ j ∷ rest) known place ≡ Some there = λ p t h. known_at-later method.max_stack i (j ∷ rest) known goes.0 t p rises.1 goes.1 h in
     let at_j : known_at method.max_stack forms first j.0 ≡ Some goes.0 = whole j.0 goes.0 (later j.0 goes.0 (known_at-here method.max_stack j rest goes.0)) in
     let leads : Leads world (typing_of method.max_stack forms first) (types_of goes.0) j.0 = record {
@@ -278,8 +289,8 @@ first_at max_stack [] known goes h = absurd goes
 first_at max_stack (i ∷ rest) known goes h = subst (λ (p : ℕ). known_at max_stack (i ∷ rest) known p ≡ Some known) h (known_at-here max_stack i rest known)
 
 -- a straight code that the pass takes has a typing, in any world
-pub HasTyping-Passes : (world : World) (method : Method) (count : ℕ) (number : Kind) (forms : List (ℕ × Form)) → method.params ≡ replicate count (Num kinds.Int) → method.result ≡ Some (Num number) → Reads method.insns forms → Passes count method.max_stack method.max_locals forms → HasTyping world method
-HasTyping-Passes world method count number forms params result reading passes =
+pub HasTyping-Passes : (world : World) (method : Method) (count : ℕ) (number : Kind) (forms : List (ℕ × Form)) → method.params ≡ replicate count (Num kinds.Int) → method.result ≡ Some (Num number) → method.table ≡ [] → Reads method.insns forms → Passes count method.max_stack method.max_locals forms → HasTyping world method
+HasTyping-Passes world method count number forms params result no_table reading passes =
     let first : Known = entry_known count method.max_locals in
     let goes : Goes method.max_stack forms first =
     subst (λ (is : List (ℕ × Form)). Goes method.max_stack is first) (sym passes.last) (Goes-along method.max_stack passes.before passes.place first passes.known passes.along passes.some) in
@@ -290,9 +301,10 @@ HasTyping-Passes world method count number forms params result reading passes =
     let below = passes.fits in
     let counted : length method.params ≡ count = ap length params ∙ length-replicate count (Num kinds.Int) in
     let fine : Fine method.max_stack method.max_locals first = record { locals = omega arith; stack = omega arith } in
-    let w : Whole world method first forms = record { number = number; result = result; reading = reading } in (
+    let w : Whole world method first forms = record { number = number; result = result; reading = reading; no_table = no_table } in (
       typing_of method.max_stack forms first,
       record {
+        catches = subst (λ (table : List CatchRange). All (CanCatch world) table) (sym no_table) (all_none _);
         entry = record {
           there = types_of first;
           is_there = ap typed (first_at method.max_stack forms first goes reading.first);

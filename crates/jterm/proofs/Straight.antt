@@ -118,7 +118,7 @@ returns world program method typing place state s next result after found e =
 -- what stands at a place does what the typing says of it
 pub record Turn (world : World) (method : Method) (typing : Types) (types : FrameType) (form : Form) (next : Option ℕ) : Type 0 where
   pub after : FrameType
-  pub runs : types_after method form types ≡ Some after
+  pub runs : types_after world method form types ≡ Some after
   pub leads : All (LeadsTo world typing after) (places_after form next)
 
 abbrev first_of_some : Option (Form × Option ℕ) → Form → Form
@@ -139,7 +139,7 @@ turn world method typing place types form next t found =
     let nexts = same.1 in
     record {
       after = t.after;
-      runs = subst (λ (f : Form). types_after method f types ≡ Some t.after) forms t.runs;
+      runs = subst (λ (f : Form). types_after world method f types ≡ Some t.after) forms t.runs;
       leads = subst (λ (n : Option ℕ). All (LeadsTo world typing t.after) (places_after form n)) nexts (subst (λ (f : Form). All (LeadsTo world typing t.after) (places_after f t.next)) forms t.leads);
     }
 

@@ -1,15 +1,17 @@
 -- Typings of a method: what each local and each stack entry holds when an instruction is reached.
 --
 -- It is the part of the JVM specification, section 4.10.2 (verification by type inference), that the forms need.
-use Rattle.std.specs.Prelude.{◌≡◌, ℕ, ◌-◌, ◌≤◌, nat_lt, if◌then◌else◌, List, [], ◌∷◌, ◌++◌, length, map, replicate, slice_get, slice_set, Option, Some, None, All, ◌≢◌}
+use Rattle.std.specs.Prelude.{◌≡◌, ◌≢◌, ℕ, ◌-◌, ◌<◌, ◌≤◌, nat_lt, if◌then◌else◌, List, [], ◌∷◌, ◌++◌, length, map, replicate, slice_get, slice_set, Option, Some, None, unwrap_or, All}
 use Rattle.jvm_values.specs.declared.types.Ty.{Ty}
 use Rattle.jvm_values.specs.declared.types.Slot.{Slot}
+use Rattle.jvm_values.specs.Subtyping.{class_type, IsReference}
 use Rattle.jvm_values.specs.declared.types.Slot.TheVariants.{Num, Ref}
 use Rattle.jterm.specs.declared.form.Form.{Form}
 use Rattle.jterm.specs.declared.form.Form.TheVariants.{Iconst, Iload, Istore, Iadd, Ireturn}
 use Rattle.jterm.specs.Options.{◌>>=◌}
 use Rattle.class_world.specs.World.{World}
 use Rattle.class_world.specs.Types.{Sub, erase}
+use Rattle.class_world.specs.declared.program.CatchRange.{CatchRange}
 use Rattle.class_world.specs.declared.program.Method.{Method}
 use Rattle.jterm.specs.Machine.{form_at}
 
@@ -94,13 +96,13 @@ ireturn_types (Some (Num kind)) types = do
 ireturn_types (Some (Ref t)) types = None
 ireturn_types None types = None
 
--- the types after a form; None where it does not find what it needs
-abbrev pub types_after : Method → Form → FrameType → Option FrameType
-types_after method (Iconst v) types = iconst_types types
-types_after method (Iload n) types = iload_types n types
-types_after method (Istore n) types = istore_types n types
-types_after method Iadd types = iadd_types types
-types_after method Ireturn types = ireturn_types method.result types
+-- the types after a form, in a world, whose subtypes some forms will ask; None where it does not find what it needs
+abbrev pub types_after : World → Method → Form → FrameType → Option FrameType
+types_after world method (Iconst v) types = iconst_types types
+types_after world method (Iload n) types = iload_types n types
+types_after world method (Istore n) types = istore_types n types
+types_after world method Iadd types = iadd_types types
+types_after world method Ireturn types = ireturn_types method.result types
 
 -- where a form leads; None is past the code's end
 abbrev pub places_after : Form → Option ℕ → List (Option ℕ)
@@ -126,18 +128,49 @@ abbrev pub LeadsTo : World → Types → FrameType → Option ℕ → Type 0
 LeadsTo world typing types (Some place) = Leads world typing types place
 LeadsTo world typing types None = ⊥
 
--- the typing holds at one place: locals and stack fit the method's limits, no stack entry is unset, a form
--- stands there and finds what it needs, and it leads to places whose types are as wide as those that it leaves
+-- what a place holds is nothing, an int, null, or of a reference type of the world that is its own erasure
+abbrev pub IsOfWorld : World → PlaceType → Type 0
+IsOfWorld world UnsetPlace = Unit {0}
+IsOfWorld world IntPlace = Unit {0}
+IsOfWorld world NullPlace = Unit {0}
+IsOfWorld world (RefPlace t) = IsReference (length world) t × (erase world t ≡ t)
+
+-- Throwable's number among the built-in classes
+abbrev pub throwable : ℕ
+throwable = 1
+
+-- the class that an entry of an exception table catches: Throwable, where it catches everything
+abbrev pub caught_class : CatchRange → Ty
+caught_class entry = class_type (unwrap_or entry.catch throwable)
+
+-- a class that is caught is Throwable or below it
+abbrev pub CanCatch : World → CatchRange → Type 0
+CanCatch world entry = Sub world (caught_class entry) (class_type throwable)
+
+-- the place lies in the entry's range
+abbrev pub IsCovered : CatchRange → ℕ → Type 0
+IsCovered entry place = (entry.start ≤ place) × (place < entry.end)
+
+-- a covered place leads to the entry's handler with its own locals, and the object that is caught alone on the stack
+abbrev pub LeadsToHandler : World → Types → FrameType → ℕ → CatchRange → Type 0
+LeadsToHandler world typing types place entry =
+    IsCovered entry place → Leads world typing (record { locals = types.locals; stack = RefPlace (erase world (caught_class entry)) ∷ [] }) entry.handler
+
+-- The typing holds at one place: locals and stack fit the method's limits, no stack entry is unset, the types are the
+-- world's, a form stands there and finds what it needs, and it leads to places, and to handlers, whose types are as wide as
+-- those that it leaves.
 pub record IsTyped (world : World) (method : Method) (typing : Types) (place : ℕ) (types : FrameType) : Type 0 where
   pub locals : length types.locals ≡ method.max_locals
   pub stack : length types.stack ≤ method.max_stack
   pub set : All (λ entry. entry ≢ UnsetPlace) types.stack
+  pub of_world : All (IsOfWorld world) (types.locals ++ types.stack)
   pub form : Form
   pub next : Option ℕ
   pub stands : form_at method.insns place ≡ Some (form, next)
   pub after : FrameType
-  pub runs : types_after method form types ≡ Some after
+  pub runs : types_after world method form types ≡ Some after
   pub leads : All (LeadsTo world typing after) (places_after form next)
+  pub handlers : All (LeadsToHandler world typing types place) method.table
 
 -- what a parameter holds: an int, or a reference of its erased type
 abbrev pub type_of_slot : World → Slot → PlaceType
@@ -151,8 +184,9 @@ entry_types world method = record {
   stack = [];
 }
 
--- a typing of a method
+-- a typing of a method, whose exception table catches only what can be thrown
 pub record IsTyping (world : World) (method : Method) (typing : Types) : Type 0 where
+  pub catches : All (CanCatch world) method.table
   pub entry : Leads world typing (entry_types world method) 0
   pub each : (place : ℕ) (types : FrameType) → typing place ≡ Some types → IsTyped world method typing place types
 
