@@ -3,10 +3,7 @@
 #![tactic(auto)]
 
 mod case;
-mod classes;
-mod code;
 mod entry;
-mod json;
 mod links;
 mod listings;
 mod select;
@@ -31,13 +28,9 @@ fn main(rt: HostRuntime) -> Result<()> {
 fn answer(alloc: Global, line: &str) -> Result<String> {
     let case = Case::read(alloc, line)?;
     match case.table() {
-        "classes-50" => classes::answer(alloc, &case),
-        "code" => code::answer(alloc, &case),
-        "json" => json::answer(alloc, &case),
         "link-50" => links::answer(alloc, &case),
         "listings" => listings::answer(alloc, &case),
         "select" => select::answer(alloc, &case),
-        "table" => code::table_answer(alloc, &case),
         table => bail!("there is no table {table}"),
     }
 }
