@@ -1,0 +1,52 @@
+//! Cases of tables: a line is the name of a table, a tab and the input fields of a case, divided by tabs.
+#![tactic(auto)]
+
+use anyhow::{Context, Result};
+use std::alloc::{AllocError, Global};
+
+/// A case of a table: the table's name and the input fields.
+#[derive(Drop)]
+pub struct Case<'a> {
+    table: &'a str,
+    fields: Vec<&'a str>,
+}
+
+impl<'a> Case<'a> {
+    /// The case on a line: its parts are divided by tabs, the table's name first.
+    pub fn read(alloc: Global, line: &'a str) -> Result<Case<'a>, AllocError> {
+        let mut parts = line.split('\t');
+        let table = parts.next().unwrap_or("");
+        let fields = parts.collect(alloc)?;
+        Ok(Case { table, fields })
+    }
+
+    /// The table's name.
+    pub fn table(&self) -> &'a str {
+        self.table
+    }
+
+    /// The number of input fields.
+    pub fn field_count(&self) -> usize {
+        self.fields.len()
+    }
+
+    /// The text of the input field `n`, counted from 0.
+    pub fn text(&self, n: usize) -> Result<&'a str> {
+        self.fields
+            .get(n)
+            .copied()
+            .context("the case has too few fields")
+    }
+
+    /// The bytes that the input field `n` has as hexadecimal digits.
+    pub fn bytes(&self, alloc: Global, n: usize) -> Result<Vec<u8>> {
+        let digits = self.text(n)?;
+        hex::decode(alloc, digits).context("reading hexadecimal digits")
+    }
+}
+
+/// Words of ASCII as text.
+pub fn ascii(alloc: Global, words: &[u8]) -> Result<String> {
+    let text = str::from_utf8(words).ok().context("the words are no text")?;
+    Ok(String::from_str(alloc, text)?)
+}
