@@ -12,7 +12,7 @@ use Rattle.abs_ints.specs.declared.cases.IntCase.{IntCase}
 use Rattle.abs_ints.specs.declared.cases.ShortRow.{ShortRow}
 use Rattle.abs_ints.specs.declared.cases.Way.{Way}
 
-abbrev bounds : ℤ → ℤ → Bounds
+abbrev pub bounds : ℤ → ℤ → Bounds
 bounds lo hi = record { lo = lo; hi = hi }
 
 abbrev nothing : Option Bounds

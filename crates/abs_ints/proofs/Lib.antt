@@ -1,4 +1,11 @@
+pub mod AllCases
+pub mod BitCases
 pub mod Comparisons
 pub mod Covering
+pub mod DivisionCases
 pub mod Making
+pub mod NarrowCases
+pub mod OperatorCases
+pub mod ProductCases
+pub mod ShiftCases
 pub mod SumCases

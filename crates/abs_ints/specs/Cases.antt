@@ -1,6 +1,6 @@
 -- Cases of an operation on abstract ints: what its operands and its result are narrowed to, and what is known of them.
-use Rattle.std.specs.Prelude.{ℤ, ◌+ℤ◌, ◌*ℤ◌, Option, Some, None, List}
-use Rattle.std.specs.List.{All}
+use Rattle.std.specs.Prelude.{ℤ, ◌+ℤ◌, ◌*ℤ◌, Option, Some, None, List, []}
+use Rattle.std.specs.List.{All, cons_option}
 use Rattle.std.specs.Option.{option_map, option_and_then}
 use Rattle.lin_core.specs.Intervals.{Bounds}
 use Rattle.lin_core.specs.Rows.{IsOfKind}
@@ -8,6 +8,7 @@ use Rattle.lin_core.specs.declared.rows.RowKind.TheVariants.{AtLeastZero, IsZero
 use Rattle.abs_ints.specs.declared.cases.IntCase.{IntCase}
 use Rattle.abs_ints.specs.declared.cases.ShortRow.{ShortRow}
 use Rattle.abs_ints.specs.declared.cases.Way.{Way}
+use Rattle.abs_ints.specs.declared.cases.Way.TheVariants.{Inside}
 
 -- the value of a row where the operands and the result are these numbers
 abbrev pub value_of : ShortRow → ℤ → ℤ → ℤ → ℤ
@@ -34,3 +35,11 @@ case_between way left right rows = option_and_then (λ a. option_map (λ b. reco
 -- a case with a result, where none of the three intervals is empty
 abbrev pub case_with : Way → Option Bounds → Option Bounds → Option Bounds → List ShortRow → Option IntCase
 case_with way left right result rows = option_and_then (λ a. option_and_then (λ b. option_map (λ r. record { left = a; right = b; result = Some r; rows = rows; way = way }) result) right) left
+
+-- the case of an operator that leaves its operands as they are
+abbrev pub inside : Bounds → Bounds → Option Bounds → List ShortRow → Option IntCase
+inside a b result rows = case_with Inside (Some a) (Some b) result rows
+
+-- the list of a case that is there
+abbrev pub only : Option IntCase → List IntCase
+only case = cons_option case []

@@ -1,5 +1,11 @@
+pub mod Bits
 pub mod Cases
 pub mod Comparing
+pub mod Divisions
 pub mod Falling
+pub mod Narrowings
+pub mod Operating
 pub mod Parts
+pub mod Products
+pub mod Shifts
 pub mod Sums

@@ -39,12 +39,17 @@ sum_of a b = record { lo = a.lo +ℤ b.lo; hi = a.hi +ℤ b.hi }
 abbrev pub difference_of : Bounds → Bounds → Bounds
 difference_of a b = record { lo = a.lo -ℤ b.hi; hi = a.hi -ℤ b.lo }
 
--- from the least to the greatest product of the ends of two intervals
+-- from the lesser to the greater multiple of the ends of an interval
+abbrev pub multiples_of : ℤ → Bounds → Bounds
+multiples_of n a = record { lo = int_min (n *ℤ a.lo) (n *ℤ a.hi); hi = int_max (n *ℤ a.lo) (n *ℤ a.hi) }
+
+-- from the least to the greatest end of two intervals
+abbrev pub join_of : Bounds → Bounds → Bounds
+join_of a b = record { lo = int_min a.lo b.lo; hi = int_max a.hi b.hi }
+
+-- from the least to the greatest of the four products of the ends of two intervals
 abbrev pub hull_of : Bounds → Bounds → Bounds
-hull_of a b = record {
-  lo = int_min (int_min (a.lo *ℤ b.lo) (a.lo *ℤ b.hi)) (int_min (a.hi *ℤ b.lo) (a.hi *ℤ b.hi));
-  hi = int_max (int_max (a.lo *ℤ b.lo) (a.lo *ℤ b.hi)) (int_max (a.hi *ℤ b.lo) (a.hi *ℤ b.hi));
-}
+hull_of a b = join_of (multiples_of a.lo b) (multiples_of a.hi b)
 
 -- all numbers of an interval are ints
 abbrev pub are_ints : Bounds → Bool
@@ -52,4 +57,4 @@ are_ints a = int_le all_ints.lo a.lo && int_le a.hi all_ints.hi
 
 -- an interval of ints; all ints, where it has other numbers
 abbrev pub ints_or_all : Bounds → Option Bounds
-ints_or_all a = if are_ints a then interval_of a.lo a.hi else Some all_ints
+ints_or_all a = if are_ints a then meet_of all_ints a else Some all_ints

@@ -1,6 +1,6 @@
 //! Cases of an operation on abstract ints.
 ghost use Rattle.std.specs.Prelude.{◌≡◌};
-ghost use Rattle.abs_ints.specs.Cases.{case_between, case_with, at_least_zero, is_zero};
+ghost use Rattle.abs_ints.specs.Cases.{case_between, case_with, inside, at_least_zero, is_zero};
 
 use crate::few::Few;
 use lin_core::{Interval, RowKind};
@@ -122,5 +122,17 @@ impl IntCase {
             rows,
             way,
         })
+    }
+
+    /// The case of an operator that leaves its operands as they are, or None where the result's interval is empty.
+    pub(crate) fn inside(
+        a: Interval,
+        b: Interval,
+        result_in: Option<Interval>,
+        rows: Few<ShortRow>,
+    ) -> Option<IntCase>
+        ensures { result ≡ inside a b result_in rows }
+    {
+        IntCase::with(Way::Inside, Some(a), Some(b), result_in, rows)
     }
 }

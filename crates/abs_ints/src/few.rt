@@ -55,6 +55,17 @@ impl<T> Few<T> {
         }
     }
 
+    /// The list of one item, if it is there.
+    pub(crate) fn maybe(item: Option<T>) -> Few<T>
+        ensures { result ≡ cons_option item [] }
+    {
+        Few {
+            first: item,
+            second: None,
+            third: None,
+        }
+    }
+
     /// The list of two items.
     pub(crate) fn two(first: T, second: T) -> Few<T>
         ensures { result ≡ first ∷ second ∷ [] }

@@ -2,16 +2,21 @@
 //! and its result are narrowed to, what is known of them, and where the machine goes on.
 #![tactic(auto)]
 
+mod bits;
 mod cases;
 mod comparing;
+mod divisions;
 mod few;
+mod narrowings;
 mod operating;
 mod parts;
+mod products;
 mod relations;
+mod shifts;
 mod span;
 mod sums;
 
 pub use cases::{IntCase, ShortRow, Way};
 pub use comparing::compare;
 pub use few::Few;
-pub use operating::{add, subtract};
+pub use operating::operate;

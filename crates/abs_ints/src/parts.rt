@@ -1,8 +1,30 @@
 //! Parts of intervals.
 ghost use Rattle.std.specs.Prelude.{◌≡◌};
-ghost use Rattle.abs_ints.specs.Parts.{below_of, up_to_of, above_of, from_of};
+ghost use Rattle.abs_ints.specs.Bits.{is_natural};
+ghost use Rattle.abs_ints.specs.Parts.{all_ints, is_single, below_of, up_to_of, above_of, from_of};
 
 use lin_core::Interval;
+
+/// All ints.
+pub(crate) fn all() -> Option<Interval>
+    ensures { result ≡ Some all_ints }
+{
+    Interval::new(i32::MIN, i32::MAX)
+}
+
+/// Whether an interval has one number alone.
+pub(crate) fn is_single(a: Interval) -> bool
+    ensures { result ≡ is_single a }
+{
+    a.lo() == a.hi()
+}
+
+/// Whether no number of an interval is below 0.
+pub(crate) fn is_natural(a: Interval) -> bool
+    ensures { result ≡ is_natural a }
+{
+    0 <= a.lo()
+}
 
 /// The ints of `a` that are below some int of `b`, or None where there are none.
 pub(crate) fn below(a: Interval, b: Interval) -> Option<Interval>

@@ -1,9 +1,10 @@
 //! Intervals of exact results.
-ghost use Rattle.std.specs.Prelude.{◌≡◌, ◌≤ℤ◌, pos, negsuc};
-ghost use Rattle.abs_ints.specs.Parts.{meet_of, sum_of, difference_of, just};
+ghost use Rattle.std.specs.Prelude.{◌≡◌, ◌*ℤ◌};
+ghost use Rattle.abs_ints.specs.Parts.{meet_of, sum_of, difference_of, just, multiples_of, join_of, hull_of, are_ints, ints_or_all};
 ghost use Rattle.abs_ints.specs.Sums.{reached_by, turn_of};
 
 use crate::cases::Way;
+use crate::parts::all;
 use lin_core::Interval;
 use std::marker::Model;
 
@@ -25,6 +26,13 @@ impl Model for Wide {
 }
 
 impl Wide {
+    /// The whole numbers from `lo` to `hi`.
+    pub(crate) fn new(lo: i64, hi: i64) -> Wide
+        ensures { result ≡ record { lo = lo; hi = hi } }
+    {
+        Wide { lo, hi }
+    }
+
     /// The ints of `interval` that lie in it, or None where there are none.
     pub(crate) fn part_of(self, interval: Interval) -> Option<Interval>
         ensures { result ≡ meet_of interval self }
@@ -37,6 +45,74 @@ impl Wide {
             None
         }
     }
+}
+
+impl Wide {
+    /// The products of the least number of `a` with those of `b`.
+    pub(crate) fn multiples_by_lo(a: Interval, b: Interval) -> Wide
+        ensures { result ≡ multiples_of a.lo b }
+    {
+        let low = product(a.lo(), b.lo());
+        let high = product(a.lo(), b.hi());
+        Wide {
+            lo: low.min(high),
+            hi: low.max(high),
+        }
+    }
+
+    /// The products of the greatest number of `a` with those of `b`.
+    pub(crate) fn multiples_by_hi(a: Interval, b: Interval) -> Wide
+        ensures { result ≡ multiples_of a.hi b }
+    {
+        let low = product(a.hi(), b.lo());
+        let high = product(a.hi(), b.hi());
+        Wide {
+            lo: low.min(high),
+            hi: low.max(high),
+        }
+    }
+
+    /// From the least to the greatest number of both.
+    pub(crate) fn join(self, other: Wide) -> Wide
+        ensures { result ≡ join_of self other }
+    {
+        Wide {
+            lo: self.lo.min(other.lo),
+            hi: self.hi.max(other.hi),
+        }
+    }
+
+    /// From the least to the greatest product of the ends of both intervals.
+    pub(crate) fn hull(a: Interval, b: Interval) -> Wide
+        ensures { result ≡ hull_of a b }
+    {
+        Wide::multiples_by_lo(a, b).join(Wide::multiples_by_hi(a, b))
+    }
+
+    /// Whether its ends are ints.
+    pub(crate) fn are_ints(self) -> bool
+        ensures { result ≡ are_ints self }
+    {
+        -2_147_483_648 <= self.lo && self.hi <= 2_147_483_647
+    }
+
+    /// The interval, if its ends are ints, else all ints. None where it is empty.
+    pub(crate) fn ints_or_all(self) -> Option<Interval>
+        ensures { result ≡ ints_or_all self }
+    {
+        if self.are_ints() {
+            self.part_of(all()?)
+        } else {
+            all()
+        }
+    }
+}
+
+/// The exact product of two ints.
+fn product(x: i32, y: i32) -> i64
+    ensures { result ≡ x *ℤ y }
+{
+    i64::from(x) * i64::from(y)
 }
 
 /// The whole numbers from `lo` to `hi`, both at most 2^40 in size: ints, and exact sums and differences of ints.
