@@ -1,0 +1,56 @@
+-- What known cells lead to, and the four tests that are made over it.
+use Rattle.std.specs.Prelude.{◌≡◌, ◌≢◌, ℕ, Bool, if◌then◌else◌, ◌⊎◌, Option, Some, None, slice_get}
+use Rattle.std.specs.Option.{option_and_then}
+use Rattle.jvm_values.specs.declared.shape.Shape.{Shape}
+use Rattle.jvm_values.specs.declared.shape.Shape.TheVariants.{Tree, Dag, Any}
+use Rattle.jvm_values.specs.Paths.{Steps, Reaches, IsTreeFrom, IsDagFrom}
+use Rattle.abs_cells.specs.declared.cells.Cell.{Cell}
+use Rattle.abs_cells.specs.AbstractStates.{AbstractState}
+use Rattle.abs_cells.specs.Cells.{is_reference, is_hazy, ids_of, shape_of, cell_at, HasCell, Share}
+
+-- a step goes from a known cell to an id that it names
+abbrev pub cell_steps : AbstractState → Steps
+cell_steps state a i = option_and_then (λ cell. slice_get (ids_of cell) i) (cell_at state a)
+
+-- `x` itself, and all that known cells lead to from it
+abbrev pub KnownFrom : AbstractState → ℕ → ℕ → Type 0
+KnownFrom state x y = Reaches (cell_steps state) x y
+
+-- an id of a reference, if its cell is not `Null`
+abbrev pub counted : AbstractState → ℕ → Option ℕ
+counted state id = option_and_then (λ cell. if is_reference cell then Some id else None) (cell_at state id)
+
+-- the steps to such ids alone
+abbrev pub counted_steps : AbstractState → Steps
+counted_steps state a i = option_and_then (counted state) (cell_steps state a i)
+
+-- ids of `x`'s closure and `y`'s are one id or share
+pub record MayMeet (state : AbstractState) (x y : ℕ) : Type 0 where
+  pub p : ℕ
+  pub q : ℕ
+  pub from_x : KnownFrom state x p
+  pub from_y : KnownFrom state y q
+  pub p_counts : HasCell is_reference state p
+  pub q_counts : HasCell is_reference state q
+  pub meet : (p ≡ q) ⊎ Share state p q
+
+-- `k` is in `x`'s closure, or shares with a hazy id there
+pub record SharesThere (state : AbstractState) (k x : ℕ) : Type 0 where
+  pub q : ℕ
+  pub from_x : KnownFrom state x q
+  pub hazy : HasCell is_hazy state q
+  pub share : Share state k q
+
+abbrev pub MayBeIn : AbstractState → ℕ → ℕ → Type 0
+MayBeIn state k x = KnownFrom state x k ⊎ SharesThere state k x
+
+-- known cells give no cycle from `x`, and no hazy id there may have one in its region
+pub record IsFiniteId (state : AbstractState) (x : ℕ) : Type 0 where
+  pub acyclic : IsDagFrom (counted_steps state) x
+  pub hazy : (q : ℕ) (cell : Cell) → KnownFrom state x q → cell_at state q ≡ Some cell → shape_of cell ≢ Some Any
+
+-- known cells reach each id there by one path, each hazy id there has a tree as its region, and no two ids there share
+pub record IsTreeId (state : AbstractState) (x : ℕ) : Type 0 where
+  pub one_path : IsTreeFrom (counted_steps state) x
+  pub hazy : (q : ℕ) (cell : Cell) (shape : Shape) → KnownFrom state x q → cell_at state q ≡ Some cell → shape_of cell ≡ Some shape → shape ≡ Tree
+  pub apart : (p q : ℕ) → KnownFrom state x p → KnownFrom state x q → p ≢ q → Share state p q → ⊥

@@ -1,0 +1,54 @@
+-- Unordered pairs of numbers as rising lists, the lower number of each pair first.
+use Rattle.std.specs.Prelude.{◌≡◌, ℕ, suc, ◌<◌, ◌==◌, nat_lt, min, max, Bool, true, false, ◌&&◌, ◌||◌, not, if◌then◌else◌, List, [], ◌∷◌}
+
+-- the pair of two numbers, the lower one first
+abbrev pub pair_of : ℕ → ℕ → ℕ × ℕ
+pair_of a b = (min a b, max a b)
+
+-- one pair is another
+abbrev pub is_same : ℕ × ℕ → ℕ × ℕ → Bool
+is_same p q = (p.0 == q.0) && (p.1 == q.1)
+
+-- one pair stands before another: its lower number is below, or that is equal and the other one is below
+abbrev pub is_before : ℕ × ℕ → ℕ × ℕ → Bool
+is_before p q = if p.0 == q.0 then nat_lt p.1 q.1 else nat_lt p.0 q.0
+
+-- a pair stands before the first of some pairs
+abbrev pub IsFirst : ℕ × ℕ → List (ℕ × ℕ) → Type 0
+IsFirst p [] = Unit {0}
+IsFirst p (q ∷ rest) = is_before p q ≡ true
+
+-- each pair has its lower number first, and stands before the next
+abbrev pub IsRising : List (ℕ × ℕ) → Type 0
+IsRising [] = Unit {0}
+IsRising (p ∷ rest) = (p.0 < p.1) × (IsFirst p rest × IsRising rest)
+
+-- a pair is among some pairs
+abbrev pub has_pair : ℕ × ℕ → List (ℕ × ℕ) → Bool
+has_pair p [] = false
+has_pair p (q ∷ rest) = is_same p q || has_pair p rest
+
+-- the rising list with a pair put at its place, where it is not there yet
+abbrev pub with_pair : ℕ × ℕ → List (ℕ × ℕ) → List (ℕ × ℕ)
+with_pair p [] = p ∷ []
+with_pair p (q ∷ rest) = if is_same p q then q ∷ rest else if is_before p q then p ∷ q ∷ rest else q ∷ with_pair p rest
+
+-- the list without a pair
+abbrev pub without_pair : ℕ × ℕ → List (ℕ × ℕ) → List (ℕ × ℕ)
+without_pair p [] = []
+without_pair p (q ∷ rest) = if is_same p q then rest else q ∷ without_pair p rest
+
+-- the same of two numbers in any order
+abbrev pub has : ℕ → ℕ → List (ℕ × ℕ) → Bool
+has a b pairs = has_pair (pair_of a b) pairs
+
+abbrev pub added : ℕ → ℕ → List (ℕ × ℕ) → List (ℕ × ℕ)
+added a b pairs = with_pair (pair_of a b) pairs
+
+abbrev pub removed : ℕ → ℕ → List (ℕ × ℕ) → List (ℕ × ℕ)
+removed a b pairs = without_pair (pair_of a b) pairs
+
+-- how many pairs at the front of a list stand before a pair: its place where the list rises
+abbrev pub place_in : ℕ × ℕ → List (ℕ × ℕ) → ℕ
+place_in p [] = 0
+place_in p (q ∷ rest) = if is_before q p then suc (place_in p rest) else 0

@@ -1,0 +1,69 @@
+-- Well-formed abstract states, and those that are sound for the types of a world.
+use Rattle.std.specs.Prelude.{◌≡◌, ◌≢◌, ℕ, suc, ◌<◌, ◌≤◌, Bool, true, false, not, ◌&&◌, ◌||◌, List, [], ◌∷◌, ◌++◌, map, All, IsTrue, Option, Some, None}
+use Rattle.std.specs.List.{AllZip, flat_map}
+use Rattle.jvm_values.specs.declared.types.Slot.{Slot}
+use Rattle.jvm_values.specs.declared.types.Slot.TheVariants as slots
+use Rattle.jvm_values.specs.Subtyping.{array_of, IsReference, IsErased}
+use Rattle.jvm_values.specs.TypedHeaps.{WorldTypes}
+use Rattle.abs_cells.specs.declared.cells.Cell.{Cell}
+use Rattle.abs_cells.specs.declared.cells.Cell.TheVariants.{Int, Null, Obj, Nums, Refs, Unk}
+use Rattle.abs_cells.specs.AbstractStates.{AbstractFrame, AbstractState}
+use Rattle.abs_cells.specs.Cells.{is_known, is_reference, is_int, ids_in, cell_at, HasCell, AreEqual, Share}
+
+-- the ids of cells rise, and are below a number
+abbrev pub AreIdsRising : ℕ → List (ℕ × Cell) → Type 0
+AreIdsRising low [] = Unit {0}
+AreIdsRising low (c ∷ cells) = (low ≤ c.0) × ((c.0 < 2048) × AreIdsRising (suc c.0) cells)
+
+abbrev pub given_ids : List (Option ℕ) → List ℕ
+given_ids [] = []
+given_ids (None ∷ locals) = given_ids locals
+given_ids (Some id ∷ locals) = id ∷ given_ids locals
+
+abbrev pub ids_of_frame : AbstractFrame → List ℕ
+ids_of_frame frame = given_ids frame.locals ++ frame.stack
+
+-- every id that frames, the thrown object and cells name
+abbrev pub ids_used : AbstractState → List ℕ
+ids_used state = flat_map ids_of_frame state.frames ++ (given_ids (state.throwing ∷ []) ++ flat_map (λ c. ids_in c.1) state.cells)
+
+-- cells rise by id, and ids are below 2,048; every id that is used has a cell; each pair of ids with one object is a
+-- pair that shares; pairs join references, and not two known ones
+pub record IsWellFormed (state : AbstractState) : Type 0 where
+  pub rising : AreIdsRising 0 state.cells
+  pub used : All (HasCell (λ _. true) state) (ids_used state)
+  pub shared : (a b : ℕ) → AreEqual state a b → Share state a b
+  pub left : (a b : ℕ) → a < b → Share state a b → HasCell is_reference state a
+  pub right : (a b : ℕ) → a < b → Share state a b → HasCell is_reference state b
+  pub not_both_known : (a b : ℕ) → a < b → Share state a b → HasCell is_known state a → HasCell is_known state b → ⊥
+
+-- an id has a cell that a field may have: an int for a number, and else a reference or null
+abbrev pub IsOfSlot : AbstractState → Slot → ℕ → Type 0
+IsOfSlot state (slots.Num kind) id = HasCell is_int state id
+IsOfSlot state (slots.Ref t) id = HasCell (λ cell. not (is_int cell)) state id
+
+-- what a cell says is of the world: lengths are ints; an instance is of a class that can be made and has an id for each
+-- field; types are reference types of the world and their own erasure, those of arrays too
+abbrev pub IsSoundCell : WorldTypes → AbstractState → Cell → Type 0
+IsSoundCell types state (Int interval) = Unit {0}
+IsSoundCell types state Null = Unit {0}
+IsSoundCell types state (Obj class ids) = (class < types.classes) × (IsTrue (types.can_be_made class) × AllZip (IsOfSlot state) (types.fields class) ids)
+IsSoundCell types state (Nums kind len) = HasCell is_int state len
+IsSoundCell types state (Refs element len shape) = HasCell is_int state len × ((IsReference types.classes element × IsErased types.erase element) × (IsReference types.classes (array_of element) × IsErased types.erase (array_of element)))
+IsSoundCell types state (Unk bound nullable shape) = IsReference types.classes bound × IsErased types.erase bound
+
+-- a cell of an object, which is not null
+abbrev pub is_object : Cell → Bool
+is_object (Int interval) = false
+is_object Null = false
+is_object (Obj class ids) = true
+is_object (Nums kind len) = true
+is_object (Refs element len shape) = true
+is_object (Unk bound nullable shape) = not nullable
+
+-- a well-formed state with a frame, whose cells are of the world, and whose thrown id, if any, is an object's
+pub record IsSound (types : WorldTypes) (state : AbstractState) : Type 0 where
+  pub well_formed : IsWellFormed state
+  pub framed : state.frames ≢ []
+  pub cells : All (λ c. IsSoundCell types state c.1) state.cells
+  pub thrown : (id : ℕ) → state.throwing ≡ Some id → HasCell is_object state id

@@ -1,0 +1,17 @@
+//! Abstract states: frames whose places hold ids, a cell for each id, and pairs of ids.
+//!
+//! An abstract state describes states of the written machine (Otto, Brockschmidt, von Essen, Giesl 2010). Its
+//! contracts see lists alone: capacity, allocator and the form in which pairs are held play no part.
+#![tactic(auto)]
+
+mod cells;
+mod ids;
+mod laws;
+mod pairs;
+mod states;
+
+pub use cells::Cell;
+pub use ids::{Id, Ids};
+pub use laws::{fitting_frames_agree, known_ids_are_apart};
+pub use pairs::{ListPairs, Pairs};
+pub use states::{AbsFrame, AbsState};

@@ -1,0 +1,123 @@
+//! Sets of unordered pairs of ids.
+ghost use Rattle.std.specs.Prelude.{◌≡◌, ◌≢◌, ◌<◌, ℕ, List, [], OnOk, OnErr, slice_get, IsTrue, ◌↔◌, Some};
+ghost use Rattle.abs_cells.specs.PairLists.{IsRising, added, removed, has, is_before, place_in};
+
+use crate::ids::Id;
+use std::alloc::{AllocError, Global};
+use std::marker::Model;
+
+/// Unordered pairs of different ids. The meaning is the list of the pairs, the lower id of each first, in rising order.
+pub trait Pairs: Drop {
+    ghost pairs: { Self → List (ℕ × ℕ) };
+
+    /// No pairs. It takes no memory until the first pair comes.
+    fn empty(alloc: Global) -> Self
+        ensures { pairs result ≡ [] };
+
+    /// Adds a pair, where it is not there yet.
+    ///
+    /// # Errors
+    ///
+    /// Want of memory; then the pairs are as before.
+    fn add(&mut self, a: Id, b: Id) -> Result<(), AllocError>
+        requires differ { a ≢ b }
+        requires low { (a < 2048) × (b < 2048) }
+        ensures ok { OnOk result (pairs self.new ≡ added a b (pairs self.old)) }
+        ensures err { OnErr result (pairs self.new ≡ pairs self.old) };
+
+    /// Takes a pair away, if it is there. It takes no memory.
+    fn remove(&mut self, a: Id, b: Id)
+        requires differ { a ≢ b }
+        requires low { (a < 2048) × (b < 2048) }
+        ensures { pairs self.new ≡ removed a b (pairs self.old) };
+
+    /// Whether the pair is there. It takes no memory.
+    fn has(&self, a: Id, b: Id) -> bool
+        requires differ { a ≢ b }
+        requires low { (a < 2048) × (b < 2048) }
+        ensures { result ≡ has a b (pairs self.now) };
+
+    /// The pair with number `n` in rising order, counted from 0, or None past the end. It takes no memory.
+    fn nth(&self, n: usize) -> Option<(Id, Id)>
+        ensures value { result ≡ slice_get (pairs self.now) n }
+        ensures rising { IsRising (pairs self.now) };
+}
+
+/// Pairs held as the rising list that they mean.
+#[derive(Debug, Drop)]
+pub struct ListPairs {
+    pairs: Vec<(Id, Id)>,
+}
+
+impl Model for ListPairs {
+    ghost use Rattle.std.specs.Prelude.{List, ℕ};
+    ghost use Rattle.abs_cells.specs.PairLists.{IsRising};
+
+    ghost Value = { List (ℕ × ℕ) };
+
+    ghost view = { λ s. s.pairs.items };
+
+    ghost invariant = { λ s. IsRising s.pairs.items };
+}
+
+/// Whether one pair stands before another in the rising order.
+fn is_before(p: (Id, Id), q: (Id, Id)) -> bool
+    ensures { result ≡ is_before p q }
+{
+    if p.0 == q.0 { p.1 < q.1 } else { p.0 < q.0 }
+}
+
+/// The number of pairs before a pair: its place in the rising list.
+fn place_of(pairs: &[(Id, Id)], pair: (Id, Id)) -> usize
+    ensures { result ≡ place_in pair pairs.now }
+{
+    for (place, other) in pairs.iter().enumerate() {
+        if !is_before(*other, pair) {
+            return place;
+        }
+    }
+    pairs.len()
+}
+
+/// Whether a pair stands at a place.
+fn stands_at(pairs: &[(Id, Id)], place: usize, pair: (Id, Id)) -> bool
+    ensures { IsTrue result ↔ (slice_get pairs.now place ≡ Some pair) }
+{
+    place < pairs.len() && pairs[place].0 == pair.0 && pairs[place].1 == pair.1
+}
+
+impl Pairs for ListPairs {
+    ghost pairs = { λ s. s };
+
+    fn empty(alloc: Global) -> Self {
+        ListPairs {
+            pairs: Vec::new(alloc),
+        }
+    }
+
+    fn add(&mut self, a: Id, b: Id) -> Result<(), AllocError> {
+        let pair = (a.min(b), a.max(b));
+        let place = place_of(&self.pairs, pair);
+        if !stands_at(&self.pairs, place, pair) {
+            self.pairs.insert(place, pair)?;
+        }
+        Ok(())
+    }
+
+    fn remove(&mut self, a: Id, b: Id) {
+        let pair = (a.min(b), a.max(b));
+        let place = place_of(&self.pairs, pair);
+        if stands_at(&self.pairs, place, pair) {
+            self.pairs.remove(place);
+        }
+    }
+
+    fn has(&self, a: Id, b: Id) -> bool {
+        let pair = (a.min(b), a.max(b));
+        stands_at(&self.pairs, place_of(&self.pairs, pair), pair)
+    }
+
+    fn nth(&self, n: usize) -> Option<(Id, Id)> {
+        self.pairs.get(n).copied()
+    }
+}
