@@ -1,37 +1,50 @@
 -- A listing without faults says a class that has a text.
-use Rattle.std.proofs.Common.{◌≡◌, ℕ, ◌+◌, ◌*◌, ◌<◌, ◌^◌, cond, List, [], ◌∷◌, ◌++◌, length, map, Option, Some, None, is_some, refl, arith}
+use Rattle.std.proofs.Common.{◌≡◌, ℕ, zero, suc, ◌+◌, ◌*◌, ◌<◌, ◌≤◌, ◌^◌, cond, List, [], ◌∷◌, ◌++◌, length, map, slice_get, Option, Some, None, is_some, refl, arith}
 use Rattle.std.specs.List.{flat_map, AllByRecursion}
 use Rattle.std.specs.Option.{option_map_or}
 use Rattle.std.proofs.lemmas.List.{length-append}
 use Rattle.class_pool.specs.Entry.{HasText}
 use Rattle.class_read.specs.Content.{Handler}
-use Rattle.code_decode.specs.declared.table.Handler.{Handler as CodeHandler}
 use Rattle.class_read.specs.Text.{u2, u4, handler_text, attribute_text, code_text}
 use Rattle.class_read.specs.Writing.{HasAttrText, HasMemberText, HasClassText}
 use Rattle.class_read.specs.declared.text.AttrText.{AttrText}
-use Rattle.class_asm.specs.declared.number.Number.{Number}
-use Rattle.class_asm.specs.declared.item.Item.{Item}
-use Rattle.class_asm.specs.declared.item.Item.TheVariants as items
-use Rattle.class_asm.specs.declared.listing.CodeLine.{CodeLine}
-use Rattle.class_asm.specs.declared.listing.MethodLines.{MethodLines}
-use Rattle.class_asm.specs.declared.listing.Listing.{Listing}
-use Rattle.class_asm.specs.declared.statement.AttributeLine.{AttributeLine}
-use Rattle.class_asm.specs.declared.statement.ClassLine.{ClassLine}
-use Rattle.class_asm.specs.declared.statement.FieldLine.{FieldLine}
-use Rattle.class_asm.specs.declared.method_code.MethodCode.{MethodCode}
-use Rattle.class_asm.specs.Firsts.{with_faults}
-use Rattle.class_asm.specs.Needs.{line_needs, attribute_entries, listing_needs}
-use Rattle.class_asm.specs.Pools.{Need, Numbered, unless, need_faults, count_faults, pool_entry, number_of}
-use Rattle.class_asm.specs.Entries.{Entry, Class}
+use Rattle.asm_lines.specs.declared.number.Number.{Number}
+use Rattle.asm_lines.specs.declared.item.Item.{Item}
+use Rattle.asm_lines.specs.declared.item.Item.TheVariants as items
+use Rattle.asm_lines.specs.declared.listing.CodeLine.{CodeLine}
+use Rattle.asm_lines.specs.declared.listing.MethodLines.{MethodLines}
+use Rattle.asm_lines.specs.declared.listing.Listing.{Listing}
+use Rattle.asm_lines.specs.declared.statement.AttributeLine.{AttributeLine}
+use Rattle.asm_lines.specs.declared.statement.ClassLine.{ClassLine}
+use Rattle.asm_lines.specs.declared.statement.FieldLine.{FieldLine}
+use Rattle.asm_codes.specs.declared.code.MethodCode.{MethodCode}
+use Rattle.asm_lines.specs.declared.fault.AsmFault.TheVariants.{OutOfRange}
+use Rattle.asm_lines.specs.Firsts.{with_faults, unless}
+use Rattle.asm_pool.specs.Needs.{line_needs, attribute_entries, listing_needs}
+use Rattle.asm_pool.specs.Pools.{Need, Numbered, need_faults, count_faults, pool_entry, number_of, firsts_in, pool_in, pool_faults}
+use Rattle.asm_pool.specs.Entries.{Entry, Class}
 use Rattle.class_asm.specs.Rules.{past_count, seconds, field_key, method_key, fields_faults, methods_faults, attributes_faults, field_faults, method_faults, attribute_lines, attribute_faults, constant_faults, content_fits, class_is_good, rule_faults}
 use Rattle.class_asm.specs.Classes as classes
-use Rattle.class_asm.specs.Classes.{code_said, code_in, said_faults, item_attributes, code_attributes, attributes_size, code_size, code_fits, code_faults, field_text, handlers_of, method_attributes, method_text, class_text, firsts_in, pool_in, pool_faults, all_faults}
+use Rattle.class_asm.specs.Classes.{code_said, code_in, said_faults, item_attributes, code_attributes, attributes_size, code_size, code_fits, code_faults, field_text, method_attributes, method_text, class_text, all_faults}
 use Rattle.class_asm.proofs.CodeBounds.{few}
-use Rattle.class_asm.proofs.Faultless.{no_faults, left, right, each, is_good, first_of_both, second_of_both, within_count, is_less, mapped_length, all_mapped, all_both, all_one}
-use Rattle.class_asm.proofs.PoolBounds.{places_counted}
+use Rattle.asm_lines.proofs.Faultless.{no_faults, left, right, each, is_good, first_of_both, second_of_both, is_less, mapped_length, all_mapped, all_both, all_one}
+use Rattle.asm_pool.proofs.PoolBounds.{places_counted}
 
-abbrev four : CodeHandler → Handler
-four h = (h.start, h.end, h.handler, h.catch)
+-- ---- counts
+
+no_more : {A : Type 0} (xs : List A) (n : ℕ) → slice_get xs n ≡ None → length xs ≤ n
+no_more [] n h = omega arith
+no_more (x ∷ xs) zero h = absurd cc
+no_more (x ∷ xs) (suc n) h = omega (arith, no_more xs n h)
+
+none_past : {A : Type 0} (line_of : A → ℕ) (o : Option A) → option_map_or (λ item. OutOfRange (line_of item) ∷ []) o [] ≡ [] → o ≡ None
+none_past line_of None h = refl
+none_past line_of (Some x) h = absurd cc
+
+pub within_count : {A : Type 0} (line_of : A → ℕ) (xs : List A) → past_count line_of xs ≡ [] → length xs < 2 ^ 16
+within_count line_of xs h = omega (arith, no_more xs 65535 (none_past line_of (slice_get xs 65535) h))
+
+-- ---- members
 
 abbrev at_line : ℕ → Entry → Need
 at_line line entry = (entry, line)
@@ -52,9 +65,9 @@ all_size : (attributes : List (ℕ × List ℕ)) → length (flat_map attribute_
 all_size [] = refl
 all_size (a ∷ attributes) = omega (arith, length-append (attribute_text a) (flat_map attribute_text attributes), attribute_size a, all_size attributes)
 
-pub content_size : (max_stack max_locals : ℕ) (code : MethodCode) (attributes : List (ℕ × List ℕ)) → length (code_text max_stack max_locals code.bytes (handlers_of code) attributes) ≡ code_size code attributes
+pub content_size : (max_stack max_locals : ℕ) (code : MethodCode) (attributes : List (ℕ × List ℕ)) → length (code_text max_stack max_locals code.bytes code.table attributes) ≡ code_size code attributes
 content_size max_stack max_locals code attributes =
-    let table = handlers_of code in
+    let table = code.table in
     let tables : List ℕ = flat_map handler_text table in
     let rest : List ℕ = flat_map attribute_text attributes in
     let last = u2 (length attributes) ++ rest in
@@ -72,7 +85,6 @@ content_size max_stack max_locals code attributes =
       length-append (u2 (length attributes)) rest,
       handlers_size table,
       all_size attributes,
-      mapped_length four code.table,
     )
 
 pub each_short : (attributes : List (ℕ × List ℕ)) (most : ℕ) → attributes_size attributes < most → AllByRecursion (λ a. length a.1 < most) attributes
@@ -116,7 +128,7 @@ with_sizes pool m (Some sizes) count h =
       (
         (
           omega (arith, bound.bytes),
-          omega (arith, bound.table, mapped_length four code.table),
+          bound.table,
           count,
           each_short attributes (2 ^ 32) (omega (arith, fits)),
           omega (arith, fits, content_size (classes.size_of sizes.0) (classes.size_of sizes.1) code attributes),

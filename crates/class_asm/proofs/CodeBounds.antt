@@ -1,22 +1,21 @@
 -- A method's code, or none where it is faulty, is no longer than a file can say.
-use Rattle.std.proofs.Common.{◌≡◌, ℕ, ◌<◌, ◌^◌, List, length, Option, Some, None, refl, arith}
-use Rattle.class_asm.specs.declared.fault.AsmFault.{AsmFault}
-use Rattle.class_asm.specs.declared.listing.MethodLines.{MethodLines}
-use Rattle.class_asm.specs.declared.method_code.MethodCode.{MethodCode}
-use Rattle.class_asm.specs.declared.pooled.PooledLine.{PooledLine}
-use Rattle.std.proofs.Common.{map}
-use Rattle.class_asm.specs.Pools.{Numbered}
+use Rattle.std.proofs.Common.{◌≡◌, ℕ, ◌<◌, ◌^◌, List, length, Option, Some, None, refl, arith, map}
+use Rattle.asm_lines.specs.declared.fault.AsmFault.{AsmFault}
+use Rattle.asm_lines.specs.declared.listing.MethodLines.{MethodLines}
+use Rattle.asm_codes.specs.declared.code.MethodCode.{MethodCode}
+use Rattle.asm_codes.specs.Pooled.{Pooled}
+use Rattle.asm_pool.specs.Pools.{Numbered}
 use Rattle.class_asm.specs.Classes.{pooled, code_said, code_in}
-use Rattle.class_asm.specs.LineFaults.{first_fault}
-use Rattle.class_asm.specs.Places.{places_of}
-use Rattle.class_asm.specs.MethodCodes.{answered, code_at, method_code}
-use Rattle.class_asm.proofs.CodeSizes.{sized}
+use Rattle.asm_codes.specs.LineFaults.{first_fault}
+use Rattle.asm_codes.specs.Places.{places_of}
+use Rattle.asm_codes.specs.MethodCodes.{answered, code_at, method_code}
+use Rattle.asm_codes.proofs.CodeSizes.{sized}
 
 pub record IsFew (code : MethodCode) : Type 0 where
   pub bytes : length code.bytes < 2 ^ 16
   pub table : length code.table < 2 ^ 16
 
-answered_few : (lines : List PooledLine) (o : Option AsmFault) → first_fault (places_of lines) lines ≡ o → IsFew (code_in (answered o (code_at (places_of lines) lines)))
+answered_few : (lines : List Pooled) (o : Option AsmFault) → first_fault (places_of lines) lines ≡ o → IsFew (code_in (answered o (code_at (places_of lines) lines)))
 answered_few lines None h = let s = sized lines (code_at (places_of lines) lines) h refl in record { bytes = s.few; table = s.table }
 answered_few lines (Some fault) h = record { bytes = omega arith; table = omega arith }
 

@@ -4,55 +4,57 @@ use Rattle.std.specs.Prelude.{codes, nat_lt, bit_or, IsSome, ◌⊎◌}
 use Rattle.std.specs.List.{flat_map, list_all, list_any, cons_option, AllByRecursion, IsDistinct}
 use Rattle.std.specs.Option.{option_map_or, option_and_then, option_to_list, unwrap_or}
 use Rattle.std.proofs.lemmas.Bool.{ltb-true}
-use Rattle.code_decode.specs.declared.table.Handler.{Handler as CodeHandler}
-use Rattle.class_read.specs.declared.names.MemberKind.TheVariants.{Field, Method}
+use Rattle.class_base.specs.declared.member_kind.MemberKind.TheVariants.{Field, Method}
 use Rattle.class_read.specs.declared.text.AttrText.{AttrText}
 use Rattle.class_read.specs.Content.{Handler}
-use Rattle.class_read.specs.Names.{is_class_name, is_descriptor, IsDescriptor}
+use Rattle.class_base.specs.ClassNames.{is_class_name}
+use Rattle.class_base.specs.MemberKinds.{is_descriptor, IsDescriptor}
 use Rattle.class_read.specs.Rules.{text_of, IsText, IsClass, IsAttribute, IsHandler, IsMethodAttribute, IsOtherAttribute, codes_in, IsField, IsMethod, key_of, same_key, WellFormed}
-use Rattle.class_read.proofs.Keys.{same_swapped}
-use Rattle.class_read.proofs.Types.{descriptor_found}
-use Rattle.class_asm.specs.declared.fault.AsmFault.{AsmFault}
-use Rattle.class_asm.specs.declared.fault.AsmFault.TheVariants.{OutOfRange}
-use Rattle.class_asm.specs.declared.number.Number.{Number}
-use Rattle.class_asm.specs.declared.item.Item.{Item}
-use Rattle.class_asm.specs.declared.item.Item.TheVariants as items
-use Rattle.class_asm.specs.declared.listing.CodeLine.{CodeLine}
-use Rattle.class_asm.specs.declared.listing.MethodLines.{MethodLines}
-use Rattle.class_asm.specs.declared.listing.Listing.{Listing}
-use Rattle.class_asm.specs.declared.method_code.MethodCode.{MethodCode}
-use Rattle.class_asm.specs.declared.pooled.Need.{Need as LineNeed}
-use Rattle.class_asm.specs.declared.pooled.PooledLine.{PooledLine}
-use Rattle.class_asm.specs.declared.statement.AttributeLine.{AttributeLine}
-use Rattle.class_asm.specs.declared.statement.ClassLine.{ClassLine}
-use Rattle.class_asm.specs.declared.statement.FieldLine.{FieldLine}
-use Rattle.class_asm.specs.Entries.{Entry, Utf8, Class, has_text}
-use Rattle.class_asm.specs.Instructions.{Places}
-use Rattle.class_asm.specs.LineFaults.{first_fault}
-use Rattle.class_asm.specs.MethodCodes as codes_of
-use Rattle.class_asm.specs.MethodCodes.{answered, code_at, method_code}
-use Rattle.class_asm.specs.Needs.{insn_entries, catch_entries, attribute_entries, line_needs, catch_entry, code_name, code_needs, field_needs, method_needs, attribute_needs, constant_needs, super_of, class_needs, listing_needs}
-use Rattle.class_asm.specs.Numbers.{unsigned_of, pair_of}
-use Rattle.class_asm.specs.Places.{places_of, IsNear, item_entry, table_of}
-use Rattle.class_asm.specs.Pools.{Need, Numbered, needed, unless, need_faults, count_faults, numbered, number_of}
+use Rattle.class_base.proofs.Keys.{same_swapped}
+use Rattle.class_base.proofs.MethodLaws.{descriptor_found}
+use Rattle.asm_lines.specs.declared.fault.AsmFault.{AsmFault}
+use Rattle.asm_lines.specs.declared.fault.AsmFault.TheVariants.{OutOfRange}
+use Rattle.asm_lines.specs.declared.number.Number.{Number}
+use Rattle.asm_lines.specs.declared.item.Item.{Item}
+use Rattle.asm_lines.specs.declared.item.Item.TheVariants as items
+use Rattle.asm_lines.specs.declared.listing.CodeLine.{CodeLine}
+use Rattle.asm_lines.specs.declared.listing.MethodLines.{MethodLines}
+use Rattle.asm_lines.specs.declared.listing.Listing.{Listing}
+use Rattle.asm_codes.specs.declared.code.MethodCode.{MethodCode}
+use Rattle.asm_codes.specs.declared.pooled.PoolOperand.{PoolOperand}
+use Rattle.asm_codes.specs.Pooled.{Pooled}
+use Rattle.asm_lines.specs.declared.statement.AttributeLine.{AttributeLine}
+use Rattle.asm_lines.specs.declared.statement.ClassLine.{ClassLine}
+use Rattle.asm_lines.specs.declared.statement.FieldLine.{FieldLine}
+use Rattle.asm_pool.specs.Entries.{Entry, Utf8, Class, has_text}
+use Rattle.asm_codes.specs.Instructions.{Places}
+use Rattle.asm_codes.specs.LineFaults.{first_fault}
+use Rattle.asm_codes.specs.MethodCodes as codes_of
+use Rattle.asm_codes.specs.MethodCodes.{answered, code_at, method_code}
+use Rattle.asm_pool.specs.Needs.{insn_entries, catch_entries, attribute_entries, line_needs, catch_entry, code_name, code_needs, field_needs, method_needs, attribute_needs, constant_needs, super_of, class_needs, listing_needs}
+use Rattle.asm_lines.specs.Numbers.{unsigned_of, pair_of}
+use Rattle.asm_codes.specs.Places.{places_of, IsNear, item_entry, table_of}
+use Rattle.asm_lines.specs.Firsts.{unless}
+use Rattle.asm_pool.specs.Pools.{Need, Numbered, needed, need_faults, count_faults, numbered, number_of, firsts_in, pool_in, pool_faults}
 use Rattle.class_asm.specs.Rules.{Key, past_count, seconds, field_key, method_key, field_flags, method_flags, field_faults, method_faults, sizes_fit, attribute_lines, fields_faults, methods_faults, attribute_faults, attributes_faults, constant_faults, content_fits, major_of, class_is_good, rule_faults}
 use Rattle.class_asm.specs.Classes as classes
-use Rattle.class_asm.specs.Classes.{make_need, no_need, entry_need, item_need, pooled, code_said, code_in, said_faults, item_attributes, code_attributes, code_size, code_fits, code_faults, field_text, size_of, handlers_of, method_attributes, method_text, class_flags, class_text, firsts_in, pool_in, pool_faults, all_faults, unless_faulty, class_of}
-use Rattle.class_asm.proofs.ClassBounds.{content_size, attributes_count, each_short}
-use Rattle.class_asm.proofs.CodeSizes.{sized}
-use Rattle.class_asm.proofs.Faultless.{left, right, each, is_good, first_of_both, second_of_both, within_count, is_less, mapped_length, all_mapped, all_both}
-use Rattle.class_asm.proofs.GoodListings.{has_end, GoodMethod, GoodListing}
-use Rattle.class_asm.proofs.GoodNeeds.{needs_good}
-use Rattle.class_asm.proofs.PlainWords.{PlainClass}
-use Rattle.class_asm.proofs.PoolBounds.{room}
-use Rattle.class_asm.proofs.PoolEntries.{IsIn, AllIn, in_file, number_small, front, back, of_needed, entries_in, needs_in}
-use Rattle.class_asm.proofs.PoolRules.{pool_room, pool_rules, text_there, class_there}
-use Rattle.class_asm.proofs.Written.{near}
+use Rattle.class_asm.specs.Classes.{make_need, no_need, entry_need, item_need, pooled, code_said, code_in, said_faults, item_attributes, code_attributes, code_size, code_fits, code_faults, field_text, size_of, method_attributes, method_text, class_flags, class_text, all_faults, unless_faulty, class_of}
+use Rattle.class_asm.proofs.MethodFlags.{has_sizes, flags_small}
+use Rattle.class_asm.proofs.ClassBounds.{within_count, content_size, attributes_count, each_short}
+use Rattle.asm_codes.proofs.CodeSizes.{sized}
+use Rattle.asm_lines.proofs.Faultless.{left, right, each, is_good, first_of_both, second_of_both, is_less, mapped_length, all_mapped, all_both}
+use Rattle.asm_lines.proofs.GoodListings.{has_end, GoodMethod, GoodListing}
+use Rattle.asm_pool.proofs.GoodNeeds.{needs_good}
+use Rattle.asm_lines.proofs.PlainWords.{PlainClass}
+use Rattle.asm_pool.proofs.PoolBounds.{room}
+use Rattle.asm_pool.proofs.PoolEntries.{IsIn, AllIn, in_file, number_small, front, back, of_needed, entries_in, needs_in}
+use Rattle.asm_pool.proofs.PoolRules.{pool_room, pool_rules, text_there, class_there}
+use Rattle.asm_codes.proofs.Written.{near}
 
 -- ---- what indexes name
 
 -- Every entry that a need needs is in the pool.
-abbrev Found : List Entry → Need → Type 0
+abbrev pub Found : List Entry → Need → Type 0
 Found es need = AllIn es need.0
 
 some_is : {A : Type 0} (o : Option A) (x : A) → o ≡ Some x → IsSome o
@@ -61,7 +63,7 @@ some_is o x h = ap is_some h
 text_is : (es : List Entry) (text : List ℕ) → IsIn es (Utf8 text) → 1 + room es < 2 ^ 16 → IsText (in_file es) (number_of (numbered es) (Utf8 text))
 text_is es text h small = record { fits = number_small es (Utf8 text) h small; there = some_is _ text (text_there es text h small) }
 
-says : (es : List Entry) (text : List ℕ) → IsIn es (Utf8 text) → 1 + room es < 2 ^ 16 → text_of (in_file es) (number_of (numbered es) (Utf8 text)) ≡ text
+pub says : (es : List Entry) (text : List ℕ) → IsIn es (Utf8 text) → 1 + room es < 2 ^ 16 → text_of (in_file es) (number_of (numbered es) (Utf8 text)) ≡ text
 says es text h small = ap (λ (o : Option (List ℕ)). unwrap_or o []) (text_there es text h small)
 
 class_is : (es : List Entry) (name : List ℕ) → AllIn es (Class name) → 1 + room es < 2 ^ 16 → is_class_name name ≡ true → IsClass (in_file es) (number_of (numbered es) (Class name))
@@ -190,31 +192,28 @@ ends_same : (pool : Numbered) (lines : List CodeLine) → codes_of.has_end (map 
 ends_same pool [] = refl
 ends_same pool (code ∷ lines) = ap (λ b. code.ends || b) (ends_same pool lines)
 
-catch_by : (es : List Entry) (name : List ℕ) (b c : Bool) (need : LineNeed) → is_class_name name ≡ b → 1 + room es < 2 ^ 16
+catch_by : (es : List Entry) (name : List ℕ) (b c : Bool) (need : PoolOperand) → is_class_name name ≡ b → 1 + room es < 2 ^ 16
     → AllByRecursion (AllIn es) (option_to_list (cond (b && c) (Some (Class name)) None))
     → entry_need (numbered es) 0 (cond (b && c) (Some (Class name)) None) ≡ Some need → IsClass (in_file es) need.entry
-catch_by es name true true need good small h e = subst (λ (n : LineNeed). IsClass (in_file es) n.entry) (some_same (make_need (number_of (numbered es) (Class name)) 0) need e) (class_is es name h.0 small good)
+catch_by es name true true need good small h e = subst (λ (n : PoolOperand). IsClass (in_file es) n.entry) (some_same (make_need (number_of (numbered es) (Class name)) 0) need e) (class_is es name h.0 small good)
   where
-    some_same : (x y : LineNeed) → Some x ≡ Some y → x ≡ y
+    some_same : (x y : PoolOperand) → Some x ≡ Some y → x ≡ y
     some_same x y k = cc
 catch_by es name true false need good small h e = absurd cc
 catch_by es name false c need good small h e = absurd cc
 
-caught_by : (es : List Entry) (class : Option (List ℕ)) (need : LineNeed) → 1 + room es < 2 ^ 16 → AllByRecursion (AllIn es) (option_to_list (catch_entry class))
+caught_by : (es : List Entry) (class : Option (List ℕ)) (need : PoolOperand) → 1 + room es < 2 ^ 16 → AllByRecursion (AllIn es) (option_to_list (catch_entry class))
     → cond (is_some class) (entry_need (numbered es) 0 (catch_entry class)) (Some no_need) ≡ Some need → (need.entry ≡ 0) ⊎ IsClass (in_file es) need.entry
-caught_by es None need small h e = inl (ap (λ (n : LineNeed). n.entry) (sym (none_needed need e)))
+caught_by es None need small h e = inl (ap (λ (n : PoolOperand). n.entry) (sym (none_needed need e)))
   where
-    none_needed : (y : LineNeed) → Some no_need ≡ Some y → no_need ≡ y
+    none_needed : (y : PoolOperand) → Some no_need ≡ Some y → no_need ≡ y
     none_needed y k = cc
 caught_by es (Some name) need small h e = inr (catch_by es name (is_class_name name) (has_text (Class name)) need refl small h e)
 
-abbrev four : CodeHandler → Handler
-four h = (h.start, h.end, h.handler, h.catch)
+abbrev GoodHandler : List Entry → Handler → Type 0
+GoodHandler es h = IsHandler (in_file es) h
 
-abbrev GoodHandler : List Entry → CodeHandler → Type 0
-GoodHandler es h = IsHandler (in_file es) (four h)
-
-handler_by : (es : List Entry) (ps : Places) (item : Item) (o : Option LineNeed) (rest : List CodeHandler) → IsNear ps → 1 + room es < 2 ^ 16 → item_need (numbered es) item ≡ o
+handler_by : (es : List Entry) (ps : Places) (item : Item) (o : Option PoolOperand) (rest : List Handler) → IsNear ps → 1 + room es < 2 ^ 16 → item_need (numbered es) item ≡ o
     → AllByRecursion (AllIn es) (catch_entries item) → AllByRecursion (GoodHandler es) rest → AllByRecursion (GoodHandler es) (cons_option (item_entry ps o item) rest)
 handler_by es ps (items.Catch c) (Some need) rest is_near small e h more =
     (record { start = is_near c.from; end = is_near c.to; handler = is_near c.handler; catch = caught_by es c.class need small h e }, more)
@@ -256,11 +255,11 @@ none_by : (o : Option AsmFault) (code : MethodCode) → said_faults (answered o 
 none_by None code h = refl
 none_by (Some fault) code h = absurd cc
 
-no_fault : (lines : List PooledLine) → said_faults (method_code lines) ≡ [] → first_fault (places_of lines) lines ≡ None
+pub no_fault : (lines : List Pooled) → said_faults (method_code lines) ≡ [] → first_fault (places_of lines) lines ≡ None
 unfolding method_code
 no_fault lines h = none_by (first_fault (places_of lines) lines) (code_at (places_of lines) lines) h
 
-the_code : (lines : List PooledLine) → first_fault (places_of lines) lines ≡ None → code_in (method_code lines) ≡ code_at (places_of lines) lines
+pub the_code : (lines : List Pooled) → first_fault (places_of lines) lines ≡ None → code_in (method_code lines) ≡ code_at (places_of lines) lines
 unfolding method_code
 the_code lines h = ap (λ (o : Option AsmFault). code_in (answered o (code_at (places_of lines) lines))) h
 
@@ -292,8 +291,8 @@ code_is es m sizes small ends h k count =
       locals_fit = size_small sizes.1;
       some = bound.some (ends_same pool m.lines ∙ ends);
       most = bound.few;
-      table_fits = omega (arith, bound.table, mapped_length four code.table);
-      handlers = all_mapped (IsHandler (in_file es)) four code.table table;
+      table_fits = bound.table;
+      handlers = table;
       attributes_fit = count;
       skipped = all_both (λ a. IsText (in_file es) a.0) (λ a. length a.1 < 2 ^ 32) (IsAttribute (in_file es)) (λ a t l. record { name = t; fits = l }) attributes
           (attributes_named es m.lines small (back (Found es) (name ++ insns ++ catches) others h)) short;
@@ -332,7 +331,7 @@ method_is es m small good h faults code =
     let attributes = attributes_are es m m.head.sizes small good.ended (back (Found es) own more h) code count in
     record {
       member = record {
-        flags_fit = good.open_method.head.flags;
+        flags_fit = flags_small m.head good.open_method.head;
         name = text_is es m.head.name texts.0.0 small;
         desc = text_is es m.head.desc texts.1.0.0 small;
         descriptor = subst (λ (d : List ℕ). IsDescriptor Method (method_flags m.head) d) (sym (says es m.head.desc texts.1.0.0 small))
@@ -340,7 +339,7 @@ method_is es m small good h faults code =
         attributes_fit = attributes.few;
       };
       attributes = attributes.each;
-      codes = attributes.codes ∙ ap (λ (b : Bool). cond b 1 0) (sym good.open_method.head.sizes);
+      codes = attributes.codes ∙ ap (λ (b : Bool). cond b 1 0) (sym (has_sizes m.head good.open_method.head));
     }
 
 methods_are : (es : List Entry) (methods : List MethodLines) → 1 + room es < 2 ^ 16 → AllByRecursion GoodMethod methods → AllByRecursion (Found es) (flat_map method_needs methods)
@@ -377,77 +376,140 @@ interfaces_are es [] small h good = tt
 interfaces_are es (name ∷ names) small h good =
     (class_is es name h.0 small (first_of_both (is_class_name name) (list_all is_class_name names) good), interfaces_are es names small h.1 (second_of_both (is_class_name name) (list_all is_class_name names) good))
 
+-- ---- a listing without faults
+
+-- what its parts need is in the pool
+pub record InPool (line : ℕ) (class : ClassLine) (listing : Listing) (es : List Entry) : Type 0 where
+  pub small : 1 + room es < 2 ^ 16
+  pub own : AllByRecursion (AllIn es) (Class class.name ∷ Class (super_of class) ∷ map (λ name. Class name) class.interfaces)
+  pub fields : AllByRecursion (Found es) (flat_map field_needs listing.fields)
+  pub methods : AllByRecursion (Found es) (flat_map method_needs listing.methods)
+  pub attributes : AllByRecursion (Found es) (flat_map attribute_needs listing.attributes)
+  pub constants : AllByRecursion (Found es) (flat_map constant_needs listing.constants)
+
+-- none of its parts has a fault
+pub record Faultless (class : ClassLine) (listing : Listing) (pool : Numbered) : Type 0 where
+  pub own : class_is_good class ≡ true
+  pub fields : fields_faults listing.fields ≡ []
+  pub methods : methods_faults listing.methods ≡ []
+  pub attributes : attributes_faults listing.attributes ≡ []
+  pub codes : AllByRecursion (λ m. code_faults pool m ≡ []) listing.methods
+
+pub in_pool : (line : ℕ) (class : ClassLine) (listing : Listing) → pool_faults (listing_needs line class listing) ≡ [] → InPool line class listing (entries_in (listing_needs line class listing))
+in_pool line class listing none =
+    let needs = listing_needs line class listing in
+    let es = entries_in needs in
+    let have_text = each need_faults needs (left (flat_map need_faults needs) (count_faults 1 (firsts_in needs)) none) in
+    let all = all_both (λ n. need_faults n ≡ []) (λ n. has_text n.0 ≡ true → AllIn es n.0) (Found es) (λ n e f. f (is_good (has_text n.0) n.1 e)) needs have_text (needs_in needs) in
+    let own = class_needs line class in
+    let of_fields = flat_map field_needs listing.fields in
+    let of_methods = flat_map method_needs listing.methods in
+    let of_attributes = flat_map attribute_needs listing.attributes in
+    let of_constants = flat_map constant_needs listing.constants in
+    let to_attributes = front (Found es) (own ++ of_fields ++ of_methods ++ of_attributes) of_constants all in
+    let to_methods = front (Found es) (own ++ of_fields ++ of_methods) of_attributes to_attributes in
+    let to_fields = front (Found es) (own ++ of_fields) of_methods to_methods in
+    record {
+      small = pool_room needs (right (flat_map need_faults needs) (count_faults 1 (firsts_in needs)) none);
+      own = of_needed (AllIn es) line (Class class.name ∷ Class (super_of class) ∷ map (λ name. Class name) class.interfaces) (front (Found es) own of_fields to_fields);
+      fields = back (Found es) own of_fields to_fields;
+      methods = back (Found es) (own ++ of_fields) of_methods to_methods;
+      attributes = back (Found es) (own ++ of_fields ++ of_methods) of_attributes to_attributes;
+      constants = back (Found es) (own ++ of_fields ++ of_methods ++ of_attributes) of_constants all;
+    }
+
+pub no_pool_faults : (line : ℕ) (class : ClassLine) (listing : Listing) → all_faults line class listing ≡ [] → pool_faults (listing_needs line class listing) ≡ []
+no_pool_faults line class listing none =
+    let needs = listing_needs line class listing in
+    right (rule_faults line class listing) (pool_faults needs) (left (rule_faults line class listing ++ pool_faults needs) (flat_map (code_faults (pool_in needs)) listing.methods) none)
+
+pub faultless : (line : ℕ) (class : ClassLine) (listing : Listing) → all_faults line class listing ≡ [] → Faultless class listing (pool_in (listing_needs line class listing))
+faultless line class listing none =
+    let needs = listing_needs line class listing in
+    let pool = pool_in needs in
+    let of_codes = flat_map (code_faults pool) listing.methods in
+    let no_rules = left (rule_faults line class listing) (pool_faults needs) (left (rule_faults line class listing ++ pool_faults needs) of_codes none) in
+    let own = unless (class_is_good class) line in
+    let fields = fields_faults listing.fields in
+    let methods = methods_faults listing.methods in
+    let attributes = attributes_faults listing.attributes in
+    let no_rest = left (own ++ fields ++ methods ++ attributes) (flat_map constant_faults listing.constants) no_rules in
+    let no_members = left (own ++ fields ++ methods) attributes no_rest in
+    let no_first = left (own ++ fields) methods no_members in
+    record {
+      own = is_good (class_is_good class) line (left own fields no_first);
+      fields = right own fields no_first;
+      methods = right (own ++ fields) methods no_members;
+      attributes = right (own ++ fields ++ methods) attributes no_rest;
+      codes = each (code_faults pool) listing.methods (right (rule_faults line class listing ++ pool_faults needs) of_codes none);
+    }
+
+-- what `class_is_good` asks
+record GoodClass (class : ClassLine) : Type 0 where
+  name : is_class_name class.name ≡ true
+  super_name : is_class_name (super_of class) ≡ true
+  interfaces : list_all is_class_name class.interfaces ≡ true
+  few : length class.interfaces < 2 ^ 16
+
+good_class : (class : ClassLine) → class_is_good class ≡ true → GoodClass class
+good_class class h =
+    let four = first_of_both _ (is_some (major_of class)) h in
+    let three = first_of_both _ (nat_lt (length class.interfaces) (2 ^ 16)) four in
+    let two = first_of_both (is_class_name class.name && is_class_name (super_of class)) (list_all is_class_name class.interfaces) three in
+    record {
+      name = first_of_both (is_class_name class.name) (is_class_name (super_of class)) two;
+      super_name = second_of_both (is_class_name class.name) (is_class_name (super_of class)) two;
+      interfaces = second_of_both (is_class_name class.name && is_class_name (super_of class)) (list_all is_class_name class.interfaces) three;
+      few = is_less (length class.interfaces) (2 ^ 16) (second_of_both _ (nat_lt (length class.interfaces) (2 ^ 16)) four);
+    }
+
+-- what the faults of members and of attributes ask
+pub record GoodMembers {A : Type 0} (faults_of : A → List AsmFault) (key : A → Key × ℕ) (members : List A) : Type 0 where
+  pub each : AllByRecursion (λ m. faults_of m ≡ []) members
+  pub once : seconds [] (map key members) ≡ []
+  pub few : length members < 2 ^ 16
+
+good_members : {A : Type 0} (faults_of : A → List AsmFault) (key : A → Key × ℕ) (line_of : A → ℕ) (members : List A) → flat_map faults_of members ++ seconds [] (map key members) ++ past_count line_of members ≡ [] → GoodMembers faults_of key members
+good_members faults_of key line_of members none =
+    let every = flat_map faults_of members in
+    let second = seconds [] (map key members) in
+    let once = left (every ++ second) (past_count line_of members) none in
+    record { each = each faults_of members (left every second once); once = right every second once; few = within_count line_of members (right (every ++ second) (past_count line_of members) none) }
+
+pub good_methods : (methods : List MethodLines) → methods_faults methods ≡ [] → GoodMembers method_faults method_key methods
+good_methods methods none = good_members method_faults method_key (λ m. m.line) methods none
+
 pub well_formed : (line : ℕ) (class : ClassLine) (listing : Listing) → PlainClass class → GoodListing listing → all_faults line class listing ≡ []
     → WellFormed (class_text (pool_in (listing_needs line class listing)) class listing)
 well_formed line class listing plain good none =
     let needs = listing_needs line class listing in
     let es = entries_in needs in
     let pool = numbered es in
-    let codes_faults = flat_map (code_faults pool) listing.methods in
-    let both = left (rule_faults line class listing ++ pool_faults needs) codes_faults none in
-    let no_codes = right (rule_faults line class listing ++ pool_faults needs) codes_faults none in
-    let no_rules = left (rule_faults line class listing) (pool_faults needs) both in
-    let no_pool = right (rule_faults line class listing) (pool_faults needs) both in
-    let no_needs = left (flat_map need_faults needs) (count_faults 1 (firsts_in needs)) no_pool in
-    let no_count = right (flat_map need_faults needs) (count_faults 1 (firsts_in needs)) no_pool in
-    let small = pool_room needs no_count in
-    let have_text = each need_faults needs no_needs in
-    let all = all_both (λ n. need_faults n ≡ []) (λ n. has_text n.0 ≡ true → AllIn es n.0) (Found es) (λ n e f. f (is_good (has_text n.0) n.1 e)) needs have_text (needs_in needs) in
-    let own_needs = class_needs line class in
-    let of_fields = flat_map field_needs listing.fields in
-    let of_methods = flat_map method_needs listing.methods in
-    let of_attributes = flat_map attribute_needs listing.attributes in
-    let of_constants = flat_map constant_needs listing.constants in
-    let to_attributes = front (Found es) (own_needs ++ of_fields ++ of_methods ++ of_attributes) of_constants all in
-    let in_attributes = back (Found es) (own_needs ++ of_fields ++ of_methods) of_attributes to_attributes in
-    let to_methods = front (Found es) (own_needs ++ of_fields ++ of_methods) of_attributes to_attributes in
-    let in_methods = back (Found es) (own_needs ++ of_fields) of_methods to_methods in
-    let to_fields = front (Found es) (own_needs ++ of_fields) of_methods to_methods in
-    let in_fields = back (Found es) own_needs of_fields to_fields in
-    let in_class = of_needed (AllIn es) line (Class class.name ∷ Class (super_of class) ∷ map (λ name. Class name) class.interfaces) (front (Found es) own_needs of_fields to_fields) in
-    let own = unless (class_is_good class) line in
-    let fields = fields_faults listing.fields in
-    let methods = methods_faults listing.methods in
-    let attributes = attributes_faults listing.attributes in
-    let constants = flat_map constant_faults listing.constants in
-    let no_rest = left (own ++ fields ++ methods ++ attributes) constants no_rules in
-    let no_attributes = right (own ++ fields ++ methods) attributes no_rest in
-    let no_members = left (own ++ fields ++ methods) attributes no_rest in
-    let no_methods = right (own ++ fields) methods no_members in
-    let no_fields = right own fields (left (own ++ fields) methods no_members) in
-    let first_good = is_good (class_is_good class) line (left own fields (left (own ++ fields) methods no_members)) in
-    let four_good = first_of_both _ (is_some (major_of class)) first_good in
-    let names_good = first_of_both _ (nat_lt (length class.interfaces) (2 ^ 16)) four_good in
-    let two_good = first_of_both (is_class_name class.name && is_class_name (super_of class)) (list_all is_class_name class.interfaces) names_good in
-    let each_field = flat_map field_faults listing.fields in
-    let second_field = seconds [] (map field_key listing.fields) in
-    let past_field = past_count (λ (f : ℕ × FieldLine). f.0) listing.fields in
-    let fields_once = left (each_field ++ second_field) past_field no_fields in
-    let each_method = flat_map method_faults listing.methods in
-    let second_method = seconds [] (map method_key listing.methods) in
-    let past_method = past_count (λ (m : MethodLines). m.line) listing.methods in
-    let methods_once = left (each_method ++ second_method) past_method no_methods in
+    let no_pool = no_pool_faults line class listing none in
+    let there = in_pool line class listing no_pool in
+    let small = there.small in
+    let faults = faultless line class listing none in
+    let c = good_class class faults.own in
+    let fields = good_members field_faults field_key (λ (f : ℕ × FieldLine). f.0) listing.fields faults.fields in
+    let methods = good_methods listing.methods faults.methods in
     let each_attribute = flat_map attribute_faults listing.attributes in
     let past_attribute = past_count (λ (a : ℕ × AttributeLine). a.0) listing.attributes in
-    let counted_fields = within_count (λ (f : ℕ × FieldLine). f.0) listing.fields (right (each_field ++ second_field) past_field no_fields) in
-    let counted_methods = within_count (λ (m : MethodLines). m.line) listing.methods (right (each_method ++ second_method) past_method no_methods) in
-    let counted_attributes = within_count (λ (a : ℕ × AttributeLine). a.0) listing.attributes (right each_attribute past_attribute no_attributes) in
-    let interfaces = is_less (length class.interfaces) (2 ^ 16) (second_of_both _ (nat_lt (length class.interfaces) (2 ^ 16)) four_good) in
+    let few_attributes = within_count (λ (a : ℕ × AttributeLine). a.0) listing.attributes (right each_attribute past_attribute faults.attributes) in
     record {
       minor_fits = omega arith;
       major_fits = major_by class.major;
-      pool = pool_rules needs (needs_good line class listing plain good) no_count;
+      pool = pool_rules needs (needs_good line class listing plain good) (right (flat_map need_faults needs) (count_faults 1 (firsts_in needs)) no_pool);
       flags_fit = flags_by class.is_interface class.is_abstract;
-      this_class = class_is es class.name in_class.0 small (first_of_both (is_class_name class.name) (is_class_name (super_of class)) two_good);
-      super_class = class_is es (super_of class) in_class.1.0 small (second_of_both (is_class_name class.name) (is_class_name (super_of class)) two_good);
-      interfaces_fit = omega (arith, interfaces, mapped_length (λ (name : List ℕ). number_of pool (Class name)) class.interfaces);
-      interfaces = interfaces_are es class.interfaces small in_class.1.1 (second_of_both (is_class_name class.name && is_class_name (super_of class)) (list_all is_class_name class.interfaces) names_good);
-      fields_fit = omega (arith, counted_fields, mapped_length (field_text pool) listing.fields);
-      fields = fields_are es listing.fields small in_fields (each field_faults listing.fields (left each_field second_field fields_once));
-      fields_differ = subst (IsDistinct same_key) (sym (field_keys es listing.fields small in_fields)) (distinct_from [] (map field_key listing.fields) (right each_field second_field fields_once)).1;
-      methods_fit = omega (arith, counted_methods, mapped_length (method_text pool) listing.methods);
-      methods = methods_are es listing.methods small good.methods in_methods (each method_faults listing.methods (left each_method second_method methods_once)) (each (code_faults pool) listing.methods no_codes);
-      methods_differ = subst (IsDistinct same_key) (sym (method_keys es listing.methods small in_methods)) (distinct_from [] (map method_key listing.methods) (right each_method second_method methods_once)).1;
-      attributes_fit = omega (arith, counted_attributes, mapped_length (classes.attribute_text pool) listing.attributes);
-      attributes = class_attributes es listing.attributes small in_attributes (each attribute_faults listing.attributes (left each_attribute past_attribute no_attributes));
+      this_class = class_is es class.name there.own.0 small c.name;
+      super_class = class_is es (super_of class) there.own.1.0 small c.super_name;
+      interfaces_fit = omega (arith, c.few, mapped_length (λ (name : List ℕ). number_of pool (Class name)) class.interfaces);
+      interfaces = interfaces_are es class.interfaces small there.own.1.1 c.interfaces;
+      fields_fit = omega (arith, fields.few, mapped_length (field_text pool) listing.fields);
+      fields = fields_are es listing.fields small there.fields fields.each;
+      fields_differ = subst (IsDistinct same_key) (sym (field_keys es listing.fields small there.fields)) (distinct_from [] (map field_key listing.fields) fields.once).1;
+      methods_fit = omega (arith, methods.few, mapped_length (method_text pool) listing.methods);
+      methods = methods_are es listing.methods small good.methods there.methods methods.each faults.codes;
+      methods_differ = subst (IsDistinct same_key) (sym (method_keys es listing.methods small there.methods)) (distinct_from [] (map method_key listing.methods) methods.once).1;
+      attributes_fit = omega (arith, few_attributes, mapped_length (classes.attribute_text pool) listing.attributes);
+      attributes = class_attributes es listing.attributes small there.attributes (each attribute_faults listing.attributes (left each_attribute past_attribute faults.attributes));
     }

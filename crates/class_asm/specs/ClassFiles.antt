@@ -3,19 +3,20 @@ use Rattle.std.specs.Prelude.{◌≡◌, ℕ, true, List, Ok}
 use Rattle.class_read.specs.declared.text.ClassText.{ClassText}
 use Rattle.class_read.specs.Rules.{WellFormed, is_read_major, content_of, Spells}
 use Rattle.class_read.specs.Text.{class_bytes}
-use Rattle.class_asm.specs.Classes.{class_of}
-use Rattle.class_asm.specs.Listings.{listing_of}
-use Rattle.class_asm.specs.Statements.{Said, ◌>>=◌}
+use Rattle.asm_lines.specs.declared.listing.Listing.{Listing}
+use Rattle.asm_lines.specs.declared.statement.ClassLine.{ClassLine}
+use Rattle.asm_lines.specs.Listings.{listing_of}
+use Rattle.class_asm.specs.Said.{SaysClass}
 
--- the class that a text says, or its first fault
-unfoldable pub class_in : List ℕ → Said ClassText
-class_in text = listing_of text >>= λ lines. class_of lines.0 lines.1 lines.2
-
--- The bytes are those of the class that the text says. It keeps every rule of class files, so where its major version is
--- one that is read, the bytes spell exactly that class.
+-- The bytes are those of a class that says what the lines of the text say. It keeps every rule of class files, so where its
+-- major version is one that is read, the bytes spell exactly that class.
 pub record IsClassFile (text bytes : List ℕ) : Type 0 where
-  pub class : ClassText
-  pub said : class_in text ≡ Ok class
-  pub rules : WellFormed class
-  pub bytes_are : class_bytes class ≡ bytes
-  pub spelled : is_read_major class.major ≡ true → Spells bytes (content_of class)
+  pub line : ℕ
+  pub class : ClassLine
+  pub listing : Listing
+  pub lines : listing_of text ≡ Ok (line, class, listing)
+  pub file : ClassText
+  pub bytes_are : class_bytes file ≡ bytes
+  pub says : SaysClass class listing (content_of file)
+  pub rules : WellFormed file
+  pub spelled : is_read_major file.major ≡ true → Spells bytes (content_of file)

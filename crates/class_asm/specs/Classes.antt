@@ -2,46 +2,46 @@
 use Rattle.std.specs.Prelude.{ℕ, ◌+◌, ◌*◌, ◌^◌, Bool, true, false, ◌==◌, nat_lt, bit_or, List, [], ◌∷◌, ◌++◌, length, map, Option, Some, None, is_some, Ok, Err, if◌then◌else◌}
 use Rattle.std.specs.List.{flat_map}
 use Rattle.std.specs.Option.{option_map, option_map_or, unwrap_or}
-use Rattle.class_read.specs.Content.{Handler}
 use Rattle.class_read.specs.Text.{class_bytes}
 use Rattle.class_read.specs.declared.text.ClassText.{ClassText}
 use Rattle.class_read.specs.declared.text.MemberText.{MemberText}
 use Rattle.class_read.specs.declared.text.AttrText.{AttrText}
 use Rattle.class_read.specs.declared.text.AttrText.TheVariants as attrs
-use Rattle.class_asm.specs.declared.fault.AsmFault.{AsmFault}
-use Rattle.class_asm.specs.declared.number.Number.{Number}
-use Rattle.class_asm.specs.declared.operation.Operation.{Operation}
-use Rattle.class_asm.specs.declared.operation.Operation.TheVariants as operations
-use Rattle.class_asm.specs.declared.item.Item.{Item}
-use Rattle.class_asm.specs.declared.item.Item.TheVariants.{Insn, Catch, Attribute}
-use Rattle.class_asm.specs.declared.listing.CodeLine.{CodeLine}
-use Rattle.class_asm.specs.declared.listing.MethodLines.{MethodLines}
-use Rattle.class_asm.specs.declared.listing.Listing.{Listing}
-use Rattle.class_asm.specs.declared.statement.FieldLine.{FieldLine}
-use Rattle.class_asm.specs.declared.statement.AttributeLine.{AttributeLine}
-use Rattle.class_asm.specs.declared.statement.ClassLine.{ClassLine}
-use Rattle.class_asm.specs.declared.pooled.Need.{Need as LineNeed}
-use Rattle.class_asm.specs.declared.pooled.PooledLine.{PooledLine}
-use Rattle.class_asm.specs.declared.method_code.MethodCode.{MethodCode}
-use Rattle.class_asm.specs.Numbers.{pair_of}
-use Rattle.class_asm.specs.Statements.{Said, ◌>>=◌}
-use Rattle.class_asm.specs.Firsts.{with_faults}
-use Rattle.class_asm.specs.Listings.{listing_of}
-use Rattle.class_asm.specs.Entries.{Entry, Utf8, Class}
-use Rattle.class_asm.specs.Pools.{Need, Numbered, unless, need_faults, brought, firsts_of, count_faults, numbered, number_of, pool_entry}
-use Rattle.class_asm.specs.Needs.{counted_words, takes_entry, operation_entry, catch_entry, code_name, super_of, listing_needs}
+use Rattle.asm_lines.specs.declared.fault.AsmFault.{AsmFault}
+use Rattle.asm_lines.specs.declared.number.Number.{Number}
+use Rattle.asm_lines.specs.declared.operation.Operation.{Operation}
+use Rattle.asm_lines.specs.declared.operation.Operation.TheVariants as operations
+use Rattle.asm_lines.specs.declared.item.Item.{Item}
+use Rattle.asm_lines.specs.declared.item.Item.TheVariants.{Insn, Catch, Attribute}
+use Rattle.asm_lines.specs.declared.listing.CodeLine.{CodeLine}
+use Rattle.asm_lines.specs.declared.listing.MethodLines.{MethodLines}
+use Rattle.asm_lines.specs.declared.listing.Listing.{Listing}
+use Rattle.asm_lines.specs.declared.statement.FieldLine.{FieldLine}
+use Rattle.asm_lines.specs.declared.statement.AttributeLine.{AttributeLine}
+use Rattle.asm_lines.specs.declared.statement.ClassLine.{ClassLine}
+use Rattle.asm_codes.specs.declared.pooled.PoolOperand.{PoolOperand}
+use Rattle.asm_codes.specs.Pooled.{Pooled, pooled_line}
+use Rattle.asm_codes.specs.declared.code.MethodCode.{MethodCode}
+use Rattle.asm_lines.specs.Numbers.{pair_of}
+use Rattle.list_views.specs.Results.{◌>>=◌}
+use Rattle.asm_lines.specs.Statements.{Said}
+use Rattle.asm_lines.specs.Firsts.{with_faults, unless}
+use Rattle.asm_lines.specs.Listings.{listing_of}
+use Rattle.asm_pool.specs.Entries.{Entry, Utf8, Class}
+use Rattle.asm_pool.specs.Pools.{Numbered, number_of, pool_entry, pool_in, pool_faults}
+use Rattle.asm_pool.specs.Needs.{counted_words, takes_entry, operation_entry, catch_entry, code_name, super_of, listing_needs}
 use Rattle.class_asm.specs.Rules.{field_flags, method_flags, content_fits, major_of, rule_faults}
-use Rattle.class_asm.specs.MethodCodes.{make_code, method_code}
+use Rattle.asm_codes.specs.MethodCodes.{make_code, method_code}
 
 -- ---- codes
 
-abbrev pub make_need : ℕ → ℕ → LineNeed
+abbrev pub make_need : ℕ → ℕ → PoolOperand
 make_need entry words = record { entry = entry; words = words }
 
-abbrev pub no_need : LineNeed
+abbrev pub no_need : PoolOperand
 no_need = make_need 0 0
 
-abbrev pub entry_need : Numbered → ℕ → Option Entry → Option LineNeed
+abbrev pub entry_need : Numbered → ℕ → Option Entry → Option PoolOperand
 entry_need pool words entry = option_map (λ e. make_need (number_of pool e) words) entry
 
 -- the words that a call writes beside its entry
@@ -50,15 +50,15 @@ call_words (operations.Member op class name desc) = if op == 185 then counted_wo
 call_words operation = 0
 
 -- What a line of a method needs of the pool; none where it breaks a rule on names, descriptors and numbers.
-abbrev pub item_need : Numbered → Item → Option LineNeed
+abbrev pub item_need : Numbered → Item → Option PoolOperand
 item_need pool (Insn operation) =
     if takes_entry operation then entry_need pool (call_words operation) (operation_entry operation) else Some no_need
 item_need pool (Catch x) = if is_some x.class then entry_need pool 0 (catch_entry x.class) else Some no_need
 item_need pool (Attribute x) = if content_fits x.content then Some no_need else None
 item_need pool item = Some no_need
 
-abbrev pub pooled : Numbered → CodeLine → PooledLine
-pooled pool code = record { code = code; need = item_need pool code.item }
+abbrev pub pooled : Numbered → CodeLine → Pooled
+pooled pool code = pooled_line code (item_need pool code.item)
 
 abbrev pub code_said : Numbered → MethodLines → Said MethodCode
 code_said pool m = method_code (map (pooled pool) m.lines)
@@ -107,12 +107,9 @@ field_text pool f = make_member (field_flags f.1) (number_of pool (Utf8 f.1.name
 abbrev pub size_of : Number → ℕ
 size_of n = unwrap_or (pair_of n) 0
 
-abbrev pub handlers_of : MethodCode → List Handler
-handlers_of code = map (λ h. (h.start, h.end, h.handler, h.catch)) code.table
-
 abbrev pub code_text : Numbered → MethodLines → MethodCode → Number × Number → AttrText
 code_text pool m code sizes =
-    attrs.Code (number_of pool code_name) (size_of sizes.0) (size_of sizes.1) code.bytes (handlers_of code) (code_attributes pool m.lines)
+    attrs.Code (number_of pool code_name) (size_of sizes.0) (size_of sizes.1) code.bytes code.table (code_attributes pool m.lines)
 
 abbrev pub method_attributes : Numbered → MethodLines → List AttrText
 method_attributes pool m = option_map_or (λ sizes. code_text pool m (code_in (code_said pool m)) sizes ∷ []) m.head.sizes []
@@ -144,17 +141,7 @@ class_text pool class listing = record {
   attributes = map (attribute_text pool) listing.attributes;
 }
 
--- ---- the pool and the faults
-
--- the entries with the lines that first need them
-abbrev pub firsts_in : List Need → List Need
-firsts_in needs = firsts_of (flat_map brought needs)
-
-abbrev pub pool_in : List Need → Numbered
-pool_in needs = numbered (map (λ need. need.0) (firsts_in needs))
-
-abbrev pub pool_faults : List Need → List AsmFault
-pool_faults needs = flat_map need_faults needs ++ count_faults 1 (firsts_in needs)
+-- ---- the faults
 
 abbrev pub all_faults : ℕ → ClassLine → Listing → List AsmFault
 all_faults line class listing =

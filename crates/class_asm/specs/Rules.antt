@@ -3,23 +3,24 @@
 use Rattle.std.specs.Prelude.{ℕ, ◌^◌, Bool, true, false, ◌&&◌, nat_lt, bit_and, bit_or, ◌==◌, List, [], ◌∷◌, ◌++◌, length, map, slice_get, Option, Some, None, is_some, if◌then◌else◌}
 use Rattle.std.specs.List.{flat_map, list_all, list_any}
 use Rattle.std.specs.Option.{option_map_or}
-use Rattle.class_read.specs.declared.names.MemberKind.TheVariants.{Field, Method}
-use Rattle.class_read.specs.Names.{is_class_name, is_descriptor}
+use Rattle.class_base.specs.declared.member_kind.MemberKind.TheVariants.{Field, Method}
+use Rattle.class_base.specs.ClassNames.{is_class_name}
+use Rattle.class_base.specs.MemberKinds.{is_descriptor}
 use Rattle.class_read.specs.Rules.{same_key}
-use Rattle.class_asm.specs.declared.fault.AsmFault.{AsmFault}
-use Rattle.class_asm.specs.declared.fault.AsmFault.TheVariants.{OutOfRange}
-use Rattle.class_asm.specs.declared.number.Number.{Number}
-use Rattle.class_asm.specs.declared.listing.CodeLine.{CodeLine}
-use Rattle.class_asm.specs.declared.listing.MethodLines.{MethodLines}
-use Rattle.class_asm.specs.declared.listing.Listing.{Listing}
-use Rattle.class_asm.specs.declared.statement.Constant.{Constant}
-use Rattle.class_asm.specs.declared.statement.FieldLine.{FieldLine}
-use Rattle.class_asm.specs.declared.statement.AttributeLine.{AttributeLine}
-use Rattle.class_asm.specs.declared.statement.ClassLine.{ClassLine}
-use Rattle.class_asm.specs.declared.statement.MethodLine.{MethodLine}
-use Rattle.class_asm.specs.Numbers.{pair_of}
-use Rattle.class_asm.specs.Pools.{unless}
-use Rattle.class_asm.specs.Needs.{super_of, constant_entry, attribute_entries, line_needs}
+use Rattle.asm_lines.specs.declared.fault.AsmFault.{AsmFault}
+use Rattle.asm_lines.specs.declared.fault.AsmFault.TheVariants.{OutOfRange}
+use Rattle.asm_lines.specs.declared.number.Number.{Number}
+use Rattle.asm_lines.specs.declared.listing.CodeLine.{CodeLine}
+use Rattle.asm_lines.specs.declared.listing.MethodLines.{MethodLines}
+use Rattle.asm_lines.specs.declared.listing.Listing.{Listing}
+use Rattle.asm_lines.specs.declared.statement.Constant.{Constant}
+use Rattle.asm_lines.specs.declared.statement.FieldLine.{FieldLine}
+use Rattle.asm_lines.specs.declared.statement.AttributeLine.{AttributeLine}
+use Rattle.asm_lines.specs.declared.statement.ClassLine.{ClassLine}
+use Rattle.asm_lines.specs.declared.statement.MethodLine.{MethodLine}
+use Rattle.asm_lines.specs.Numbers.{pair_of}
+use Rattle.asm_lines.specs.Firsts.{unless}
+use Rattle.asm_pool.specs.Needs.{super_of, constant_entry, attribute_entries, line_needs}
 
 -- ---- lists
 

@@ -2,32 +2,22 @@
 
 ghost use Rattle.std.specs.Prelude.{◌≡◌, ◌++◌, [], ◌<◌, ◌≤◌, ◌+◌, ◌*◌, ◌^◌, OnOk, IfOk, map, nat_le, length};
 ghost use Rattle.std.specs.Option.{option_map};
-ghost use Rattle.class_asm.specs.Entries.{seen};
-ghost use Rattle.class_asm.specs.Firsts.{with_faults};
-ghost use Rattle.class_asm.specs.Needs.{takes_entry};
-ghost use Rattle.class_asm.specs.Classes.{entry_need, call_words, item_need, pooled, code_said, code_in, said_faults, item_attributes, code_attributes, attributes_size, code_fits, handlers_of};
-ghost use Rattle.class_asm.specs.MethodCodes.{make_code};
-ghost use Rattle.class_asm.specs.Statements.{Gives};
+ghost use Rattle.asm_pool.specs.Entries.{seen};
+ghost use Rattle.asm_lines.specs.Firsts.{with_faults};
+ghost use Rattle.asm_pool.specs.Needs.{takes_entry};
+ghost use Rattle.class_asm.specs.Classes.{entry_need, call_words, item_need, pooled, code_said, code_in, said_faults, item_attributes, code_attributes, attributes_size, code_fits};
+ghost use Rattle.asm_codes.specs.MethodCodes.{make_code};
+ghost use Rattle.asm_lines.specs.Statements.{Gives};
 
-use crate::copies::copy_line;
-use crate::entry::Entry;
-use crate::fault::AsmFault;
-use crate::first::First;
-use crate::item::Item;
-use crate::listing::{CodeLine, MethodLines};
-use crate::method_code::{MethodCode, method_code};
-use crate::needs::{catch_entry, counted_words, operation_entry};
-use crate::operation::Operation;
-use crate::pool::Pool;
-use crate::pooled::{Need, PooledLine};
 use crate::rules::content_fits;
-use crate::statement::copy;
-use code_decode::Handler;
+use asm_codes::{MethodCode, PoolOperand, PooledLine, method_code};
+use asm_lines::{AsmFault, CodeLine, First, Item, MethodLines, Operation, copy};
+use asm_pool::{Entry, Pool, catch_entry, counted_words, operation_entry};
 use list_views::Seq;
 use std::alloc::{AllocError, Global};
 
 /// What a line needs that needs no entry.
-const NO_NEED: Need = Need { entry: 0, words: 0 };
+const NO_NEED: PoolOperand = PoolOperand { entry: 0, words: 0 };
 
 fn takes_entry(operation: &Operation) -> bool
     ensures { result ≡ takes_entry operation.now }
@@ -57,20 +47,20 @@ fn call_words(operation: &Operation) -> u8
     }
 }
 
-fn entry_need(pool: &Pool<'_>, words: u8, entry: Option<Entry<'_>>) -> Option<Need>
+fn entry_need(pool: &Pool<'_>, words: u8, entry: Option<Entry<'_>>) -> Option<PoolOperand>
     ensures { result ≡ entry_need pool.now words (option_map seen entry.entry) }
 {
     match entry {
         Some(entry) => {
             let entry = pool.number(entry);
-            Some(Need { entry, words })
+            Some(PoolOperand { entry, words })
         }
         None => None,
     }
 }
 
 /// What a line of a method needs of the pool; none where it breaks a rule on names, descriptors and numbers.
-fn item_need(pool: &Pool<'_>, item: &Item) -> Option<Need>
+fn item_need(pool: &Pool<'_>, item: &Item) -> Option<PoolOperand>
     ensures { result ≡ item_need pool.now item.now }
 {
     match item {
@@ -99,24 +89,22 @@ fn item_need(pool: &Pool<'_>, item: &Item) -> Option<Need>
     }
 }
 
-fn pooled(alloc: Global, pool: &Pool<'_>, code: &CodeLine) -> Result<PooledLine, AllocError>
-    ensures { IfOk result (λ x. x ≡ pooled pool.now code.now) }
+fn pooled<'a>(pool: &Pool<'_>, code: &'a CodeLine) -> PooledLine<'a>
+    ensures { result ≡ pooled pool.now code.now }
 {
-    let need = item_need(pool, &code.item);
-    let code = copy_line(alloc, code)?;
-    Ok(PooledLine { code, need })
+    PooledLine::new(code, item_need(pool, &code.item))
 }
 
-fn pooled_lines(
+fn pooled_lines<'a>(
     alloc: Global,
     pool: &Pool<'_>,
-    lines: &[CodeLine],
-) -> Result<Seq<PooledLine>, AllocError>
+    lines: &'a [CodeLine],
+) -> Result<Seq<PooledLine<'a>>, AllocError>
     ensures { IfOk result (λ x. x ≡ map (pooled pool.now) lines.now) }
 {
     let mut all = Seq::new(alloc);
     for code in lines {
-        all.push(pooled(alloc, pool, code)?)?;
+        all.push(pooled(pool, code))?;
     }
     Ok(all)
 }
@@ -138,7 +126,7 @@ fn no_code(alloc: Global) -> MethodCode
 }
 
 /// A method's code; with a fault none.
-#[tactic(auto, using(crate::proofs::Outcomes::fails_is))]
+#[tactic(auto, using(asm_lines::proofs::Outcomes::fails_is))]
 pub(crate) fn code_in(
     alloc: Global,
     first: &mut First,
@@ -212,18 +200,4 @@ pub(crate) fn code_fits(code: &MethodCode, attributes: &[(u16, Seq<u8>)]) -> boo
 {
     let size = 12 + code.bytes.len() + 8 * code.table.len();
     attributes_fit(0xffff_ffff - size, attributes)
-}
-
-/// The entries of an exception table.
-pub(crate) fn handlers_of(
-    alloc: Global,
-    code: &MethodCode,
-) -> Result<Seq<(u16, u16, u16, u16)>, AllocError>
-    ensures { IfOk result (λ h. h ≡ handlers_of code.now) }
-{
-    let mut handlers = Seq::new(alloc);
-    for h in code.table.as_slice() {
-        handlers.push((h.start, h.end, h.handler, h.catch))?;
-    }
-    Ok(handlers)
 }

@@ -1,31 +1,17 @@
 //! Listings, assembled exactly.
+//!
+//! [`assemble`] gives the bytes of the class file that a listing says, or its first fault. What the lines say stands in
+//! `asm_lines`, the constant pool in `asm_pool`, the codes of methods in `asm_codes`.
 #![tactic(auto)]
 
 mod assembly;
-mod class_line;
 mod codes;
-mod copies;
-mod entry;
-mod fault;
-mod first;
-mod instruction;
-mod item;
-mod labels;
 mod laws;
-mod line_fault;
-mod listing;
-mod method_code;
-mod needs;
-mod number;
-mod operation;
-mod parts;
-mod places;
-mod pool;
-mod pooled;
 mod rules;
-mod statement;
 mod texts;
 
+pub use asm_lines::AsmFault;
 pub use assembly::assemble;
-pub use fault::AsmFault;
 pub use laws::assembled_keeps_rules;
+pub use rules::{content_fits, field_flags, major_of, method_flags};
+pub use texts::class_flags;

@@ -2,30 +2,22 @@
 
 ghost use Rattle.std.specs.Prelude.{◌≡◌, ◌∷◌, ◌++◌, ◌^◌, [], OnOk, IfOk, Some, None, map, true, false, nat_lt, length, if◌then◌else◌};
 ghost use Rattle.std.specs.List.{flat_map, list_all, list_any};
-ghost use Rattle.class_read.specs.Names.{is_class_name};
+ghost use Rattle.class_base.specs.ClassNames.{is_class_name};
 ghost use Rattle.class_read.specs.Rules.{same_key};
-ghost use Rattle.class_asm.specs.Firsts.{with_faults};
-ghost use Rattle.class_asm.specs.Needs.{line_needs, attribute_entries};
+ghost use Rattle.asm_lines.specs.Firsts.{with_faults, unless};
+ghost use Rattle.asm_pool.specs.Needs.{line_needs, attribute_entries};
 ghost use Rattle.class_asm.specs.Rules.{past_count, seconds, field_key, method_key, field_flags, method_flags, field_faults, sizes_fit, attribute_lines, method_faults, fields_faults, methods_faults, attributes_faults, content_fits, attribute_faults, constant_faults, major_of, class_is_good, rule_faults};
-ghost use Rattle.class_asm.specs.Pools.{unless};
 
-use crate::fault::AsmFault;
-use crate::first::First;
-use crate::item::Item;
-use crate::listing::{CodeLine, Listing, MethodLines};
-use crate::needs::{constant_entry, super_of};
-use crate::number::Number;
-use crate::statement::{
-    AttributeLine, ClassLine, Constant, FieldLine, MethodLine, PRIVATE, STATIC,
+use asm_lines::{
+    AsmFault, AttributeLine, ClassLine, CodeLine, Constant, FieldLine, First, Item, Listing,
+    MethodLine, MethodLines, Number,
 };
-use class_read::{MemberKind, is_class_name, is_descriptor};
+use asm_pool::{constant_entry, super_of};
+use class_base::{MemberKind, PRIVATE, PUBLIC, STATIC, is_class_name, is_descriptor};
 use indexmap::IndexSet;
 use list_views::Seq;
 use std::alloc::{AllocError, AllocFailed, Global};
 use std::marker::Model;
-
-/// The flag of a public member.
-const PUBLIC: u16 = 0x0001;
 
 /// How many items a list has at most.
 const MOST: usize = 0xffff;
@@ -64,14 +56,14 @@ impl<'a> Keys<'a> {
 }
 
 /// The flags of a field.
-pub(crate) fn field_flags(f: &FieldLine) -> u16
+pub fn field_flags(f: &FieldLine) -> u16
     ensures { result ≡ field_flags f.now }
 {
     if f.is_static { STATIC | PUBLIC } else { PUBLIC }
 }
 
 /// The flags of a method.
-pub(crate) fn method_flags(head: &MethodLine) -> u16
+pub fn method_flags(head: &MethodLine) -> u16
     ensures { result ≡ method_flags head.now }
 {
     if head.flags & PRIVATE == 0 {
@@ -214,7 +206,7 @@ fn check_methods(
 }
 
 /// Whether the content's length fits its field.
-pub(crate) fn content_fits(content: &[u8]) -> bool
+pub fn content_fits(content: &[u8]) -> bool
     ensures { result ≡ content_fits content.now }
 {
     content.len() < 0x1_0000_0000
@@ -237,7 +229,7 @@ fn check_constants(first: &mut First, constants: &[(usize, Constant)])
 }
 
 /// The major version; none where it doesn't fit.
-pub(crate) fn major_of(class: &ClassLine) -> Option<u16>
+pub fn major_of(class: &ClassLine) -> Option<u16>
     ensures { result ≡ major_of class.now }
 {
     match class.major {
@@ -263,7 +255,7 @@ fn class_is_good(class: &ClassLine) -> bool
     name && super_name && names && count && major_of(class).is_some()
 }
 
-#[tactic(auto, using(crate::proofs::Faults::in_turn))]
+#[tactic(auto, using(asm_lines::proofs::Faults::in_turn))]
 fn check_field_list(
     alloc: Global,
     first: &mut First,
@@ -277,7 +269,7 @@ fn check_field_list(
     Ok(())
 }
 
-#[tactic(auto, using(crate::proofs::Faults::in_turn))]
+#[tactic(auto, using(asm_lines::proofs::Faults::in_turn))]
 fn check_method_list(
     alloc: Global,
     first: &mut First,
@@ -291,7 +283,7 @@ fn check_method_list(
     Ok(())
 }
 
-#[tactic(auto, using(crate::proofs::Faults::in_turn))]
+#[tactic(auto, using(asm_lines::proofs::Faults::in_turn))]
 fn check_attribute_list(first: &mut First, attributes: &[(usize, AttributeLine)])
     ensures { first.new.fault ≡ with_faults first.old.fault (attributes_faults attributes.now) }
 {

@@ -2,19 +2,15 @@
 
 ghost use Rattle.std.specs.Prelude.{◌≡◌, ◌++◌, ◌<◌, ◌^◌, OnOk, IfOk, map, length, bit_or, if◌then◌else◌};
 ghost use Rattle.std.specs.List.{flat_map};
-ghost use Rattle.class_asm.specs.Entries.{Class, Utf8};
-ghost use Rattle.class_asm.specs.Firsts.{with_faults};
-ghost use Rattle.class_asm.specs.Pools.{number_of, unless};
+ghost use Rattle.asm_pool.specs.Entries.{Class, Utf8};
+ghost use Rattle.asm_lines.specs.Firsts.{with_faults, unless};
+ghost use Rattle.asm_pool.specs.Pools.{number_of};
 ghost use Rattle.class_asm.specs.Classes.{code_said, code_in, said_faults, code_fits, code_attributes, code_faults, field_text, size_of, code_text, method_attributes, method_text, class_flags, attribute_text};
 
-use crate::codes::{code_attributes, code_fits, code_in, handlers_of};
-use crate::entry::Entry;
-use crate::first::First;
-use crate::listing::MethodLines;
-use crate::number::Number;
-use crate::pool::Pool;
+use crate::codes::{code_attributes, code_fits, code_in};
 use crate::rules::{field_flags, method_flags};
-use crate::statement::{AttributeLine, ClassLine, FieldLine, copy};
+use asm_lines::{AttributeLine, ClassLine, FieldLine, First, MethodLines, Number, copy};
+use asm_pool::{Entry, Pool};
 use class_read::{AttrText, MemberText};
 use list_views::Seq;
 use std::alloc::{AllocError, Global};
@@ -97,13 +93,12 @@ fn code_text(
     let code = code_in(alloc, first, pool, m)?;
     let attributes = code_attributes(alloc, pool, m.lines.as_slice())?;
     first.unless(code_fits(&code, attributes.as_slice()), m.line);
-    let table = handlers_of(alloc, &code)?;
     Ok(AttrText::Code {
         name: pool.number(Entry::Utf8(b"Code")),
         max_stack: size_of(sizes.0),
         max_locals: size_of(sizes.1),
         code: code.bytes,
-        table,
+        table: code.table,
         attributes,
     })
 }
@@ -144,7 +139,7 @@ pub(crate) fn method_texts(
 }
 
 /// The flags of the class.
-pub(crate) fn class_flags(class: &ClassLine) -> u16
+pub fn class_flags(class: &ClassLine) -> u16
     ensures { result ≡ class_flags class.now }
 {
     let kind = if class.is_interface { INTERFACE } else { CLASS };

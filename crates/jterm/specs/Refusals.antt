@@ -1,7 +1,7 @@
 -- What each step of a decision says where it refuses.
 use Rattle.std.specs.Prelude.{◌≡◌, ℕ, List, Some, Err}
-use Rattle.class_asm.specs.declared.fault.AsmFault.{AsmFault}
-use Rattle.class_asm.specs.declared.fault.AsmFault.TheVariants as listings
+use Rattle.asm_lines.specs.declared.fault.AsmFault.{AsmFault}
+use Rattle.asm_lines.specs.declared.fault.AsmFault.TheVariants as listings
 use Rattle.class_read.specs.declared.fault.ClassFault.{ClassFault}
 use Rattle.class_read.specs.declared.fault.ClassFault.TheVariants as classes
 use Rattle.class_world.specs.World.{World}

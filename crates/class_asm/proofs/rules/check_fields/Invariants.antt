@@ -1,6 +1,6 @@
 use Rattle.std.proofs.Common.{◌≡◌, take}
 use Rattle.std.specs.List.{flat_map}
-use Rattle.class_asm.specs.Firsts.{with_faults}
+use Rattle.asm_lines.specs.Firsts.{with_faults}
 use Rattle.class_asm.specs.Rules.{field_faults}
 use Rattle.class_asm.proofs.rules.check_fields.Given as goal
 

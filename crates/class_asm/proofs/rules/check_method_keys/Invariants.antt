@@ -1,5 +1,5 @@
 use Rattle.std.proofs.Common.{◌≡◌, drop, map, []}
-use Rattle.class_asm.specs.Firsts.{with_faults}
+use Rattle.asm_lines.specs.Firsts.{with_faults}
 use Rattle.class_asm.specs.Rules.{seconds, method_key}
 use Rattle.class_asm.proofs.rules.check_method_keys.Given as goal
 

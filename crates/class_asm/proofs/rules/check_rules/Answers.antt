@@ -1,9 +1,8 @@
 use Rattle.std.proofs.Common.{◌≡◌, List, ◌++◌, ap, ◌∙◌}
 use Rattle.std.specs.List.{flat_map}
-use Rattle.class_asm.specs.Firsts.{with_faults}
-use Rattle.class_asm.specs.Pools.{unless}
+use Rattle.asm_lines.specs.Firsts.{with_faults, unless}
 use Rattle.class_asm.specs.Rules.{class_is_good, fields_faults, methods_faults, attributes_faults, constant_faults}
-use Rattle.class_asm.proofs.Faults.{in_turn}
+use Rattle.asm_lines.proofs.Faults.{in_turn}
 use Rattle.class_asm.proofs.rules.check_rules.Goals as goal
 
 pub returns : goal.returns

@@ -1,6 +1,6 @@
 use Rattle.std.proofs.Common.{◌≡◌, take, map}
 use Rattle.std.specs.List.{flat_map}
-use Rattle.class_asm.specs.Firsts.{with_faults}
+use Rattle.asm_lines.specs.Firsts.{with_faults}
 use Rattle.class_asm.specs.Classes.{method_text, code_faults}
 use Rattle.class_asm.proofs.texts.method_texts.Given as goal
 

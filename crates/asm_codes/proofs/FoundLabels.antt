@@ -1,0 +1,105 @@
+-- Labels found through an index.
+use Rattle.std.proofs.Common.{◌≡◌, ℕ, Bool, true, false, cond, ◌||◌, List, [], ◌∷◌, ◌++◌, Option, Some, None, refl, sym, ap, ◌∙◌, inl, inr, is_some}
+use Rattle.std.proofs.Math.Path.{fun_ext}
+use Rattle.std.proofs.lemmas.Bool.{cases_Bool}
+use Rattle.std.proofs.lemmas.Slice.Eq.{bytes_eq-Decides}
+use Rattle.std.specs.Prelude.{map}
+use Rattle.std.specs.Option.{option_or}
+use Rattle.std.specs.List.{list_any}
+use Rattle.std.specs.Map.{lookup}
+use Rattle.std.specs.Str.{bytes_eq}
+use Rattle.asm_codes.specs.Instructions.{Places}
+use Rattle.asm_codes.specs.Places.{place_in, with_place}
+use Rattle.asm_codes.specs.LineFaults.{is_among, with_label}
+
+pub none_is : {A : Type 0} (o : Option A) → is_some o ≡ false → o ≡ None
+none_is None h = refl
+none_is (Some x) h = absurd cc
+
+-- ---- places
+
+pub lookup-map : {A : Type 0} (f : A → List ℕ) (test : List ℕ → Bool) (es : List (A × ℕ)) → lookup test (map (λ e. (f e.0, e.1)) es) ≡ lookup (λ k. test (f k)) es
+lookup-map f test [] = refl
+lookup-map f test (e ∷ es) = ap (λ (o : Option ℕ). cond (test (f e.0)) (Some e.1) o) (lookup-map f test es)
+
+chosen_or : (b : Bool) (v : ℕ) (o p : Option ℕ) → cond b (Some v) (option_or o p) ≡ option_or (cond b (Some v) o) p
+chosen_or true v o p = refl
+chosen_or false v o p = refl
+
+lookup-append : (test : List ℕ → Bool) (es fs : List (List ℕ × ℕ)) → lookup test (es ++ fs) ≡ option_or (lookup test es) (lookup test fs)
+lookup-append test [] fs = refl
+lookup-append test (e ∷ es) fs = ap (λ (o : Option ℕ). cond (test e.0) (Some e.1) o) (lookup-append test es fs) ∙ chosen_or (test e.0) e.1 (lookup test es) (lookup test fs)
+
+map-push : {A B : Type 0} (f : A → B) (xs : List A) (x : A) → map f (xs ++ x ∷ []) ≡ map f xs ++ f x ∷ []
+map-push f [] x = refl
+map-push {B = B} f (y ∷ ys) x = ap (λ (zs : List B). f y ∷ zs) (map-push f ys x)
+
+pub put : {A : Type 0} (f : A → List ℕ) (es fs : List (A × ℕ)) (a : A) (place : ℕ) → fs ≡ es ++ (a, place) ∷ []
+    → place_in (map (λ e. (f e.0, e.1)) fs) ≡ with_place (place_in (map (λ e. (f e.0, e.1)) es)) (f a) place
+put {A = A} f es fs a place h =
+    let shown : List (A × ℕ) → List (List ℕ × ℕ) = λ xs. map (λ e. (f e.0, e.1)) xs in
+    ap (λ (xs : List (A × ℕ)). place_in (shown xs)) h
+    ∙ ap place_in (map-push (λ (e : A × ℕ). (f e.0, e.1)) es (a, place))
+    ∙ fun_ext (λ other. lookup-append (bytes_eq other) (shown es) ((f a, place) ∷ []))
+
+same_label : (places : Places) (label other : List ℕ) → is_some (places label) ≡ true → places other ≡ None → bytes_eq other label ≡ false
+same_label places label other there h =
+    elim (cases_Bool (bytes_eq other label)) [
+      | inl same ↦ let e : other ≡ label = (bytes_eq-Decides other label).0 same in absurd (let g : places label ≡ None = ap places (sym e) ∙ h in cc)
+      | inr differs ↦ differs
+    ]
+
+seen_before : (o : Option ℕ) (b : Bool) (place : ℕ) → (o ≡ None → b ≡ false) → o ≡ option_or o (cond b (Some place) None)
+seen_before (Some p) b place h = refl
+seen_before None b place h = ap (λ v. cond v (Some place) None) (sym (h refl))
+
+pub kept : (es : List (List ℕ × ℕ)) (label : List ℕ) (place : ℕ) → is_some (place_in es label) ≡ true → place_in es ≡ with_place (place_in es) label place
+kept es label place there = fun_ext (λ other. seen_before (place_in es other) (bytes_eq other label) place (same_label (place_in es) label other there))
+
+-- ---- labels alone
+
+any-map : {A : Type 0} (f : A → List ℕ) (test : List ℕ → Bool) (xs : List A) → list_any test (map f xs) ≡ list_any (λ x. test (f x)) xs
+any-map f test [] = refl
+any-map f test (x ∷ xs) = ap (λ b. test (f x) || b) (any-map f test xs)
+
+or_more : (a b c : Bool) → (a || b) || c ≡ a || (b || c)
+or_more true b c = refl
+or_more false b c = refl
+
+or_false : (a : Bool) → a || false ≡ a
+or_false true = refl
+or_false false = refl
+
+any-push : (test : List ℕ → Bool) (xs : List (List ℕ)) (x : List ℕ) → list_any test (xs ++ x ∷ []) ≡ (list_any test xs || test x)
+any-push test [] x = or_false (test x)
+any-push test (y ∷ ys) x = ap (λ b. test y || b) (any-push test ys x) ∙ sym (or_more (test y) (list_any test ys) (test x))
+
+pub is_among-map : {A : Type 0} (f : A → List ℕ) (xs : List A) (label : List ℕ) → is_among (map f xs) label ≡ list_any (λ x. bytes_eq label (f x)) xs
+is_among-map f xs label = any-map f (bytes_eq label) xs
+
+or_seen : (a b : Bool) → (a ≡ false → b ≡ false) → a ≡ (a || b)
+or_seen true b h = refl
+or_seen false b h = sym (h refl)
+
+among_too : (xs : List (List ℕ)) (label other : List ℕ) → is_among xs label ≡ true → is_among xs other ≡ false → bytes_eq other label ≡ false
+among_too xs label other there h =
+    elim (cases_Bool (bytes_eq other label)) [
+      | inl same ↦ let e : other ≡ label = (bytes_eq-Decides other label).0 same in absurd (let g : is_among xs label ≡ false = ap (is_among xs) (sym e) ∙ h in cc)
+      | inr differs ↦ differs
+    ]
+
+-- the list after an insertion, which adds what isn't there
+pub inserted : {A : Type 0} (f : A → List ℕ) (xs ys : List A) (a : A) → ys ≡ cond (list_any (λ x. bytes_eq (f a) (f x)) xs) xs (xs ++ a ∷ []) → is_among (map f ys) ≡ with_label (is_among (map f xs)) (f a)
+inserted {A = A} f xs ys a h =
+    elim (cases_Bool (list_any (λ x. bytes_eq (f a) (f x)) xs)) [
+      | inl there ↦
+          let same : ys ≡ xs = h ∙ ap (λ b. cond b xs (xs ++ a ∷ [])) there in
+          let among : is_among (map f xs) (f a) ≡ true = is_among-map f xs (f a) ∙ there in
+          ap (λ (zs : List A). is_among (map f zs)) same
+          ∙ fun_ext (λ other. or_seen (is_among (map f xs) other) (bytes_eq other (f a)) (among_too (map f xs) (f a) other among))
+      | inr new ↦
+          let more : ys ≡ xs ++ a ∷ [] = h ∙ ap (λ b. cond b xs (xs ++ a ∷ [])) new in
+          ap (λ (zs : List A). is_among (map f zs)) more
+          ∙ ap is_among (map-push f xs a)
+          ∙ fun_ext (λ other. any-push (bytes_eq other) (map f xs) (f a))
+    ]

@@ -1,0 +1,10 @@
+pub mod CodeSizes
+pub mod FirstFaults
+pub mod FoundLabels
+pub mod KeyCases
+pub mod Marks
+pub mod Operands
+pub mod Sizes
+pub mod Written
+pub mod SaidInsns
+pub mod SaidCode

@@ -1,0 +1,6 @@
+pub mod Pooled
+pub mod Instructions
+pub mod Places
+pub mod LineFaults
+pub mod MethodCodes
+pub mod Said

@@ -1,0 +1,142 @@
+-- What the code of a method's lines says, line by line: a reading of the code that leans on no assembler.
+-- JVM specification, section 6.5 (each instruction) and section 4.7.3 (the code array and the exception table).
+use Rattle.std.specs.Prelude.{◌≡◌, Bool, ℕ, ℤ, pos, negsuc, ◌&&◌, ◌==◌, nat_lt, List, [], ◌∷◌, length, map, Option, Some, None, false, if◌then◌else◌}
+use Rattle.std.specs.Option.{option_map_or}
+use Rattle.std.specs.Str.{bytes_eq}
+use Rattle.code_decode.specs.Codes.{Spells}
+use Rattle.code_decode.specs.declared.insn.Case.{Case}
+use Rattle.code_decode.specs.declared.insn.Insn.{Insn}
+use Rattle.class_base.specs.declared.handler.Handler.{Handler}
+use Rattle.code_decode.specs.Shapes as shapes
+use Rattle.code_decode.specs.Shapes.{Shape, shape}
+use Rattle.asm_lines.specs.Numbers.{signed_of, pair_of, int_of}
+use Rattle.asm_lines.specs.declared.item.CatchLine.{CatchLine}
+use Rattle.asm_lines.specs.declared.item.Item.{Item}
+use Rattle.asm_lines.specs.declared.item.Item.TheVariants as items
+use Rattle.asm_lines.specs.declared.listing.CodeLine.{CodeLine}
+use Rattle.asm_lines.specs.declared.number.Number.{Number}
+use Rattle.asm_lines.specs.declared.operation.Operation.{Operation}
+use Rattle.asm_lines.specs.declared.operation.Operation.TheVariants.{Plain, Local, Bipush, Sipush, LoadInt, LoadString, Member, Class, Newarray, Iinc, Jump, GotoW, Tableswitch, Lookupswitch}
+use Rattle.asm_codes.specs.Instructions.{Places, between}
+use Rattle.asm_codes.specs.Pooled.{Pooled}
+use Rattle.asm_codes.specs.declared.pooled.PoolOperand.{PoolOperand}
+
+-- as many, each in its turn
+abbrev pub InTurn : {A B : Type 0} → (A → B → Type 0) → List A → List B → Type 0
+InTurn says [] [] = Unit {0}
+InTurn says [] (y ∷ ys) = ⊥
+InTurn says (x ∷ xs) [] = ⊥
+InTurn says (x ∷ xs) (y ∷ ys) = says x y × InTurn says xs ys
+
+-- ---- one instruction
+
+-- a load or a store; a local of two bytes stands behind `wide`
+abbrev pub local_shape : ℕ → ℕ → Shape
+local_shape op local = if nat_lt local 256 then shapes.Byte op local else shapes.WideLocal op local
+
+-- `ldc`; `ldc_w` where that is written, or where the index has two bytes
+abbrev pub load_shape : ℕ → ℕ → Shape
+load_shape op entry = if op == 18 && nat_lt entry 256 then shapes.Byte 18 entry else shapes.Pair 19 entry
+
+abbrev pub member_shape : ℕ → ℕ → ℕ → Shape
+member_shape op entry words = if op == 185 then shapes.Interface 185 entry words else shapes.Pair op entry
+
+-- `iinc`, behind `wide` where the local or the number has two bytes
+abbrev pub increment_shape : ℕ → ℤ → Shape
+increment_shape local v =
+    if nat_lt local 256 && between (negsuc 127) (pos 127) v then shapes.Increment 132 local v else shapes.WideIncrement 132 local v
+
+-- a key of a `lookupswitch` and the place that its label names
+abbrev pub IsCase : Places → Number × List ℕ → Case → Type 0
+IsCase place c case = (int_of c.0 ≡ Some case.key) × (place c.1 ≡ Some case.target)
+
+-- The instruction is the one of the line, with the numbers that its words are, the places that its labels name, and the
+-- index and the words of its pool entry.
+abbrev pub IsInsn : Places → PoolOperand → Operation → Shape → Type 0
+IsInsn place need (Plain op) s = s ≡ shapes.Plain op
+IsInsn place need (Local op n) s = (local : ℕ) × (pair_of n ≡ Some local) × (s ≡ local_shape op local)
+IsInsn place need (Bipush n) s = (v : ℤ) × (signed_of n ≡ Some v) × (s ≡ shapes.SignedByte 16 v)
+IsInsn place need (Sipush n) s = (v : ℤ) × (signed_of n ≡ Some v) × (s ≡ shapes.SignedPair 17 v)
+IsInsn place need (LoadInt op n) s = s ≡ load_shape op need.entry
+IsInsn place need (LoadString op text) s = s ≡ load_shape op need.entry
+IsInsn place need (Member op class name desc) s = s ≡ member_shape op need.entry need.words
+IsInsn place need (Class op name) s = s ≡ shapes.Pair op need.entry
+IsInsn place need (Newarray code) s = s ≡ shapes.Array 188 code
+IsInsn place need (Iinc n m) s = (local : ℕ) × (v : ℤ) × (pair_of n ≡ Some local) × (signed_of m ≡ Some v) × (s ≡ increment_shape local v)
+IsInsn place need (Jump op label) s = (target : ℕ) × (place label ≡ Some target) × (s ≡ shapes.Jump op target)
+IsInsn place need (GotoW label) s = (target : ℕ) × (place label ≡ Some target) × (s ≡ shapes.FarJump 200 target)
+IsInsn place need (Tableswitch low default labels) s =
+    (target : ℕ) × (key : ℤ) × (targets : List ℕ) × (place default ≡ Some target) × (int_of low ≡ Some key) × (map place labels ≡ map Some targets)
+    × (s ≡ shapes.Table 170 target key targets)
+IsInsn place need (Lookupswitch default cs) s =
+    (target : ℕ) × (cases : List Case) × (place default ≡ Some target) × InTurn (IsCase place) cs cases × (s ≡ shapes.Lookup 171 target cases)
+
+-- the same, where the pool entry is one that the line names
+abbrev pub SaysInsn : (Operation → PoolOperand → Type 0) → Places → Operation → Insn → Type 0
+SaysInsn named place operation insn = (need : PoolOperand) × named operation need × IsInsn place need operation (shape insn)
+
+-- ---- labels
+
+-- the place of the next instruction; behind the last one, the code's end
+abbrev pub next_place : ℕ → List (ℕ × Insn) → ℕ
+next_place end [] = end
+next_place end (x ∷ xs) = x.0
+
+-- the instructions behind a line
+abbrev pub behind : Item → List (ℕ × Insn) → List (ℕ × Insn)
+behind (items.Insn operation) (x ∷ xs) = xs
+behind item insns = insns
+
+abbrev pub is_labelled : List ℕ → CodeLine → Bool
+is_labelled label code = option_map_or (bytes_eq label) code.label false
+
+-- the place of the next instruction at or behind the first line that has the label
+abbrev pub label_place : ℕ → List (ℕ × Insn) → List CodeLine → Places
+label_place end insns [] label = None
+label_place end insns (code ∷ codes) label =
+    if is_labelled label code then Some (next_place end insns) else label_place end (behind code.item insns) codes label
+
+-- ---- all lines
+
+abbrev pub SaysLine : (Operation → Insn → Type 0) → Item → List (ℕ × Insn) → Type 0
+SaysLine says (items.Insn operation) [] = ⊥
+SaysLine says (items.Insn operation) (x ∷ xs) = says operation x.1
+SaysLine says item insns = Unit {0}
+
+-- The instructions are those of the lines, one after another.
+abbrev pub SaysLines : (Operation → Insn → Type 0) → List CodeLine → List (ℕ × Insn) → Type 0
+SaysLines says [] insns = insns ≡ []
+SaysLines says (code ∷ codes) insns = SaysLine says code.item insns × SaysLines says codes (behind code.item insns)
+
+-- the lines of the exception table
+abbrev pub with_catch : Item → List CatchLine → List CatchLine
+with_catch (items.Catch c) rest = c ∷ rest
+with_catch item rest = rest
+
+abbrev pub catches_in : List CodeLine → List CatchLine
+catches_in [] = []
+catches_in (code ∷ codes) = with_catch code.item (catches_in codes)
+
+-- an entry of the exception table, whose class is one that the line names
+pub record SaysEntry (caught : Option (List ℕ) → ℕ → Type 0) (place : Places) (c : CatchLine) (h : Handler) : Type 0 where
+  pub start : place c.from ≡ Some h.start
+  pub end : place c.to ≡ Some h.end
+  pub handler : place c.handler ≡ Some h.handler
+  pub class : caught c.class h.catch
+
+-- The bytes are those of instructions, one behind the other, which are the lines'; the exception table is that of the
+-- `catch` lines.
+pub record SaysCode (named : Operation → PoolOperand → Type 0) (caught : Option (List ℕ) → ℕ → Type 0) (codes : List CodeLine) (bytes : List ℕ) (table : List Handler) : Type 0 where
+  pub insns : List (ℕ × Insn)
+  pub spelled : Spells 0 insns bytes
+  pub each : SaysLines (SaysInsn named (label_place (length bytes) insns codes)) codes insns
+  pub entries : InTurn (SaysEntry caught (label_place (length bytes) insns codes)) (catches_in codes) table
+
+-- What a line names in the pool is as `named` and `caught` say.
+abbrev pub NamedBy : (Operation → PoolOperand → Type 0) → (Option (List ℕ) → ℕ → Type 0) → Item → Option PoolOperand → Type 0
+NamedBy named caught (items.Insn operation) (Some need) = named operation need
+NamedBy named caught (items.Catch c) (Some need) = caught c.class need.entry
+NamedBy named caught item need = Unit {0}
+
+abbrev pub IsNamed : (Operation → PoolOperand → Type 0) → (Option (List ℕ) → ℕ → Type 0) → Pooled → Type 0
+IsNamed named caught x = NamedBy named caught x.code.item x.need

@@ -1,0 +1,108 @@
+//! The places that labels name, found through an index.
+
+ghost use Rattle.std.specs.Prelude.{◌≡◌, [], OnOk, IfOk, is_some, not};
+ghost use Rattle.asm_codes.specs.Instructions.{target};
+ghost use Rattle.asm_codes.specs.Places.{place_in, with_place};
+ghost use Rattle.asm_codes.specs.LineFaults.{is_among, with_label};
+
+use indexmap::{IndexMap, IndexSet};
+use std::alloc::{AllocError, AllocFailed, Global};
+use std::marker::Model;
+
+/// The labels of a method with their places. It is seen as the list of the labels, each with
+/// its place.
+#[derive(Drop)]
+pub(crate) struct Labels<'a> {
+    places: IndexMap<&'a [u8], usize>,
+}
+
+impl<'a> Model for Labels<'a> {
+    ghost use Rattle.std.specs.Prelude.{List, ℕ, map};
+
+    ghost Value = { List (List ℕ × ℕ) };
+
+    ghost view = { λ s. map (λ e. (e.0.now, e.1)) s.places.entries };
+}
+
+impl<'a> Labels<'a> {
+    /// No labels.
+    pub(crate) fn new(alloc: Global) -> Labels<'a>
+        ensures { result ≡ [] }
+    {
+        Labels {
+            places: IndexMap::new(alloc),
+        }
+    }
+
+    /// One more label. The first place of a label stays.
+    pub(crate) fn add(&mut self, label: &'a [u8], place: usize) -> Result<(), AllocError>
+        ensures { OnOk result (place_in self.new ≡ with_place (place_in self.old) label.now place) }
+    {
+        if self.places.contains_key(label) {
+            return Ok(());
+        }
+        self.places.insert(label, place)?;
+        Ok(())
+    }
+
+    /// The place of the label.
+    pub(crate) fn place(&self, label: &[u8]) -> Option<usize>
+        ensures { result ≡ place_in self.now label.now }
+    {
+        match self.places.get(label) {
+            Some(place) => Some(*place),
+            None => None,
+        }
+    }
+
+    /// Whether there is such a label.
+    pub(crate) fn has(&self, label: &[u8]) -> bool
+        ensures { result ≡ is_some (place_in self.now label.now) }
+    {
+        self.place(label).is_some()
+    }
+
+    /// The place of the label, or 0 where it has none.
+    pub(crate) fn target(&self, label: &[u8]) -> usize
+        ensures { result ≡ target (place_in self.now) label.now }
+    {
+        match self.place(label) {
+            Some(place) => place,
+            None => 0,
+        }
+    }
+}
+
+/// The labels of the lines so far. They are seen as their list.
+#[derive(Drop)]
+pub(crate) struct SeenLabels<'a> {
+    labels: IndexSet<&'a [u8]>,
+}
+
+impl<'a> Model for SeenLabels<'a> {
+    ghost use Rattle.std.specs.Prelude.{List, ℕ, map};
+
+    ghost Value = { List (List ℕ) };
+
+    ghost view = { λ s. map (λ k. k.now) s.labels.keys };
+}
+
+impl<'a> SeenLabels<'a> {
+    /// No labels.
+    pub(crate) fn new(alloc: Global) -> SeenLabels<'a>
+        ensures { result ≡ [] }
+    {
+        SeenLabels {
+            labels: IndexSet::new(alloc),
+        }
+    }
+
+    /// One more label, and whether it is new.
+    pub(crate) fn add(&mut self, label: &'a [u8]) -> Result<bool, AllocFailed<&'a [u8]>>
+        ensures labels { OnOk result (is_among self.new ≡ with_label (is_among self.old) label.now) }
+        ensures is_new { IfOk result (λ is_new. is_new ≡ not (is_among self.old label.now)) }
+    {
+        let (_, is_new) = self.labels.insert_full(label)?;
+        Ok(is_new)
+    }
+}

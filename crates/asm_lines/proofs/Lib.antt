@@ -1,0 +1,10 @@
+pub mod Cases
+pub mod Digits
+pub mod Divided
+pub mod Faultless
+pub mod Faults
+pub mod GoodListings
+pub mod NumberFits
+pub mod Opcodes
+pub mod Outcomes
+pub mod PlainWords

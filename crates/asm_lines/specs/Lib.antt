@@ -1,0 +1,9 @@
+pub mod Parts
+pub mod Numbers
+pub mod Statements
+pub mod ClassLines
+pub mod Operations
+pub mod Items
+pub mod Firsts
+pub mod Listings
+pub mod Faults

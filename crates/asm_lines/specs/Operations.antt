@@ -1,0 +1,154 @@
+-- What an instruction's line says: its name in the JVM specification (section 6.5) and its operands, by the form that the
+-- table of instructions gives it.
+use Rattle.std.specs.Prelude.{ℕ, pos, zero, suc, ◌==◌, nat_le, List, [], ◌∷◌, ◌++◌, Option, Some, None, option_map, Ok, Err, codes, if◌then◌else◌}
+use Rattle.std.specs.Option.{option_map_or, option_or}
+use Rattle.std.specs.Str.{bytes_eq}
+use Rattle.code_decode.specs.declared.insn.Insn.{Insn}
+use Rattle.code_decode.specs.declared.insn.Insn.TheVariants as insns
+use Rattle.code_decode.specs.Names.{name_of}
+use Rattle.code_decode.specs.Shapes as shapes
+use Rattle.code_decode.specs.Shapes.{Shape, shape}
+use Rattle.code_decode.specs.Reading.{find_by, plain, with_byte, with_pair, with_jump}
+use Rattle.asm_lines.specs.declared.fault.AsmFault.TheVariants.{Syntax, UnknownOpcode}
+use Rattle.asm_lines.specs.declared.number.Number.{Number}
+use Rattle.asm_lines.specs.declared.operation.Operation.{Operation}
+use Rattle.asm_lines.specs.declared.operation.Operation.TheVariants.{Plain, Local, Bipush, Sipush, LoadInt, LoadString, Member, Class, Newarray, Iinc, Jump, GotoW, Tableswitch, Lookupswitch}
+use Rattle.list_views.specs.Results.{◌>>=◌}
+use Rattle.asm_lines.specs.Statements.{Said, Words, next_word, no_more, number_word, one_word}
+
+-- ---- names
+
+-- the instructions that are in none of the tables by operands
+abbrev pub single : ℕ → Option Insn
+single op =
+    if op == 16 then Some (insns.Bipush (pos 0))
+    else (if op == 17 then Some (insns.Sipush (pos 0))
+    else (if op == 132 then Some (insns.Iinc 0 (pos 0))
+    else (if op == 170 then Some (insns.Tableswitch 0 (pos 0) [])
+    else (if op == 171 then Some (insns.Lookupswitch 0 [])
+    else (if op == 185 then Some (insns.Invokeinterface 0 0)
+    else (if op == 188 then Some (insns.Newarray 0)
+    else (if op == 200 then Some (insns.GotoW 0) else None)))))))
+
+abbrev pub made : List (ℕ → Insn) → ℕ → Option Insn
+made table op = option_map (λ make. make 0) (find_by table op)
+
+-- an instruction of the opcode, with zeros as operands
+abbrev pub template : ℕ → Option Insn
+template op = option_or (plain op) (option_or (made with_byte op) (option_or (made with_pair op) (option_or (made with_jump op) (single op))))
+
+abbrev pub named : ℕ → List (List ℕ × ℕ)
+named op = option_map_or (λ insn. (name_of insn, op) ∷ []) (template op) []
+
+-- the names of the instructions below an opcode
+abbrev pub names_below : ℕ → List (List ℕ × ℕ)
+names_below zero = []
+names_below (suc op) = names_below op ++ named op
+
+-- the names of all instructions
+abbrev pub all_names : List (List ℕ × ℕ)
+all_names = names_below 201
+
+-- the opcode of a name
+abbrev pub opcode_in : List (List ℕ × ℕ) → List ℕ → Option ℕ
+opcode_in [] word = None
+opcode_in (entry ∷ names) word = if bytes_eq entry.0 word then Some entry.1 else opcode_in names word
+
+-- ---- operands
+
+-- the code of an element type (JVM specification, section 6.5, newarray)
+abbrev pub kind_code : List ℕ → Option ℕ
+kind_code word =
+    if bytes_eq word (codes "boolean") then Some 4
+    else (if bytes_eq word (codes "char") then Some 5
+    else (if bytes_eq word (codes "float") then Some 6
+    else (if bytes_eq word (codes "double") then Some 7
+    else (if bytes_eq word (codes "byte") then Some 8
+    else (if bytes_eq word (codes "short") then Some 9
+    else (if bytes_eq word (codes "int") then Some 10
+    else (if bytes_eq word (codes "long") then Some 11 else None)))))))
+
+-- the one number that is left
+unfoldable pub one_number : ℕ → Words → Said Number
+one_number line words = one_word line words >>= number_word line
+
+-- `int N` or `string WORD`
+unfoldable pub load_value : ℕ → ℕ → List ℕ → List ℕ → Said Operation
+load_value line op kind value =
+    if bytes_eq kind (codes "int") then (number_word line value >>= λ n. Ok (LoadInt op n))
+    else (if bytes_eq kind (codes "string") then Ok (LoadString op value) else Err (Syntax line))
+
+unfoldable pub load_operation : ℕ → ℕ → Words → Said Operation
+load_operation line op words = do
+  kind ← next_word line words
+  value ← next_word line kind.1
+  _ ← no_more line value.1
+  load_value line op kind.0 value.0
+
+-- `CLASS NAME DESC`
+unfoldable pub member_operation : ℕ → ℕ → Words → Said Operation
+member_operation line op words = do
+  class ← next_word line words
+  name ← next_word line class.1
+  desc ← next_word line name.1
+  _ ← no_more line desc.1
+  Ok (Member op class.0 name.0 desc.0)
+
+-- a local and the number that is added
+unfoldable pub increment_operation : ℕ → Words → Said Operation
+increment_operation line words = do
+  local ← next_word line words
+  value ← next_word line local.1
+  _ ← no_more line value.1
+  n ← number_word line local.0
+  m ← number_word line value.0
+  Ok (Iinc n m)
+
+abbrev pub some_labels : ℕ → Words → Said Words
+some_labels line [] = Err (Syntax line)
+some_labels line (label ∷ labels) = Ok (label ∷ labels)
+
+-- `LOW DEFAULT LABEL ..`, with at least one label
+unfoldable pub table_operation : ℕ → Words → Said Operation
+table_operation line words = do
+  low ← next_word line words
+  default ← next_word line low.1
+  labels ← some_labels line default.1
+  n ← number_word line low.0
+  Ok (Tableswitch n default.0 labels)
+
+-- `KEY LABEL ..`
+abbrev pub cases_of : ℕ → Words → Said (List (Number × List ℕ))
+cases_of line [] = Ok []
+cases_of line (key ∷ []) = Err (Syntax line)
+cases_of line (key ∷ label ∷ words) = number_word line key >>= λ n. cases_of line words >>= λ cases. Ok ((n, label) ∷ cases)
+
+-- `DEFAULT KEY LABEL ..`
+unfoldable pub lookup_operation : ℕ → Words → Said Operation
+lookup_operation line words = do
+  default ← next_word line words
+  cases ← cases_of line default.1
+  Ok (Lookupswitch default.0 cases)
+
+unfoldable pub array_operation : ℕ → Words → Said Operation
+array_operation line words = do
+  kind ← one_word line words
+  option_map_or (λ code. Ok (Newarray code)) (kind_code kind) (Err (Syntax line))
+
+-- the operands that are written behind an instruction of the shape
+unfoldable pub operands : ℕ → Shape → Words → Said Operation
+operands line (shapes.Plain op) words = no_more line words >>= λ _. Ok (Plain op)
+operands line (shapes.Byte op n) words = if op == 18 then load_operation line op words else (one_number line words >>= λ local. Ok (Local op local))
+operands line (shapes.Pair op n) words =
+    if op == 19 then load_operation line op words
+    else (if nat_le op 184 then member_operation line op words else (one_word line words >>= λ class. Ok (Class op class)))
+operands line (shapes.SignedByte op v) words = one_number line words >>= λ n. Ok (Bipush n)
+operands line (shapes.SignedPair op v) words = one_number line words >>= λ n. Ok (Sipush n)
+operands line (shapes.Jump op target) words = one_word line words >>= λ label. Ok (Jump op label)
+operands line (shapes.FarJump op target) words = one_word line words >>= λ label. Ok (GotoW label)
+operands line (shapes.Increment op n v) words = increment_operation line words
+operands line (shapes.Table op default low targets) words = table_operation line words
+operands line (shapes.Lookup op default cases) words = lookup_operation line words
+operands line (shapes.Interface op n count) words = member_operation line op words
+operands line (shapes.Array op code) words = array_operation line words
+operands line _ words = Err (UnknownOpcode line)

@@ -1,7 +1,0 @@
-use Rattle.class_asm.specs.Places.{place_in}
-use Rattle.class_asm.specs.LineFaults.{is_among}
-use Rattle.class_asm.proofs.FirstFaults.{SoFar}
-use Rattle.class_asm.proofs.line_fault.first_fault.Given as goal
-
-abbrev pub invariant-loop-line : goal.invariant-loop-line
-invariant-loop-line l = SoFar (place_in l.labels) l.lines l.line-index (is_among l.seen) l.entries l.pc

@@ -1,7 +1,0 @@
-use Rattle.class_asm.specs.Places.{place_in}
-use Rattle.class_asm.proofs.Written.{one_put}
-use Rattle.class_asm.proofs.method_code.bytes_of.Goals as goal
-
-pub loop-line-preserved : goal.loop-line-preserved
-loop-line-preserved c =
-    one_put (place_in c.args.labels.now) c.args.lines.now c.loop-line.line-index c.loop-line.out.items c.put.new.out.items c.line-item.result c.in_ok-insn.insn c.loop-line-test.true c.line-item.is c.loop-line.invariant c.in_ok-insn.ensures c.in_ok-put.ensures
