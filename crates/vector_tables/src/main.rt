@@ -5,7 +5,6 @@
 mod case;
 mod entry;
 mod links;
-mod listings;
 mod select;
 
 use anyhow::{Result, bail};
@@ -29,7 +28,6 @@ fn answer(alloc: Global, line: &str) -> Result<String> {
     let case = Case::read(alloc, line)?;
     match case.table() {
         "link-50" => links::answer(alloc, &case),
-        "listings" => listings::answer(alloc, &case),
         "select" => select::answer(alloc, &case),
         table => bail!("there is no table {table}"),
     }
