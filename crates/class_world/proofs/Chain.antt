@@ -2,6 +2,7 @@
 use Rattle.std.proofs.Common.{◌≡◌, ◌-◌, ◌+◌, ℕ, suc, ◌<◌, ◌≤◌, Bool, true, false, cond, List, [], ◌∷◌, Option, Some, None, sym, refl, ap, ap₂, ◌∙◌, arith}
 use Rattle.std.specs.List.{find}
 use Rattle.std.specs.Option.{option_map, option_or}
+use Rattle.class_world.specs.World.{line_from}
 use Rattle.class_world.specs.Resolve.{first_found}
 use Rattle.class_world.proofs.FieldLemmas.{rest_of_line}
 
@@ -31,6 +32,9 @@ find_by p (c ∷ cs) = go (p c) (find_by p cs)
 module _ {A : Type 0} (super : ℕ → Option ℕ) (g : ℕ → Option A) (all : Option A) where
   abbrev pub Goes : ℕ → Option ℕ → Type 0
   Goes k next = first_by g (rest_of_line super k next) ≡ all
+
+  pub starts : (n class : ℕ) → first_by g (line_from super n class) ≡ all → Goes (n - 0) (Some class)
+  starts n class e = let k : n - 0 ≡ n = omega arith in ap (λ x. first_by g (line_from super x class)) k ∙ e
 
   step : (n i here : ℕ) (next : Option ℕ) → i < n → next ≡ Some here → first_by g (rest_of_line super (n - i) next) ≡ option_or (g here) (first_by g (rest_of_line super (n - (i + 1)) (super here)))
   step n i here next l s =

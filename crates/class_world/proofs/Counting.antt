@@ -18,14 +18,14 @@ use Rattle.class_world.proofs.Tables.{length-values, get_or-values}
 
 -- ---- the fields of objects, the class's own last
 
-length-flat_reverse : {A : Type 0} (f : ℕ → List A) (xs : List ℕ) → length (flat_map f (reverse xs)) ≡ length (flat_map f xs)
+pub length-flat_reverse : {A : Type 0} (f : ℕ → List A) (xs : List ℕ) → length (flat_map f (reverse xs)) ≡ length (flat_map f xs)
 length-flat_reverse f [] = refl
 length-flat_reverse f (x ∷ xs) =
     let a : flat_map f (reverse (x ∷ xs)) ≡ flat_map f (reverse xs) ++ flat_map f (x ∷ []) = ap (flat_map f) (reverse-append (x ∷ []) xs) ∙ flat_map-append f (reverse xs) (x ∷ []) in
     let b : length (flat_map f (x ∷ [])) ≡ length (f x) = length-append (f x) [] ∙ omega arith in
     ap length a ∙ length-append (flat_map f (reverse xs)) (flat_map f (x ∷ [])) ∙ omega (arith, b, length-flat_reverse f xs, length-append (f x) (flat_map f xs))
 
-itself_first : (super : ℕ → Option ℕ) (n class : ℕ) → 0 < n → line_from super n class ≡ class ∷ drop 1 (line_from super n class)
+pub itself_first : (super : ℕ → Option ℕ) (n class : ℕ) → 0 < n → line_from super n class ≡ class ∷ drop 1 (line_from super n class)
 itself_first super zero class l = absurd (omega (arith, l))
 itself_first super (suc n) class l = refl
 
@@ -52,11 +52,11 @@ row_here : (world : World) (class : ℕ) (c : ClassContent) → slice_get world 
 unfolding kept_row
 row_here world class c s = ap (λ o. option_map_or (λ x. kept_counts world x.fields) o []) s
 
-own_here : (world : World) (class : ℕ) (c : ClassContent) → slice_get world class ≡ Some c → own_slots world class ≡ filter_map (field_slot world) c.fields
+pub own_here : (world : World) (class : ℕ) (c : ClassContent) → slice_get world class ≡ Some c → own_slots world class ≡ filter_map (field_slot world) c.fields
 unfolding own_slots
 own_here world class c s = ap (λ o. option_map_or (λ x. filter_map (field_slot world) x.fields) o []) s
 
-before_here : (world : World) (class index : ℕ) (c : ClassContent) → slice_get world class ≡ Some c → own_slots_before world class index ≡ filter_map (field_slot world) (take index c.fields)
+pub before_here : (world : World) (class index : ℕ) (c : ClassContent) → slice_get world class ≡ Some c → own_slots_before world class index ≡ filter_map (field_slot world) (take index c.fields)
 unfolding own_slots_before
 before_here world class index c s = ap (λ o. option_map_or (λ x. filter_map (field_slot world) (take index x.fields)) o []) s
 

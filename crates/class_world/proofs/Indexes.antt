@@ -1,5 +1,5 @@
 -- The tables of members, class by class.
-use Rattle.std.proofs.Common.{◌≡◌, ℕ, zero, suc, ◌+◌, ◌<◌, ◌≤◌, Bool, true, false, List, [], ◌∷◌, ◌++◌, length, get_or, take, Option, Some, None, sym, refl, ap, ap₂, ◌∙◌, subst, arith, add-one, length-append}
+use Rattle.std.proofs.Common.{◌≡◌, ℕ, zero, suc, ◌+◌, ◌<◌, ◌≤◌, Bool, true, false, cond, eqb, List, [], ◌∷◌, ◌++◌, length, get_or, take, Option, Some, None, sym, refl, ap, ap₂, ◌∙◌, subst, arith, add-one, length-append}
 use Rattle.std.specs.Prelude.{map, position, slice_get, option_and_then, IfSome}
 use Rattle.std.specs.List.{filter_map, cons_option, list_any, list_all, IsDistinct, AllByRecursion}
 use Rattle.std.specs.Option.{option_map_or, option_len}
@@ -13,7 +13,8 @@ use Rattle.class_read.specs.View.{field_content, method_content}
 use Rattle.class_read.specs.declared.view.FieldView.{FieldView}
 use Rattle.class_read.specs.declared.view.MethodView.{MethodView}
 use Rattle.jvm_values.specs.declared.types.Slot.{Slot}
-use Rattle.class_world.specs.World.{World, built_in, built_ins, built_in_names, world_of}
+use Rattle.class_world.specs.World.{World, built_in, built_ins, built_in_names, world_of, class_of, super_of}
+use Rattle.class_world.specs.Once.{once, interfaces_once}
 use Rattle.class_world.specs.Linking.{CanBeRead, has_few_members}
 use Rattle.class_world.specs.Members.{is_method_named, declared_method}
 use Rattle.class_world.specs.Fields.{field_slot}
@@ -224,3 +225,25 @@ unfolding is_initialised
 initialised_past world table class t l =
     let m : length table ≡ length world = ap length t ∙ length-values (is_initialised world) (length world) in
     ap (λ o. option_map_or (λ c. list_any is_initialiser c.methods) o false) (sym (slice_get_past world class (omega (arith, l, m))))
+
+-- a table of the values of a function, read at a number
+pub table_found : {A : Type 0} (f : ℕ → A) (n : ℕ) (table : List A) (i : ℕ) (r : A) → table ≡ values_to f n → i < length table → r ≡ get_or table i r → r ≡ f i
+table_found f n table i r t l k =
+    let m : length table ≡ n = ap length t ∙ length-values f n in
+    k ∙ ap (λ x. get_or x i r) t ∙ get_or-values f n i r (omega (arith, l, m))
+
+pub table_past : {A : Type 0} (f : ℕ → A) (n : ℕ) (table : List A) (i : ℕ) (none : A) → table ≡ values_to f n → ((j : ℕ) → n ≤ j → none ≡ f j) → length table ≤ i → none ≡ f i
+table_past f n table i none t past l =
+    let m : length table ≡ n = ap length t ∙ length-values f n in
+    past i (omega (arith, l, m))
+
+pub no_super : (world : World) (class : ℕ) → length world ≤ class → None ≡ super_of world class
+no_super world class l = go (eqb class 0)
+  where
+    go : (z : Bool) → None ≡ cond z None (option_and_then (λ c. class_of world c.super_name) (slice_get world class))
+    go true = refl
+    go false = ap (option_and_then (λ c. class_of world c.super_name)) (sym (slice_get_past world class l))
+
+pub no_interfaces : (world : World) (class : ℕ) → length world ≤ class → [] ≡ interfaces_once world class
+unfolding interfaces_once
+no_interfaces world class l = ap (λ o. once (option_map_or (λ c. filter_map (class_of world) c.interfaces) o [])) (sym (slice_get_past world class l))

@@ -1,5 +1,5 @@
 -- The test of subtypes answers the least relation.
-use Rattle.std.proofs.Common.{◌≡◌, ℕ, zero, suc, ◌+◌, ◌<◌, ◌≤◌, true, List, [], ◌∷◌, length, sym, refl, subst, inl, inr, ◌⊎◌, arith, add-one}
+use Rattle.std.proofs.Common.{◌≡◌, ℕ, zero, suc, ◌+◌, ◌<◌, ◌≤◌, true, false, List, [], ◌∷◌, length, sym, refl, subst, inl, inr, ◌⊎◌, arith, add-one}
 use Rattle.std.proofs.lemmas.Bool.{false≢true}
 use Rattle.jvm_values.specs.declared.types.Ty.{Ty}
 use Rattle.jvm_values.specs.declared.types.Kind.{Kind}
@@ -19,8 +19,8 @@ module _ (world : World) (linked : is_linked world ≡ true) where
   abbrev n : ℕ
   n = length world
 
-  laws : SubtypeLaws (is_sub world) (erase_by (is_interface_class world)) n (λ class. [])
-  laws = laws_of n (is_class_below world) (is_interface_class world) (class_order world linked) (λ class. []) (λ class h k x l. absurd (omega (arith, l)))
+  laws : SubtypeLaws (is_sub world) (erase_by (is_interface_class world)) n (λ class. []) (λ class. false)
+  laws = laws_of n (is_class_below world) (is_interface_class world) (class_order world linked) (λ class. []) (λ class h k x l. absurd (omega (arith, l))) (λ class. false) (λ class l m. absurd (false≢true m))
 
   step_above : (a b : ℕ) → Extends world a b → is_class_below world a b ≡ true
   unfolding is_class_below is_above

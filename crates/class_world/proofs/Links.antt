@@ -1,5 +1,5 @@
 -- Linking, from its steps.
-use Rattle.std.proofs.Common.{◌≡◌, ◌+◌, ◌<◌, ◌≤◌, ◌^◌, ◌-◌, true, List, length, Some, None, sym, refl, ap, ◌∙◌, subst, ◌⊎◌, arith, length-append}
+use Rattle.std.proofs.Common.{◌≡◌, ◌+◌, ◌<◌, ◌≤◌, ◌^◌, ◌-◌, true, List, length, take, Some, None, sym, refl, ap, ◌∙◌, subst, ◌⊎◌, arith, length-append}
 use Rattle.std.specs.Prelude.{is_none}
 use Rattle.std.proofs.lemmas.Bool.{and_from}
 use Rattle.class_read.specs.Content.{ClassContent}
@@ -7,6 +7,7 @@ use Rattle.class_world.specs.declared.fault.LinkFault.{LinkFault}
 use Rattle.class_world.specs.declared.fault.LinkFault.TheVariants.{Memory}
 use Rattle.class_world.specs.World.{World, built_ins, built_in_names, world_of}
 use Rattle.class_world.specs.Linking.{first_broken, duplicate_class, later_fault, link_fault, is_linked, is_rooted}
+use Rattle.class_world.specs.BuiltIns.{built_in_count, IsWorld}
 use Rattle.class_world.proofs.Rules.{first_says, says_along, after_none}
 
 pub world_length : (given : List ClassContent) → length (world_of given) ≡ 15 + length given
@@ -41,3 +42,7 @@ unfolding is_linked
 linked_is given all world e s n h =
     let whole : is_linked (world_of given) ≡ true = and_from _ _ (ap is_none (link_none given all world e s n h)) (rooted given) in
     subst (λ (w : World). is_linked w ≡ true) (sym (s ∙ e)) whole
+
+pub world_is : (given : List ClassContent) (all world : World) → all ≡ world_of given → world ≡ all → first_broken (duplicate_class all) 0 all ≡ None → later_fault world ≡ None → IsWorld world
+unfolding built_in_names
+world_is given all world e s n h = record { begins = ap (take built_in_count) (s ∙ e); linked = linked_is given all world e s n h }

@@ -1,18 +1,16 @@
 -- Seeking in superinterfaces, each of them once, finds what stands first among all of them.
-use Rattle.std.proofs.Common.{◌≡◌, ℕ, zero, suc, ◌+◌, ◌<◌, ◌≤◌, Bool, true, false, cond, eqb, List, [], ◌∷◌, ◌++◌, length, get_or, set, Option, Some, None, sym, refl, ap, ap₂, ◌∙◌, subst, inl, inr, ◌⊎◌, arith, eq-eqb, append_assoc, length-append, zero-add, replicate}
+use Rattle.std.proofs.Common.{◌≡◌, ℕ, zero, suc, ◌+◌, ◌<◌, ◌≤◌, Bool, true, false, cond, eqb, List, [], ◌∷◌, ◌++◌, length, get_or, set, Option, Some, None, sym, refl, ap, ap₂, ◌∙◌, subst, inl, inr, ◌⊎◌, arith, eq-eqb, append_assoc, length-append, zero-add}
 use Rattle.std.specs.Prelude.{reverse}
 use Rattle.std.specs.List.{flat_map, IsDistinct, AllByRecursion, list_any}
 use Rattle.std.specs.Option.{option_map, option_or}
-use Rattle.std.proofs.Math.ListN.{length-set, length-replicate}
-use Rattle.std.proofs.lemmas.List.{get_or-set_other, get_or_default, get_or_past, get_or-replicate, reverse-append, length-reverse}
+use Rattle.std.proofs.Math.ListN.{length-set}
+use Rattle.std.proofs.lemmas.List.{get_or-set_other, get_or_default, reverse-append, length-reverse}
 use Rattle.std.proofs.lemmas.List.Concat.{flat_map-append}
 use Rattle.std.proofs.lemmas.Map.Steps.{length-le_from_distinct_below}
-use Rattle.std.proofs.lemmas.Bool.{false≢true, eqb-true, or_parts, cases_lt}
-use Rattle.class_world.specs.World.{World, leads_up, is_above, super_of, supers_of, interfaces_of, listed, line_of}
-use Rattle.class_world.specs.Walks.{IsIn, IsIn-from_any, Walk, leads-from_any_Walk, leads_trans}
-use Rattle.class_world.specs.Resolve.{first_found, with_interfaces, superinterfaces_of}
-use Rattle.class_world.specs.Linking.{is_linked}
-use Rattle.class_world.specs.Linked.{hierarchy, linked_from}
+use Rattle.std.proofs.lemmas.Bool.{false≢true, eqb-true, or_parts}
+use Rattle.class_world.specs.World.{World, leads_up, super_of, supers_of, interfaces_of, listed}
+use Rattle.class_world.specs.Walks.{IsIn, IsIn-from_any, Walk, leads-from_any_Walk}
+use Rattle.class_world.specs.Resolve.{first_found, with_interfaces}
 
 -- ---- in a hierarchy without cycles
 
@@ -46,7 +44,7 @@ module _ (sup : ℕ → List ℕ) (n : ℕ) (closed : (a b : ℕ) → IsIn b (su
   below a b [] l w q (inr there) = absurd there
   below a b (c ∷ p) l w q (inr there) = below c b p (closed a c w.0) w.1 q there
 
-  short : (a b : ℕ) (p : List ℕ) → a < n → Walk sup a p b → length p < n
+  pub short : (a b : ℕ) (p : List ℕ) → a < n → Walk sup a p b → length p < n
   short a b p l w =
       let most : length (a ∷ p) ≤ n = length-le_from_distinct_below (a ∷ p) n (differ a b p w) (λ q e. below a b p l w q (IsIn-from_any q (a ∷ p) e)) in
       omega (arith, most)
@@ -259,7 +257,7 @@ goes_down up marks i todo rest now l e t r =
     let was : length todo ≡ length rest + 1 = ap length t ∙ length-append rest (i ∷ []) in
     omega (arith, less, size, was)
 
-flat_In : (f : ℕ → List ℕ) (y : ℕ) (xs : List ℕ) → IsIn y (flat_map f xs) → (x : ℕ) × IsIn y (f x)
+pub flat_In : (f : ℕ → List ℕ) (y : ℕ) (xs : List ℕ) → IsIn y (flat_map f xs) → (x : ℕ) × IsIn y (f x)
 flat_In f y [] h = absurd h
 flat_In f y (x ∷ xs) h = elim (In_append y (f x) (flat_map f xs) h) [ inl a ↦ (x, a) | inr b ↦ flat_In f y xs b ]
 
@@ -267,68 +265,9 @@ In_right : (y : ℕ) (xs ys : List ℕ) → IsIn y ys → IsIn y (xs ++ ys)
 In_right y [] ys h = h
 In_right y (x ∷ xs) ys h = inr (In_right y xs ys h)
 
-interface_over : (world : World) (a b : ℕ) → IsIn b (interfaces_of world a) → IsIn b (supers_of world a)
+pub interface_over : (world : World) (a b : ℕ) → IsIn b (interfaces_of world a) → IsIn b (supers_of world a)
 unfolding supers_of
 interface_over world a b h = In_right b (listed (super_of world a)) (interfaces_of world a) h
-
-pub ordered : (world : World) (place : ℕ → Option ℕ) → is_linked world ≡ true → Ordered (length world) (interfaces_of world) (is_above world) place
-unfolding is_above
-ordered world place linked =
-    let h = hierarchy world (linked_from world linked) in
-    let n = length world in
-    let over = interface_over world in
-    record {
-      tree = unfolds (supers_of world) n h.closed h.acyclic (interfaces_of world) over;
-      closed = λ x y i. h.closed x y (over x y i);
-      direct = λ x y i. leads-from_any_Walk (supers_of world) n h.closed x y y [] (over x y i, refl);
-      further = leads_trans (supers_of world) n h.closed;
-      never = λ x e. false≢true (sym (h.acyclic x) ∙ e);
-    }
-
-unmarked : (n x : ℕ) → get_or (replicate n false) x false ≡ false
-unmarked n x = elim (cases_lt x n) [
-  | inl l ↦ get_or-replicate n x false false l
-  | inr l ↦ get_or_past (replicate n false) x false (omega (arith, l, length-replicate n false))
-]
-
-pub begun_world : (world : World) (place : ℕ → Option ℕ) (class n : ℕ) (marks : List Bool) (todo : List ℕ) → is_linked world ≡ true → marks ≡ replicate n false → n ≡ length world → todo ≡ flat_map (interfaces_of world) (line_of world class) → Seeking (length world) (interfaces_of world) (is_above world) place (first_found place (superinterfaces_of world class)) marks todo
-unfolding superinterfaces_of
-begun_world world place class n marks todo linked m k t =
-    let o = ordered world place linked in
-    begun (length world) (interfaces_of world) (is_above world) place o _ marks todo (flat_map (interfaces_of world) (line_of world class))
-    (ap length m ∙ length-replicate n false ∙ k)
-    (λ x. ap (λ ms. get_or ms x false) m ∙ unmarked n x)
-    t
-    (λ y h. let r = flat_In (interfaces_of world) y (line_of world class) h in o.closed r.0 y r.1)
-    refl
-
--- ---- one is taken off the list
-
-module _ (world : World) (place : ℕ → Option ℕ) (all : Option (ℕ × ℕ)) where
-  abbrev pub Sought : List Bool → List ℕ → Type 0
-  Sought marks todo = Seeking (length world) (interfaces_of world) (is_above world) place all marks (reverse todo)
-
-  top : (marks : List Bool) (todo rest : List ℕ) (x : ℕ) → Sought marks todo → todo ≡ rest ++ x ∷ [] → Seeking (length world) (interfaces_of world) (is_above world) place all marks (x ∷ reverse rest)
-  top marks todo rest x s e = subst (Seeking (length world) (interfaces_of world) (is_above world) place all marks) (last_first todo rest x e) s
-
-  top_within : (marks : List Bool) (todo rest : List ℕ) (x : ℕ) → Sought marks todo → todo ≡ rest ++ x ∷ [] → x < length marks
-  top_within marks todo rest x s e = let t = top marks todo rest x s e in omega (arith, t.len, t.within x (inl refl))
-
-  pub found_popped : (marks : List Bool) (todo rest : List ℕ) (x p : ℕ) → is_linked world ≡ true → Sought marks todo → todo ≡ rest ++ x ∷ [] → place x ≡ Some p → Some (x, p) ≡ all
-  found_popped marks todo rest x p linked s e f = found_here (length world) (interfaces_of world) (is_above world) place (ordered world place linked) all marks x p (reverse rest) (top marks todo rest x s e) f
-
-  pub less_popped : (marks : List Bool) (todo rest now : List ℕ) (x : ℕ) (d b : Bool) → Sought marks todo → todo ≡ rest ++ x ∷ [] → b ≡ get_or marks x d → b ≡ false → reverse now ≡ interfaces_of world x ++ reverse rest → left_from (interfaces_of world) 0 (set marks x true) + length now < left_from (interfaces_of world) 0 marks + length todo
-  less_popped marks todo rest now x d b s e f m r =
-      let l = top_within marks todo rest x s e in
-      goes_down (interfaces_of world) marks x todo rest now l (mark_at marks x d b false l f m) e r
-
-  pub entered_popped : (marks after : List Bool) (todo rest now : List ℕ) (x : ℕ) → is_linked world ≡ true → Sought marks todo → todo ≡ rest ++ x ∷ [] → place x ≡ None → after ≡ set marks x true → reverse now ≡ interfaces_of world x ++ reverse rest → Sought after now
-  entered_popped marks after todo rest now x linked s e f m r = entered (length world) (interfaces_of world) (is_above world) place (ordered world place linked) all marks after x (reverse rest) (reverse now) (top marks todo rest x s e) f m r
-
-  pub skipped_popped : (marks : List Bool) (todo rest : List ℕ) (x : ℕ) (d b : Bool) → is_linked world ≡ true → Sought marks todo → todo ≡ rest ++ x ∷ [] → b ≡ get_or marks x d → b ≡ true → Sought marks rest
-  skipped_popped marks todo rest x d b linked s e f m =
-      let l = top_within marks todo rest x s e in
-      skipped (length world) (interfaces_of world) (is_above world) place (ordered world place linked) all marks x (reverse rest) (top marks todo rest x s e) (mark_at marks x d b true l f m)
 
 -- ---- first along the superclass chain, then in the superinterfaces
 

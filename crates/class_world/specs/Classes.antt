@@ -19,7 +19,7 @@ pub record IsHierarchy (n : ℕ) (super : ℕ → Option ℕ) (up : ℕ → List
   pub interface_in : (a : ℕ) → interface a ≡ true → a < n
 
 -- so many steps along the superclasses
-abbrev climb : (ℕ → Option ℕ) → ℕ → ℕ → Option ℕ
+abbrev pub climb : (ℕ → Option ℕ) → ℕ → ℕ → Option ℕ
 climb super zero a = Some a
 climb super (suc k) a = option_and_then (climb super k) (super a)
 
@@ -89,7 +89,7 @@ module _ (n : ℕ) (super : ℕ → Option ℕ) (up : ℕ → List ℕ) (interfa
       go false e further = at_root p (subst (λ (x : ℕ). Walk up x p a) (h.under c d i w.0 e) w.1)
 
   -- a way to a class goes by superclasses, or the class is Object
-  by_supers : (t c a : ℕ) (p : List ℕ) → Walk up t (c ∷ p) a → interface a ≡ false → (a ≡ 0) ⊎ (climb super (suc (length p)) t ≡ Some a)
+  pub by_supers : (t c a : ℕ) (p : List ℕ) → Walk up t (c ∷ p) a → interface a ≡ false → (a ≡ 0) ⊎ (climb super (suc (length p)) t ≡ Some a)
   by_supers t c a [] w o = go (interface c) refl
     where
       go : (b : Bool) → interface c ≡ b → (a ≡ 0) ⊎ (climb super 1 t ≡ Some a)
@@ -102,7 +102,7 @@ module _ (n : ℕ) (super : ℕ → Option ℕ) (up : ℕ → List ℕ) (interfa
       go false e (inl z) = inl z
       go false e (inr r) = inr (ap (option_and_then (climb super (suc (length q)))) (h.lone t c w.0 e) ∙ r)
 
-  climbed : (k a b : ℕ) → climb super k a ≡ Some b → (a ≡ b) ⊎ (leads a b ≡ true)
+  pub climbed : (k a b : ℕ) → climb super k a ≡ Some b → (a ≡ b) ⊎ (leads a b ≡ true)
   climbed zero a b e = inl (same e)
     where
       same : Some a ≡ Some b → a ≡ b

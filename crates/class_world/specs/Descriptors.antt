@@ -1,42 +1,17 @@
--- What a descriptor says (JVM specification, section 4.3), and what a type means in a world.
-use Rattle.std.specs.Prelude.{ℕ, ◌+◌, ◌==◌, if◌then◌else◌, List, [], ◌∷◌, take, drop, position, Option, Some, None, option_and_then, nat_lt}
-use Rattle.class_read.specs.Names.{FieldType, Element, is_primitive, is_class_name, array_depth}
-use Rattle.class_read.specs.Names.Element.{Primitive, Object}
+-- What a type means in a world: what a slot of it holds; that it is not supported; or that its class isn't there.
+use Rattle.std.specs.Prelude.{ℕ, ◌==◌, if◌then◌else◌, List, Option, Some, None, option_and_then}
 use Rattle.jvm_values.specs.declared.types.Kind.{Kind}
 use Rattle.jvm_values.specs.declared.types.Kind.TheVariants.{Boolean, Char, Byte, Short, Int}
 use Rattle.jvm_values.specs.declared.types.Base.TheVariants as bases
 use Rattle.jvm_values.specs.declared.types.Slot.{Slot}
 use Rattle.jvm_values.specs.declared.types.Slot.TheVariants.{Num, Ref}
+use Rattle.class_base.specs.declared.types.Element.{Element}
+use Rattle.class_base.specs.declared.types.Element.TheVariants.{Primitive, Object}
+use Rattle.class_base.specs.declared.types.FieldType.{FieldType}
+use Rattle.class_base.specs.Types.{type_at}
+use Rattle.class_world.specs.declared.meaning.Meaning.{Meaning}
+use Rattle.class_world.specs.declared.meaning.Meaning.TheVariants.{Known, Unsupported, Missing}
 use Rattle.class_world.specs.World.{World, class_of}
-
--- ---- reading
-
--- a class name up to its `;`, and the text after it
-unfoldable pub object_at : List ℕ → Option (Element × List ℕ)
-object_at bytes =
-    option_and_then (λ i. if is_class_name (take i bytes) then Some (Object (take i bytes), drop (i + 1) bytes) else None) (position (λ b. b == 59) bytes)
-
--- `L` and a class name, or the letter of a primitive type
-unfoldable pub element_at : List ℕ → Option (Element × List ℕ)
-element_at [] = None
-element_at (b ∷ bytes) =
-    if b == 76 then object_at bytes
-    else (if is_primitive b then Some (Primitive b, bytes) else None)
-
--- the type at the front, and the text after it; an array has at most 255 dimensions
-unfoldable pub type_at : List ℕ → Option (FieldType × List ℕ)
-type_at bytes =
-    let depth = array_depth bytes in
-    if nat_lt 255 depth then None
-    else option_and_then (λ x. Some (record { dims = depth; element = x.0 }, x.1)) (element_at (drop depth bytes))
-
--- ---- meaning
-
--- what a type is in a world: what a slot of it holds; not supported; or of a class that isn't there
-pub data Meaning : Type 0 where
-  Known : Slot → Meaning
-  Unsupported : Meaning
-  Missing : List ℕ → Meaning
 
 -- the kind of a primitive type: `Z`, `C`, `B`, `S`, `I`; long, float and double have none
 abbrev pub kind_of : ℕ → Option Kind

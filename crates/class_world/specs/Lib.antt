@@ -5,7 +5,6 @@ pub mod Marking
 pub mod Tables
 pub mod Descriptors
 pub mod Fields
-pub mod Reads
 pub mod Worlds
 pub mod Members
 pub mod WorldLaws
@@ -18,12 +17,6 @@ pub mod Resolve
 pub mod Select
 pub mod Index
 pub mod Seeking
-pub mod Refusals
-pub mod Signatures
-pub mod Operands
-pub mod Ops
-pub mod Runs
-pub mod Said
-pub mod Methods
-pub mod Reached
-pub mod Selected
+pub mod BuiltIns
+pub mod Once
+pub mod Faults

@@ -17,7 +17,7 @@ use Rattle.class_world.specs.Walks.{IsIn}
 use Rattle.class_world.specs.Classes.{IsHierarchy, below_root, below_same, below_trans, below_antisym, below_chain, root_below}
 use Rattle.class_world.specs.Subtypes.{IsClassOrder}
 
-or_none : {A : Type 0} (x y : Option A) → option_or x y ≡ None → (x ≡ None) × (y ≡ None)
+pub or_none : {A : Type 0} (x y : Option A) → option_or x y ≡ None → (x ≡ None) × (y ≡ None)
 or_none None y e = (refl, e)
 or_none (Some a) y e = cc
 
@@ -90,7 +90,7 @@ interface_of_world world a b h = go (slice_get world a) h
     go None t = absurd t
     go (Some c) t = let r = filter_map-In (class_of world) c.interfaces b t in class_of_within world r.0 b r.1
 
-super_of_world : (world : World) (a b : ℕ) → super_of world a ≡ Some b → b < length world
+pub super_of_world : (world : World) (a b : ℕ) → super_of world a ≡ Some b → b < length world
 super_of_world world a b e = go (eqb a 0) (slice_get world a) e
   where
     go : (z : Bool) (o : Option ClassContent) → cond z None (option_and_then (λ c. class_of world c.super_name) o) ≡ Some b → b < length world
@@ -140,7 +140,7 @@ none_in_root world e b h = go (supers_cases world 0 b h)
         subst (λ (names : List (List ℕ)). IsIn b (filter_map (class_of world) names)) r.3 t
 
 -- what is known of a class that is there, and what past the end
-at_class : (world : World) (a : ℕ) → ((c : ClassContent) × (slice_get world a ≡ Some c)) ⊎ (slice_get world a ≡ None)
+pub at_class : (world : World) (a : ℕ) → ((c : ClassContent) × (slice_get world a ≡ Some c)) ⊎ (slice_get world a ≡ None)
 at_class world a = go (slice_get world a) refl
   where
     go : (o : Option ClassContent) → slice_get world a ≡ o → ((c : ClassContent) × (slice_get world a ≡ Some c)) ⊎ (slice_get world a ≡ None)

@@ -2,14 +2,14 @@
 -- to 5.4.3.4), and the place of a field in objects.
 --
 -- Members are sought class by class; the first class that declares one of that name and descriptor decides.
-use Rattle.std.specs.Prelude.{ℕ, zero, suc, ◌+◌, ◌&&◌, Bool, false, List, [], ◌∷◌, ◌++◌, length, take, drop, slice_get, position, Option, None, option_and_then}
+use Rattle.std.specs.Prelude.{ℕ, zero, suc, ◌+◌, ◌&&◌, not, Bool, true, false, if◌then◌else◌, List, [], ◌∷◌, ◌++◌, length, take, drop, slice_get, position, Option, Some, None, option_and_then}
 use Rattle.std.specs.List.{find, filter_map, flat_map, list_any}
 use Rattle.std.specs.Option.{option_map, option_map_or, option_or}
 use Rattle.std.specs.Str.{bytes_eq}
 use Rattle.jvm_values.specs.declared.types.Slot.{Slot}
 use Rattle.class_read.specs.Content.{FieldContent, MethodContent}
 use Rattle.class_world.specs.declared.world.MethodRef.{MethodRef}
-use Rattle.class_world.specs.World.{World, interfaces_of, line_of}
+use Rattle.class_world.specs.World.{World, interfaces_of, line_of, is_interface_class, is_static, is_abstract}
 use Rattle.class_world.specs.Fields.{field_slot, own_slots}
 use Rattle.class_world.specs.Members.{declared_method, initialiser_name}
 
@@ -29,14 +29,23 @@ is_field_named name desc f = bytes_eq name f.name && bytes_eq desc f.desc
 unfoldable pub declared_field : World → ℕ → List ℕ → List ℕ → Option ℕ
 declared_field world class name desc = option_and_then (λ c. position (is_field_named name desc) c.fields) (slice_get world class)
 
--- Field look-up along the superclass chain of the named class: the class that declares the field, and the field's place
--- in that class's file. Superinterfaces are not looked at: what interfaces declare is no part of objects.
-unfoldable pub resolve_field : World → ℕ → List ℕ → List ℕ → Option (ℕ × ℕ)
-resolve_field world class name desc = first_found (λ c. declared_field world c name desc) (line_of world class)
-
 -- the field at a place of a class's file
 abbrev pub field_at : World → ℕ → ℕ → Option FieldContent
 field_at world class i = option_and_then (λ c. slice_get c.fields i) (slice_get world class)
+
+abbrev pub is_static_field : World → ℕ → ℕ → Bool
+is_static_field world class i = option_map_or (λ f. is_static f.flags) (field_at world class i) false
+
+-- the place of the field that look-up finds in a class: the static fields of an interface are not found
+unfoldable pub found_field : World → ℕ → List ℕ → List ℕ → Option ℕ
+found_field world class name desc =
+    option_and_then (λ i. if is_interface_class world class && is_static_field world class i then None else Some i)
+    (declared_field world class name desc)
+
+-- Field look-up along the superclass chain of the named class, for static fields as for those of objects: the class that
+-- declares the field, and the field's place in that class's file. Superinterfaces are not looked at.
+unfoldable pub resolve_field : World → ℕ → List ℕ → List ℕ → Option (ℕ × ℕ)
+resolve_field world class name desc = first_found (λ c. found_field world c name desc) (line_of world class)
 
 -- What stands in objects before a field: what the classes above its class add, and what the earlier fields of its own
 -- class add. It is the same in the objects of each class below.
@@ -92,3 +101,11 @@ is_initialised world class = option_map_or (λ c. list_any is_initialiser c.meth
 unfoldable pub first_static_init : World → ℕ → Option (List ℕ)
 first_static_init world class =
     option_and_then (λ c. option_map (λ x. x.name) (slice_get world c)) (find (is_initialised world) (line_of world class))
+
+-- a method that isn't there has no body either
+abbrev pub has_no_body : World → MethodRef → Bool
+has_no_body world ref = option_map_or (λ m. is_abstract m.flags) (method_at world ref) true
+
+-- a method of the world that isn't abstract
+abbrev pub has_body : World → MethodRef → Bool
+has_body world ref = not (has_no_body world ref)

@@ -4,8 +4,10 @@ use Rattle.std.specs.Prelude.{option_and_then, slice_get, All}
 use Rattle.std.specs.List.{filter_map, flat_map, cons_option}
 use Rattle.std.specs.Option.{option_map_or}
 use Rattle.std.proofs.lemmas.Bool.{ltb-false, ne_eqb}
-use Rattle.class_read.specs.Names.{FieldType, Element, array_depth}
-use Rattle.class_read.specs.Names.Element.{Primitive, Object}
+use Rattle.class_base.specs.declared.types.Element.{Element}
+use Rattle.class_base.specs.declared.types.Element.TheVariants.{Primitive, Object}
+use Rattle.class_base.specs.declared.types.FieldType.{FieldType}
+use Rattle.class_base.specs.Types.{type_at, element_at, array_depth}
 use Rattle.class_read.specs.Content.{ClassContent, FieldContent}
 use Rattle.jvm_values.specs.declared.types.Kind.{Kind}
 use Rattle.jvm_values.specs.declared.types.Slot.{Slot}
@@ -13,19 +15,19 @@ use Rattle.jvm_values.specs.declared.types.Slot.TheVariants.{Num, Ref}
 use Rattle.jvm_values.specs.declared.types.Base.TheVariants as bases
 use Rattle.jvm_values.specs.Subtyping.{IsSlot}
 use Rattle.class_world.specs.World.{World, class_of, is_static}
-use Rattle.class_world.specs.Descriptors.{type_at, element_at, kind_of, number_slot, class_slot, primitive_meaning, object_meaning, meaning_of, known_slot, slot_of}
+use Rattle.class_world.specs.Descriptors.{kind_of, number_slot, class_slot, primitive_meaning, object_meaning, meaning_of, known_slot, slot_of}
 use Rattle.class_world.specs.Fields.{field_slot, own_slots, fields_of}
 use Rattle.class_world.specs.Linked.{class_of_within}
 
-abbrev Every : {A : Type 0} → (A → Type 0) → List A → Type 0
+abbrev pub Every : {A : Type 0} → (A → Type 0) → List A → Type 0
 Every P [] = Unit {0}
 Every P (x ∷ xs) = P x × Every P xs
 
-every_append : {A : Type 0} (P : A → Type 0) (xs ys : List A) → Every P xs → Every P ys → Every P (xs ++ ys)
+pub every_append : {A : Type 0} (P : A → Type 0) (xs ys : List A) → Every P xs → Every P ys → Every P (xs ++ ys)
 every_append P [] ys h k = k
 every_append P (x ∷ xs) ys h k = (h.0, every_append P xs ys h.1 k)
 
-every_filter : {A B : Type 0} (P : B → Type 0) (f : A → Option B) (xs : List A) → ((x : A) (y : B) → f x ≡ Some y → P y) → Every P (filter_map f xs)
+pub every_filter : {A B : Type 0} (P : B → Type 0) (f : A → Option B) (xs : List A) → ((x : A) (y : B) → f x ≡ Some y → P y) → Every P (filter_map f xs)
 every_filter P f [] h = tt
 every_filter {B = B} P f (x ∷ xs) h = go (f x) refl (every_filter P f xs h)
   where
@@ -37,12 +39,12 @@ every_flat : {A B : Type 0} (P : B → Type 0) (f : A → List B) (xs : List A) 
 every_flat P f [] h = tt
 every_flat P f (x ∷ xs) h = every_append P (f x) (flat_map f xs) (h x) (every_flat P f xs h)
 
-every_all : {A : Type 0} (P : A → Type 0) (xs : List A) → Every P xs → All P xs
+pub every_all : {A : Type 0} (P : A → Type 0) (xs : List A) → Every P xs → All P xs
 every_all P [] h k d l = absurd (omega (arith, l))
 every_all P (x ∷ xs) h zero d l = h.0
 every_all P (x ∷ xs) h (suc k) d l = every_all P xs h.1 k d (omega (arith, l))
 
-type_dims : (bytes rest : List ℕ) (t : FieldType) → type_at bytes ≡ Some (t, rest) → t.dims ≤ 255
+pub type_dims : (bytes rest : List ℕ) (t : FieldType) → type_at bytes ≡ Some (t, rest) → t.dims ≤ 255
 unfolding type_at
 type_dims bytes rest t e = go (ltb 255 (array_depth bytes)) refl (element_at (drop (array_depth bytes) bytes)) e
   where
@@ -58,7 +60,7 @@ number_is : (n dims : ℕ) (kind : Kind) → dims ≤ 255 → IsSlot n (number_s
 number_is n zero kind l = tt
 number_is n (suc d) kind l = subst (λ (b : Bool). IsSlot n (cond b (Num kind) (Ref (record { dims = suc d; base = bases.Num kind })))) (sym (ne_eqb (suc d) 0 (λ e. omega (arith, e)))) (l, omega arith)
 
-meaning_is : (world : World) (t : FieldType) (slot : Slot) → t.dims ≤ 255 → known_slot (meaning_of world t) ≡ Some slot → IsSlot (length world) slot
+pub meaning_is : (world : World) (t : FieldType) (slot : Slot) → t.dims ≤ 255 → known_slot (meaning_of world t) ≡ Some slot → IsSlot (length world) slot
 meaning_is world t slot l e = by t.element e
   where
     by : (x : Element) → known_slot (meaning_of world (record { dims = t.dims; element = x })) ≡ Some slot → IsSlot (length world) slot
@@ -75,7 +77,7 @@ meaning_is world t slot l e = by t.element e
             let same : class_slot t.dims class ≡ slot = cc in
             subst (λ (s : Slot). IsSlot (length world) s) same (l, class_of_within world name class c)
 
-slot_is : (world : World) (desc : List ℕ) (slot : Slot) → slot_of world desc ≡ Some slot → IsSlot (length world) slot
+pub slot_is : (world : World) (desc : List ℕ) (slot : Slot) → slot_of world desc ≡ Some slot → IsSlot (length world) slot
 unfolding slot_of
 slot_is world desc slot e = go (type_at desc) refl e
   where
@@ -83,7 +85,7 @@ slot_is world desc slot e = go (type_at desc) refl e
     go None t f = cc
     go (Some x) t f = meaning_is world x.0 slot (type_dims desc x.1 x.0 t) f
 
-field_is : (world : World) (f : FieldContent) (slot : Slot) → field_slot world f ≡ Some slot → IsSlot (length world) slot
+pub field_is : (world : World) (f : FieldContent) (slot : Slot) → field_slot world f ≡ Some slot → IsSlot (length world) slot
 field_is world f slot e = go (is_static f.flags) e
   where
     go : (b : Bool) → cond b None (slot_of world f.desc) ≡ Some slot → IsSlot (length world) slot

@@ -252,9 +252,11 @@ module _ (n : ℕ) (below : ℕ → ℕ → Bool) (interface : ℕ → Bool) (h 
       go (inr p) (inl r) = inr (q.1, s.1, inr (omega (arith, p.0, r.0), p.1))
       go (inr p) (inr r) = by_dims p.1 r.1
 
-  pub laws_of : (fields : ℕ → List Slot) → ((class : ℕ) → class < n → All (IsSlot n) (fields class)) → SubtypeLaws sub (erase_by interface) n fields
+  pub laws_of : (fields : ℕ → List Slot) → ((class : ℕ) → class < n → All (IsSlot n) (fields class))
+      → (made : ℕ → Bool) → ((class : ℕ) → class < n → made class ≡ true → interface class ≡ false)
+      → SubtypeLaws sub (erase_by interface) n fields made
   unfolding erase_by
-  laws_of fields slots = record {
+  laws_of fields slots made no_interface = record {
     of_world = λ a b e. let s = stands_from a b e in (s.0, s.1);
     reflexive = λ a r. stands_to a a (r, r, inl (refl, base_same a.base));
     transitive = λ a b c e f. stands_to a c (follows_stands a b c (stands_from a b e) (stands_from b c f));
@@ -274,4 +276,5 @@ module _ (n : ℕ) (below : ℕ → ℕ → Bool) (interface : ℕ → Bool) (h 
       | inr s ↦ inr (stands_to b a s)
     ];
     slots_of_world = slots;
+    made_is_erased = λ class l m. let at : Bool → Ty = λ b. record { dims = 0; base = cond b (Class 0) (Class class) } in ap at (no_interface class l m);
   }

@@ -3,34 +3,12 @@
 -- The built-in classes have the numbers 0 to 14. They are the classes of `java.lang` that instructions throw, with
 -- those above them (Java SE 6). Given classes are numbered from 15 on, in their order. A world is the list of its
 -- classes; nothing here knows of an index of names.
-use Rattle.std.specs.Prelude.{ℕ, zero, suc, ◌==◌, ◌||◌, not, Bool, false, if◌then◌else◌, List, [], ◌∷◌, ◌++◌, length, slice_get, position, map, Option, Some, None, option_and_then, codes, bit_and, filter_map}
+use Rattle.std.specs.Prelude.{ℕ, zero, suc, ◌==◌, ◌||◌, Bool, false, if◌then◌else◌, List, [], ◌∷◌, ◌++◌, length, slice_get, position, map, Option, Some, None, option_and_then, codes, filter_map}
 use Rattle.std.specs.List.{list_any}
 use Rattle.std.specs.Option.{option_map_or}
 use Rattle.std.specs.Str.{bytes_eq}
 use Rattle.class_read.specs.Content.{ClassContent, MethodContent}
-
--- ---- access flags (JVM specification, tables 4.1, 4.4 and 4.5)
-
-abbrev pub has_flag : ℕ → ℕ → Bool
-has_flag flags flag = not (bit_and flags flag == 0)
-
-abbrev pub is_private : ℕ → Bool
-is_private flags = has_flag flags 0x0002
-
-abbrev pub is_static : ℕ → Bool
-is_static flags = has_flag flags 0x0008
-
-abbrev pub is_synchronized : ℕ → Bool
-is_synchronized flags = has_flag flags 0x0020
-
-abbrev pub is_native : ℕ → Bool
-is_native flags = has_flag flags 0x0100
-
-abbrev pub is_interface : ℕ → Bool
-is_interface flags = has_flag flags 0x0200
-
-abbrev pub is_abstract : ℕ → Bool
-is_abstract flags = has_flag flags 0x0400
+pub use Rattle.class_base.specs.Flags.{has_flag, is_private, is_static, is_synchronized, is_native, is_interface, is_abstract}
 
 -- ---- the built-in classes
 

@@ -19,7 +19,7 @@ pub struct MethodName {
 
 impl MethodName {
     /// The same names once more.
-    pub(crate) fn copy(&self, alloc: Global) -> Result<MethodName, AllocError>
+    pub fn copy(&self, alloc: Global) -> Result<MethodName, AllocError>
         ensures { IfOk result (λ name. name ≡ self.now) }
     {
         Ok(MethodName {

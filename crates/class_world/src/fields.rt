@@ -4,12 +4,12 @@ ghost use Rattle.class_read.specs.View.{field_content};
 ghost use Rattle.class_world.specs.World.{line_of};
 ghost use Rattle.class_world.specs.Descriptors.{meaning_of, slot_of};
 ghost use Rattle.class_world.specs.Fields.{field_slot, own_slots, fields_of};
-ghost use Rattle.class_world.specs.Reads.{type_seen, meaning_seen};
 ghost use Rattle.class_world.specs.Tables.{values_to};
 
-use crate::descriptor::{ElementText, Sense, TypeText, kind_of, type_at};
-use crate::flags::{STATIC, has_flag};
+use crate::kinds::kind_of;
+use crate::meaning::Meaning;
 use crate::roster::Roster;
+use class_base::{Element, FieldType, STATIC, has_flag, type_at};
 use class_read::FieldView;
 use jvm_values::{Base, Slot, Ty};
 use list_views::Seq;
@@ -17,25 +17,25 @@ use std::alloc::{AllocError, Global};
 
 impl<'a> Roster<'a> {
     /// What a type is in this world.
-    pub(crate) fn sense_of<'t>(&self, text: &TypeText<'t>) -> Sense<'t>
-        ensures { meaning_seen result ≡ meaning_of self.now.classes (type_seen text.now) }
+    pub(crate) fn meaning_of<'t>(&self, of: &FieldType<'t>) -> Meaning<'t>
+        ensures { result ≡ meaning_of self.now.classes of.now }
     {
-        let dims = text.dims;
-        match text.element {
-            ElementText::Primitive(letter) => match kind_of(letter) {
-                Some(kind) if dims == 0 => Sense::Known(Slot::Num(kind)),
-                Some(kind) => Sense::Known(Slot::Ref(Ty {
+        let dims = of.dims;
+        match &of.element {
+            Element::Primitive(letter) => match kind_of(*letter) {
+                Some(kind) if dims == 0 => Meaning::Known(Slot::Num(kind)),
+                Some(kind) => Meaning::Known(Slot::Ref(Ty {
                     dims,
                     base: Base::Num(kind),
                 })),
-                None => Sense::Unsupported,
+                None => Meaning::Unsupported,
             },
-            ElementText::Object(name) => match self.number_of(name) {
-                Some(class) => Sense::Known(Slot::Ref(Ty {
+            Element::Object(name) => match self.number_of(name.as_slice()) {
+                Some(class) => Meaning::Known(Slot::Ref(Ty {
                     dims,
                     base: Base::Class(class),
                 })),
-                None => Sense::Missing(name),
+                None => Meaning::Missing(name.again()),
             },
         }
     }
@@ -45,11 +45,11 @@ impl<'a> Roster<'a> {
     pub(crate) fn slot_of(&self, desc: &[u8]) -> Option<Slot>
         ensures { result ≡ slot_of self.now.classes desc.now }
     {
-        let (text, _) = type_at(desc)?;
-        match self.sense_of(&text) {
-            Sense::Known(slot) => Some(slot),
-            Sense::Unsupported => None,
-            Sense::Missing(_) => None,
+        let (found, _) = type_at(desc)?;
+        match self.meaning_of(&found) {
+            Meaning::Known(slot) => Some(slot),
+            Meaning::Unsupported => None,
+            Meaning::Missing(_) => None,
         }
     }
 
@@ -145,7 +145,7 @@ impl<'a> Roster<'a> {
 
     /// What the fields that each class declares add to its objects.
     #[tactic(auto, using(crate::proofs::Tables::values_more), unfolding(crate::specs::Tables::values_to))]
-    fn own_table(&self, alloc: Global) -> Result<Seq<Seq<Slot>>, AllocError>
+    pub(crate) fn own_table(&self, alloc: Global) -> Result<Seq<Seq<Slot>>, AllocError>
         ensures { IfOk result (λ table. table ≡ values_to (own_slots self.now.classes) (length self.now.classes)) }
     {
         let mut table = Seq::new(alloc);

@@ -1,12 +1,10 @@
 //! Laws of worlds: what follows from the definitions. These functions do nothing; their contracts are the laws.
-ghost use Rattle.std.specs.Prelude.{◌≡◌, ℕ, List, IsTrue};
-ghost use Rattle.std.specs.Option.{option_map};
-ghost use Rattle.class_read.specs.Names.{words_of, method_words};
+ghost use Rattle.std.specs.Prelude.{List, IsTrue};
 ghost use Rattle.class_read.specs.Content.{ClassContent};
 ghost use Rattle.jvm_values.specs.declared.types.Ty.{Ty};
 ghost use Rattle.class_world.specs.Linking.{is_linked};
-ghost use Rattle.class_world.specs.Signatures.{method_type};
 ghost use Rattle.class_world.specs.Types.{Sub, is_sub};
+ghost use Rattle.class_world.specs.BuiltIns.{IsWorld, HasBuiltIns, HasFieldsInOrder};
 
 /// In a linked world the test of subtypes answers the least relation that has each type below itself, each class below
 /// what it extends and implements, arrays below arrays as their items are, and each type below `java/lang/Object`.
@@ -15,8 +13,14 @@ pub fn sub_is_least()
         → (IsTrue (is_sub world a b) → Sub world a b) × (Sub world a b → IsTrue (is_sub world a b)) }
 {}
 
-/// What is read of a method descriptor here is what class files' method descriptors are tested for: the same texts are
-/// taken, and the parameters have the same words (JVM specification, section 4.3.3).
-pub fn descriptors_read_alike()
-    ensures { (text : List ℕ) → option_map (λ m. words_of m.params) (method_type text) ≡ method_words text }
+/// What every world has at the numbers below 15: classes that can be made, without fields, and all but the first below
+/// `java/lang/Throwable`. Among them are those that instructions throw.
+pub fn built_ins_are_known()
+    ensures { (world : List ClassContent) → IsWorld world → HasBuiltIns world }
+{}
+
+/// The fields of a class come first among those of each class below it, so a field has one place, and holds one kind of
+/// value, in the objects of all classes below the one that declares it.
+pub fn fields_keep_their_places()
+    ensures { (world : List ClassContent) → IsWorld world → HasFieldsInOrder world }
 {}

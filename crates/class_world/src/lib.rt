@@ -1,44 +1,31 @@
-//! The classes that a program can speak of, and the methods that an entry reaches.
+//! The classes that a program can speak of, linked.
 #![tactic(auto)]
 
 mod built_in;
-mod call_operand;
-mod class_operand;
-mod closing;
-mod descriptor;
+pub mod built_ins;
+mod classes;
 mod fault;
-mod field_operand;
+mod fault_text;
 mod fields;
-mod flags;
 mod hierarchy;
 mod index;
 mod interfaces;
+mod kinds;
 mod laws;
 mod linking;
-mod member_operand;
+mod meaning;
 mod members;
-mod method;
+mod named;
 mod names;
-mod op;
-mod operand;
-mod ops;
+mod once;
 mod places;
-mod program;
-mod reached;
-mod receivers;
-mod refusal;
 mod resolve;
 mod roster;
-mod runs;
 mod select;
-mod selected;
-mod signature;
 mod types;
 mod world;
 
 pub use fault::{LinkFault, MethodName};
-pub use laws::{descriptors_read_alike, sub_is_least};
-pub use op::{Call, FieldUse, Op};
-pub use program::{CatchRange, Method, Program, StaticField};
-pub use selected::Selected;
+pub use laws::{built_ins_are_known, fields_keep_their_places, sub_is_least};
+pub use meaning::Meaning;
 pub use world::{MethodRef, World};

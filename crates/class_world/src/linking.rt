@@ -8,8 +8,8 @@ ghost use Rattle.class_read.specs.View.{method_content};
 ghost use Rattle.class_world.specs.Tables.{above_table};
 
 use crate::fault::LinkFault;
-use crate::flags::{ABSTRACT, INTERFACE, STATIC, has_flag};
 use crate::roster::Roster;
+use class_base::{ABSTRACT, INTERFACE, STATIC, has_flag};
 use class_read::MethodView;
 use list_views::Seq;
 use std::alloc::Global;
@@ -112,15 +112,21 @@ impl<'w, 'a> Hierarchy<'w, 'a> {
         false
     }
 
+    /// Some superinterface of the class is no interface.
+    fn has_bad_interface(&self, class: usize) -> bool
+        ensures { result ≡ list_any (λ k. not (is_interface_class self.now.roster.now.classes k)) (interfaces_of self.now.roster.now.classes class) }
+    {
+        self.has_other_kind(self.roster.interfaces_once(class))
+    }
+
     /// Its superclass and superinterfaces are of the right kind.
     fn keeps_bad_super(&self, alloc: Global, class: usize) -> Result<(), LinkFault>
         requires { class < length self.now.roster.now.classes }
         ensures { Refuses result (rule_at (bad_super self.now.roster.now.classes) self.now.roster.now.classes class) }
     {
         let view = self.roster.classes.at(class);
-        let interfaces = self.roster.interfaces_of(alloc, class)?;
         let bad_superclass = self.is_bad_superclass(view.flags, self.roster.super_of(class));
-        let bad_interface = self.has_other_kind(interfaces.as_slice());
+        let bad_interface = self.has_bad_interface(class);
         if bad_superclass || bad_interface {
             return Err(LinkFault::BadSuper {
                 name: Seq::from_slice(alloc, view.name)?,

@@ -10,7 +10,7 @@ use jvm_values::Slot;
 
 impl<'a> World<'a> {
     /// The field at a place of a class's file.
-    pub(crate) fn field_at(&self, class: u32, index: u32) -> Option<&FieldView<'a>>
+    pub fn field_at(&self, class: u32, index: u32) -> Option<&FieldView<'a>>
         ensures { option_map (λ f. field_content f.now) result ≡ field_at self.now.roster.classes class index }
     {
         match self.roster.classes.get(class as usize) {
@@ -35,7 +35,7 @@ impl<'a> World<'a> {
     /// The place of a field that a class declares, given by its place in the file, among the fields of objects, and what
     /// it holds there; None where it is no part of objects.
     #[tactic(auto, unfolding(crate::specs::Resolve::field_place))]
-    pub(crate) fn field_place(&self, class: u32, index: u32) -> Option<(u32, Slot)>
+    pub fn field_place(&self, class: u32, index: u32) -> Option<(u32, Slot)>
         ensures { result ≡ field_place self.now.roster.classes class index }
     {
         let field = self.field_at(class, index)?;

@@ -1,19 +1,18 @@
 //! Resolution: the members that a class, a name and a descriptor stand for.
-ghost use Rattle.std.specs.Prelude.{◌≡◌, ℕ, ◌<◌, ◌++◌, false, length, slice_get, option_and_then, IfOk, IfSome};
+ghost use Rattle.std.specs.Prelude.{◌≡◌, ℕ, ◌<◌, ◌++◌, false, length, slice_get, option_and_then, IfSome};
 ghost use Rattle.std.specs.List.{find};
 ghost use Rattle.std.specs.Option.{option_map, option_map_or};
 ghost use Rattle.class_read.specs.View.{method_content};
 ghost use Rattle.class_world.specs.World.{line_of};
 ghost use Rattle.class_world.specs.Fields.{field_slot};
-ghost use Rattle.class_world.specs.Resolve.{first_found, declared_field, resolve_field, field_at, field_place, method_ref, resolve_method, superinterfaces_of, method_at, is_initialised, first_static_init};
+ghost use Rattle.class_world.specs.Resolve.{first_found, declared_field, is_static_field, found_field, resolve_field, field_at, field_place, method_ref, resolve_method, superinterfaces_of, method_at, is_initialised, first_static_init};
 ghost use Rattle.class_world.specs.Select.{is_selectable, selectable_method};
 ghost use Rattle.class_world.specs.Seeking.{place_in};
 
-use crate::flags::{PRIVATE, STATIC, has_flag};
 use crate::world::{MethodRef, World};
+use class_base::{PRIVATE, STATIC, has_flag};
 use class_read::{FieldView, MethodView};
 use jvm_values::Slot;
-use std::alloc::{AllocError, Global};
 
 /// What is sought by name and descriptor.
 #[derive(Clone, Copy)]
@@ -38,9 +37,33 @@ impl<'a> World<'a> {
         }
     }
 
+    /// Whether the field of that class and place is there, and static.
+    fn is_static_field(&self, class: u32, index: u32) -> bool
+        ensures { result ≡ is_static_field self.now.roster.classes class index }
+    {
+        match self.field_at(class, index) {
+            Some(field) => has_flag(field.flags, STATIC),
+            None => false,
+        }
+    }
+
+    /// The place of the field that look-up finds in a class: the static fields of an interface are not found.
+    #[tactic(auto, unfolding(crate::specs::Resolve::found_field))]
+    fn found_field(&self, class: u32, name: &[u8], desc: &[u8]) -> Option<usize>
+        ensures place { result ≡ found_field self.now.roster.classes class name.now desc.now }
+        ensures within { IfSome result (λ index. index < 65536) }
+    {
+        let index = self.declared_field(class, name, desc)?;
+        if self.is_interface(class) && self.is_static_field(class, index as u32) {
+            None
+        } else {
+            Some(index)
+        }
+    }
+
     /// The method of that class and place; None past the end.
     #[tactic(auto, unfolding(crate::specs::Resolve::method_at))]
-    pub(crate) fn method_at(&self, method: MethodRef) -> Option<&MethodView<'a>>
+    pub fn method_at(&self, method: MethodRef) -> Option<&MethodView<'a>>
         ensures { option_map (λ m. method_content m.now) result ≡ method_at self.now.roster.classes method }
     {
         match self.roster.classes.get(method.class as usize) {
@@ -88,7 +111,7 @@ impl<'a> World<'a> {
         ensures { result ≡ place_in self.now.roster.classes wanted name.now desc.now class }
     {
         let index = match wanted {
-            Wanted::Field => self.declared_field(class, name, desc)?,
+            Wanted::Field => self.found_field(class, name, desc)?,
             Wanted::Method => self.declared_method(class, name, desc)?,
             Wanted::Selectable => self.selectable_method(class, name, desc)?,
         };
@@ -117,10 +140,11 @@ impl<'a> World<'a> {
         None
     }
 
-    /// The field of that name and descriptor along the superclass chain of a class: the class that declares it, and its
-    /// place in that class's file (JVM specification, section 5.4.3.2; superinterfaces are not looked at).
+    /// The field of that name and descriptor along the superclass chain of a class, static or of objects: the class that
+    /// declares it, and its place in that class's file (JVM specification, section 5.4.3.2; superinterfaces are not looked
+    /// at, and the static fields of an interface are not found).
     #[tactic(auto, unfolding(crate::specs::Resolve::resolve_field))]
-    pub(crate) fn resolve_field(&self, class: u32, name: &[u8], desc: &[u8]) -> Option<(u32, u32)>
+    pub fn resolve_field(&self, class: u32, name: &[u8], desc: &[u8]) -> Option<(u32, u32)>
         ensures { result ≡ resolve_field self.now.roster.classes class name.now desc.now }
     {
         self.first_along(Wanted::Field, class, name, desc)
@@ -128,25 +152,15 @@ impl<'a> World<'a> {
 
     /// The method of that name and descriptor along the superclass chain of a class, then in its superinterfaces (JVM
     /// specification, sections 5.4.3.3 and 5.4.3.4).
-    ///
-    /// # Errors
-    ///
-    /// Want of memory.
     #[tactic(auto, unfolding(crate::specs::Resolve::resolve_method))]
-    pub(crate) fn resolve_method(
-        &self,
-        alloc: Global,
-        class: u32,
-        name: &[u8],
-        desc: &[u8],
-    ) -> Result<Option<MethodRef>, AllocError>
-        ensures { IfOk result (λ found. found ≡ resolve_method self.now.roster.classes class name.now desc.now) }
+    pub fn resolve_method(&self, class: u32, name: &[u8], desc: &[u8]) -> Option<MethodRef>
+        ensures { result ≡ resolve_method self.now.roster.classes class name.now desc.now }
     {
         let found = match self.first_along(Wanted::Method, class, name, desc) {
             Some(found) => Some(found),
-            None => self.first_in_interfaces(alloc, class, name, desc)?,
+            None => self.first_in_interfaces(class, name, desc),
         };
-        Ok(method_ref(found))
+        method_ref(found)
     }
 
     /// Whether a class declares a method `<clinit>`.
@@ -177,7 +191,7 @@ impl<'a> World<'a> {
 
     /// The name of the first class with a method `<clinit>`, from the class up its superclass chain.
     #[tactic(auto, unfolding(crate::specs::Resolve::first_static_init))]
-    pub(crate) fn first_static_init(&self, class: u32) -> Option<&'a [u8]>
+    pub fn first_static_init(&self, class: u32) -> Option<&'a [u8]>
         ensures { option_map (λ name. name.now) result ≡ first_static_init self.now.roster.classes class }
     {
         let first = self.first_initialised(class)?;

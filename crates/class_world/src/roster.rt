@@ -1,40 +1,29 @@
-//! The classes of a world with the index of their names.
-ghost use Rattle.std.specs.Prelude.{◌≡◌, ℕ, ◌<◌, ◌^◌, length, IfOk, filter_map};
-ghost use Rattle.class_world.specs.World.{class_of, super_of, interfaces_of, supers_of, is_interface_class};
+//! The classes of a world with the index of their names, and what they extend and implement by numbers.
+ghost use Rattle.std.specs.Prelude.{◌≡◌, ℕ, ◌<◌, ◌^◌, length, IfOk};
+ghost use Rattle.class_world.specs.World.{class_of, super_of, is_interface_class};
 ghost use Rattle.class_world.specs.Linking.{Refuses, first_broken, duplicate_class};
+ghost use Rattle.class_world.specs.Once.{interfaces_once, supers_once};
 ghost use Rattle.class_world.specs.Tables.{names_of, values_to};
 
 use crate::fault::LinkFault;
-use crate::flags::{INTERFACE, has_flag};
+use crate::named::{Named, names_of};
 use crate::names::ClassNames;
+use class_base::{INTERFACE, has_flag};
 use class_read::ClassView;
 use list_views::Seq;
 use std::alloc::{AllocError, Global};
 
-/// The names of the classes, or the first class whose name an earlier one has.
-fn names_of<'a>(alloc: Global, classes: &[ClassView<'a>]) -> Result<ClassNames<'a>, LinkFault>
-    ensures fault { Refuses result (first_broken (duplicate_class classes.now) 0 classes.now) }
-    ensures names { IfOk result (λ names. names ≡ names_of classes.now) }
-{
-    let mut names = ClassNames::new(alloc);
-    for class in 0..classes.len() {
-        let view = &classes[class];
-        if !names.add(view.name)? {
-            return Err(LinkFault::DuplicateClass {
-                name: Seq::from_slice(alloc, view.name)?,
-            });
-        }
-    }
-    Ok(names)
-}
-
-/// Classes of different names, each under its number.
+/// Classes of different names, each under its number, with the numbers of what it extends and implements.
 #[derive(Drop)]
 pub struct Roster<'a> {
     pub(crate) classes: Seq<ClassView<'a>>,
     names: ClassNames<'a>,
+    supers: Seq<Option<u32>>,
+    interfaces: Seq<Seq<u32>>,
     ghost few: { length classes < 2 ^ 32 },
     ghost named: { names ≡ names_of classes },
+    ghost extends: { supers ≡ values_to (super_of classes) (length classes) },
+    ghost implements: { interfaces ≡ values_to (interfaces_once classes) (length classes) },
 }
 
 impl<'a> Roster<'a> {
@@ -49,7 +38,16 @@ impl<'a> Roster<'a> {
         ensures classes { IfOk result (λ roster. roster.classes ≡ classes.entry) }
     {
         let names = names_of(alloc, classes.as_slice())?;
-        Ok(Roster { classes, names })
+        let named = Named { classes, names };
+        let supers = named.supers_table(alloc)?;
+        let interfaces = named.interfaces_table(alloc)?;
+        let Named { classes, names } = named;
+        Ok(Roster {
+            classes,
+            names,
+            supers,
+            interfaces,
+        })
     }
 
     /// The number of the class of that name.
@@ -64,33 +62,20 @@ impl<'a> Roster<'a> {
     pub(crate) fn super_of(&self, class: usize) -> Option<u32>
         ensures { result ≡ super_of self.now.classes class }
     {
-        if class == 0 {
-            return None;
+        match self.supers.get(class) {
+            Some(over) => *over,
+            None => None,
         }
-        let view = self.classes.get(class)?;
-        self.number_of(view.super_name)
     }
 
-    /// The numbers of the classes of these names, in their order. A name that no class has is passed over.
-    fn numbers_of(&self, alloc: Global, wanted: &[&[u8]]) -> Result<Seq<u32>, AllocError>
-        ensures { IfOk result (λ found. found ≡ filter_map (λ name. class_of self.now.classes name.now) wanted.now) }
+    /// The direct superinterfaces of a class, each once, in the order in which they come first.
+    pub(crate) fn interfaces_once(&self, class: usize) -> &[u32]
+        ensures { result.now ≡ interfaces_once self.now.classes class }
     {
-        let mut found = Seq::new(alloc);
-        for name in wanted {
-            if let Some(number) = self.number_of(*name) {
-                found.push(number)?;
-            }
+        match self.interfaces.get(class) {
+            Some(row) => row.as_slice(),
+            None => &[],
         }
-        Ok(found)
-    }
-
-    /// The direct superinterfaces of a class, in their order.
-    pub(crate) fn interfaces_of(&self, alloc: Global, class: usize) -> Result<Seq<u32>, AllocError>
-        requires { class < length self.now.classes }
-        ensures { IfOk result (λ found. found ≡ interfaces_of self.now.classes class) }
-    {
-        let view = self.classes.at(class);
-        self.numbers_of(alloc, view.interfaces.as_slice())
     }
 
     /// Whether a class of that number is an interface.
@@ -104,29 +89,27 @@ impl<'a> Roster<'a> {
         }
     }
 
-    /// What a class directly extends or implements.
-    #[tactic(auto, unfolding(crate::specs::World::supers_of))]
-    pub(crate) fn supers_of(&self, alloc: Global, class: usize) -> Result<Seq<u32>, AllocError>
-        requires { class < length self.now.classes }
-        ensures { IfOk result (λ found. found ≡ supers_of self.now.classes class) }
+    /// What a class directly extends or implements, each superinterface once.
+    #[tactic(auto, unfolding(crate::specs::Once::supers_once))]
+    fn supers_once(&self, alloc: Global, class: usize) -> Result<Seq<u32>, AllocError>
+        ensures { IfOk result (λ found. found ≡ supers_once self.now.classes class) }
     {
         let mut found = Seq::new(alloc);
         if let Some(number) = self.super_of(class) {
             found.push(number)?;
         }
-        let interfaces = self.interfaces_of(alloc, class)?;
-        found.extend_from_slice(interfaces.as_slice())?;
+        found.extend_from_slice(self.interfaces_once(class))?;
         Ok(found)
     }
 
     /// What every class directly extends or implements.
     #[tactic(auto, using(crate::proofs::Tables::values_more), unfolding(crate::specs::Tables::values_to))]
     pub(crate) fn supers_table(&self, alloc: Global) -> Result<Seq<Seq<u32>>, AllocError>
-        ensures { IfOk result (λ table. table ≡ values_to (supers_of self.now.classes) (length self.now.classes)) }
+        ensures { IfOk result (λ table. table ≡ values_to (supers_once self.now.classes) (length self.now.classes)) }
     {
         let mut table = Seq::new(alloc);
         for class in 0..self.classes.len() {
-            table.push(self.supers_of(alloc, class)?)?;
+            table.push(self.supers_once(alloc, class)?)?;
         }
         Ok(table)
     }

@@ -6,8 +6,8 @@ ghost use Rattle.class_world.specs.World.{is_interface_class, is_above};
 ghost use Rattle.class_world.specs.Types.{Sub, is_sub, is_sub_by, erase, is_reference, is_same_kind, is_base_below, is_object, is_class_below, erased_base};
 ghost use Rattle.class_world.specs.Fields.{fields_of, can_be_made};
 
-use crate::flags::{ABSTRACT, INTERFACE, has_flag};
 use crate::world::World;
+use class_base::{ABSTRACT, INTERFACE, has_flag};
 use jvm_values::{Base, Kind, Slot, Ty, Types};
 
 fn is_same_kind(a: Kind, b: Kind) -> bool
@@ -54,14 +54,15 @@ impl<'a> World<'a> {
     }
 
     /// Whether class `a` is class `b` or below it; no class is below one that isn't there.
-    pub(crate) fn is_below(&self, a: u32, b: u32) -> bool
+    pub fn is_below(&self, a: u32, b: u32) -> bool
         requires { a < length self.now.roster.classes }
         ensures { result ≡ is_class_below self.now.roster.classes a b }
     {
         (b as usize) < self.roster.classes.len() && self.is_class_below(a, b)
     }
 
-    fn is_interface(&self, class: u32) -> bool
+    /// Whether a class of that number is an interface.
+    pub fn is_interface(&self, class: u32) -> bool
         ensures { result ≡ is_interface_class self.now.roster.classes class }
     {
         self.roster.is_interface(class)
@@ -139,5 +140,5 @@ impl<'a> Types for World<'a> {
         }
     }
 
-    ghost laws = { λ w. world_laws w.roster.classes w.linked };
+    ghost laws = { λ w. world_laws w.roster.classes w.known.linked };
 }

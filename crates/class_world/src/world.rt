@@ -1,11 +1,14 @@
 //! Worlds: linked classes.
 ghost use Rattle.std.specs.Prelude.{◌≡◌, ℕ, ◌+◌, ◌-◌, ◌<◌, ◌≤◌, ◌^◌, length, slice_get, IfOk, IfSome, IsTrue};
 ghost use Rattle.class_world.specs.World.{world_of, class_of, is_above};
-ghost use Rattle.class_world.specs.Linking.{Refuses, CanBeRead, has_few_members, has_short_codes, link_fault, later_fault, is_linked};
+ghost use Rattle.class_world.specs.Linking.{Refuses, CanBeRead, has_few_members, has_short_codes, link_fault, later_fault};
 ghost use Rattle.std.specs.List.{list_all, AllByRecursion};
 ghost use Rattle.class_world.specs.Fields.{fields_of};
 ghost use Rattle.class_world.specs.Members.{declared_method, find_method};
 ghost use Rattle.class_world.specs.Index.{IsIndex, has_places};
+ghost use Rattle.std.proofs.Props.{props};
+ghost use Rattle.class_world.specs.BuiltIns.{IsWorld};
+ghost use Rattle.class_world.specs.Once.{AreSought};
 ghost use Rattle.class_world.specs.Tables.{above_table, values_to};
 
 use crate::built_in::with_built_ins;
@@ -38,13 +41,15 @@ pub struct World<'a> {
     above: Seq<Seq<bool>>,
     pub(crate) slots: Seq<Seq<Slot>>,
     pub(crate) index: MemberIndex<'a>,
-    ghost linked: { IsTrue (is_linked roster.classes) },
+    pub(crate) sought: Seq<Seq<u32>>,
+    ghost known: { IsWorld roster.classes } by { Prim.hlevel props },
     ghost few: { IsTrue (list_all has_few_members roster.classes) },
     ghost short: { IsTrue (list_all has_short_codes roster.classes) },
     ghost marked: { above ≡ above_table roster.classes },
     ghost laid_out: { slots ≡ values_to (fields_of roster.classes) (length roster.classes) },
     ghost placed: { IsTrue (list_all has_places slots) },
     ghost indexed: { IsIndex roster.classes index },
+    ghost ordered: { AreSought roster.classes (length roster.classes) sought } by { Prim.hlevel props },
 }
 
 /// The places of so many fields are numbers of 32 bits.
@@ -102,11 +107,13 @@ impl<'a> World<'a> {
             return Err(LinkFault::Memory);
         }
         let index = MemberIndex::of(alloc, &roster)?;
+        let sought = roster.sought_table(alloc)?;
         Ok(World {
             roster,
             above,
             slots,
             index,
+            sought,
         })
     }
 
@@ -157,7 +164,7 @@ impl<'a> World<'a> {
     }
 
     /// The place of the method that a class declares with that name and descriptor.
-    pub(crate) fn declared_method(&self, class: u32, name: &[u8], desc: &[u8]) -> Option<usize>
+    pub fn declared_method(&self, class: u32, name: &[u8], desc: &[u8]) -> Option<usize>
         ensures place { result ≡ declared_method self.now.roster.classes class name.now desc.now }
         ensures within { IfSome result (λ index. index < 65536) }
     {

@@ -8,15 +8,15 @@ use Rattle.code_decode.specs.declared.insn.Insn.{Insn}
 use Rattle.code_decode.specs.Codes.{decode_of}
 use Rattle.class_world.specs.declared.fault.LinkFault.{LinkFault}
 use Rattle.class_world.specs.declared.fault.MethodName.{MethodName}
-use Rattle.class_world.specs.declared.op.Op.{Op}
+use Rattle.class_program.specs.declared.op.Op.{Op}
 use Rattle.class_world.specs.declared.world.MethodRef.{MethodRef}
-use Rattle.class_world.specs.declared.program.CatchRange.{CatchRange}
-use Rattle.class_world.specs.declared.program.Method.{Method}
+use Rattle.class_program.specs.declared.program.CatchRange.{CatchRange}
+use Rattle.class_program.specs.declared.program.Method.{Method}
 use Rattle.class_world.specs.World.{World}
-use Rattle.class_world.specs.Said.{Said, ◌>>=◌, unless, each}
-use Rattle.class_world.specs.Ops.{op_of, pool_of}
-use Rattle.class_world.specs.Methods.{method_name, static_init, code_of, synchronized, own_types, in_method, table_said, insns_of, op_said, ops_of, table_of, with_receiver, method_of}
-use Rattle.class_world.specs.Reached.{reached, contents_of, methods_of, insns_numbered, method_numbered, close_of}
+use Rattle.class_program.specs.Said.{Said, ◌>>=◌, unless, each}
+use Rattle.class_program.specs.Ops.{op_of, pool_of}
+use Rattle.class_program.specs.Methods.{method_name, static_init, code_of, synchronized, own_types, in_method, table_said, insns_of, op_said, ops_of, table_of, with_receiver, method_of}
+use Rattle.class_program.specs.Reached.{reached, contents_of, methods_of, insns_numbered, method_numbered, close_of}
 use Rattle.jterm.specs.Forms.{RiseFrom, FirstAtZero, AreRising}
 use Rattle.jterm.proofs.Rising.{decoded_rise, decoded_first}
 

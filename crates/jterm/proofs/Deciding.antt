@@ -1,10 +1,11 @@
 -- From what each step of a decision says to the answer.
 use Rattle.std.proofs.Common.{◌≡◌, ◌≤◌, ℕ, List, [], ◌∷◌, length, Result, Ok, Err, IfOk, map, drop, take, get_or, ◌-◌, sym, subst, ap, ◌∙◌, arith, inl, inr, None, true}
+use Rattle.class_world.specs.Resolve.{has_body}
 use Rattle.class_read.specs.Content.{ClassContent}
 use Rattle.class_world.specs.World.{World, world_of}
 use Rattle.class_world.specs.Linking.{link_fault}
-use Rattle.class_world.specs.Reached.{has_body, close_of}
-use Rattle.class_world.specs.declared.program.Method.{Method}
+use Rattle.class_program.specs.Reached.{close_of}
+use Rattle.class_program.specs.declared.program.Method.{Method}
 use Rattle.class_world.specs.declared.world.MethodRef.{MethodRef}
 use Rattle.jterm.specs.declared.line.Line.{Line}
 use Rattle.jterm.specs.declared.verdict.Request.TheVariants.{Prove, Asm}

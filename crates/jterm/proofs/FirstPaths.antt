@@ -6,7 +6,7 @@ use Rattle.jvm_values.specs.declared.types.Kind.TheVariants as kinds
 use Rattle.jvm_values.specs.declared.types.Slot.{Slot}
 use Rattle.jvm_values.specs.declared.types.Slot.TheVariants.{Num, Ref}
 use Rattle.class_world.specs.World.{World}
-use Rattle.class_world.specs.declared.program.Method.{Method}
+use Rattle.class_program.specs.declared.program.Method.{Method}
 use Rattle.jterm.specs.declared.form.Form.{Form}
 use Rattle.jterm.specs.Forms.{forms_of, AreRising}
 use Rattle.jterm.specs.FirstPath.{is_int, IsIntMethod, IsStraight, IsFirstPath}

@@ -1,7 +1,7 @@
 -- The forms of instructions, one after another.
 use Rattle.std.proofs.Common.{◌≡◌, ℕ, suc, ◌+◌, ◌<◌, List, [], ◌∷◌, ◌++◌, length, drop, get_or, Option, Some, None, refl, ap, sym, ◌∙◌, append_assoc, add-one, drop-cons}
 use Rattle.std.specs.Option.{option_map}
-use Rattle.class_world.specs.declared.op.Op.{Op}
+use Rattle.class_program.specs.declared.op.Op.{Op}
 use Rattle.jterm.specs.declared.form.Form.{Form}
 use Rattle.jterm.specs.Forms.{form_of, forms_of}
 

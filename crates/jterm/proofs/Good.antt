@@ -13,7 +13,7 @@ use Rattle.jvm_values.specs.declared.state.Frame.{Frame}
 use Rattle.jvm_values.specs.declared.state.Mode.TheVariants.{Normal}
 use Rattle.jvm_values.specs.declared.state.State.{State}
 use Rattle.class_world.specs.World.{World}
-use Rattle.class_world.specs.declared.program.Method.{Method}
+use Rattle.class_program.specs.declared.program.Method.{Method}
 use Rattle.jterm.specs.declared.form.Form.{Form}
 use Rattle.jterm.specs.declared.form.Form.TheVariants.{Ireturn}
 use Rattle.jterm.specs.declared.line.Line.{Line}

@@ -2,6 +2,7 @@
 use Rattle.std.proofs.Common.{◌≡◌, ◌⊎◌, ℕ, suc, zero, Bool, true, false, List, [], ◌∷◌, ◌++◌, length, Option, Some, None, Ok, Err, refl, sym, ap, ◌∙◌, subst, inl, inr, if◌then◌else◌}
 use Rattle.std.proofs.lemmas.List.{length-replicate}
 use Rattle.std.specs.Prelude.{◌≢◌, replicate, Result}
+use Rattle.class_world.specs.Resolve.{has_body}
 use Rattle.class_asm.specs.Classes.{assembled}
 use Rattle.asm_lines.specs.declared.fault.AsmFault.{AsmFault}
 use Rattle.class_read.specs.Content.{ClassContent}
@@ -9,10 +10,10 @@ use Rattle.class_read.specs.declared.fault.ClassFault.{ClassFault}
 use Rattle.class_read.proofs.ClassLaws.{class_one}
 use Rattle.class_world.specs.World.{World, world_of}
 use Rattle.class_world.specs.Linking.{link_fault}
-use Rattle.class_world.specs.Said.{Said}
-use Rattle.class_world.specs.Reached.{has_body, close_of}
+use Rattle.class_program.specs.Said.{Said}
+use Rattle.class_program.specs.Reached.{close_of}
 use Rattle.class_world.specs.declared.fault.LinkFault.{LinkFault}
-use Rattle.class_world.specs.declared.program.Method.{Method}
+use Rattle.class_program.specs.declared.program.Method.{Method}
 use Rattle.class_world.specs.declared.world.MethodRef.{MethodRef}
 use Rattle.jterm.specs.declared.line.Line.{Line}
 use Rattle.jterm.specs.declared.verdict.Request.{Request}

@@ -10,7 +10,7 @@ use Rattle.jterm.specs.declared.form.Form.TheVariants.{Iconst, Iload, Istore, Ia
 use Rattle.jterm.specs.declared.typing.Known.{Known}
 use Rattle.jterm.specs.Options.{◌>>=◌}
 use Rattle.class_world.specs.World.{World}
-use Rattle.class_world.specs.declared.program.Method.{Method}
+use Rattle.class_program.specs.declared.program.Method.{Method}
 use Rattle.jterm.specs.Machine.{first_place, form_at}
 use Rattle.jterm.specs.Forms.{FirstAtZero}
 use Rattle.jterm.specs.Pass.{Passes, entry_known, known_after, known_along}

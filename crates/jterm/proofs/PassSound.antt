@@ -12,8 +12,8 @@ use Rattle.jterm.specs.declared.form.Form.TheVariants.{Iconst, Iload, Istore, Ia
 use Rattle.jterm.specs.declared.typing.Known.{Known}
 use Rattle.jterm.specs.Options.{◌>>=◌}
 use Rattle.class_world.specs.World.{World}
-use Rattle.class_world.specs.declared.program.CatchRange.{CatchRange}
-use Rattle.class_world.specs.declared.program.Method.{Method}
+use Rattle.class_program.specs.declared.program.CatchRange.{CatchRange}
+use Rattle.class_program.specs.declared.program.Method.{Method}
 use Rattle.jterm.specs.Machine.{first_place}
 use Rattle.jterm.specs.Pass.{Passes, entry_known, pushed, known_after, known_along}
 use Rattle.jterm.specs.Typing.{PlaceType, UnsetPlace, IntPlace, FrameType, AreWithin, Types, Leads, LeadsTo, LeadsToHandler, CanCatch, IsOfWorld, IsTyped, HasTyping, types_after, places_after, iconst_types, iload_types, istore_types, iadd_types, ireturn_types, type_of_slot}

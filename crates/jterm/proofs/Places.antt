@@ -3,7 +3,7 @@ use Rattle.std.proofs.Common.{◌≡◌, ℕ, suc, ◌≤◌, ◌==◌, List, []
 use Rattle.std.proofs.lemmas.Bool.Decides.{nat_tests}
 use Rattle.std.specs.Option.{option_map}
 use Rattle.std.specs.Prelude.{option_and_then}
-use Rattle.class_world.specs.declared.op.Op.{Op}
+use Rattle.class_program.specs.declared.op.Op.{Op}
 use Rattle.jterm.specs.declared.form.Form.{Form}
 use Rattle.jterm.specs.Forms.{form_of, forms_of, RiseFrom, FirstAtZero, AreRising}
 use Rattle.jterm.specs.Machine.{first_place, instruction_at, form_at}

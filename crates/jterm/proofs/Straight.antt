@@ -10,7 +10,7 @@ use Rattle.jvm_values.specs.declared.types.Slot.TheVariants.{Num, Ref}
 use Rattle.jterm.specs.declared.form.Form.{Form}
 use Rattle.jterm.specs.declared.form.Form.TheVariants.{Iconst, Iload, Istore, Iadd, Ireturn}
 use Rattle.class_world.specs.World.{World}
-use Rattle.class_world.specs.declared.program.Method.{Method}
+use Rattle.class_program.specs.declared.program.Method.{Method}
 use Rattle.jterm.specs.Machine.{Program, Outcome, Going, Returned, Stuck, form_at, perform, going, returned, top_int, normal_step, step}
 use Rattle.jterm.specs.Typing.{PlaceType, UnsetPlace, IntPlace, NullPlace, RefPlace, FrameType, IsWithin, AreWithin, Types, LeadsTo, IsTyped, IsTyping, types_after, places_after, ireturn_types, top_int_place}
 use Rattle.jterm.proofs.Runs.{Finishes, Finishes-going, Finishes-returned}

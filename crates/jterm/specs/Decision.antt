@@ -7,7 +7,7 @@ use Rattle.class_read.specs.FirstFault.{class_in}
 use Rattle.class_read.specs.declared.fault.ClassFault.{ClassFault}
 use Rattle.class_world.specs.World.{World, world_of}
 use Rattle.class_world.specs.Linking.{link_fault}
-use Rattle.class_world.specs.Reached.{close_of}
+use Rattle.class_program.specs.Reached.{close_of}
 use Rattle.class_world.specs.declared.world.MethodRef.{MethodRef}
 use Rattle.class_world.specs.declared.fault.LinkFault.{LinkFault}
 use Rattle.jterm.specs.declared.line.Line.{Line}

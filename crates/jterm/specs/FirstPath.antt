@@ -4,7 +4,7 @@ use Rattle.jvm_values.specs.declared.types.Kind.TheVariants as kinds
 use Rattle.jvm_values.specs.declared.types.Slot.{Slot}
 use Rattle.jvm_values.specs.declared.types.Slot.TheVariants.{Num}
 use Rattle.class_world.specs.World.{World}
-use Rattle.class_world.specs.declared.program.Method.{Method}
+use Rattle.class_program.specs.declared.program.Method.{Method}
 use Rattle.jterm.specs.declared.form.Form.{Form}
 use Rattle.jterm.specs.declared.form.Form.TheVariants.{Ireturn}
 use Rattle.jterm.specs.Forms.{forms_of}

@@ -3,8 +3,8 @@ use Rattle.std.specs.Prelude.{◌≡◌, ℕ, suc, ◌≤◌, List, [], ◌∷�
 use Rattle.std.specs.Option.{option_map}
 use Rattle.code_decode.specs.declared.insn.Insn.{Insn}
 use Rattle.code_decode.specs.declared.insn.Insn.TheVariants as insns
-use Rattle.class_world.specs.declared.op.Op.{Op}
-use Rattle.class_world.specs.declared.op.Op.TheVariants as ops
+use Rattle.class_program.specs.declared.op.Op.{Op}
+use Rattle.class_program.specs.declared.op.Op.TheVariants as ops
 use Rattle.jterm.specs.declared.form.Form.{Form}
 use Rattle.jterm.specs.declared.form.Form.TheVariants.{Iconst, Iload, Istore, Iadd, Ireturn}
 

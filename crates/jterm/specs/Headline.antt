@@ -7,14 +7,15 @@ use Rattle.jvm_values.specs.declared.state.Mode.TheVariants.{Normal}
 use Rattle.jvm_values.specs.declared.state.State.{State}
 use Rattle.jvm_values.specs.declared.types.Kind.TheVariants as kinds
 use Rattle.jvm_values.specs.declared.types.Slot.TheVariants.{Num}
+use Rattle.class_world.specs.Resolve.{has_body}
 use Rattle.class_read.specs.Content.{ClassContent}
 use Rattle.class_read.specs.Rules.{Spells}
 use Rattle.class_world.specs.World.{World, world_of}
 use Rattle.class_world.specs.Linking.{link_fault}
 use Rattle.class_world.specs.Members.{find_method}
-use Rattle.class_world.specs.Reached.{has_body, close_of}
+use Rattle.class_program.specs.Reached.{close_of}
 use Rattle.class_world.specs.declared.world.MethodRef.{MethodRef}
-use Rattle.class_world.specs.declared.program.Method.{Method}
+use Rattle.class_program.specs.declared.program.Method.{Method}
 use Rattle.jterm.specs.declared.line.Line.{Line}
 use Rattle.jterm.specs.Machine.{Program, Ends, IsNeverStuck}
 use Rattle.jterm.specs.Description.{IsLine, int_descriptor}

@@ -13,9 +13,9 @@ use Rattle.jvm_values.specs.declared.state.Mode.{Mode}
 use Rattle.jvm_values.specs.declared.state.State.{State}
 use Rattle.jterm.specs.declared.form.Form.{Form}
 use Rattle.jterm.specs.declared.form.Form.TheVariants.{Iconst, Iload, Istore, Iadd, Ireturn}
-use Rattle.class_world.specs.declared.op.Op.{Op}
+use Rattle.class_program.specs.declared.op.Op.{Op}
 use Rattle.class_world.specs.World.{World}
-use Rattle.class_world.specs.declared.program.Method.{Method}
+use Rattle.class_program.specs.declared.program.Method.{Method}
 use Rattle.jterm.specs.Forms.{form_of}
 use Rattle.jterm.specs.Options.{◌>>=◌}
 

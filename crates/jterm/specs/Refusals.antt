@@ -6,7 +6,7 @@ use Rattle.class_read.specs.declared.fault.ClassFault.{ClassFault}
 use Rattle.class_read.specs.declared.fault.ClassFault.TheVariants as classes
 use Rattle.class_world.specs.World.{World}
 use Rattle.class_world.specs.Linking.{link_fault}
-use Rattle.class_world.specs.Reached.{close_of}
+use Rattle.class_program.specs.Reached.{close_of}
 use Rattle.class_world.specs.declared.world.MethodRef.{MethodRef}
 use Rattle.jterm.specs.declared.verdict.Refused.{Refused}
 use Rattle.jterm.specs.declared.verdict.Refused.TheVariants.{At, Memory}

@@ -11,8 +11,8 @@ use Rattle.jterm.specs.declared.form.Form.TheVariants.{Iconst, Iload, Istore, Ia
 use Rattle.jterm.specs.Options.{◌>>=◌}
 use Rattle.class_world.specs.World.{World}
 use Rattle.class_world.specs.Types.{Sub, erase}
-use Rattle.class_world.specs.declared.program.CatchRange.{CatchRange}
-use Rattle.class_world.specs.declared.program.Method.{Method}
+use Rattle.class_program.specs.declared.program.CatchRange.{CatchRange}
+use Rattle.class_program.specs.declared.program.Method.{Method}
 use Rattle.jterm.specs.Machine.{form_at}
 
 -- what a local or a stack entry holds: nothing that may be read, an int, null, or a reference of an erased type

@@ -1,10 +1,11 @@
 //! Class files, read in the order of their words, the world that they make, and the program of an entry.
 ghost use Rattle.std.specs.Prelude.{◌≡◌, ◌⊎◌, ◌≤◌, length, map, Some, None, Ok, IfOk, IfErr, MatchOption, IsTrue};
+ghost use Rattle.class_world.specs.Resolve.{has_body};
 ghost use Rattle.class_read.specs.Rules.{Spells};
 ghost use Rattle.class_world.specs.World.{world_of};
 ghost use Rattle.class_world.specs.Worlds.{classes_of};
 ghost use Rattle.class_world.specs.Linking.{link_fault, CanBeRead};
-ghost use Rattle.class_world.specs.Reached.{has_body, close_of};
+ghost use Rattle.class_program.specs.Reached.{close_of};
 ghost use Rattle.std.specs.List.{AllByRecursion};
 ghost use Rattle.jterm.specs.Headline.{AllSpell, IsEntry};
 ghost use Rattle.jterm.specs.Refusals.{class_refusal, RefusesFile, RefusesClasses, RefusesWorld, RefusesProgram};
@@ -13,7 +14,8 @@ ghost use Rattle.jterm.specs.declared.verdict.Refused.TheVariants.{Memory};
 use crate::line::{Line, descriptor};
 use crate::{Fault, Place, Refused};
 use class_read::{ClassFault, ClassView};
-use class_world::{LinkFault, MethodRef, Program, World};
+use class_program::Program;
+use class_world::{LinkFault, MethodRef, World};
 use list_views::Seq;
 use std::alloc::{AllocError, Global};
 

@@ -10,7 +10,7 @@ ghost use Rattle.jterm.specs.FirstPath.{is_int, IsIntMethod, IsStraight, IsFirst
 
 use crate::form::forms_of;
 use crate::typing::has_typing;
-use class_world::Method;
+use class_program::Method;
 use jvm_values::{Kind, Slot};
 use std::alloc::{AllocError, Global};
 

@@ -3,7 +3,7 @@ ghost use Rattle.std.specs.Prelude.{◌≡◌, IfOk};
 ghost use Rattle.std.specs.Option.{option_map};
 ghost use Rattle.jterm.specs.Forms.{form_of_insn, form_of, forms_of};
 
-use class_world::Op;
+use class_program::Op;
 use code_decode::Insn;
 use std::alloc::{AllocError, Global};
 

@@ -66,7 +66,7 @@ pub record IsLeastBelow (sub : Ty → Ty → Bool) (erase : Ty → Ty) (a b : Ty
   pub above : IsErasedAbove sub erase a b least
   pub so_far : (k : ℕ) → k < count → IsErasedAbove sub erase a b (class_type k) → IsTrue (sub least (class_type k))
 
-module _ (sub : Ty → Ty → Bool) (erase : Ty → Ty) (n : ℕ) (fields : ℕ → List Slot) (laws : SubtypeLaws sub erase n fields) where
+module _ (sub : Ty → Ty → Bool) (erase : Ty → Ty) (n : ℕ) (fields : ℕ → List Slot) (can_be_made : ℕ → Bool) (laws : SubtypeLaws sub erase n fields can_be_made) where
   abbrev Above : Ty → Ty → Ty → Type 0
   Above a b top = IsErasedAbove sub erase a b top
 

@@ -47,5 +47,5 @@ pub trait Types {
         requires { class < classes self.now }
         ensures { result ≡ can_be_made self.now class };
 
-    ghost laws: { (world : Self) → SubtypeLaws (sub world) (erase world) (classes world) (fields world) };
+    ghost laws: { (world : Self) → SubtypeLaws (sub world) (erase world) (classes world) (fields world) (can_be_made world) };
 }

@@ -7,7 +7,8 @@ ghost use Rattle.vector_tables.specs.ReadClasses.{AreRead};
 use crate::case::Case;
 use anyhow::{Context, Result, bail};
 use class_read::ClassView;
-use class_world::{LinkFault, Program, World};
+use class_program::Program;
+use class_world::{LinkFault, World};
 use std::alloc::Global;
 
 /// The entry method's class, name and descriptor, and the contents of the class files.

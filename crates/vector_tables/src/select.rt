@@ -3,7 +3,7 @@
 use crate::case::Case;
 use crate::entry::Entry;
 use anyhow::{Context, Result, bail};
-use class_world::{Program, Selected};
+use class_program::{Program, Selected};
 use std::alloc::{AllocError, Global};
 
 pub fn answer(alloc: Global, case: &Case<'_>) -> Result<String> {

@@ -1,5 +1,6 @@
 use Rattle.std.proofs.Common.{◌≡◌, ◌++◌, ◌∷◌, [], length, ap, sym, ◌∙◌, arith}
-use Rattle.class_world.specs.World.{is_above, supers_of}
+use Rattle.class_world.specs.World.{is_above}
+use Rattle.class_world.specs.Once.{supers_once}
 use Rattle.class_world.specs.Tables.{values_to}
 use Rattle.class_world.proofs.Tables.{length-values, values_more}
 use Rattle.class_world.proofs.Rows.{table_closed, row_is}
@@ -8,7 +9,7 @@ use Rattle.class_world.proofs.hierarchy.above_table.Goals as goal
 pub above_row-requires-clause-within : goal.above_row-requires-clause-within
 above_row-requires-clause-within c =
     let world = c.args.roster.now.classes in
-    let n : length c.as_slice.result.now ≡ length world = ap length (c.as_slice.ensures ∙ c.in_ok-supers.ensures) ∙ length-values (supers_of world) (length world) in
+    let n : length c.as_slice.result.now ≡ length world = ap length (c.as_slice.ensures ∙ c.in_ok-supers.ensures) ∙ length-values (supers_once world) (length world) in
     omega (arith, n, c.len-class-end.ensures, c.loop-class-test.true)
 
 pub above_row-requires-clause-closed : goal.above_row-requires-clause-closed

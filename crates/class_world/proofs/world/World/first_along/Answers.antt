@@ -2,8 +2,13 @@ use Rattle.std.proofs.Common.{refl, ap, sym, ◌∙◌, length, arith}
 use Rattle.std.specs.Option.{option_map}
 use Rattle.class_world.specs.World.{super_of, line_of, line_from}
 use Rattle.class_world.specs.Seeking.{place_in}
-use Rattle.class_world.proofs.Chain.{with_class, found_by, comes_to, stops, ends}
+use Rattle.class_world.proofs.Chain.{with_class, found_by, starts, comes_to, stops, ends}
 use Rattle.class_world.proofs.world.World.first_along.Goals as goal
+
+pub loop-init : goal.loop-init
+loop-init c =
+    let classes = c.args.self.now.roster.classes in
+    starts (super_of classes) (with_class (place_in classes c.args.wanted c.args.name.now c.args.desc.now)) _ (length classes) c.args.class refl
 
 pub returns-in_err-here : goal.returns-in_err-here
 unfolding line_of

@@ -1,5 +1,5 @@
 use Rattle.std.proofs.Common.{ap, ltb, arith}
-use Rattle.class_world.proofs.Closed.{not_below}
+use Rattle.class_world.proofs.Below.{not_below}
 use Rattle.class_world.proofs.world.World.is_below.Goals as goal
 
 pub returns-else-b-len : goal.returns-else-b-len

@@ -1,6 +1,6 @@
 use Rattle.std.proofs.Common.{◌∙◌}
 use Rattle.class_world.proofs.Rules.{passed_on}
-use Rattle.class_world.proofs.Links.{enrol_fits, link_first, link_later, link_none, linked_is}
+use Rattle.class_world.proofs.Links.{enrol_fits, link_first, link_later, link_none, linked_is, world_is}
 use Rattle.class_world.proofs.Few.{few_world}
 use Rattle.class_world.proofs.ShortCodes.{short_world}
 use Rattle.class_world.proofs.Indexes.{distinct_world, placed_from}
@@ -17,8 +17,8 @@ returns-in_err-keep_rules-clause-fault c =
     passed_on _ _ _ c.from_residual-in_err-keep_rules.ensures.1
     (link_later c.args.classes.items c.in_ok-with_built_ins.field-0 c.in_ok-roster.roster.classes _ c.in_ok-with_built_ins.ensures c.in_ok-roster.ensures.classes c.in_ok-roster.ensures.fault c.in_err-keep_rules.ensures)
 
-pub invariant_of-result-clause-linked : goal.invariant_of-result-clause-linked
-invariant_of-result-clause-linked c = linked_is c.args.classes.items c.in_ok-with_built_ins.field-0 c.in_ok-roster.roster.classes c.in_ok-with_built_ins.ensures c.in_ok-roster.ensures.classes c.in_ok-roster.ensures.fault c.in_ok-keep_rules.ensures
+pub invariant_of-result-clause-known : goal.invariant_of-result-clause-known
+invariant_of-result-clause-known c = world_is c.args.classes.items c.in_ok-with_built_ins.field-0 c.in_ok-roster.roster.classes c.in_ok-with_built_ins.ensures c.in_ok-roster.ensures.classes c.in_ok-roster.ensures.fault c.in_ok-keep_rules.ensures
 
 pub invariant_of-result-clause-few : goal.invariant_of-result-clause-few
 invariant_of-result-clause-few c = few_world c.args.classes.items c.in_ok-roster.roster.classes (c.in_ok-roster.ensures.classes ∙ c.in_ok-with_built_ins.ensures) c.requires.read
@@ -37,3 +37,6 @@ returns-clause-fault c = link_none c.args.classes.items c.in_ok-with_built_ins.f
 
 pub invariant_of-result-clause-placed : goal.invariant_of-result-clause-placed
 invariant_of-result-clause-placed c = placed_from _ _ _ c.as_slice-2.ensures c.all_have_places.ensures c.if-not-all_have_places.false
+
+pub sought_table-requires : goal.sought_table-requires
+sought_table-requires c = linked_is c.args.classes.items c.in_ok-with_built_ins.field-0 c.in_ok-roster.roster.classes c.in_ok-with_built_ins.ensures c.in_ok-roster.ensures.classes c.in_ok-roster.ensures.fault c.in_ok-keep_rules.ensures

@@ -6,7 +6,7 @@ use Rattle.class_world.specs.Resolve.{first_found, method_ref, resolve_method, s
 use Rattle.class_world.specs.Seeking.{place_in}
 use Rattle.class_world.proofs.Seeking.{found_below, found_over}
 use Rattle.class_world.proofs.world.World.resolve_method.Goals as goal
-use Rattle.class_world.proofs.world.World.resolve_method.Goals.{in-Some, in-None+in_ok-found-in-None}
+use Rattle.class_world.proofs.world.World.resolve_method.Goals.{in-Some, in-None}
 
 pub returns : goal.returns
 unfolding resolve_method
@@ -18,6 +18,6 @@ returns c =
     let found : c.match-first_along.found ≡ first_found place (line ++ over) =
     elim c.match-first_along.branch [
       | in-Some w ↦ found_below place line over c.first_along.result _ _ c.first_along.ensures w.in-Some.is w.found-is
-      | in-None+in_ok-found-in-None w ↦ found_over place line over c.first_along.result _ c.first_along.ensures w.in-None.is (w.found-is ∙ w.in_ok-found-in-None.ensures)
+      | in-None w ↦ found_over place line over c.first_along.result _ c.first_along.ensures w.in-None.is (w.found-is ∙ w.first_in_interfaces-found.ensures)
     ] in
     c.method_ref.ensures ∙ ap (option_map method_ref) found

@@ -1,0 +1,11 @@
+pub mod TypeLists
+pub mod Calls
+pub mod Refused
+pub mod Saying
+pub mod Reaching
+pub mod Room
+pub mod Bodies
+pub mod GoingThrough
+pub mod Closed
+pub mod RisingCodes
+pub mod Rising

@@ -1,0 +1,46 @@
+-- The instructions of a code stand at rising places.
+use Rattle.std.proofs.Common.{◌≡◌, ℕ, zero, suc, ◌+◌, ◌-◌, ◌≤◌, true, leb, List, [], ◌∷◌, length, Option, Some, None, Ok, Err, refl, subst, arith}
+use Rattle.std.specs.Prelude.{Result}
+use Rattle.std.proofs.lemmas.Bool.{and_from, and_parts, le-leb, leb-true}
+use Rattle.code_decode.specs.declared.fault.CodeFault.{CodeFault}
+use Rattle.code_decode.specs.declared.insn.Insn.{Insn}
+use Rattle.code_decode.specs.Codes.{starts, stands, first_stray, insns_from, with_targets, decode_of}
+use Rattle.code_decode.specs.Reading.{◌>>=◌, insn_at}
+use Rattle.class_program.specs.Selected.{rises_from}
+
+lower : {A : Type 0} (p q : ℕ) (xs : List (ℕ × A)) → p ≤ q → rises_from q xs ≡ true → rises_from p xs ≡ true
+lower p q [] l e = refl
+lower p q (x ∷ xs) l e =
+    let r = and_parts (leb q x.0) (rises_from (x.0 + 1) xs) e in
+    and_from _ _ (le-leb p x.0 (omega (arith, l, leb-true q x.0 r.0))) r.1
+
+decoded_rise : (passed pc : ℕ) (bytes : List ℕ) (xs : List (ℕ × Insn)) → insns_from passed pc bytes ≡ Ok xs → rises_from pc xs ≡ true
+unfolding insns_from
+decoded_rise passed pc [] xs e = let same : [] ≡ xs = cc in subst (λ (ys : List (ℕ × Insn)). rises_from pc ys ≡ true) same refl
+decoded_rise zero pc (op ∷ bytes) xs e = go (insn_at pc op bytes) e (λ passed. decoded_rise passed (pc + 1) bytes)
+  where
+    Rest : Type 0
+    Rest = (passed : ℕ) (ys : List (ℕ × Insn)) → insns_from passed (pc + 1) bytes ≡ Ok ys → rises_from (pc + 1) ys ≡ true
+
+    behind : (insn : Insn) (passed : ℕ) (s : Result (List (ℕ × Insn)) CodeFault) → insns_from passed (pc + 1) bytes ≡ s → (s >>= λ rest. Ok ((pc, insn) ∷ rest)) ≡ Ok xs → Rest → rises_from pc xs ≡ true
+    behind insn passed (Err fault) q f rest = cc
+    behind insn passed (Ok ys) q f rest =
+        let same : (pc, insn) ∷ ys ≡ xs = cc in
+        subst (λ (zs : List (ℕ × Insn)). rises_from pc zs ≡ true) same (and_from (leb pc pc) (rises_from (pc + 1) ys) (le-leb pc pc (omega arith)) (rest passed ys q))
+
+    go : (r : Result (Insn × List ℕ) CodeFault) → (r >>= λ x. insns_from (length bytes - length x.1) (pc + 1) bytes >>= λ rest. Ok ((pc, x.0) ∷ rest)) ≡ Ok xs → Rest → rises_from pc xs ≡ true
+    go (Err fault) f rest = cc
+    go (Ok x) f rest = behind x.0 (length bytes - length x.1) (insns_from (length bytes - length x.1) (pc + 1) bytes) refl f rest
+decoded_rise (suc passed) pc (b ∷ bytes) xs e = lower pc (pc + 1) xs (omega arith) (decoded_rise passed (pc + 1) bytes xs e)
+
+pub code_rises : (code : List ℕ) (xs : List (ℕ × Insn)) → decode_of code ≡ Ok xs → rises_from 0 xs ≡ true
+unfolding decode_of
+code_rises code xs e = go (insns_from 0 0 code) refl e
+  where
+    tested : (o : Option ℕ) (ys : List (ℕ × Insn)) → with_targets ys o ≡ Ok xs → ys ≡ xs
+    tested None ys f = cc
+    tested (Some pc) ys f = cc
+
+    go : (r : Result (List (ℕ × Insn)) CodeFault) → insns_from 0 0 code ≡ r → (r >>= λ insns. with_targets insns (first_stray (stands (starts insns)) insns)) ≡ Ok xs → rises_from 0 xs ≡ true
+    go (Err fault) q f = cc
+    go (Ok ys) q f = subst (λ (zs : List (ℕ × Insn)). rises_from 0 zs ≡ true) (tested (first_stray (stands (starts ys)) ys) ys f) (decoded_rise 0 0 code ys q)

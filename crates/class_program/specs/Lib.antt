@@ -1,0 +1,10 @@
+pub mod Signatures
+pub mod Operands
+pub mod Refusals
+pub mod Ops
+pub mod Runs
+pub mod Said
+pub mod Methods
+pub mod Reached
+pub mod Selected
+pub mod Reads

@@ -1,0 +1,129 @@
+-- One method of a program: what it is once its names are resolved, or the first rule that it breaks.
+--
+-- JVM specification: section 4.7.3 (codes and exception tables), section 5.4.3 (what names stand for), section 5.5 (which
+-- classes a call initialises). Static initialisers, native and synchronized methods are not supported.
+use Rattle.std.specs.Prelude.{ℕ, ◌==◌, if◌then◌else◌, List, [], ◌∷◌, length, map, slice_get, Option, Some, None, option_map, Result, Ok, Err}
+use Rattle.std.specs.Option.{option_map_or}
+use Rattle.class_pool.specs.declared.entry.PoolEntry.{PoolEntry}
+use Rattle.class_read.specs.Content.{MethodContent, CodeContent, Handler}
+use Rattle.class_read.specs.Rules.{name_of}
+use Rattle.code_decode.specs.declared.fault.CodeFault.{CodeFault}
+use Rattle.code_decode.specs.declared.insn.Insn.{Insn}
+use Rattle.code_decode.specs.Codes.{decode_of, starts, stands}
+use Rattle.code_decode.specs.Tables.{first_bad_boundary, boundary_fault}
+use Rattle.jvm_values.specs.declared.types.Slot.{Slot}
+use Rattle.class_world.specs.declared.fault.LinkFault.{LinkFault}
+use Rattle.class_world.specs.declared.fault.LinkFault.TheVariants.{MissingClass, StaticInit, Native, Synchronized, Code}
+use Rattle.class_world.specs.declared.fault.MethodName.{MethodName}
+use Rattle.class_program.specs.declared.op.Op.{Op}
+use Rattle.class_program.specs.declared.program.CatchRange.{CatchRange}
+use Rattle.class_program.specs.declared.program.Method.{Method}
+use Rattle.class_world.specs.World.{World, class_of, is_static, is_native, is_synchronized}
+use Rattle.class_world.specs.Descriptors.{class_slot}
+use Rattle.class_program.specs.Said.{Said, ◌>>=◌, unless, each}
+use Rattle.class_world.specs.Resolve.{first_static_init}
+use Rattle.class_program.specs.declared.signature.Signature.{Signature}
+use Rattle.class_program.specs.Refusals.{with_fault}
+use Rattle.class_program.specs.Signatures.{declared_signature}
+use Rattle.class_program.specs.Ops.{op_of, pool_of}
+
+-- ---- names
+
+-- the name of a class; none past the classes
+abbrev pub class_name : World → ℕ → List ℕ
+class_name world class = option_map_or (λ c. c.name) (slice_get world class) []
+
+-- a method that a class declares, by its names
+abbrev pub method_name : World → ℕ → MethodContent → MethodName
+method_name world class m = record { class = class_name world class; name = m.name; desc = m.desc }
+
+-- ---- what is asked of a method, one rule after the other
+
+-- no class is initialised that has a static initialiser: neither the method's class nor one above it
+unfoldable pub static_init : World → ℕ → Option LinkFault
+static_init world class = option_map StaticInit (first_static_init world class)
+
+-- The code of a method that isn't native. Of the methods that aren't abstract the native ones have no code, and they
+-- alone.
+unfoldable pub code_of : MethodName → MethodContent → Said CodeContent
+code_of name m = if is_native m.flags then Err (Native name) else option_map_or Ok m.code (Err (Native name))
+
+-- it isn't synchronized
+unfoldable pub synchronized : MethodName → MethodContent → Option LinkFault
+synchronized name m = if is_synchronized m.flags then Some (Synchronized name) else None
+
+-- what its descriptor means
+unfoldable pub own_types : World → MethodName → List ℕ → Said Signature
+own_types world name desc = with_fault name 0 (declared_signature world desc)
+
+-- what is said of its code
+abbrev pub in_method : {A : Type 0} → MethodName → Result A CodeFault → Said A
+in_method name (Ok x) = Ok x
+in_method name (Err fault) = Err (Code name fault)
+
+-- the boundaries of the exception table are good
+abbrev pub table_said : CodeContent → List (ℕ × Insn) → Result (Unit {0}) CodeFault
+table_said code insns = boundary_fault (first_bad_boundary (stands (starts insns)) (length code.code) code.table)
+
+-- the instructions of a code whose exception table is good
+unfoldable pub insns_of : MethodName → CodeContent → Said (List (ℕ × Insn))
+insns_of name code = do
+  insns ← in_method name (decode_of code.code)
+  tested ← in_method name (table_said code insns)
+  Ok insns
+
+-- an instruction and its place, with its names resolved
+unfoldable pub op_said : World → ℕ → MethodName → ℕ × Insn → Said (ℕ × Op)
+op_said world class name x = do
+  op ← op_of world class name x.0 x.1
+  Ok (x.0, op)
+
+-- the instructions with their names resolved, or the first fault by place
+unfoldable pub ops_of : World → ℕ → MethodName → List (ℕ × Insn) → Said (List (ℕ × Op))
+ops_of world class name insns = each (op_said world class name) insns
+
+-- the class of a name, which must be there
+abbrev pub caught : World → List ℕ → Said (Option ℕ)
+caught world name = option_map_or (λ class. Ok (Some class)) (class_of world name) (Err (MissingClass name))
+
+-- the class that a range catches; none where the index is 0, which catches everything
+unfoldable pub catch_of : World → List PoolEntry → ℕ → Said (Option ℕ)
+catch_of world pool index = if index == 0 then Ok None else caught world (name_of pool index)
+
+-- an entry of an exception table, with the number of the caught class
+unfoldable pub range_of : World → List PoolEntry → Handler → Said CatchRange
+range_of world pool h = do
+  catch ← catch_of world pool h.catch
+  Ok (record { start = h.start; end = h.end; handler = h.handler; catch = catch })
+
+-- the exception table, or the first caught class that is missing
+unfoldable pub table_of : World → List PoolEntry → List Handler → Said (List CatchRange)
+table_of world pool table = each (range_of world pool) table
+
+-- an instance method has its receiver, an object of its class, before the parameters
+abbrev pub with_receiver : ℕ → ℕ → List Slot → List Slot
+with_receiver class flags params = if is_static flags then params else class_slot 0 class ∷ params
+
+-- ---- the method
+
+-- what the method is, whose instructions name others as methods of the world
+unfoldable pub method_of : World → ℕ → MethodContent → Said Method
+method_of world class m =
+    let name = method_name world class m in
+    unless (static_init world class) (do
+      code ← code_of name m
+      types ← unless (synchronized name m) (own_types world name m.desc)
+      insns ← insns_of name code
+      ops ← ops_of world class name insns
+      table ← table_of world (pool_of world class) code.table
+      Ok (record {
+        class = class;
+        name = m.name;
+        desc = m.desc;
+        params = with_receiver class m.flags types.params;
+        result = types.result;
+        max_stack = code.max_stack;
+        max_locals = code.max_locals;
+        insns = ops;
+        table = table;
+      }))

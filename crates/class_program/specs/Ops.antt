@@ -1,0 +1,281 @@
+-- What an instruction of a method is once its names are resolved, or the fault that it has (JVM specification, sections
+-- 5.4.3 and 6.5).
+--
+-- An instruction that has several faults has the one that stands first in the order of faults. What is said last of an
+-- instruction below has no fault that stands before one of an earlier part, so the parts can be asked in turn.
+use Rattle.std.specs.Prelude.{ℕ, ◌==◌, ◌&&◌, ◌||◌, not, Bool, true, false, if◌then◌else◌, List, [], slice_get, nat_lt, Option, Some, None, is_none, codes, Result, Ok, Err}
+use Rattle.std.specs.List.{list_any}
+use Rattle.std.specs.Option.{option_map, option_map_or}
+use Rattle.std.specs.Str.{bytes_eq}
+use Rattle.class_pool.specs.declared.entry.PoolEntry.{PoolEntry}
+use Rattle.class_pool.specs.Text.{class_name_at, integer_at, member_at, tag_at}
+use Rattle.class_read.specs.Content.{MethodContent}
+use Rattle.class_base.specs.declared.types.FieldType.{FieldType}
+use Rattle.class_base.specs.ClassNames.{is_class_name}
+use Rattle.class_base.specs.Types.{field_type}
+use Rattle.code_decode.specs.declared.insn.Insn.{Insn}
+use Rattle.jvm_values.specs.declared.types.Base.{Base}
+use Rattle.jvm_values.specs.declared.types.Base.TheVariants as bases
+use Rattle.jvm_values.specs.declared.types.Ty.{Ty}
+use Rattle.jvm_values.specs.declared.types.Slot.{Slot}
+use Rattle.jvm_values.specs.declared.types.Slot.TheVariants as slots
+use Rattle.jvm_values.specs.Subtyping.{class_type}
+use Rattle.class_world.specs.declared.fault.MethodName.{MethodName}
+use Rattle.class_world.specs.declared.fault.LinkFault.{LinkFault}
+use Rattle.class_program.specs.declared.refusal.Refusal.{Refusal}
+use Rattle.class_program.specs.declared.refusal.Refusal.TheVariants as refusals
+use Rattle.class_program.specs.declared.refusal.Refusal.TheVariants.{UnsupportedType, Unresolved, PrivateVirtual}
+use Rattle.class_program.specs.declared.operand.Operand.{Operand}
+use Rattle.class_program.specs.declared.operand.Operand.TheVariants as operands
+use Rattle.class_program.specs.declared.operand.ClassForm.{ClassForm}
+use Rattle.class_program.specs.declared.operand.ClassForm.TheVariants as classes
+use Rattle.class_program.specs.declared.operand.FieldForm.{FieldForm}
+use Rattle.class_program.specs.declared.operand.FieldForm.TheVariants as fields
+use Rattle.class_program.specs.declared.operand.CallForm.{CallForm}
+use Rattle.class_program.specs.declared.operand.CallForm.TheVariants as calls
+use Rattle.class_program.specs.declared.op.Op.{Op}
+use Rattle.class_program.specs.declared.signature.Signature.{Signature}
+use Rattle.class_program.specs.declared.op.Op.TheVariants.{Plain, Constant, Getfield, Putfield, Invokevirtual, Invokespecial, Invokestatic, Invokeinterface, New, Anewarray, Checkcast, Instanceof}
+use Rattle.class_program.specs.declared.op.Call.{Call}
+use Rattle.class_program.specs.declared.op.FieldUse.{FieldUse}
+use Rattle.class_world.specs.declared.world.MethodRef.{MethodRef}
+use Rattle.class_world.specs.World.{World, class_of, super_of, line_of, is_interface_class, is_static, is_private, is_abstract}
+use Rattle.class_world.specs.Descriptors.{meaning_of, slot_of}
+use Rattle.class_world.specs.declared.meaning.Meaning.{Meaning}
+use Rattle.class_world.specs.declared.meaning.Meaning.TheVariants.{Known, Unsupported, Missing}
+use Rattle.class_world.specs.Fields.{can_be_made}
+use Rattle.class_world.specs.Members.{declared_method, initialiser_name}
+use Rattle.class_program.specs.Operands.{Member, operand_of}
+use Rattle.class_program.specs.Refusals.{◌>>=◌, wanted, required, together, with_fault}
+use Rattle.class_world.specs.Resolve.{resolve_field, resolve_method, field_place, method_at, first_static_init}
+use Rattle.class_program.specs.Signatures.{signature_of}
+
+-- ---- constants (section 6.5, ldc)
+
+-- strings, classes, long, float and double
+abbrev pub is_other_constant : Option ℕ → Bool
+is_other_constant (Some tag) = (tag == 4) || (tag == 5) || (tag == 6) || (tag == 7) || (tag == 8)
+is_other_constant None = false
+
+unfoldable pub constant_of : List PoolEntry → ℕ → Result Op Refusal
+constant_of pool entry =
+    option_map_or (λ value. Ok (Constant value)) (integer_at pool entry)
+    (if is_other_constant (tag_at pool entry) then Err UnsupportedType else Err Unresolved)
+
+-- ---- classes and array types (sections 4.4.1 and 5.4.3.1)
+
+abbrev pub meant_type : Meaning → Result Ty Refusal
+meant_type (Known (slots.Ref t)) = Ok t
+meant_type (Known (slots.Num kind)) = Err Unresolved
+meant_type Unsupported = Err UnsupportedType
+meant_type (Missing name) = Err (refusals.MissingClass name)
+
+-- An array type by its descriptor. A type without dimensions is no array type: a class stands by its name.
+unfoldable pub array_type : World → FieldType → Result Ty Refusal
+array_type world t = if t.dims == 0 then Err Unresolved else meant_type (meaning_of world t)
+
+unfoldable pub class_named : World → List ℕ → Result Ty Refusal
+class_named world name = option_map_or (λ class. Ok (class_type class)) (class_of world name) (Err (refusals.MissingClass name))
+
+-- what the text of a Class entry says: a class's name, or the descriptor of an array type
+unfoldable pub type_named : World → List ℕ → Result Ty Refusal
+type_named world text =
+    if is_class_name text then class_named world text
+    else option_map_or (array_type world) (field_type text) (Err Unresolved)
+
+unfoldable pub type_operand : World → List PoolEntry → ℕ → Result Ty Refusal
+type_operand world pool entry = wanted (class_name_at pool entry) >>= type_named world
+
+abbrev pub base_class : Base → Result ℕ Refusal
+base_class (bases.Class class) = Ok class
+base_class (bases.Num kind) = Err Unresolved
+
+-- the number of a class; an array type is no class
+unfoldable pub class_number : Ty → Result ℕ Refusal
+class_number t = if t.dims == 0 then base_class t.base else Err Unresolved
+
+-- `new` initialises its class and those above it (section 5.5), and makes no interface and no abstract class.
+unfoldable pub new_of : World → ℕ → Result Op Refusal
+new_of world class =
+    option_map_or (λ name. Err (refusals.StaticInit name)) (first_static_init world class)
+    (required (can_be_made world class) >>= λ _. Ok (New (class_type class)))
+
+-- an array has at most 255 dimensions
+unfoldable pub anewarray_of : Ty → Result Op Refusal
+anewarray_of t = required (nat_lt t.dims 255) >>= λ _. Ok (Anewarray t)
+
+unfoldable pub class_op : World → ClassForm → Ty → Result Op Refusal
+class_op world classes.New t = class_number t >>= new_of world
+class_op world classes.Anewarray t = anewarray_of t
+class_op world classes.Checkcast t = Ok (Checkcast t)
+class_op world classes.Instanceof t = Ok (Instanceof t)
+
+-- ---- members (section 4.4.2)
+
+-- the member that an entry of that tag names; an entry of another tag names nothing, whatever it says
+unfoldable pub member_operand : List PoolEntry → ℕ → ℕ → Result Member Refusal
+member_operand pool tag entry = do
+  m ← wanted (member_at pool entry)
+  fits ← required (m.0 == tag)
+  Ok (record { class = m.1; name = m.2; desc = m.3 })
+
+-- ---- instance fields (section 5.4.3.2)
+
+abbrev pub field_use : ℕ → ℕ × Slot → FieldUse
+field_use class place = record { class = class; place = place.0; slot = place.1 }
+
+-- The field that look-up finds, as one of the named class's objects. Its type must be supported and there; and it is
+-- neither static nor a field of an interface.
+unfoldable pub field_found : World → ℕ → List ℕ → ℕ × ℕ → Result FieldUse Refusal
+field_found world class desc found =
+    if is_none (slot_of world desc) then Err UnsupportedType
+    else (required (not (is_interface_class world found.0)) >>= λ _.
+    wanted (option_map (field_use class) (field_place world found.0 found.1)))
+
+unfoldable pub field_of : World → Member → Result FieldUse Refusal
+field_of world m = do
+  t ← type_named world m.class
+  class ← class_number t
+  found ← wanted (resolve_field world class m.name m.desc)
+  field_found world class m.desc found
+
+abbrev pub field_op : FieldForm → FieldUse → Op
+field_op fields.Getfield use_ = Getfield use_
+field_op fields.Putfield use_ = Putfield use_
+
+-- ---- methods (sections 5.4.3.3 and 5.4.3.4)
+
+-- the name of constructors
+abbrev pub constructor_name : List ℕ
+constructor_name = codes "<init>"
+
+abbrev pub is_special : CallForm → Bool
+is_special calls.Special = true
+is_special _ = false
+
+abbrev pub is_of_interface : CallForm → Bool
+is_of_interface calls.Interface = true
+is_of_interface _ = false
+
+-- `invokeinterface` takes an InterfaceMethodref, the others a Methodref
+abbrev pub member_tag : CallForm → ℕ
+member_tag form = if is_of_interface form then 11 else 10
+
+-- A static initialiser is not called, and a constructor by `invokespecial` alone (section 4.9.1).
+abbrev pub may_call : CallForm → List ℕ → Bool
+may_call form name = not (bytes_eq name initialiser_name) && (not (bytes_eq name constructor_name) || is_special form)
+
+-- `invokeinterface` names an interface, the others name a class
+abbrev pub is_fit_class : World → CallForm → ℕ → Bool
+is_fit_class world calls.Interface class = is_interface_class world class
+is_fit_class world _ class = not (is_interface_class world class)
+
+-- a constructor is sought in the named class alone
+abbrev pub constructor_of : World → ℕ → List ℕ → Option MethodRef
+constructor_of world class desc = option_map (λ i. record { class = class; index = i }) (declared_method world class constructor_name desc)
+
+-- Where `invokespecial` looks from: for a superclass of the current class, from the direct superclass of the current
+-- class on, else from the named class on. The standard asks first that the named class itself has the method, and lets
+-- the rule depend on the flag SUPER; here every class counts as having it.
+unfoldable pub special_start : World → ℕ → ℕ → ℕ
+special_start world current class =
+    option_map_or (λ super. if list_any (λ c. c == class) (line_of world super) then super else class) (super_of world current) class
+
+unfoldable pub special_sought : World → ℕ → ℕ → List ℕ → List ℕ → Option MethodRef
+special_sought world current class name desc =
+    if bytes_eq name constructor_name then constructor_of world class desc
+    else resolve_method world (special_start world current class) name desc
+
+-- where a call looks for its method
+unfoldable pub method_sought : World → ℕ → CallForm → ℕ → List ℕ → List ℕ → Option MethodRef
+method_sought world current calls.Special class name desc = special_sought world current class name desc
+method_sought world current _ class name desc = resolve_method world class name desc
+
+-- a static method has a body, and it is no interface's
+abbrev pub is_fit_static : World → ℕ → MethodContent → Bool
+is_fit_static world class m = is_static m.flags && not (is_abstract m.flags) && not (is_interface_class world class)
+
+-- `invokevirtual` of a private method is not supported
+abbrev pub virtual_fit : MethodContent → Result (Unit {0}) Refusal
+virtual_fit m = required (not (is_static m.flags)) >>= λ _. if is_private m.flags then Err PrivateVirtual else Ok tt
+
+-- a method of a class is of the kind that a call runs
+unfoldable pub method_fit : World → CallForm → ℕ → MethodContent → Result (Unit {0}) Refusal
+method_fit world calls.Static class m = required (is_fit_static world class m)
+method_fit world calls.Virtual class m = virtual_fit m
+method_fit world calls.Special class m = required (not (is_static m.flags))
+method_fit world calls.Interface class m = required (not (is_static m.flags))
+
+-- what was found is a method, of the kind that a call runs
+unfoldable pub found_fit : World → CallForm → Option MethodRef → Result MethodRef Refusal
+found_fit world form found = do
+  ref ← wanted found
+  method ← wanted (method_at world ref)
+  fit ← method_fit world form ref.class method
+  Ok ref
+
+-- the method that a call of the named class resolves to
+unfoldable pub method_called : World → ℕ → CallForm → ℕ → List ℕ → List ℕ → Result MethodRef Refusal
+method_called world current form class name desc =
+    required (may_call form name && is_fit_class world form class) >>= λ _.
+    found_fit world form (method_sought world current form class name desc)
+
+-- the named type and what the descriptor means, or the first of their refusals
+abbrev pub named_parts : World → Member → Result (Ty × Signature) Refusal
+named_parts world m = together (type_named world m.class) (signature_of world m.desc)
+
+-- A call. Its number among the reached methods is put in where those are known.
+unfoldable pub call_of : World → ℕ → CallForm → Member → Result Call Refusal
+call_of world current form m = do
+  named ← named_parts world m
+  class ← class_number named.0
+  ref ← method_called world current form class m.name m.desc
+  Ok (record { class = class; method = ref; params = named.1.params; result = named.1.result; target = None })
+
+abbrev pub call_op : CallForm → Call → Op
+call_op calls.Virtual call = Invokevirtual call
+call_op calls.Special call = Invokespecial call
+call_op calls.Static call = Invokestatic call
+call_op calls.Interface call = Invokeinterface call
+
+-- ---- instructions
+
+-- the codes of float, double and long (section 6.5, newarray)
+abbrev pub is_unsupported_code : ℕ → Bool
+is_unsupported_code code = (code == 6) || (code == 7) || (code == 11)
+
+unfoldable pub numbers_op : Insn → ℕ → Result Op Refusal
+numbers_op insn code = if is_unsupported_code code then Err UnsupportedType else Ok (Plain insn)
+
+unfoldable pub field_operand : World → List PoolEntry → FieldForm → ℕ → Result Op Refusal
+field_operand world pool form entry = do
+  m ← member_operand pool 9 entry
+  used ← field_of world m
+  Ok (field_op form used)
+
+unfoldable pub class_operand : World → List PoolEntry → ClassForm → ℕ → Result Op Refusal
+class_operand world pool form entry = type_operand world pool entry >>= class_op world form
+
+unfoldable pub call_operand : World → ℕ → List PoolEntry → CallForm → ℕ → Result Op Refusal
+call_operand world current pool form entry = do
+  m ← member_operand pool (member_tag form) entry
+  call ← call_of world current form m
+  Ok (call_op form call)
+
+-- the instruction of a class with that pool, by what it takes from the pool; static fields are not supported
+unfoldable pub op_with : World → ℕ → List PoolEntry → Insn → Operand → Result Op Refusal
+op_with world current pool insn operands.Nothing = Ok (Plain insn)
+op_with world current pool insn (operands.Numbers code) = numbers_op insn code
+op_with world current pool insn (operands.Constant entry) = constant_of pool entry
+op_with world current pool insn operands.StaticField = Err refusals.StaticField
+op_with world current pool insn (operands.Field form entry) = field_operand world pool form entry
+op_with world current pool insn (operands.Class form entry) = class_operand world pool form entry
+op_with world current pool insn (operands.Call form entry) = call_operand world current pool form entry
+
+-- the constant pool of a class
+abbrev pub pool_of : World → ℕ → List PoolEntry
+pool_of world class = option_map_or (λ c. c.pool) (slice_get world class) []
+
+-- the instruction at a place of a method that a class declares, or the fault that it has
+unfoldable pub op_of : World → ℕ → MethodName → ℕ → Insn → Result Op LinkFault
+op_of world class method pc insn = with_fault method pc (op_with world class (pool_of world class) insn (operand_of insn))

@@ -1,0 +1,109 @@
+-- The methods that an entry reaches, and the program that they make.
+--
+-- Each method reaches those that its instructions can run: all of its instructions count, at places too that no run
+-- comes to. A method that breaks a rule reaches nothing, so of the methods that break one the first is the same
+-- whatever the ones behind it would reach.
+use Rattle.std.specs.Prelude.{ℕ, zero, suc, ◌==◌, ◌&&◌, not, Bool, if◌then◌else◌, List, [], ◌∷◌, ◌++◌, length, map, position, Ok, Err}
+use Rattle.std.specs.List.{list_any, flat_map, filter_map}
+use Rattle.std.specs.Option.{option_map, option_map_or}
+use Rattle.class_read.specs.Content.{MethodContent}
+use Rattle.class_program.specs.declared.op.Call.{Call}
+use Rattle.class_program.specs.declared.op.Op.{Op}
+use Rattle.class_program.specs.declared.op.Op.TheVariants.{Invokespecial, Invokestatic}
+use Rattle.class_program.specs.declared.program.Method.{Method}
+use Rattle.class_world.specs.declared.world.MethodRef.{MethodRef}
+use Rattle.class_world.specs.World.{World}
+use Rattle.class_program.specs.Said.{Said, ◌>>=◌, each}
+use Rattle.class_world.specs.Resolve.{method_at}
+use Rattle.class_program.specs.Runs.{runs}
+use Rattle.class_program.specs.Methods.{method_of}
+
+-- ---- lists of methods
+
+abbrev pub same_method : MethodRef → MethodRef → Bool
+same_method a b = (a.class == b.class) && (a.index == b.index)
+
+-- whether a method stands in a list
+abbrev pub has_method : List MethodRef → MethodRef → Bool
+has_method refs ref = list_any (same_method ref) refs
+
+-- a list with a method put behind it, unless it stands there
+abbrev pub with_one : List MethodRef → MethodRef → List MethodRef
+with_one refs ref = if has_method refs ref then refs else refs ++ ref ∷ []
+
+-- a list with those methods put behind it, in order and each once, that do not stand in it
+abbrev pub with_new : List MethodRef → List MethodRef → List MethodRef
+with_new refs [] = refs
+with_new refs (more ∷ mores) = with_new (with_one refs more) mores
+
+-- ---- what a method reaches
+
+-- the methods that the instructions of a method can run, in the order of the instructions
+unfoldable pub runs_in : World → Method → List MethodRef
+runs_in world m = flat_map (λ x. runs world x.1) m.insns
+
+abbrev pub runs_said : World → Said Method → List MethodRef
+runs_said world (Ok m) = runs_in world m
+runs_said world (Err fault) = []
+
+-- the methods that a method of the world can run; one that breaks a rule runs none
+unfoldable pub runs_from : World → MethodRef → List MethodRef
+runs_from world ref = option_map_or (λ m. runs_said world (method_of world ref.class m)) (method_at world ref) []
+
+-- ---- the reached methods
+
+-- the methods that at most so many calls, one inside the other, lead to: the entry, and then what these methods run,
+-- one after the other, each where it comes first
+unfoldable pub reached_within : World → MethodRef → ℕ → List MethodRef
+reached_within world entry zero = entry ∷ []
+reached_within world entry (suc calls) = with_new (entry ∷ []) (flat_map (runs_from world) (reached_within world entry calls))
+
+-- how many methods the classes of a world declare
+abbrev pub method_count : World → ℕ
+method_count world = length (flat_map (λ c. c.methods) world)
+
+-- The reached methods. No more calls than the world has methods, one inside the other, are needed to come to a method.
+unfoldable pub reached : World → MethodRef → List MethodRef
+reached world entry = reached_within world entry (method_count world)
+
+-- ---- the program
+
+-- the methods of a list with their classes' numbers; what is no method of the world is passed over
+unfoldable pub contents_of : World → List MethodRef → List (ℕ × MethodContent)
+contents_of world refs = filter_map (λ ref. option_map (λ m. (ref.class, m)) (method_at world ref)) refs
+
+-- what the methods of a list are, or the first fault of the first one that has any
+unfoldable pub methods_of : World → List MethodRef → Said (List Method)
+methods_of world refs = each (λ x. method_of world x.0 x.1) (contents_of world refs)
+
+-- a call with the number of its method among the reached ones, none where it is abstract and so isn't one of them
+abbrev pub numbered : List MethodRef → Call → Call
+numbered refs call = record { class = call.class; method = call.method; params = call.params; result = call.result; target = position (same_method call.method) refs }
+
+abbrev pub op_numbered : List MethodRef → Op → Op
+op_numbered refs (Invokespecial call) = Invokespecial (numbered refs call)
+op_numbered refs (Invokestatic call) = Invokestatic (numbered refs call)
+op_numbered refs op = op
+
+abbrev pub insns_numbered : List MethodRef → List (ℕ × Op) → List (ℕ × Op)
+insns_numbered refs insns = map (λ x. (x.0, op_numbered refs x.1)) insns
+
+abbrev pub method_numbered : List MethodRef → Method → Method
+method_numbered refs m = record {
+  class = m.class;
+  name = m.name;
+  desc = m.desc;
+  params = m.params;
+  result = m.result;
+  max_stack = m.max_stack;
+  max_locals = m.max_locals;
+  insns = insns_numbered refs m.insns;
+  table = m.table;
+}
+
+-- The methods of the program that an entry makes, in the order in which they are reached, or the first fault, method by
+-- method.
+unfoldable pub close_of : World → MethodRef → Said (List Method)
+close_of world entry = do
+  methods ← methods_of world (reached world entry)
+  Ok (map (method_numbered (reached world entry)) methods)

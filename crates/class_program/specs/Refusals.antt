@@ -1,0 +1,76 @@
+-- Why an instruction is refused, and which of several reasons is named.
+use Rattle.std.specs.Prelude.{◌≡◌, ℕ, Bool, if◌then◌else◌, nat_lt, Option, Some, None, Result, Ok, Err}
+use Rattle.class_world.specs.declared.fault.MethodName.{MethodName}
+use Rattle.class_world.specs.declared.fault.LinkFault.{LinkFault}
+use Rattle.class_world.specs.declared.fault.LinkFault.TheVariants as faults
+use Rattle.class_program.specs.declared.refusal.Refusal.{Refusal}
+use Rattle.class_program.specs.declared.refusal.Refusal.TheVariants.{MissingClass, StaticInit, UnsupportedType, Unresolved, PrivateVirtual, StaticField, Memory}
+
+infixl 10 ◌>>=◌
+abbrev pub ◌>>=◌ : {A B : Type 0} → Result A Refusal → (A → Result B Refusal) → Result B Refusal
+(Ok x) >>= next = next x
+(Err refusal) >>= next = Err refusal
+
+-- what is there, else the operand names nothing
+abbrev pub wanted : {A : Type 0} → Option A → Result A Refusal
+wanted (Some x) = Ok x
+wanted None = Err Unresolved
+
+-- nothing where a test holds, else the operand names nothing of the right kind
+abbrev pub required : Bool → Result (Unit {0}) Refusal
+required test = if test then Ok tt else Err Unresolved
+
+-- ---- which refusal is named
+
+-- the place of a refusal among the faults of linking; want of memory is none of them
+abbrev pub rank : Refusal → ℕ
+rank Memory = 0
+rank (MissingClass name) = 2
+rank (StaticInit name) = 6
+rank UnsupportedType = 9
+rank Unresolved = 10
+rank PrivateVirtual = 11
+rank StaticField = 12
+
+-- of two refusals the one with the lower place, and of two with one place the first
+abbrev pub first_refusal : Refusal → Refusal → Refusal
+first_refusal a b = if nat_lt (rank b) (rank a) then b else a
+
+-- both answers, or the first of their refusals
+abbrev pub together : {A B : Type 0} → Result A Refusal → Result B Refusal → Result (A × B) Refusal
+together (Ok a) (Ok b) = Ok (a, b)
+together (Ok a) (Err refusal) = Err refusal
+together (Err refusal) (Ok b) = Err refusal
+together (Err a) (Err b) = Err (first_refusal a b)
+
+-- ---- the faults
+
+-- the refusal of an instruction of a method at a place, as a fault
+abbrev pub fault_at : MethodName → ℕ → Refusal → LinkFault
+fault_at method pc (MissingClass name) = faults.MissingClass name
+fault_at method pc (StaticInit name) = faults.StaticInit name
+fault_at method pc UnsupportedType = faults.UnsupportedType method pc
+fault_at method pc Unresolved = faults.Unresolved method pc
+fault_at method pc PrivateVirtual = faults.PrivateVirtual method pc
+fault_at method pc StaticField = faults.StaticField method pc
+fault_at method pc Memory = faults.Memory
+
+abbrev pub with_fault : {A : Type 0} → MethodName → ℕ → Result A Refusal → Result A LinkFault
+with_fault method pc (Ok x) = Ok x
+with_fault method pc (Err refusal) = Err (fault_at method pc refusal)
+
+-- ---- answers
+
+abbrev pub Fails : {Y : Type 0} → Refusal → Result Y Refusal → Type 0
+Fails Memory said = Unit {0}
+Fails (MissingClass name) said = said ≡ Err (MissingClass name)
+Fails (StaticInit name) said = said ≡ Err (StaticInit name)
+Fails UnsupportedType said = said ≡ Err UnsupportedType
+Fails Unresolved said = said ≡ Err Unresolved
+Fails PrivateVirtual said = said ≡ Err PrivateVirtual
+Fails StaticField said = said ≡ Err StaticField
+
+-- what a function answers, seen by `view`, is what a definition says, unless memory ran out
+abbrev pub Gives : {X Y : Type 0} → (X → Y) → Result X Refusal → Result Y Refusal → Type 0
+Gives view (Ok x) said = said ≡ Ok (view x)
+Gives view (Err refusal) said = Fails refusal said

@@ -1,0 +1,38 @@
+-- The methods that an instruction can run (JVM specification, section 6.5: invokestatic, invokespecial, invokevirtual and
+-- invokeinterface).
+use Rattle.std.specs.Prelude.{ℕ, Bool, true, if◌then◌else◌, List, [], Option, Some, None, option_and_then}
+use Rattle.std.specs.List.{filter_map}
+use Rattle.std.specs.Option.{option_map_or, option_to_list}
+use Rattle.class_read.specs.Content.{MethodContent}
+use Rattle.class_program.specs.declared.op.Op.{Op}
+use Rattle.class_program.specs.declared.op.Op.TheVariants.{Invokevirtual, Invokespecial, Invokestatic, Invokeinterface}
+use Rattle.class_program.specs.declared.op.Call.{Call}
+use Rattle.class_world.specs.declared.world.MethodRef.{MethodRef}
+use Rattle.class_world.specs.World.{World}
+use Rattle.class_world.specs.Resolve.{method_at, has_no_body}
+use Rattle.class_world.specs.Select.{select, receivers}
+
+-- a method, unless it is abstract
+unfoldable pub with_body : World → MethodRef → Option MethodRef
+with_body world ref = if has_no_body world ref then None else Some ref
+
+-- what a receiver's class selects, unless it is abstract
+unfoldable pub selected_body : World → List ℕ → List ℕ → ℕ → Option MethodRef
+selected_body world name desc class = option_and_then (with_body world) (select world name desc class)
+
+-- what each class that a receiver can be of selects, class by class
+unfoldable pub selections : World → ℕ → MethodContent → List MethodRef
+selections world named m = filter_map (selected_body world m.name m.desc) (receivers world named)
+
+-- the name and the descriptor are those of the method that resolution gave
+unfoldable pub call_selections : World → Call → List MethodRef
+call_selections world call = option_map_or (selections world call.class) (method_at world call.method) []
+
+-- The methods that an instruction can run, in order: for a call that selects by the receiver's class, what each class
+-- selects, by the class's number.
+unfoldable pub runs : World → Op → List MethodRef
+runs world (Invokestatic call) = option_to_list (with_body world call.method)
+runs world (Invokespecial call) = option_to_list (with_body world call.method)
+runs world (Invokevirtual call) = call_selections world call
+runs world (Invokeinterface call) = call_selections world call
+runs world _ = []

@@ -1,0 +1,175 @@
+//! Closing: the methods that an entry reaches.
+ghost use Rattle.class_world.specs.Resolve.{has_body};
+ghost use Rattle.class_world.specs.Worlds.{classes_of};
+ghost use Rattle.std.specs.Prelude.{◌≡◌, ◌<◌, [], map, length, IfOk, OnOk, IsTrue, flat_map};
+ghost use Rattle.class_program.specs.Said.{Says};
+ghost use Rattle.class_program.specs.Runs.{runs};
+ghost use Rattle.class_program.specs.Selected.{is_closed};
+ghost use Rattle.class_program.specs.Reached.{with_new, reached, methods_of, numbered, op_numbered, insns_numbered, method_numbered, close_of};
+
+use crate::method::method_of;
+use crate::op::{Call, Op};
+use crate::program::{Method, Program};
+use crate::reached::MethodRefs;
+use crate::runs::runs;
+use class_world::{LinkFault, MethodRef, World};
+use list_views::Seq;
+use std::alloc::{AllocError, Global};
+
+/// Puts the methods behind the list that are not in it.
+fn add_all(found: &[MethodRef], refs: &mut MethodRefs) -> Result<(), AllocError>
+    ensures { OnOk result (refs.new ≡ with_new refs.old found.now) }
+{
+    for method in found {
+        refs.add(*method)?;
+    }
+    Ok(())
+}
+
+/// Puts the methods that instructions can run behind the list, those that are not in it.
+fn add_runs(
+    world: &World<'_>,
+    alloc: Global,
+    insns: &[(u16, Op)],
+    refs: &mut MethodRefs,
+) -> Result<(), AllocError>
+    ensures { OnOk result (refs.new ≡ with_new refs.old (flat_map (λ x. runs (classes_of world.now) x.1) insns.now)) }
+{
+    for insn in insns {
+        let found = runs(world, alloc, &insn.1)?;
+        add_all(found.as_slice(), refs)?;
+    }
+    Ok(())
+}
+
+/// The reached methods by number, and what they are; the numbers of their calls' methods are still to be put in.
+fn reach<'a>(
+    world: &World<'a>,
+    alloc: Global,
+    entry: MethodRef,
+) -> Result<(MethodRefs, Seq<Method<'a>>), LinkFault>
+    requires { IsTrue (has_body (classes_of world.now) entry) }
+    ensures methods { Says (λ r. r.1) result (methods_of (classes_of world.now) (reached (classes_of world.now) entry)) }
+    ensures refs { IfOk result (λ r. r.0 ≡ reached (classes_of world.now) entry) }
+    ensures closed { IfOk result (λ r. IsTrue (is_closed (classes_of world.now) r.0 r.1)) }
+{
+    let mut refs = MethodRefs::new(alloc);
+    refs.add(entry)?;
+    let mut methods = Seq::new(alloc);
+    while let Some(next) = refs.get(methods.len()) {
+        let method = method_of(world, alloc, next)?;
+        add_runs(world, alloc, method.insns.as_slice(), &mut refs)?;
+        methods.push(method)?;
+    }
+    Ok((refs, methods))
+}
+
+/// The call with its method's number.
+fn numbered(refs: &MethodRefs, call: Call) -> Call
+    ensures { result ≡ numbered refs.now call }
+{
+    let target = refs.number_of(call.method);
+    Call {
+        class: call.class,
+        method: call.method,
+        params: call.params,
+        result: call.result,
+        target,
+    }
+}
+
+fn op_numbered(refs: &MethodRefs, op: Op) -> Op
+    ensures { result ≡ op_numbered refs.now op }
+{
+    match op {
+        Op::Invokespecial(call) => Op::Invokespecial(numbered(refs, call)),
+        Op::Invokestatic(call) => Op::Invokestatic(numbered(refs, call)),
+        other => other,
+    }
+}
+
+/// The instructions with the numbers of their calls' methods.
+fn insns_numbered(
+    alloc: Global,
+    refs: &MethodRefs,
+    insns: Seq<(u16, Op)>,
+) -> Result<Seq<(u16, Op)>, AllocError>
+    ensures { IfOk result (λ r. r ≡ insns_numbered refs.now insns) }
+{
+    let mut done = Seq::with_capacity(alloc, insns.len())?;
+    for (pc, op) in insns.into_vec() {
+        done.push((pc, op_numbered(refs, op)))?;
+    }
+    Ok(done)
+}
+
+fn method_numbered<'a>(
+    alloc: Global,
+    refs: &MethodRefs,
+    method: Method<'a>,
+) -> Result<Method<'a>, AllocError>
+    ensures { IfOk result (λ r. r ≡ method_numbered refs.now method.entry) }
+{
+    Ok(Method {
+        class: method.class,
+        name: method.name,
+        desc: method.desc,
+        params: method.params,
+        result: method.result,
+        max_stack: method.max_stack,
+        max_locals: method.max_locals,
+        insns: insns_numbered(alloc, refs, method.insns)?,
+        table: method.table,
+    })
+}
+
+/// The methods with the numbers of their calls' methods.
+fn methods_numbered<'a>(
+    alloc: Global,
+    refs: &MethodRefs,
+    methods: Seq<Method<'a>>,
+) -> Result<Seq<Method<'a>>, AllocError>
+    ensures { IfOk result (λ r. r ≡ map (method_numbered refs.now) methods.entry) }
+{
+    let mut done = Seq::with_capacity(alloc, methods.len())?;
+    for method in methods.into_vec() {
+        done.push(method_numbered(alloc, refs, method)?)?;
+    }
+    Ok(done)
+}
+
+impl<'a> Program<'a> {
+    /// The world with the methods that an entry reaches, the entry first.
+    ///
+    /// Behind the entry stand the methods that calls can run, breadth first: calls by their place in the code, and of a
+    /// call that selects its method the possible receivers by their classes' numbers. Every instruction of a reached
+    /// method counts.
+    ///
+    /// # Errors
+    ///
+    /// The first rule that the first method in that order breaks of those that break any: of a method, [`LinkFault::StaticInit`]
+    /// of its class, [`LinkFault::Native`], [`LinkFault::Synchronized`], a type of its descriptor, [`LinkFault::Code`], an
+    /// instruction by its place, a caught class that is missing. Or want of memory, which also stands for more than
+    /// 4,294,967,280 methods.
+    #[tactic(auto, unfolding(crate::specs::Reached::close_of))]
+    pub fn close(
+        alloc: Global,
+        world: World<'a>,
+        entry: MethodRef,
+    ) -> Result<Program<'a>, LinkFault>
+        requires { IsTrue (has_body (classes_of world) entry) }
+        ensures methods { Says (λ program. program.methods) result (close_of (classes_of world.entry) entry) }
+        ensures world { IfOk result (λ program. program.world ≡ world.entry) }
+        ensures statics { IfOk result (λ program. program.statics ≡ []) }
+        ensures refs { IfOk result (λ program. program.refs ≡ reached (classes_of world.entry) entry) }
+    {
+        let (refs, methods) = reach(&world, alloc, entry)?;
+        let methods = methods_numbered(alloc, &refs, methods)?;
+        Ok(Program {
+            world,
+            methods,
+            statics: Seq::new(alloc),
+            refs,
+        })
+    }
+}

@@ -1,0 +1,35 @@
+//! Members that instructions name (JVM specification, section 4.4.2).
+ghost use Rattle.std.specs.Prelude.{◌≡◌};
+ghost use Rattle.class_program.specs.Ops.{member_operand};
+ghost use Rattle.class_program.specs.Reads.{member_seen};
+ghost use Rattle.class_program.specs.Refusals.{Gives};
+
+use crate::refusal::Refusal;
+use class_pool::Pool;
+
+/// What a Fieldref, Methodref or InterfaceMethodref entry names.
+#[derive(Clone, Copy)]
+pub(crate) struct MemberNames<'p> {
+    /// The class's name, or the descriptor of an array type.
+    pub(crate) class: &'p [u8],
+    pub(crate) name: &'p [u8],
+    pub(crate) desc: &'p [u8],
+}
+
+/// The member that an entry of that tag names.
+#[tactic(auto, unfolding(crate::specs::Ops::member_operand))]
+pub(crate) fn member_operand<'p>(
+    pool: &Pool<'p>,
+    tag: u8,
+    entry: u16,
+) -> Result<MemberNames<'p>, Refusal>
+    ensures { Gives member_seen result (member_operand pool.now tag entry) }
+{
+    let Some((found, class, name, desc)) = pool.member(entry) else {
+        return Err(Refusal::Unresolved);
+    };
+    if found != tag {
+        return Err(Refusal::Unresolved);
+    }
+    Ok(MemberNames { class, name, desc })
+}

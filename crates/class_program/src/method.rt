@@ -1,0 +1,357 @@
+//! One method: what it is once its names are resolved, or the first rule that it breaks.
+ghost use Rattle.class_world.specs.Worlds.{classes_of};
+ghost use Rattle.std.specs.Prelude.{◌≡◌, ◌≢◌, ◌⊎◌, ◌<◌, ◌^◌, length, map, Some, IfOk, IsTrue};
+ghost use Rattle.class_world.specs.declared.fault.LinkFault.TheVariants.{Code, Memory};
+ghost use Rattle.code_decode.specs.declared.fault.CodeFault.TheVariants as faults;
+ghost use Rattle.std.specs.Option.{option_map_or};
+ghost use Rattle.code_decode.specs.Codes.{decode_of};
+ghost use Rattle.class_read.specs.Rules.{name_of};
+ghost use Rattle.class_read.specs.Content.{MethodContent};
+ghost use Rattle.class_read.specs.View.{method_content, code_content};
+ghost use Rattle.class_world.specs.Linking.{Refuses, has_short_code};
+ghost use Rattle.class_program.specs.Said.{Says};
+ghost use Rattle.class_program.specs.Ops.{pool_of};
+ghost use Rattle.class_world.specs.Resolve.{method_at, has_body};
+ghost use Rattle.class_program.specs.Methods.{method_name, static_init, code_of, synchronized, own_types, in_method, table_said, insns_of, op_said, ops_of, caught, catch_of, range_of, table_of, with_receiver, method_of};
+
+use crate::op::Op;
+use crate::ops::{fault_at, op_of};
+use crate::program::{CatchRange, Method};
+use crate::signature::{Signature, declared_signature};
+use class_base::{Handler, NATIVE, STATIC, SYNCHRONIZED, has_flag};
+use class_pool::Pool;
+use class_read::{CodeView, MethodView};
+use class_world::{LinkFault, MethodName, MethodRef, World};
+use code_decode::{CodeFault, Insn, check_table, decode};
+use jvm_values::{Base, Slot, Ty};
+use list_views::{Bytes, Seq};
+use std::alloc::{AllocError, Global};
+
+/// The code of a method that isn't native.
+#[tactic(auto, unfolding(crate::specs::Methods::code_of))]
+fn code_of<'v, 'a>(
+    alloc: Global,
+    name: &MethodName,
+    view: &'v MethodView<'a>,
+) -> Result<&'v CodeView<'a>, LinkFault>
+    requires { IsTrue (has_short_code (method_content view.now)) }
+    ensures code { Says (λ code. code_content code.now) result (code_of name.now (method_content view.now)) }
+    ensures short { IfOk result (λ code. length code.now.code.now < 2 ^ 16) }
+{
+    if has_flag(view.flags, NATIVE) {
+        return Err(LinkFault::Native {
+            method: name.copy(alloc)?,
+        });
+    }
+    match &view.code {
+        Some(code) => Ok(code),
+        None => Err(LinkFault::Native {
+            method: name.copy(alloc)?,
+        }),
+    }
+}
+
+/// The method isn't synchronized.
+#[tactic(auto, unfolding(crate::specs::Methods::synchronized))]
+fn not_synchronized(
+    alloc: Global,
+    name: &MethodName,
+    view: &MethodView<'_>,
+) -> Result<(), LinkFault>
+    ensures { Refuses result (synchronized name.now (method_content view.now)) }
+{
+    if has_flag(view.flags, SYNCHRONIZED) {
+        return Err(LinkFault::Synchronized {
+            method: name.copy(alloc)?,
+        });
+    }
+    Ok(())
+}
+
+/// The fault of a method's code as one of linking.
+fn code_fault(alloc: Global, name: &MethodName, fault: CodeFault) -> LinkFault
+    ensures { (result ≡ Memory) ⊎ ((fault ≢ faults.Memory) × (result ≡ Code name.now fault)) }
+{
+    match fault {
+        CodeFault::Memory => LinkFault::Memory,
+        fault => match name.copy(alloc) {
+            Ok(method) => LinkFault::Code { method, fault },
+            Err(_) => LinkFault::Memory,
+        },
+    }
+}
+
+/// The instructions of a code.
+fn decoded(alloc: Global, name: &MethodName, code: &[u8]) -> Result<Vec<(u16, Insn)>, LinkFault>
+    requires { length code.now < 2 ^ 16 }
+    ensures { Says (λ insns. insns.items) result (in_method name.now (decode_of code.now)) }
+{
+    match decode(alloc, code) {
+        Ok(insns) => Ok(insns),
+        Err(fault) => Err(code_fault(alloc, name, fault)),
+    }
+}
+
+/// The boundaries of the exception table are good.
+fn has_good_table(
+    alloc: Global,
+    name: &MethodName,
+    code: &CodeView<'_>,
+    insns: &[(u16, Insn)],
+) -> Result<(), LinkFault>
+    requires { length code.now.code.now < 2 ^ 16 }
+    ensures { Says (λ x. x) result (in_method name.now (table_said (code_content code.now) insns.now)) }
+{
+    match check_table(alloc, insns, code.code.len() as u32, code.table.as_slice()) {
+        Ok(()) => Ok(()),
+        Err(fault) => Err(code_fault(alloc, name, fault)),
+    }
+}
+
+/// The instructions of a code whose exception table is good.
+#[tactic(auto, unfolding(crate::specs::Methods::insns_of))]
+fn insns_of(
+    alloc: Global,
+    name: &MethodName,
+    code: &CodeView<'_>,
+) -> Result<Vec<(u16, Insn)>, LinkFault>
+    requires { length code.now.code.now < 2 ^ 16 }
+    ensures { Says (λ insns. insns.items) result (insns_of name.now (code_content code.now)) }
+{
+    let insns = decoded(alloc, name, code.code)?;
+    has_good_table(alloc, name, code, &insns)?;
+    Ok(insns)
+}
+
+/// The names of a method that a class declares.
+fn method_name(
+    world: &World<'_>,
+    alloc: Global,
+    class: u32,
+    view: &MethodView<'_>,
+) -> Result<MethodName, AllocError>
+    requires { class < length (classes_of world.now) }
+    ensures { IfOk result (λ name. name ≡ method_name (classes_of world.now) class (method_content view.now)) }
+{
+    Ok(MethodName {
+        class: Seq::from_slice(alloc, world.name_of(class))?,
+        name: Seq::from_slice(alloc, view.name)?,
+        desc: Seq::from_slice(alloc, view.desc)?,
+    })
+}
+
+/// The instructions with their names resolved.
+fn ops_of(
+    world: &World<'_>,
+    alloc: Global,
+    class: u32,
+    name: &MethodName,
+    insns: Vec<(u16, Insn)>,
+) -> Result<Seq<(u16, Op)>, LinkFault>
+    requires { class < length (classes_of world.now) }
+    ensures { Says (λ ops. ops) result (ops_of (classes_of world.now) class name.now insns.items) }
+{
+    let mut ops = Seq::with_capacity(alloc, insns.len())?;
+    for insn in insns {
+        ops.push(op_said(world, alloc, class, name, insn)?)?;
+    }
+    Ok(ops)
+}
+
+/// Neither the class nor one above it has a static initialiser.
+#[tactic(auto, unfolding(crate::specs::Methods::static_init))]
+fn keeps_static_init(world: &World<'_>, alloc: Global, class: u32) -> Result<(), LinkFault>
+    requires { class < length (classes_of world.now) }
+    ensures { Refuses result (static_init (classes_of world.now) class) }
+{
+    match world.first_static_init(class) {
+        Some(name) => Err(LinkFault::StaticInit {
+            name: Seq::from_slice(alloc, name)?,
+        }),
+        None => Ok(()),
+    }
+}
+
+/// What the method's descriptor means.
+#[tactic(auto, unfolding(crate::specs::Methods::own_types))]
+fn own_types(
+    world: &World<'_>,
+    alloc: Global,
+    name: &MethodName,
+    desc: &[u8],
+) -> Result<Signature, LinkFault>
+    ensures { Says (λ types. types) result (own_types (classes_of world.now) name.now desc.now) }
+{
+    match declared_signature(world, alloc, desc) {
+        Ok(types) => Ok(types),
+        Err(refusal) => Err(fault_at(alloc, name, 0, refusal)?),
+    }
+}
+
+/// An instruction and its place, with its names resolved.
+#[tactic(auto, unfolding(crate::specs::Methods::op_said))]
+fn op_said(
+    world: &World<'_>,
+    alloc: Global,
+    class: u32,
+    name: &MethodName,
+    insn: (u16, Insn),
+) -> Result<(u16, Op), LinkFault>
+    requires { class < length (classes_of world.now) }
+    ensures { Says (λ op. op) result (op_said (classes_of world.now) class name.now insn) }
+{
+    let (pc, insn) = insn;
+    let op = op_of(world, alloc, class, name, pc, insn)?;
+    Ok((pc, op))
+}
+
+/// The class of a name, which must be there.
+fn caught(world: &World<'_>, alloc: Global, name: &[u8]) -> Result<Option<u32>, LinkFault>
+    ensures { Says (λ class. class) result (caught (classes_of world.now) name.now) }
+{
+    match world.class_of(name) {
+        Some(class) => Ok(Some(class)),
+        None => Err(LinkFault::MissingClass {
+            name: Seq::from_slice(alloc, name)?,
+        }),
+    }
+}
+
+/// The class that a range catches.
+#[tactic(auto, unfolding(crate::specs::Methods::catch_of))]
+fn catch_of(
+    world: &World<'_>,
+    alloc: Global,
+    pool: &Pool<'_>,
+    entry: u16,
+) -> Result<Option<u32>, LinkFault>
+    ensures { Says (λ class. class) result (catch_of (classes_of world.now) pool.now entry) }
+{
+    if entry == 0 {
+        return Ok(None);
+    }
+    caught(world, alloc, class_name(pool, entry))
+}
+
+/// The exception table with the caught classes' numbers.
+fn table_of(
+    world: &World<'_>,
+    alloc: Global,
+    pool: &Pool<'_>,
+    table: &[Handler],
+) -> Result<Seq<CatchRange>, LinkFault>
+    ensures { Says (λ ranges. ranges) result (table_of (classes_of world.now) pool.now table.now) }
+{
+    let mut ranges = Seq::with_capacity(alloc, table.len())?;
+    for entry in table {
+        ranges.push(range_of(world, alloc, pool, entry)?)?;
+    }
+    Ok(ranges)
+}
+
+/// An entry of an exception table, with the number of the caught class.
+#[tactic(auto, unfolding(crate::specs::Methods::range_of))]
+fn range_of(
+    world: &World<'_>,
+    alloc: Global,
+    pool: &Pool<'_>,
+    entry: &Handler,
+) -> Result<CatchRange, LinkFault>
+    ensures { Says (λ range. range) result (range_of (classes_of world.now) pool.now entry.now) }
+{
+    let catch = catch_of(world, alloc, pool, entry.catch)?;
+    Ok(CatchRange {
+        start: entry.start,
+        end: entry.end,
+        handler: entry.handler,
+        catch,
+    })
+}
+
+/// The constant pool of a class.
+fn pool<'w, 'a>(world: &'w World<'a>, class: u32) -> &'w Pool<'a>
+    requires { class < length (classes_of world.now) }
+    ensures { result.now ≡ pool_of (classes_of world.now) class }
+{
+    let view = world.view(class);
+    &view.pool
+}
+
+/// The method that a class declares, whose calls have no numbers yet, or the first rule that it breaks.
+#[tactic(auto, unfolding(crate::specs::Methods::method_of))]
+fn declared<'a>(
+    world: &World<'a>,
+    alloc: Global,
+    class: u32,
+    view: &MethodView<'a>,
+) -> Result<Method<'a>, LinkFault>
+    requires class { class < length (classes_of world.now) }
+    requires short { IsTrue (has_short_code (method_content view.now)) }
+    ensures { Says (λ m. m) result (method_of (classes_of world.now) class (method_content view.now)) }
+{
+    keeps_static_init(world, alloc, class)?;
+    let name = method_name(world, alloc, class, view)?;
+    let code = code_of(alloc, &name, view)?;
+    not_synchronized(alloc, &name, view)?;
+    let types = own_types(world, alloc, &name, view.desc)?;
+    let insns = insns_of(alloc, &name, code)?;
+    let insns = ops_of(world, alloc, class, &name, insns)?;
+    let table = table_of(world, alloc, pool(world, class), code.table.as_slice())?;
+    Ok(Method {
+        class,
+        name: Bytes::new(view.name),
+        desc: Bytes::new(view.desc),
+        params: with_receiver(alloc, class, view.flags, types.params)?,
+        result: types.result,
+        max_stack: code.max_stack,
+        max_locals: code.max_locals,
+        insns,
+        table,
+    })
+}
+
+/// A method of the world, whose calls have no numbers yet, or the first rule that it breaks.
+pub(crate) fn method_of<'a>(
+    world: &World<'a>,
+    alloc: Global,
+    method: MethodRef,
+) -> Result<Method<'a>, LinkFault>
+    requires { IsTrue (has_body (classes_of world.now) method) }
+    ensures { (content : MethodContent) → method_at (classes_of world.now) method ≡ Some content → Says (λ m. m) result (method_of (classes_of world.now) method.class content) }
+{
+    match world.method_at(method) {
+        Some(view) => declared(world, alloc, method.class, view),
+        None => Err(LinkFault::Memory),
+    }
+}
+
+/// The name that a Class entry says.
+fn class_name<'a>(pool: &Pool<'a>, entry: u16) -> &'a [u8]
+    ensures { result.now ≡ name_of pool.now entry }
+{
+    match pool.class_name(entry) {
+        Some(name) => name,
+        None => &[],
+    }
+}
+
+/// The parameters, and before them the receiver of an instance method.
+fn with_receiver(
+    alloc: Global,
+    class: u32,
+    flags: u16,
+    params: Seq<Slot>,
+) -> Result<Seq<Slot>, AllocError>
+    ensures { IfOk result (λ slots. slots ≡ with_receiver class flags params) }
+{
+    if has_flag(flags, STATIC) {
+        return Ok(params);
+    }
+    let mut slots = Seq::with_capacity(alloc, params.len())?;
+    slots.push(Slot::Ref(Ty {
+        dims: 0,
+        base: Base::Class(class),
+    }))?;
+    slots.extend_from_slice(params.as_slice())?;
+    Ok(slots)
+}

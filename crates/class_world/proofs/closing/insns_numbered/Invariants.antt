@@ -1,6 +1,0 @@
-use Rattle.std.proofs.Common.{◌≡◌}
-use Rattle.class_world.specs.Reached.{insns_numbered}
-use Rattle.class_world.proofs.closing.insns_numbered.Given as goal
-
-abbrev pub invariant-loop-pc : goal.invariant-loop-pc
-invariant-loop-pc l = l.done ≡ insns_numbered l.refs l.yielded

@@ -1,7 +1,0 @@
-use Rattle.std.proofs.Common.{◌≡◌}
-use Rattle.std.specs.Prelude.{map}
-use Rattle.class_world.specs.Reached.{method_numbered}
-use Rattle.class_world.proofs.closing.methods_numbered.Given as goal
-
-abbrev pub invariant-loop-method : goal.invariant-loop-method
-invariant-loop-method l = l.done ≡ map (method_numbered l.refs) l.yielded

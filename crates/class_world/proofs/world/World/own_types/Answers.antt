@@ -1,8 +1,0 @@
-use Rattle.class_world.specs.Signatures.{declared_signature}
-use Rattle.class_world.specs.Methods.{own_types}
-use Rattle.class_world.proofs.Refused.{fault_said}
-use Rattle.class_world.proofs.world.World.own_types.Goals as goal
-
-pub returns-in_ok-fault_at-in-Err : goal.returns-in_ok-fault_at-in-Err
-unfolding own_types
-returns-in_ok-fault_at-in-Err c = fault_said c.args.name.now 0 _ (declared_signature c.args.self.now.roster.classes c.args.desc.now) _ c.in-Err.ensures c.in_ok-fault_at-in-Err.ensures
