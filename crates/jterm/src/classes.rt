@@ -13,8 +13,8 @@ ghost use Rattle.jterm.specs.declared.verdict.Refused.TheVariants.{Memory};
 
 use crate::line::{Line, descriptor};
 use crate::{Fault, Place, Refused};
-use class_read::{ClassFault, ClassView};
 use class_program::Program;
+use class_read::{ClassFault, ClassView};
 use class_world::{LinkFault, MethodRef, World};
 use list_views::Seq;
 use std::alloc::{AllocError, Global};

@@ -6,8 +6,8 @@ ghost use Rattle.vector_tables.specs.ReadClasses.{AreRead};
 
 use crate::case::Case;
 use anyhow::{Context, Result, bail};
-use class_read::ClassView;
 use class_program::Program;
+use class_read::ClassView;
 use class_world::{LinkFault, World};
 use std::alloc::Global;
 
