@@ -1,17 +1,28 @@
 -- A line that is added entry by entry.
-use Rattle.std.proofs.Common.{◌≡◌, ℕ, suc, ◌+◌, ◌*◌, ◌≤◌, ◌<◌, ◌^◌, Bool, true, false, cond, List, [], ◌∷◌, ◌++◌, length, get_or, drop, ℤ, pos, ◌+ℤ◌, ◌*ℤ◌, Option, Some, None, subst, ap, arith, refl, ◌∙◌, sym, add-one}
-use Rattle.std.specs.Prelude.{unsigned_abs}
+use Rattle.std.proofs.Common.{◌≡◌, ℕ, suc, ◌+◌, ◌*◌, ◌≤◌, ◌<◌, ◌^◌, Bool, true, false, cond, List, [], ◌∷◌, ◌++◌, length, get_or, drop, ℤ, pos, ◌+ℤ◌, ◌-ℤ◌, ◌≤ℤ◌, ◌*ℤ◌, eqb, Option, Some, None, subst, ap, arith, refl, ◌∙◌, sym, add-one, negsuc}
+use Rattle.std.specs.Prelude.{unsigned_abs, IsTrue, ◌↔◌}
 use Rattle.std.proofs.lemmas.Int.{ints}
 use Rattle.std.proofs.lemmas.List.{at_drop_more, at_drop_all}
-use Rattle.lin_core.specs.Rows.{coefficient_of, RiseFrom}
+use Rattle.lin_core.specs.Rows.{coefficient_of, RiseFrom, Row, AllRise}
 use Rattle.lin_core.specs.Steps.{AddsMultiple}
-use Rattle.lin_core.specs.Sums.{Sum, variables, coefficient_in, IsWithin}
+use Rattle.lin_core.specs.Sums.{Sum, variables, coefficient_in, IsWithin, Leaves}
 use Rattle.list_views.proofs.Ring.{times_plus, times_assoc}
 use Rattle.lin_core.proofs.Signs.{mul-zero_ℤ}
+use Rattle.lin_core.specs.declared.faults.LinFault.{LinFault}
+use Rattle.lin_core.specs.declared.rows.Target.{Target}
+use Rattle.lin_core.specs.declared.rows.WRow.{WRow}
+use Rattle.lin_core.specs.Combination.{first_fault, IsSumOf, Shows}
+use Rattle.lin_core.specs.Weights.{AreRows, rows_under}
+use Rattle.lin_core.proofs.Weighs.{rise_under}
+use Rattle.descent.specs.declared.faults.DescentFault.{DescentFault}
+use Rattle.descent.specs.declared.faults.DescentFault.TheVariants.{Lin}
+use Rattle.descent.specs.declared.proof.CutForm.{CutForm}
+use Rattle.descent.specs.declared.rules.PathRule.{PathRule}
 use Rattle.descent.specs.declared.rules.SlotForm.{SlotForm}
-use Rattle.descent.specs.Conditions.{AreMultiples, AreSlots, IsSlot}
+use Rattle.descent.specs.Shown.{IsMet, met_of, met_is, Under}
+use Rattle.descent.specs.Conditions.{AreForms, AreMultiples, AreSlots, IsForm, IsRule, IsSlot}
 use Rattle.descent.specs.Lines.{AddsLine}
-use Rattle.descent.specs.Rankings.{is_slot_of, slot_at, scaled, terms_of, constant_of, entry_terms, entry_constant}
+use Rattle.descent.specs.Rankings.{form_at, ints_of, sizes_of, shows_target, need, need_fault, slot_at, scaled, terms_of, constant_of, entry_terms, entry_constant}
 
 -- coefficients of lists that are joined, and of scaled ones
 coefficient_both : (x : ℕ) (a b : List (ℕ × ℤ)) → coefficient_of x (a ++ b) ≡ coefficient_of x a +ℤ coefficient_of x b
@@ -108,7 +119,7 @@ adding_room weigh slots size sign all rest i old now in' fit room h =
 plus_nothing : (now sign all : ℤ) → now +ℤ sign *ℤ pos 0 ≡ all → now ≡ all
 plus_nothing now sign all h = let e = mul-zero_ℤ sign in omega (arith, ints)
 
-pub adding_last : (weigh : ℕ → ℤ) (slots : List SlotForm) (size : Bool) (sign : ℤ) (all : List (ℕ × ℤ)) (i : ℕ) (old now : Sum) → length all ≤ i → i ≤ length all → AreMultiples all → IsAdding weigh slots size sign all (drop i all) i old now → AddsLine (entry_terms slots size all) (entry_constant weigh slots size all) sign old now
+pub adding_last : (weigh : ℕ → ℤ) (slots : List SlotForm) (size : Bool) (sign : ℤ) (all : List (ℕ × ℤ)) (i : ℕ) (old now : Sum) → length all ≤ i → i ≤ length all → AreMultiples all → IsAdding weigh slots size sign all (drop i all) i old now → AddsLine (2 ^ 110) (entry_terms slots size all) (entry_constant weigh slots size all) sign old now
 adding_last weigh slots size sign all i old now past in' fit h =
     let few = rising_few 0 65536 all (omega arith) fit.rise in
     let none = at_drop_all (λ (xs : List (ℕ × ℤ)). xs) all i past in
@@ -121,11 +132,127 @@ adding_last weigh slots size sign all i old now past in' fit h =
       constant_growth = omega (arith, m.constant_growth);
     }
 
--- the slot of an id is one of the slots
-slot_fits_cases : (here : Bool) (end : ℕ) (first slot : SlotForm) (found : Option SlotForm) → IsSlot end first → (found ≡ Some slot → IsSlot end slot) → cond here (Some first) found ≡ Some slot → IsSlot end slot
-slot_fits_cases true end first slot found fit more e = subst (λ (s : SlotForm). IsSlot end s) (cc) fit
-slot_fits_cases false end first slot found fit more e = more e
+-- one line after another
+both_signs : (x y z sign a b whole : ℤ) → y ≡ x +ℤ sign *ℤ a → z ≡ y +ℤ sign *ℤ b → whole ≡ a +ℤ b → z ≡ x +ℤ sign *ℤ whole
+both_signs x y z sign a b whole e h w = let d = times_plus sign a b in rw w (omega (arith, ints))
 
-pub slot_fits : (end : ℕ) (slots : List SlotForm) (size : Bool) (id : ℕ) (slot : SlotForm) → AreSlots end slots → slot_at slots size id ≡ Some slot → IsSlot end slot
-slot_fits end [] size id slot fit e = absurd (cc)
-slot_fits end (first ∷ rest) size id slot fit e = slot_fits_cases (is_slot_of size id first) end first slot (slot_at rest size id) (fit 0 first (omega arith)) (λ h. slot_fits end rest size id slot (λ i d w. fit (suc i) d (omega arith)) h) e
+pub two_lines : (room more : ℕ) (a b : List (ℕ × ℤ)) (m n sign : ℤ) (old mid new : Sum) → AddsLine room a m sign old mid → AddsLine more b n sign mid new → AddsLine (room + more) (a ++ b) (m +ℤ n) sign old new
+two_lines room more a b m n sign old mid new h k = record {
+  count = k.count ∙ h.count;
+  coefficients = λ x. both_signs (coefficient_in old x) (coefficient_in mid x) (coefficient_in new x) sign (coefficient_of x a) (coefficient_of x b) _ (h.coefficients x) (k.coefficients x) (coefficient_both x a b);
+  constant = both_signs old.constant mid.constant new.constant sign m n _ h.constant k.constant refl;
+  growth = λ x. omega (arith, h.growth x, k.growth x);
+  constant_growth = omega (arith, h.constant_growth, k.constant_growth);
+}
+
+pub line_within : (low room high : ℕ) (terms : List (ℕ × ℤ)) (number sign : ℤ) (old new : Sum) → low + room ≤ high → IsWithin low old → AddsLine room terms number sign old new → IsWithin high new
+line_within low room high terms number sign old new le h adds = record {
+  coefficients = λ x. omega (arith, adds.growth x, h.coefficients x);
+  constant = omega (arith, adds.constant_growth, h.constant);
+}
+
+-- a list of forms within their limits has such forms
+form_fits_cases : (here : Bool) (first form : CutForm) (found : Option CutForm) → IsForm first → (found ≡ Some form → IsForm form) → cond here (Some first) found ≡ Some form → IsForm form
+form_fits_cases true first form found fit more e = subst (λ (f : CutForm). IsForm f) (cc) fit
+form_fits_cases false first form found fit more e = more e
+
+form_fits : (forms : List CutForm) (cut : ℕ) (form : CutForm) → AreForms forms → form_at forms cut ≡ Some form → IsForm form
+form_fits [] cut form fit e = absurd (cc)
+form_fits (first ∷ rest) cut form fit e = form_fits_cases (eqb first.cut cut) first form (form_at rest cut) (fit 0 first (omega arith)) (λ h. form_fits rest cut form (λ i d w. fit (suc i) d (omega arith)) h) e
+
+no_multiples : AreMultiples []
+no_multiples = record { rise = tt; size = λ i d w. absurd (omega arith) }
+
+ints_fit_cases : (found : Option CutForm) → ((form : CutForm) → found ≡ Some form → IsForm form) → AreMultiples (ints_of found)
+ints_fit_cases None fit = no_multiples
+ints_fit_cases (Some form) fit = (fit form refl).ints
+
+sizes_fit_cases : (sizes : Bool) (found : Option CutForm) → ((form : CutForm) → found ≡ Some form → IsForm form) → AreMultiples (sizes_of sizes found)
+sizes_fit_cases false found fit = no_multiples
+sizes_fit_cases true None fit = no_multiples
+sizes_fit_cases true (Some form) fit = (fit form refl).sizes
+
+pub ints_fit : (forms : List CutForm) (cut : ℕ) → AreForms forms → AreMultiples (ints_of (form_at forms cut))
+ints_fit forms cut fit = ints_fit_cases (form_at forms cut) (λ form e. form_fits forms cut form fit e)
+
+pub sizes_fit : (sizes : Bool) (forms : List CutForm) (cut : ℕ) → AreForms forms → AreMultiples (sizes_of sizes (form_at forms cut))
+sizes_fit sizes forms cut fit = sizes_fit_cases sizes (form_at forms cut) (λ form e. form_fits forms cut form fit e)
+
+-- rows and slots over fewer variables are over more
+wider : (low end more : ℕ) (terms : List (ℕ × ℤ)) → end ≤ more → RiseFrom low end terms → RiseFrom low more terms
+wider low end more [] le h = tt
+wider low end more (term ∷ rest) le h = (h.0, omega (arith, h.1), wider (suc term.0) end more rest le h.2)
+
+pub slots_wider : (end more : ℕ) (slots : List SlotForm) → end ≤ more → AreSlots end slots → AreSlots more slots
+slots_wider end more slots le h = λ i d w. record { rise = wider 0 end more (get_or slots i d).terms le (h i d w).rise; constant = (h i d w).constant; weights = (h i d w).weights }
+
+pub rows_wider : (end more : ℕ) (rows : List WRow) → end ≤ more → AreRows end rows → AreRows more rows
+rows_wider end more rows le h = λ i d w. record { rise = wider 0 end more (get_or rows i d).terms le (h i d w).rise; constant = (h i d w).constant; weights = (h i d w).weights }
+
+-- a sum from which start was taken away and to which end was added shows what is left of it
+left_over : (s was mid now a b : ℤ) → was ≡ s → mid ≡ was +ℤ negsuc 0 *ℤ a → now ≡ mid +ℤ pos 1 *ℤ b → now ≡ (s -ℤ a) +ℤ b
+left_over s was mid now a b e h k = omega (arith, ints)
+
+zero_left : (s a b now whole : ℤ) → now ≡ (s -ℤ a) +ℤ b → whole ≡ a +ℤ negsuc 0 *ℤ b → (now ≡ pos 0 → s ≡ whole) × (s ≡ whole → now ≡ pos 0)
+zero_left s a b now whole e w = (λ h. omega (arith, ints), λ h. omega (arith, ints))
+
+most_left : (s a b now base base' fall : ℤ) → now ≡ (s -ℤ a) +ℤ b → (now ≤ℤ ((base -ℤ base') -ℤ fall) → s ≤ℤ (((base +ℤ a) -ℤ (base' +ℤ b)) -ℤ fall)) × (s ≤ℤ (((base +ℤ a) -ℤ (base' +ℤ b)) -ℤ fall) → now ≤ℤ ((base -ℤ base') -ℤ fall))
+most_left s a b now base base' fall e = (λ h. omega (arith, ints), λ h. omega (arith, ints))
+
+pub fall_left : (room more : ℕ) (start end : List (ℕ × ℤ)) (a b base base' fall : ℤ) (old mid new : Sum) → AddsLine room start a (negsuc 0) old mid → AddsLine more end b (pos 1) mid new → (Leaves new ((base -ℤ base') -ℤ fall) ↔ Shows old (record { terms = start ++ scaled (negsuc 0) end; constant = ((base +ℤ a) -ℤ (base' +ℤ b)) -ℤ fall }))
+fall_left room more start end a b base base' fall old mid new h k =
+    let at : (x : ℕ) → coefficient_in new x ≡ (coefficient_in old x -ℤ coefficient_of x start) +ℤ coefficient_of x end = λ x. left_over (coefficient_in old x) (coefficient_in old x) (coefficient_in mid x) (coefficient_in new x) (coefficient_of x start) (coefficient_of x end) refl (h.coefficients x) (k.coefficients x) in
+    let whole : (x : ℕ) → coefficient_of x (start ++ scaled (negsuc 0) end) ≡ coefficient_of x start +ℤ negsuc 0 *ℤ coefficient_of x end = λ x. coefficient_both x start (scaled (negsuc 0) end) ∙ ap (λ (z : ℤ). coefficient_of x start +ℤ z) (coefficient_scaled x (negsuc 0) end) in
+    let last = left_over old.constant old.constant mid.constant new.constant a b refl h.constant k.constant in
+    let zero' : (x : ℕ) → (coefficient_in new x ≡ pos 0 → coefficient_in old x ≡ coefficient_of x (start ++ scaled (negsuc 0) end)) × (coefficient_in old x ≡ coefficient_of x (start ++ scaled (negsuc 0) end) → coefficient_in new x ≡ pos 0) = λ x. zero_left (coefficient_in old x) (coefficient_of x start) (coefficient_of x end) (coefficient_in new x) _ (at x) (whole x) in
+    let most = most_left old.constant a b new.constant base base' fall last in (
+      λ leaves. record { coefficients = λ x. (zero' x).0 (leaves.coefficients x); constant = most.0 leaves.constant },
+      λ shows. record { coefficients = λ x. (zero' x).1 (shows.coefficients x); constant = most.1 shows.constant },
+    )
+
+start_zero : (s now a : ℤ) → now ≡ s +ℤ negsuc 0 *ℤ a → (now ≡ pos 0 → s ≡ a) × (s ≡ a → now ≡ pos 0)
+start_zero s now a e = (λ h. omega (arith, ints), λ h. omega (arith, ints))
+
+start_most : (s now a base : ℤ) → now ≡ s +ℤ negsuc 0 *ℤ a → (now ≤ℤ base → s ≤ℤ (base +ℤ a)) × (s ≤ℤ (base +ℤ a) → now ≤ℤ base)
+start_most s now a base e = (λ h. omega (arith, ints), λ h. omega (arith, ints))
+
+pub start_left : (room : ℕ) (start : List (ℕ × ℤ)) (a base : ℤ) (old new : Sum) → AddsLine room start a (negsuc 0) old new → (Leaves new base ↔ Shows old (record { terms = start; constant = base +ℤ a }))
+start_left room start a base old new h =
+    let zero' : (x : ℕ) → (coefficient_in new x ≡ pos 0 → coefficient_in old x ≡ coefficient_of x start) × (coefficient_in old x ≡ coefficient_of x start → coefficient_in new x ≡ pos 0) = λ x. start_zero (coefficient_in old x) (coefficient_in new x) (coefficient_of x start) (h.coefficients x) in
+    let most = start_most old.constant new.constant a base h.constant in (
+      λ leaves. record { coefficients = λ x. (zero' x).0 (leaves.coefficients x); constant = most.0 leaves.constant },
+      λ shows. record { coefficients = λ x. (zero' x).1 (shows.coefficients x); constant = most.1 shows.constant },
+    )
+
+-- the test for a target gives what the sum tells
+met_by : (end : ℕ) (rows : List Row) (target : Target) (multipliers : List (ℕ × ℤ)) (sum : Sum) → IsSumOf end rows multipliers sum → Shows sum target → IsMet rows target multipliers
+met_by end rows target multipliers sum is shows = record {
+  coefficients = λ x. sym (is.coefficients x) ∙ shows.coefficients x;
+  constant = subst (λ (z : ℤ). z ≤ℤ target.constant) is.constant shows.constant;
+}
+
+by_met : (end : ℕ) (rows : List Row) (target : Target) (multipliers : List (ℕ × ℤ)) (sum : Sum) → IsSumOf end rows multipliers sum → IsMet rows target multipliers → Shows sum target
+by_met end rows target multipliers sum is met = record {
+  coefficients = λ x. is.coefficients x ∙ met.coefficients x;
+  constant = subst (λ (z : ℤ). z ≤ℤ target.constant) (sym is.constant) met.constant;
+}
+
+no_test : (told : Bool) → (told ≡ true → ⊥) → false ≡ told
+no_test true h = absurd (h refl)
+no_test false h = refl
+
+test_cases : (told : Bool) (vars end : ℕ) (rows : List Row) (target : Target) (multipliers : List (ℕ × ℤ)) (sum : Sum) → (IsTrue told ↔ Shows sum target) → IsSumOf end rows multipliers sum → AllRise vars rows → Under vars target.terms → told ≡ shows_target vars rows target multipliers
+test_cases true vars end rows target multipliers sum h is rise under = sym (met_is vars rows target multipliers (met_by end rows target multipliers sum is (h.0 refl)))
+test_cases false vars end rows target multipliers sum h is rise under = no_test (shows_target vars rows target multipliers) (λ e. absurd (cc (h.1 (by_met end rows target multipliers sum is (met_of vars rows target multipliers rise under e)))))
+
+told_fault : (told : Bool) (missing : DescentFault) → need_fault missing told None ≡ cond told None (Some missing)
+told_fault true missing = refl
+told_fault false missing = refl
+
+pub need_told : (told : Bool) (missing : DescentFault) (weigh : ℕ → ℤ) (rule : PathRule) (end : ℕ) (target : Target) (multipliers : List (ℕ × ℤ)) (sum : Sum) → IsRule rule → Under rule.vars target.terms → (IsTrue told ↔ Shows sum target) → IsSumOf end (rows_under weigh rule.rows) multipliers sum → first_fault (rows_under weigh rule.rows) multipliers ≡ None → need missing weigh rule target multipliers ≡ cond told None (Some missing)
+need_told told missing weigh rule end target multipliers sum fit under h is none =
+    let test = test_cases told rule.vars end (rows_under weigh rule.rows) target multipliers sum h is (rise_under weigh rule.vars rule.rows fit.rows) under in
+    ap (need_fault missing (shows_target rule.vars (rows_under weigh rule.rows) target multipliers)) none ∙ ap (λ (b : Bool). need_fault missing b None) (sym test) ∙ told_fault told missing
+
+pub need_refused : (missing : DescentFault) (weigh : ℕ → ℤ) (rule : PathRule) (target : Target) (multipliers : List (ℕ × ℤ)) (fault : LinFault) → first_fault (rows_under weigh rule.rows) multipliers ≡ Some fault → need missing weigh rule target multipliers ≡ Some (Lin fault)
+need_refused missing weigh rule target multipliers fault e = ap (need_fault missing (shows_target rule.vars (rows_under weigh rule.rows) target multipliers)) e

@@ -1,9 +1,12 @@
 pub mod Chains
 pub mod Components
 pub mod Conditions
+pub mod Laws
 pub mod Lines
 pub mod Orders
 pub mod Rankings
+pub mod Shown
 pub mod Splits
 pub mod Steps
 pub mod Valuations
+pub mod Values

@@ -1,5 +1,5 @@
 -- Forms of cuts, and what is to be shown of them on a rule.
-use Rattle.std.specs.Prelude.{ℕ, zero, suc, ℤ, pos, negsuc, ◌+ℤ◌, ◌-ℤ◌, ◌*ℤ◌, ◌==◌, ◌&&◌, not, Bool, true, false, List, [], ◌∷◌, ◌++◌, Option, Some, None, is_some, if◌then◌else◌, int_le, map}
+use Rattle.std.specs.Prelude.{◌≡◌, ℕ, zero, suc, ℤ, pos, negsuc, ◌+ℤ◌, ◌-ℤ◌, ◌*ℤ◌, ◌==◌, ◌&&◌, not, Bool, true, false, List, [], ◌∷◌, ◌++◌, Option, Some, None, is_some, if◌then◌else◌, int_le, map}
 use Rattle.lin_core.specs.declared.rows.Target.{Target}
 use Rattle.lin_core.specs.declared.faults.LinFault.{LinFault}
 use Rattle.lin_core.specs.Combination.{summed_coefficient, summed_constant, first_fault}
@@ -75,11 +75,15 @@ abbrev pub have_slots : List SlotForm → Bool → List (ℕ × ℤ) → Bool
 have_slots slots size [] = true
 have_slots slots size (entry ∷ rest) = is_some (slot_at slots size entry.0) && have_slots slots size rest
 
+-- the constant of a form's slots, without the form's own
+abbrev pub beyond_base : Ranking → Option CutForm → List SlotForm → ℤ
+beyond_base ranking form slots = entry_constant (weigh_of ranking) slots false (ints_of form) +ℤ entry_constant (weigh_of ranking) slots true (sizes_of ranking.sizes form)
+
 -- the form of a cut where these are the cut's slots
 abbrev pub line_of : Ranking → Option CutForm → List SlotForm → Target
 line_of ranking form slots = record {
   terms = entry_terms slots false (ints_of form) ++ entry_terms slots true (sizes_of ranking.sizes form);
-  constant = base_of form +ℤ (entry_constant (weigh_of ranking) slots false (ints_of form) +ℤ entry_constant (weigh_of ranking) slots true (sizes_of ranking.sizes form));
+  constant = base_of form +ℤ beyond_base ranking form slots;
 }
 
 abbrev pub is_taken : Ranking → Option CutForm → List SlotForm → Bool
@@ -124,6 +128,11 @@ abbrev pub need_fault : DescentFault → Bool → Option LinFault → Option Des
 need_fault missing shown (Some fault) = Some (Lin fault)
 need_fault missing true None = None
 need_fault missing false None = Some missing
+
+-- this is the refusal
+abbrev pub refuses : DescentFault → Option LinFault → Type 0
+refuses fault None = ⊥
+refuses fault (Some lin) = fault ≡ Lin lin
 
 abbrev pub need : DescentFault → (ℕ → ℤ) → PathRule → Target → List (ℕ × ℤ) → Option DescentFault
 need missing weigh rule target multipliers = need_fault missing (shows_target rule.vars (rows_under weigh rule.rows) target multipliers) (first_fault (rows_under weigh rule.rows) multipliers)

@@ -2,11 +2,14 @@
 #![tactic(auto)]
 
 mod faults;
+mod laws;
+mod needs;
 mod proof;
 mod ranking;
 mod rules;
 
 pub use faults::{DescentFault, StepFault};
+pub use laws::rankings_keep_laws;
 pub use lin_core::{LinFault, RowKind, Scratch, WRow};
 pub use proof::{CutForm, Proof, ProofStep, RankRule, RankStep};
 pub use rules::{PathRule, Place, SlotForm};

@@ -86,7 +86,7 @@ pub(crate) fn add_entries(
     requires slots { AreSlots (variables scratch.old) slots.now }
     requires entries { AreMultiples entries.now }
     requires room { IsWithin (2 ^ 113) scratch.old }
-    ensures { AddsLine (entry_terms slots.now size entries.now) (entry_constant (weight_in weights.now) slots.now size entries.now) (if negative then negsuc 0 else pos 1) scratch.old scratch.new }
+    ensures { AddsLine (2 ^ 110) (entry_terms slots.now size entries.now) (entry_constant (weight_in weights.now) slots.now size entries.now) (if negative then negsuc 0 else pos 1) scratch.old scratch.new }
 {
     for (id, multiple) in entries {
         if let Some(slot) = slot_at(slots, size, *id) {
