@@ -1,2 +1,4 @@
 pub mod Fitting
 pub mod PairLaws
+pub mod PatternLaws
+pub mod Replaying

@@ -5,4 +5,5 @@ pub mod Fits
 pub mod Laws
 pub mod PairLists
 pub mod Patterns
+pub mod Replays
 pub mod Sound

@@ -8,10 +8,12 @@ mod cells;
 mod ids;
 mod laws;
 mod pairs;
+mod replays;
 mod states;
 
 pub use cells::Cell;
 pub use ids::{Id, Ids};
-pub use laws::{fitting_frames_agree, known_ids_are_apart};
+pub use laws::{fitting_frames_agree, known_ids_are_apart, patterns_are_one};
 pub use pairs::{ListPairs, Pairs};
+pub use replays::{PairCall, replay};
 pub use states::{AbsFrame, AbsState};
