@@ -1,0 +1,114 @@
+//! `code_decode`: what its tables don't show.
+use code_decode::{
+    Case, CodeFault, Insn, decode, encode, falls_through, is_rising, length, plain, put_insn,
+    targets, wide_local, with_byte, with_jump, with_pair,
+};
+use list_views::Seq;
+use std::test::Fail;
+
+/// The bytes of one instruction of each kind, by the opcodes of the JVM specification.
+static CODE: [u8; 258] = [
+    0, 1, 2, 3, 4, 5, 6, 7, 8, 16, 128, 17, 128, 0, 18, 200, 19, 1, 2, 21, 200, 25, 200, 26, 27,
+    28, 29, 42, 43, 44, 45, 46, 50, 51, 52, 53, 54, 200, 58, 200, 59, 60, 61, 62, 75, 76, 77, 78,
+    79, 83, 84, 85, 86, 87, 88, 89, 90, 91, 92, 93, 94, 95, 96, 100, 104, 108, 112, 116, 120, 122,
+    124, 126, 128, 130, 132, 9, 255, 145, 146, 147, 153, 255, 176, 154, 255, 173, 155, 255, 170,
+    156, 255, 167, 157, 255, 164, 158, 255, 161, 159, 255, 158, 160, 255, 155, 161, 255, 152, 162,
+    255, 149, 163, 255, 146, 164, 255, 143, 165, 255, 140, 166, 255, 137, 167, 255, 134, 170, 0, 0,
+    255, 255, 255, 131, 255, 255, 255, 255, 0, 0, 0, 1, 255, 255, 255, 131, 255, 255, 255, 132,
+    255, 255, 255, 133, 171, 0, 0, 0, 255, 255, 255, 104, 0, 0, 0, 2, 255, 255, 255, 249, 255, 255,
+    255, 105, 0, 0, 0, 7, 255, 255, 255, 106, 172, 176, 177, 178, 1, 2, 179, 1, 2, 180, 1, 2, 181,
+    1, 2, 182, 1, 2, 183, 1, 2, 184, 1, 2, 185, 3, 4, 2, 0, 187, 1, 2, 188, 10, 189, 1, 2, 190,
+    191, 192, 1, 2, 193, 1, 2, 198, 255, 31, 199, 255, 28, 200, 255, 255, 255, 25, 196, 21, 1, 0,
+    196, 25, 1, 0, 196, 54, 1, 0, 196, 58, 1, 0, 196, 132, 1, 0, 128, 0,
+];
+
+#[test]
+fn every_instruction_is_written_as_it_was_read(rt: HostRuntime) -> Result<(), Fail> {
+    let insns = decode(rt.alloc(), &CODE)?;
+    let code = encode(rt.alloc(), insns.as_slice())?;
+    assert_eq!(rt; code.as_slice(), CODE.as_slice());
+    Ok(())
+}
+
+#[test]
+fn a_fault_is_put_into_words(rt: HostRuntime) -> Result<(), Fail> {
+    let fault = CodeFault::UnknownOpcode { pc: 4, op: 202 };
+    let text = fault.text(rt.alloc())?;
+    assert_eq!(rt; text.as_slice(), b"UnknownOpcode pc=4 op=202".as_slice());
+    assert!(rt; falls_through(&Insn::Nop) && !falls_through(&Insn::Athrow));
+    assert_eq!(rt; length(0, &Insn::Goto(0)), 3);
+    Ok(())
+}
+
+#[test]
+fn an_opcode_without_operands_is_its_instruction(rt: HostRuntime) {
+    assert!(rt; matches!(&plain(0), Some(Insn::Nop)));
+    assert!(rt; matches!(&plain(96), Some(Insn::Iadd)));
+    assert!(rt; matches!(&plain(191), Some(Insn::Athrow)));
+    assert!(rt; plain(16).is_none());
+}
+
+#[test]
+fn an_opcode_with_a_byte_keeps_it(rt: HostRuntime) {
+    assert!(rt; matches!(&with_byte(18, 7), Some(Insn::Ldc(7))));
+    assert!(rt; matches!(&with_byte(58, 255), Some(Insn::Astore(255))));
+    assert!(rt; with_byte(16, 7).is_none());
+}
+
+#[test]
+fn an_opcode_with_a_pool_entry_keeps_it(rt: HostRuntime) {
+    assert!(rt; matches!(&with_pair(187, 258), Some(Insn::New(258))));
+    assert!(rt; matches!(&with_pair(182, 3), Some(Insn::Invokevirtual(3))));
+    assert!(rt; with_pair(185, 3).is_none());
+}
+
+#[test]
+fn an_opcode_with_a_near_target_keeps_it(rt: HostRuntime) {
+    assert!(rt; matches!(&with_jump(167, 300), Some(Insn::Goto(300))));
+    assert!(rt; matches!(&with_jump(198, 9), Some(Insn::Ifnull(9))));
+    assert!(rt; with_jump(200, 9).is_none());
+}
+
+#[test]
+fn an_opcode_behind_wide_keeps_its_local(rt: HostRuntime) {
+    assert!(rt; matches!(&wide_local(21, 300), Some(Insn::WideIload(300))));
+    assert!(rt; matches!(&wide_local(58, 300), Some(Insn::WideAstore(300))));
+    assert!(rt; wide_local(132, 300).is_none());
+}
+
+#[test]
+fn the_default_comes_before_the_targets_of_the_keys(rt: HostRuntime) -> Result<(), Fail> {
+    let up = Case { key: -1, target: 4 };
+    let down = Case { key: 5, target: 28 };
+    let lookup = Insn::Lookupswitch {
+        default: 30,
+        cases: Seq::from_slice(rt.alloc(), &[up, down])?,
+    };
+    let found = targets(rt.alloc(), &lookup)?;
+    assert_eq!(rt; found.as_slice(), [30, 4, 28].as_slice());
+    assert!(rt; targets(rt.alloc(), &Insn::Athrow)?.is_empty());
+    assert!(rt; is_rising(&[up, down]) && !is_rising(&[down, up]));
+    Ok(())
+}
+
+#[test]
+fn a_switch_is_padded_to_a_multiple_of_four(rt: HostRuntime) -> Result<(), Fail> {
+    let table = Insn::Tableswitch {
+        default: 1,
+        low: 7,
+        targets: Seq::from_slice(rt.alloc(), &[1])?,
+    };
+    let mut out = vec![in rt.alloc(); 0]?;
+    put_insn(&mut out, 1, &table)?;
+    let expected = [0, 170, 0, 0, 0, 0, 0, 0, 0, 0, 0, 7, 0, 0, 0, 7, 0, 0, 0, 0];
+    assert_eq!(rt; out.as_slice(), expected.as_slice());
+    Ok(())
+}
+
+#[test]
+fn a_jump_back_is_written_as_a_negative_distance(rt: HostRuntime) -> Result<(), Fail> {
+    let mut out = Vec::new(rt.alloc());
+    put_insn(&mut out, 5, &Insn::Goto(2))?;
+    assert_eq!(rt; out.as_slice(), [167, 255, 253].as_slice());
+    Ok(())
+}
