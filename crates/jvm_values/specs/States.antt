@@ -25,10 +25,10 @@ pub record MachineState : Type 0 where
 
 -- what a frame and a state of the code are to the written machine
 abbrev pub frame_of : Frame → MachineFrame
-frame_of frame = record { method = frame.method; pc = frame.pc; locals = frame.locals; stack = frame.stack }
+frame_of frame = record { method = frame.method; pc = frame.pc; locals = frame.locals; stack = frame.stack.0 }
 
 abbrev pub state_of : State → MachineState
-state_of state = record { frames = map frame_of state.frames; heap = state.heap; mode = state.mode; statics = state.statics }
+state_of state = record { frames = map frame_of state.frames.0; heap = state.heap; mode = state.mode; statics = state.statics }
 
 -- the types of a frame's places, the stack from the top down
 pub record PlaceTypes : Type 0 where

@@ -1,7 +1,6 @@
 //! Frames and states (JVM specification, sections 2.5 and 2.6).
 use crate::heap::{Heap, Value};
-use crate::pile::Pile;
-use list_views::Seq;
+use list_views::{Seq, Stack};
 
 /// The frame of a call that runs (JVM specification, section 2.6).
 #[derive(Debug, Drop)]
@@ -13,8 +12,8 @@ pub struct Frame {
     pub pc: u16,
     /// The local variables, of which some may be unset.
     pub locals: Seq<Option<Value>>,
-    /// The operand stack, seen top first.
-    pub stack: Pile<Value>,
+    /// The operand stack, seen top first beside its room.
+    pub stack: Stack<Value>,
 }
 
 /// Whether a state runs instructions or looks for a handler.
@@ -29,12 +28,12 @@ pub enum Mode {
 /// A state of the machine.
 #[derive(Debug, Drop)]
 pub struct State {
-    /// The frames, seen with the running call's first.
-    pub frames: Pile<Frame>,
+    /// The frames, seen with the running call's first beside the stack's room.
+    pub frames: Stack<Frame>,
     /// The heap.
     pub heap: Heap,
     /// The mode.
     pub mode: Mode,
-    /// The values of the static fields, none while static fields are refused.
+    /// The values of the program's static fields, each at its place among these.
     pub statics: Seq<Value>,
 }
