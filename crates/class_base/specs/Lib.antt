@@ -4,3 +4,4 @@ pub mod Types
 pub mod MethodTypes
 pub mod MemberKinds
 pub mod Members
+pub mod Limits

@@ -1,6 +1,5 @@
 //! Types of methods as descriptors write them (JVM specification, SE 8, section 4.3.3).
 ghost use Rattle.std.specs.Prelude.{◌≡◌, ◌↔◌, ℕ, ◌+◌, ◌≤◌, length, Option, Some, None, IfOk};
-ghost use Rattle.std.specs.Option.{option_map};
 ghost use Rattle.list_views.specs.Options.{Finds};
 ghost use Rattle.class_base.specs.declared.methods.MethodType.{MethodType as MethodTypeOf};
 ghost use Rattle.class_base.specs.Types.{element_words, type_words};

@@ -1,5 +1,5 @@
 //! Types as descriptors write them (JVM specification, SE 8, section 4.3.2).
-ghost use Rattle.std.specs.Prelude.{◌≡◌, ◌↔◌, ℕ, ◌≤◌, ◌==◌, position, length, Option, Some, None};
+ghost use Rattle.std.specs.Prelude.{◌≡◌, ◌↔◌, ◌≤◌, ◌==◌, position, length, Option, Some, None};
 ghost use Rattle.list_views.specs.Options.{Finds};
 ghost use Rattle.class_base.specs.declared.types.FieldType.{FieldType as TypeOf};
 ghost use Rattle.class_base.specs.Types.{is_primitive, array_depth, object_at, element_at, type_at, field_type, IsFieldType};

@@ -1,0 +1,10 @@
+-- How much the program takes: limits of its own, below those of the format.
+use Rattle.std.specs.Prelude.{ℕ}
+
+-- the bytes of a class file, or of a listing of one: 1 MiB
+abbrev pub most_class_bytes : ℕ
+most_class_bytes = 1048576
+
+-- the class files of one program; the classes that are built in aren't counted
+abbrev pub most_classes : ℕ
+most_classes = 256
