@@ -11,9 +11,9 @@ use Rattle.std.proofs.lemmas.Int.{ints}
 use Rattle.code_decode.specs.declared.insn.Case.{Case}
 use Rattle.code_decode.specs.declared.insn.Insn.{Insn}
 use Rattle.code_decode.specs.declared.insn.Insn.TheVariants as insns
-use Rattle.code_decode.specs.Shapes as shapes
-use Rattle.code_decode.specs.Shapes.{Shape, shape}
-use Rattle.code_decode.specs.Texts.{padding_of, zeros, shape_text, Reaches, rises_from, is_rising, IsTable, IsLookup, FitsShape, Fits}
+use Rattle.code_decode.specs.Spellings as spellings
+use Rattle.code_decode.specs.Spellings.{Spelling, spelling}
+use Rattle.code_decode.specs.Texts.{padding_of, zeros, spelling_text, Reaches, rises_from, is_rising, IsTable, IsLookup, FitsSpelling, Fits}
 use Rattle.code_decode.specs.Encoding.{plain_text}
 use Rattle.code_decode.specs.Reading.{opcode_of, find, find_by, plain_low, plain_high, plain, with_byte, with_pair, with_jump, wide_local, first_of}
 use Rattle.code_decode.proofs.Takes.{chosen, some_is, found_by}
@@ -34,22 +34,22 @@ pub mapped : {A B : Type 0} (f : A → B) (o : Option A) (y : B) → option_map 
 mapped f None y h = absurd cc
 mapped f (Some x) y h = (x, refl, some_is (f x) y h)
 
--- ---- shapes
+-- ---- spellings
 
-pub byte_rows : AllByRecursion (λ make. (n : ℕ) → shape (make n) ≡ shapes.Byte (opcode_of (shape (make 0))) n) with_byte
+pub byte_rows : AllByRecursion (λ make. (n : ℕ) → spelling (make n) ≡ spellings.Byte (opcode_of (spelling (make 0))) n) with_byte
 byte_rows = (λ n. refl, (λ n. refl, (λ n. refl, (λ n. refl, (λ n. refl, tt)))))
 
-pub pair_rows : AllByRecursion (λ make. (n : ℕ) → shape (make n) ≡ shapes.Pair (opcode_of (shape (make 0))) n) with_pair
+pub pair_rows : AllByRecursion (λ make. (n : ℕ) → spelling (make n) ≡ spellings.Pair (opcode_of (spelling (make 0))) n) with_pair
 pair_rows = (λ n. refl, (λ n. refl, (λ n. refl, (λ n. refl, (λ n. refl, (λ n. refl, (λ n. refl, (λ n. refl, (λ n. refl, (λ n. refl, (λ n. refl, (λ n. refl, tt))))))))))))
 
-pub jump_rows : AllByRecursion (λ make. (n : ℕ) → shape (make n) ≡ shapes.Jump (opcode_of (shape (make 0))) n) with_jump
+pub jump_rows : AllByRecursion (λ make. (n : ℕ) → spelling (make n) ≡ spellings.Jump (opcode_of (spelling (make 0))) n) with_jump
 jump_rows = (λ n. refl, (λ n. refl, (λ n. refl, (λ n. refl, (λ n. refl, (λ n. refl, (λ n. refl, (λ n. refl, (λ n. refl, (λ n. refl, (λ n. refl, (λ n. refl, (λ n. refl, (λ n. refl, (λ n. refl, (λ n. refl, (λ n. refl, tt)))))))))))))))))
 
-pub local_rows : AllByRecursion (λ make. (n : ℕ) → shape (make n) ≡ shapes.WideLocal (opcode_of (shape (make 0))) n) wide_local
+pub local_rows : AllByRecursion (λ make. (n : ℕ) → spelling (make n) ≡ spellings.WideLocal (opcode_of (spelling (make 0))) n) wide_local
 local_rows = (λ n. refl, (λ n. refl, (λ n. refl, (λ n. refl, tt))))
 
 abbrev IsPlain : Insn → Type 0
-IsPlain i = shape i ≡ shapes.Plain (opcode_of (shape i))
+IsPlain i = spelling i ≡ spellings.Plain (opcode_of (spelling i))
 
 low_rows : AllByRecursion IsPlain plain_low
 low_rows = (refl, (refl, (refl, (refl, (refl, (refl, (refl, (refl, (refl, (refl, (refl, (refl, (refl, (refl, (refl, (refl, (refl, (refl, (refl, (refl, (refl, (refl, (refl, (refl, (refl, (refl, (refl, (refl, (refl, (refl, (refl, (refl, (refl, (refl, (refl, tt)))))))))))))))))))))))))))))))))))
@@ -60,7 +60,7 @@ high_rows = (refl, (refl, (refl, (refl, (refl, (refl, (refl, (refl, (refl, (refl
 found : (is : List Insn) (op : ℕ) (i : Insn) → AllByRecursion IsPlain is → find is op ≡ Some i → IsPlain i
 found [] op i rows e = absurd cc
 found (j ∷ js) op i rows e =
-    elim (chosen (eqb op (opcode_of (shape j))) (Some j) (find js op) (Some i) e) [
+    elim (chosen (eqb op (opcode_of (spelling j))) (Some j) (find js op) (Some i) e) [
       | inl p ↦ subst IsPlain (some_is j i p.1) rows.0
       | inr p ↦ found js op i rows.1 p.1
     ]
@@ -69,21 +69,21 @@ either : (a b : Option Insn) (op : ℕ) (i : Insn) → find plain_low op ≡ a �
 either (Some j) b op i ea eb e = found plain_low op i low_rows (ea ∙ e)
 either None b op i ea eb e = found plain_high op i high_rows (eb ∙ e)
 
-pub plain_shape : (op : ℕ) (i : Insn) → plain op ≡ Some i → shape i ≡ shapes.Plain (opcode_of (shape i))
-plain_shape op i e = either (find plain_low op) (find plain_high op) op i refl refl e
+pub plain_spelling : (op : ℕ) (i : Insn) → plain op ≡ Some i → spelling i ≡ spellings.Plain (opcode_of (spelling i))
+plain_spelling op i e = either (find plain_low op) (find plain_high op) op i refl refl e
 
-pub operand : (S : ℕ → ℕ → Shape) (table : List (ℕ → Insn)) (op n : ℕ) (i : Insn) → AllByRecursion (λ make. (n : ℕ) → shape (make n) ≡ S (opcode_of (shape (make 0))) n) table → with_operand table op n ≡ Some i → shape i ≡ S op n
+pub operand : (S : ℕ → ℕ → Spelling) (table : List (ℕ → Insn)) (op n : ℕ) (i : Insn) → AllByRecursion (λ make. (n : ℕ) → spelling (make n) ≡ S (opcode_of (spelling (make 0))) n) table → with_operand table op n ≡ Some i → spelling i ≡ S op n
 operand S table op n i rows e =
     let m = mapped (λ (make : ℕ → Insn). make n) (find_by table op) i e in
-    ap shape (sym m.2) ∙ found_by S table op m.0 rows m.1 n
+    ap spelling (sym m.2) ∙ found_by S table op m.0 rows m.1 n
 
 -- ---- what has bytes
 
-abbrev FitsAs : ℕ → Insn → Shape → Type 0
-FitsAs pc i s = shape i ≡ s → FitsShape pc s → Fits pc i
+abbrev FitsAs : ℕ → Insn → Spelling → Type 0
+FitsAs pc i s = spelling i ≡ s → FitsSpelling pc s → Fits pc i
 
-fits_as : (pc : ℕ) (i : Insn) (s : Shape) → FitsAs pc i s
-fits_as pc i s e h = subst (λ (t : Shape). FitsShape pc t) (sym e) h
+fits_as : (pc : ℕ) (i : Insn) (s : Spelling) → FitsAs pc i s
+fits_as pc i s e h = subst (λ (t : Spelling). FitsSpelling pc t) (sym e) h
 
 below : (n limit : ℕ) → nat_lt n limit ≡ true → n < limit
 below n limit h = ltb-true n limit h
@@ -97,14 +97,14 @@ pair_small n m h =
 local_fits : (pc op n : ℕ) (i : Insn) → n < 2 ^ 16 → local_insn op n ≡ Some i → Fits pc i
 local_fits pc op n i small h =
     elim (chosen (nat_lt n 256) (with_operand with_byte op n) (with_operand wide_local op n) (Some i) h) [
-      | inl p ↦ fits_as pc i (shapes.Byte op n) (operand shapes.Byte with_byte op n i byte_rows p.1) (below n 256 p.0)
-      | inr p ↦ fits_as pc i (shapes.WideLocal op n) (operand shapes.WideLocal wide_local op n i local_rows p.1) small
+      | inl p ↦ fits_as pc i (spellings.Byte op n) (operand spellings.Byte with_byte op n i byte_rows p.1) (below n 256 p.0)
+      | inr p ↦ fits_as pc i (spellings.WideLocal op n) (operand spellings.WideLocal wide_local op n i local_rows p.1) small
     ]
 
 entry_fits : (pc op n : ℕ) (i : Insn) → entry_insn op n ≡ Some i → Fits pc i
 entry_fits pc op n i h =
     let g = guarded (nat_lt n 65536) (with_operand with_pair op n) i h in
-    fits_as pc i (shapes.Pair op n) (operand shapes.Pair with_pair op n i pair_rows g.1) (below n 65536 g.0)
+    fits_as pc i (spellings.Pair op n) (operand spellings.Pair with_pair op n i pair_rows g.1) (below n 65536 g.0)
 
 load_fits : (pc op n : ℕ) (i : Insn) → load_insn op n ≡ Some i → Fits pc i
 load_fits pc op n i h =
@@ -237,7 +237,7 @@ lookup_fits places pc default cs i near far all h =
 
 -- An instruction that reaches its targets has bytes at its place.
 pub fits : (places : Places) (need : PoolOperand) (operation : Operation) (pc : ℕ) (i : Insn) → IsNear places → reaches places pc operation ≡ true → insn_of places need operation ≡ Some i → Fits pc i
-fits places need (Plain op) pc i near r h = fits_as pc i (shapes.Plain (opcode_of (shape i))) (plain_shape op i h) tt
+fits places need (Plain op) pc i near r h = fits_as pc i (spellings.Plain (opcode_of (spelling i))) (plain_spelling op i h) tt
 fits places need (Local op n) pc i near r h =
     let c = chained (local_insn op) (pair_of n) i h in
     local_fits pc op c.0 i (pair_small n c.0 c.1) c.2
@@ -254,7 +254,7 @@ fits places need (Class op class) pc i near r h = entry_fits pc op need.entry i 
 fits places need (Newarray code) pc i near r h = array_fits pc code i h
 fits places need (Iinc n m) pc i near r h = increment_insn_fits pc n m i h
 fits places need (Jump op label) pc i near r h =
-    fits_as pc i (shapes.Jump op (target places label)) (operand shapes.Jump with_jump op (target places label) i jump_rows h) (near_reaches pc (target places label) (near label) r)
+    fits_as pc i (spellings.Jump op (target places label)) (operand spellings.Jump with_jump op (target places label) i jump_rows h) (near_reaches pc (target places label) (near label) r)
 fits places need (GotoW label) pc i near r h = subst (Fits pc) (some_is (insns.GotoW (target places label)) i h) (far_reaches pc (target places label) (near label) r)
 fits places need (Tableswitch low default labels) pc i near r h =
     let t = both (is_far places pc default) (list_all (is_far places pc) labels) r in
@@ -278,8 +278,8 @@ alike_self (Some i) = λ pc. refl
 jump_alike : (op s t : ℕ) (o : Option (ℕ → Insn)) → find_by with_jump op ≡ o → Alike (option_map (λ make. make s) o) (option_map (λ make. make t) o)
 jump_alike op s t None h = tt
 jump_alike op s t (Some make) h = λ pc.
-    let is = found_by shapes.Jump with_jump op make jump_rows h in
-    ap (λ (x : Shape). length (shape_text pc (zeros (padding_of pc)) x)) (is s) ∙ sym (ap (λ (x : Shape). length (shape_text pc (zeros (padding_of pc)) x)) (is t))
+    let is = found_by spellings.Jump with_jump op make jump_rows h in
+    ap (λ (x : Spelling). length (spelling_text pc (zeros (padding_of pc)) x)) (is s) ∙ sym (ap (λ (x : Spelling). length (spelling_text pc (zeros (padding_of pc)) x)) (is t))
 
 table_alike : (p q : Places) (default : List ℕ) (labels : List (List ℕ)) (low : Option ℤ) → Alike (option_and_then (table_of_low p default labels) low) (option_and_then (table_of_low q default labels) low)
 table_alike p q default labels None = tt

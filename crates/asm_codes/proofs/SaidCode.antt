@@ -6,7 +6,7 @@ use Rattle.std.proofs.Math.Path.{fun_ext}
 use Rattle.code_decode.specs.Codes.{Spells}
 use Rattle.code_decode.specs.Encoding.{plain_text, code_of}
 use Rattle.code_decode.specs.Texts.{padding_of, zeros, Fits}
-use Rattle.code_decode.specs.Shapes.{shape}
+use Rattle.code_decode.specs.Spellings.{spelling}
 use Rattle.code_decode.specs.declared.insn.Insn.{Insn}
 use Rattle.class_base.specs.declared.handler.Handler.{Handler}
 use Rattle.code_decode.proofs.Takes.{length-zeros}

@@ -4,8 +4,8 @@ use Rattle.std.specs.Option.{option_and_then}
 use Rattle.std.specs.List.{list_all}
 use Rattle.std.proofs.lemmas.Bool.Decides.{nat_tests}
 use Rattle.code_decode.specs.declared.insn.Insn.{Insn}
-use Rattle.code_decode.specs.Shapes.{Shape, shape, Plain, Byte, Pair, SignedByte, SignedPair, Jump, FarJump, Increment, Table, Lookup, Interface, Array, WideLocal, WideIncrement}
-use Rattle.code_decode.specs.Texts.{padding_of, zeros, shape_text, FitsShape, Fits}
+use Rattle.code_decode.specs.Spellings.{Spelling, spelling, Plain, Byte, Pair, SignedByte, SignedPair, Jump, FarJump, Increment, Table, Lookup, Interface, Array, WideLocal, WideIncrement}
+use Rattle.code_decode.specs.Texts.{padding_of, zeros, spelling_text, FitsSpelling, Fits}
 use Rattle.code_decode.specs.Encoding.{plain_text}
 use Rattle.code_decode.proofs.Lengths.{table_len, lookup_len, few_targets}
 use Rattle.asm_lines.specs.declared.number.Number.{Number}
@@ -27,7 +27,7 @@ padding_again : (pc : ℕ) → padding_of (pc % 4) ≡ padding_of pc
 padding_again pc = ap (λ (n : ℕ). 3 - n) (mod_again pc)
 
 -- Places four bytes apart give the same size.
-turned : (pc : ℕ) (s : Shape) → length (shape_text (pc % 4) (zeros (padding_of (pc % 4))) s) ≡ length (shape_text pc (zeros (padding_of pc)) s)
+turned : (pc : ℕ) (s : Spelling) → length (spelling_text (pc % 4) (zeros (padding_of (pc % 4))) s) ≡ length (spelling_text pc (zeros (padding_of pc)) s)
 turned pc (Table op default low targets) = ap suc (
     table_len (pc % 4) default low targets ∙ ap (λ (n : ℕ). n + 12 + 4 * length targets) (padding_again pc) ∙ sym (table_len pc default low targets))
 turned pc (Lookup op default cases) = ap suc (
@@ -46,9 +46,9 @@ turned pc (WideLocal op n) = refl
 turned pc (WideIncrement op n v) = refl
 
 pub size_turned : (pc n : ℕ) (i : Insn) → n ≡ length (plain_text (pc % 4) i) → n ≡ length (plain_text pc i)
-size_turned pc n i h = h ∙ turned pc (shape i)
+size_turned pc n i h = h ∙ turned pc (spelling i)
 
-few : (pc : ℕ) (s : Shape) → FitsShape pc s → length (shape_text pc (zeros (padding_of pc)) s) < 2 ^ 40
+few : (pc : ℕ) (s : Spelling) → FitsSpelling pc s → length (spelling_text pc (zeros (padding_of pc)) s) < 2 ^ 40
 few pc (Table op default low targets) h = omega (arith, table_len pc default low targets, few_targets pc default low targets h)
 few pc (Lookup op default cases) h = omega (arith, lookup_len pc default cases, h.few)
 few pc (Plain op) h = omega arith
@@ -65,7 +65,7 @@ few pc (WideLocal op n) h = omega arith
 few pc (WideIncrement op n v) h = omega arith
 
 pub size_small : (pc n : ℕ) (i : Insn) → Fits pc i → n ≡ length (plain_text pc i) → n < 2 ^ 40
-size_small pc n i h e = subst (λ (k : ℕ). k < 2 ^ 40) (sym e) (few pc (shape i) h)
+size_small pc n i h e = subst (λ (k : ℕ). k < 2 ^ 40) (sym e) (few pc (spelling i) h)
 
 -- ---- an instruction without targets has bytes at the first places
 

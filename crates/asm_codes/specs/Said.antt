@@ -7,8 +7,8 @@ use Rattle.code_decode.specs.Codes.{Spells}
 use Rattle.code_decode.specs.declared.insn.Case.{Case}
 use Rattle.code_decode.specs.declared.insn.Insn.{Insn}
 use Rattle.class_base.specs.declared.handler.Handler.{Handler}
-use Rattle.code_decode.specs.Shapes as shapes
-use Rattle.code_decode.specs.Shapes.{Shape, shape}
+use Rattle.code_decode.specs.Spellings as spellings
+use Rattle.code_decode.specs.Spellings.{Spelling, spelling}
 use Rattle.asm_lines.specs.Numbers.{signed_of, pair_of, int_of}
 use Rattle.asm_lines.specs.declared.item.CatchLine.{CatchLine}
 use Rattle.asm_lines.specs.declared.item.Item.{Item}
@@ -31,20 +31,20 @@ InTurn says (x ∷ xs) (y ∷ ys) = says x y × InTurn says xs ys
 -- ---- one instruction
 
 -- a load or a store; a local of two bytes stands behind `wide`
-abbrev pub local_shape : ℕ → ℕ → Shape
-local_shape op local = if nat_lt local 256 then shapes.Byte op local else shapes.WideLocal op local
+abbrev pub local_spelling : ℕ → ℕ → Spelling
+local_spelling op local = if nat_lt local 256 then spellings.Byte op local else spellings.WideLocal op local
 
 -- `ldc`; `ldc_w` where that is written, or where the index has two bytes
-abbrev pub load_shape : ℕ → ℕ → Shape
-load_shape op entry = if op == 18 && nat_lt entry 256 then shapes.Byte 18 entry else shapes.Pair 19 entry
+abbrev pub load_spelling : ℕ → ℕ → Spelling
+load_spelling op entry = if op == 18 && nat_lt entry 256 then spellings.Byte 18 entry else spellings.Pair 19 entry
 
-abbrev pub member_shape : ℕ → ℕ → ℕ → Shape
-member_shape op entry words = if op == 185 then shapes.Interface 185 entry words else shapes.Pair op entry
+abbrev pub member_spelling : ℕ → ℕ → ℕ → Spelling
+member_spelling op entry words = if op == 185 then spellings.Interface 185 entry words else spellings.Pair op entry
 
 -- `iinc`, behind `wide` where the local or the number has two bytes
-abbrev pub increment_shape : ℕ → ℤ → Shape
-increment_shape local v =
-    if nat_lt local 256 && between (negsuc 127) (pos 127) v then shapes.Increment 132 local v else shapes.WideIncrement 132 local v
+abbrev pub increment_spelling : ℕ → ℤ → Spelling
+increment_spelling local v =
+    if nat_lt local 256 && between (negsuc 127) (pos 127) v then spellings.Increment 132 local v else spellings.WideIncrement 132 local v
 
 -- a key of a `lookupswitch` and the place that its label names
 abbrev pub IsCase : Places → Number × List ℕ → Case → Type 0
@@ -52,28 +52,28 @@ IsCase place c case = (int_of c.0 ≡ Some case.key) × (place c.1 ≡ Some case
 
 -- The instruction is the one of the line, with the numbers that its words are, the places that its labels name, and the
 -- index and the words of its pool entry.
-abbrev pub IsInsn : Places → PoolOperand → Operation → Shape → Type 0
-IsInsn place need (Plain op) s = s ≡ shapes.Plain op
-IsInsn place need (Local op n) s = (local : ℕ) × (pair_of n ≡ Some local) × (s ≡ local_shape op local)
-IsInsn place need (Bipush n) s = (v : ℤ) × (signed_of n ≡ Some v) × (s ≡ shapes.SignedByte 16 v)
-IsInsn place need (Sipush n) s = (v : ℤ) × (signed_of n ≡ Some v) × (s ≡ shapes.SignedPair 17 v)
-IsInsn place need (LoadInt op n) s = s ≡ load_shape op need.entry
-IsInsn place need (LoadString op text) s = s ≡ load_shape op need.entry
-IsInsn place need (Member op class name desc) s = s ≡ member_shape op need.entry need.words
-IsInsn place need (Class op name) s = s ≡ shapes.Pair op need.entry
-IsInsn place need (Newarray code) s = s ≡ shapes.Array 188 code
-IsInsn place need (Iinc n m) s = (local : ℕ) × (v : ℤ) × (pair_of n ≡ Some local) × (signed_of m ≡ Some v) × (s ≡ increment_shape local v)
-IsInsn place need (Jump op label) s = (target : ℕ) × (place label ≡ Some target) × (s ≡ shapes.Jump op target)
-IsInsn place need (GotoW label) s = (target : ℕ) × (place label ≡ Some target) × (s ≡ shapes.FarJump 200 target)
+abbrev pub IsInsn : Places → PoolOperand → Operation → Spelling → Type 0
+IsInsn place need (Plain op) s = s ≡ spellings.Plain op
+IsInsn place need (Local op n) s = (local : ℕ) × (pair_of n ≡ Some local) × (s ≡ local_spelling op local)
+IsInsn place need (Bipush n) s = (v : ℤ) × (signed_of n ≡ Some v) × (s ≡ spellings.SignedByte 16 v)
+IsInsn place need (Sipush n) s = (v : ℤ) × (signed_of n ≡ Some v) × (s ≡ spellings.SignedPair 17 v)
+IsInsn place need (LoadInt op n) s = s ≡ load_spelling op need.entry
+IsInsn place need (LoadString op text) s = s ≡ load_spelling op need.entry
+IsInsn place need (Member op class name desc) s = s ≡ member_spelling op need.entry need.words
+IsInsn place need (Class op name) s = s ≡ spellings.Pair op need.entry
+IsInsn place need (Newarray code) s = s ≡ spellings.Array 188 code
+IsInsn place need (Iinc n m) s = (local : ℕ) × (v : ℤ) × (pair_of n ≡ Some local) × (signed_of m ≡ Some v) × (s ≡ increment_spelling local v)
+IsInsn place need (Jump op label) s = (target : ℕ) × (place label ≡ Some target) × (s ≡ spellings.Jump op target)
+IsInsn place need (GotoW label) s = (target : ℕ) × (place label ≡ Some target) × (s ≡ spellings.FarJump 200 target)
 IsInsn place need (Tableswitch low default labels) s =
     (target : ℕ) × (key : ℤ) × (targets : List ℕ) × (place default ≡ Some target) × (int_of low ≡ Some key) × (map place labels ≡ map Some targets)
-    × (s ≡ shapes.Table 170 target key targets)
+    × (s ≡ spellings.Table 170 target key targets)
 IsInsn place need (Lookupswitch default cs) s =
-    (target : ℕ) × (cases : List Case) × (place default ≡ Some target) × InTurn (IsCase place) cs cases × (s ≡ shapes.Lookup 171 target cases)
+    (target : ℕ) × (cases : List Case) × (place default ≡ Some target) × InTurn (IsCase place) cs cases × (s ≡ spellings.Lookup 171 target cases)
 
 -- the same, where the pool entry is one that the line names
 abbrev pub SaysInsn : (Operation → PoolOperand → Type 0) → Places → Operation → Insn → Type 0
-SaysInsn named place operation insn = (need : PoolOperand) × named operation need × IsInsn place need operation (shape insn)
+SaysInsn named place operation insn = (need : PoolOperand) × named operation need × IsInsn place need operation (spelling insn)
 
 -- ---- labels
 

@@ -6,8 +6,8 @@ use Rattle.std.specs.Option.{option_map_or}
 use Rattle.std.specs.Str.{bytes_eq}
 use Rattle.std.proofs.lemmas.Bool.{ltb-true}
 use Rattle.std.proofs.lemmas.Nat.{or_lt}
-use Rattle.code_decode.specs.Shapes as shapes
-use Rattle.code_decode.specs.Shapes.{Shape, shape}
+use Rattle.code_decode.specs.Spellings as spellings
+use Rattle.code_decode.specs.Spellings.{Spelling, spelling}
 use Rattle.asm_lines.specs.declared.fault.AsmFault.TheVariants.{Syntax}
 use Rattle.asm_lines.specs.declared.number.Number.{Number}
 use Rattle.asm_lines.specs.declared.operation.Operation.{Operation}
@@ -358,29 +358,29 @@ array_plain : (line : ℕ) (words : Words) → Holds PlainOperation (array_opera
 unfolding array_operation
 array_plain line words = after PlainOperation (one_word line words) _ (λ kind. perhaps PlainOperation (λ x0. Ok (operations.Newarray x0)) (kind_code kind) (Err (Syntax line)) (λ code. tt) tt)
 
-operands_plain : (line : ℕ) (s : Shape) (words : Words) → ArePlain words → Holds PlainOperation (operands line s words)
+operands_plain : (line : ℕ) (s : Spelling) (words : Words) → ArePlain words → Holds PlainOperation (operands line s words)
 unfolding operands
-operands_plain line (shapes.Plain op) words h = after PlainOperation (no_more line words) (λ x0. Ok (operations.Plain op)) (λ _. tt)
-operands_plain line (shapes.Byte op n) words h = either PlainOperation (eqb op 18) _ _ (load_plain line op words h) (after PlainOperation (one_number line words) (λ x0. Ok (operations.Local op x0)) (λ local. tt))
-operands_plain line (shapes.Pair op n) words h =
+operands_plain line (spellings.Plain op) words h = after PlainOperation (no_more line words) (λ x0. Ok (operations.Plain op)) (λ _. tt)
+operands_plain line (spellings.Byte op n) words h = either PlainOperation (eqb op 18) _ _ (load_plain line op words h) (after PlainOperation (one_number line words) (λ x0. Ok (operations.Local op x0)) (λ local. tt))
+operands_plain line (spellings.Pair op n) words h =
     either PlainOperation (eqb op 19) _ _ (load_plain line op words h)
     (either PlainOperation _ _ _ (member_plain line op words h) (onward IsPlain PlainOperation _ _ (one_plain line words h) (λ class c. c)))
-operands_plain line (shapes.SignedByte op v) words h = after PlainOperation (one_number line words) (λ x0. Ok (operations.Bipush x0)) (λ n. tt)
-operands_plain line (shapes.SignedPair op v) words h = after PlainOperation (one_number line words) (λ x0. Ok (operations.Sipush x0)) (λ n. tt)
-operands_plain line (shapes.Jump op target) words h = after PlainOperation (one_word line words) (λ x0. Ok (operations.Jump op x0)) (λ label. tt)
-operands_plain line (shapes.FarJump op target) words h = after PlainOperation (one_word line words) (λ x0. Ok (operations.GotoW x0)) (λ label. tt)
-operands_plain line (shapes.Increment op n v) words h = increment_plain line words
-operands_plain line (shapes.Table op default low targets) words h = table_plain line words
-operands_plain line (shapes.Lookup op default cases) words h = lookup_plain line words
-operands_plain line (shapes.Interface op n count) words h = member_plain line op words h
-operands_plain line (shapes.Array op code) words h = array_plain line words
-operands_plain line (shapes.WideLocal op n) words h = tt
-operands_plain line (shapes.WideIncrement op n v) words h = tt
+operands_plain line (spellings.SignedByte op v) words h = after PlainOperation (one_number line words) (λ x0. Ok (operations.Bipush x0)) (λ n. tt)
+operands_plain line (spellings.SignedPair op v) words h = after PlainOperation (one_number line words) (λ x0. Ok (operations.Sipush x0)) (λ n. tt)
+operands_plain line (spellings.Jump op target) words h = after PlainOperation (one_word line words) (λ x0. Ok (operations.Jump op x0)) (λ label. tt)
+operands_plain line (spellings.FarJump op target) words h = after PlainOperation (one_word line words) (λ x0. Ok (operations.GotoW x0)) (λ label. tt)
+operands_plain line (spellings.Increment op n v) words h = increment_plain line words
+operands_plain line (spellings.Table op default low targets) words h = table_plain line words
+operands_plain line (spellings.Lookup op default cases) words h = lookup_plain line words
+operands_plain line (spellings.Interface op n count) words h = member_plain line op words h
+operands_plain line (spellings.Array op code) words h = array_plain line words
+operands_plain line (spellings.WideLocal op n) words h = tt
+operands_plain line (spellings.WideIncrement op n v) words h = tt
 
 operation_plain : (names : Names) (line : ℕ) (word : List ℕ) (words : Words) → ArePlain words → Holds PlainOperation (operation_of names line word words)
 unfolding operation_of
 operation_plain names line word words h =
-    perhaps PlainOperation _ (opcode_in names word) _ (λ op. perhaps PlainOperation _ (template op) _ (λ insn. operands_plain line (shape insn) words h) tt) tt
+    perhaps PlainOperation _ (opcode_in names word) _ (λ op. perhaps PlainOperation _ (template op) _ (λ insn. operands_plain line (spelling insn) words h) tt) tt
 
 abbrev pub PlainItem : Item → Type 0
 PlainItem (items.Insn operation) = PlainOperation operation

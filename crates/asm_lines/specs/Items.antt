@@ -2,7 +2,7 @@
 use Rattle.std.specs.Prelude.{ℕ, ◌-◌, Bool, ◌&&◌, ◌==◌, not, nat_lt, List, [], ◌∷◌, length, take, slice_index, Option, Some, None, Ok, Err, codes, if◌then◌else◌}
 use Rattle.std.specs.Option.{option_map_or}
 use Rattle.std.specs.Str.{bytes_eq}
-use Rattle.code_decode.specs.Shapes.{shape}
+use Rattle.code_decode.specs.Spellings.{spelling}
 use Rattle.asm_lines.specs.declared.fault.AsmFault.TheVariants.{Syntax, UnknownOpcode}
 use Rattle.asm_lines.specs.declared.operation.Operation.{Operation}
 use Rattle.asm_lines.specs.declared.item.CatchLine.{CatchLine}
@@ -41,7 +41,7 @@ Names = List (List ℕ × ℕ)
 -- an instruction: its name, and its operands behind it
 unfoldable pub operation_of : Names → ℕ → List ℕ → Words → Said Operation
 operation_of names line word words =
-    option_map_or (λ op. option_map_or (λ insn. operands line (shape insn) words) (template op) (Err (UnknownOpcode line))) (opcode_in names word) (Err (UnknownOpcode line))
+    option_map_or (λ op. option_map_or (λ insn. operands line (spelling insn) words) (template op) (Err (UnknownOpcode line))) (opcode_in names word) (Err (UnknownOpcode line))
 
 -- A line that begins with `class` begins a class, unless a label stands before it.
 unfoldable pub plain_item : Names → ℕ → Bool → List ℕ → Words → Said Item

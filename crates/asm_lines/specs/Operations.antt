@@ -6,8 +6,8 @@ use Rattle.std.specs.Str.{bytes_eq}
 use Rattle.code_decode.specs.declared.insn.Insn.{Insn}
 use Rattle.code_decode.specs.declared.insn.Insn.TheVariants as insns
 use Rattle.code_decode.specs.Names.{name_of}
-use Rattle.code_decode.specs.Shapes as shapes
-use Rattle.code_decode.specs.Shapes.{Shape, shape}
+use Rattle.code_decode.specs.Spellings as spellings
+use Rattle.code_decode.specs.Spellings.{Spelling, spelling}
 use Rattle.code_decode.specs.Reading.{find_by, plain, with_byte, with_pair, with_jump}
 use Rattle.asm_lines.specs.declared.fault.AsmFault.TheVariants.{Syntax, UnknownOpcode}
 use Rattle.asm_lines.specs.declared.number.Number.{Number}
@@ -135,20 +135,20 @@ array_operation line words = do
   kind ← one_word line words
   option_map_or (λ code. Ok (Newarray code)) (kind_code kind) (Err (Syntax line))
 
--- the operands that are written behind an instruction of the shape
-unfoldable pub operands : ℕ → Shape → Words → Said Operation
-operands line (shapes.Plain op) words = no_more line words >>= λ _. Ok (Plain op)
-operands line (shapes.Byte op n) words = if op == 18 then load_operation line op words else (one_number line words >>= λ local. Ok (Local op local))
-operands line (shapes.Pair op n) words =
+-- the operands that are written behind an instruction of the spelling
+unfoldable pub operands : ℕ → Spelling → Words → Said Operation
+operands line (spellings.Plain op) words = no_more line words >>= λ _. Ok (Plain op)
+operands line (spellings.Byte op n) words = if op == 18 then load_operation line op words else (one_number line words >>= λ local. Ok (Local op local))
+operands line (spellings.Pair op n) words =
     if op == 19 then load_operation line op words
     else (if nat_le op 184 then member_operation line op words else (one_word line words >>= λ class. Ok (Class op class)))
-operands line (shapes.SignedByte op v) words = one_number line words >>= λ n. Ok (Bipush n)
-operands line (shapes.SignedPair op v) words = one_number line words >>= λ n. Ok (Sipush n)
-operands line (shapes.Jump op target) words = one_word line words >>= λ label. Ok (Jump op label)
-operands line (shapes.FarJump op target) words = one_word line words >>= λ label. Ok (GotoW label)
-operands line (shapes.Increment op n v) words = increment_operation line words
-operands line (shapes.Table op default low targets) words = table_operation line words
-operands line (shapes.Lookup op default cases) words = lookup_operation line words
-operands line (shapes.Interface op n count) words = member_operation line op words
-operands line (shapes.Array op code) words = array_operation line words
+operands line (spellings.SignedByte op v) words = one_number line words >>= λ n. Ok (Bipush n)
+operands line (spellings.SignedPair op v) words = one_number line words >>= λ n. Ok (Sipush n)
+operands line (spellings.Jump op target) words = one_word line words >>= λ label. Ok (Jump op label)
+operands line (spellings.FarJump op target) words = one_word line words >>= λ label. Ok (GotoW label)
+operands line (spellings.Increment op n v) words = increment_operation line words
+operands line (spellings.Table op default low targets) words = table_operation line words
+operands line (spellings.Lookup op default cases) words = lookup_operation line words
+operands line (spellings.Interface op n count) words = member_operation line op words
+operands line (spellings.Array op code) words = array_operation line words
 operands line _ words = Err (UnknownOpcode line)

@@ -1,15 +1,15 @@
 //! What the lines of instructions say.
 
 ghost use Rattle.std.specs.Prelude.{◌≡◌, ◌++◌, IfOk, OnOk, map};
-ghost use Rattle.code_decode.specs.Shapes.{shape};
+ghost use Rattle.code_decode.specs.Spellings.{spelling};
 ghost use Rattle.list_views.specs.Results.{Answers};
 ghost use Rattle.asm_lines.specs.Statements.{Gives, one_word};
-ghost use Rattle.asm_lines.specs.Operations.{single, template, named, names_below, all_names, opcode_in, kind_code, one_number, load_value, load_operation, member_operation, increment_operation, some_labels, table_operation, cases_of, lookup_operation, array_operation, operands};
+ghost use Rattle.asm_lines.specs.Operations.{single, template, named, all_names, opcode_in, kind_code, one_number, load_value, load_operation, member_operation, increment_operation, some_labels, table_operation, cases_of, lookup_operation, array_operation, operands};
 
 use crate::fault::AsmFault;
 use crate::number::Number;
 use crate::statement::{copy, is, next_word, no_more, number_word};
-use code_decode::{Insn, Parts, name, parts_of, plain, with_byte, with_jump, with_pair};
+use code_decode::{Insn, SpellingView, name, plain, spelling_of, with_byte, with_jump, with_pair};
 use list_views::Seq;
 use std::alloc::{AllocError, Global};
 use std::marker::Model;
@@ -332,21 +332,21 @@ pub(crate) fn operands(
     insn: &Insn,
     words: &[Seq<u8>],
 ) -> Result<Operation, AsmFault>
-    ensures { Gives (λ x. x) result (operands line (shape insn.now) words.now) }
+    ensures { Gives (λ x. x) result (operands line (spelling insn.now) words.now) }
 {
-    match parts_of(insn) {
-        Parts::Plain(op) => {
+    match spelling_of(insn) {
+        SpellingView::Plain(op) => {
             no_more(line, words)?;
             Ok(Operation::Plain(op))
         }
-        Parts::Byte(op, _) => {
+        SpellingView::Byte(op, _) => {
             if op == 18 {
                 load_operation(alloc, line, op, words)
             } else {
                 Ok(Operation::Local(op, one_number(line, words)?))
             }
         }
-        Parts::Pair(op, _) => {
+        SpellingView::Pair(op, _) => {
             if op == 19 {
                 load_operation(alloc, line, op, words)
             } else if op <= 184 {
@@ -356,21 +356,21 @@ pub(crate) fn operands(
                 Ok(Operation::Class(op, copy(alloc, class)?))
             }
         }
-        Parts::SignedByte(_, _) => Ok(Operation::Bipush(one_number(line, words)?)),
-        Parts::SignedPair(_, _) => Ok(Operation::Sipush(one_number(line, words)?)),
-        Parts::Jump(op, _) => {
+        SpellingView::SignedByte(_, _) => Ok(Operation::Bipush(one_number(line, words)?)),
+        SpellingView::SignedPair(_, _) => Ok(Operation::Sipush(one_number(line, words)?)),
+        SpellingView::Jump(op, _) => {
             let label = one_word(line, words)?;
             Ok(Operation::Jump(op, copy(alloc, label)?))
         }
-        Parts::FarJump(_, _) => {
+        SpellingView::FarJump(_, _) => {
             let label = one_word(line, words)?;
             Ok(Operation::GotoW(copy(alloc, label)?))
         }
-        Parts::Increment(_, _, _) => increment_operation(line, words),
-        Parts::Table(_, _, _, _) => table_operation(alloc, line, words),
-        Parts::Lookup(_, _, _) => lookup_operation(alloc, line, words),
-        Parts::Interface(op, _, _) => member_operation(alloc, line, op, words),
-        Parts::Array(_, _) => array_operation(line, words),
+        SpellingView::Increment(_, _, _) => increment_operation(line, words),
+        SpellingView::Table(_, _, _, _) => table_operation(alloc, line, words),
+        SpellingView::Lookup(_, _, _) => lookup_operation(alloc, line, words),
+        SpellingView::Interface(op, _, _) => member_operation(alloc, line, op, words),
+        SpellingView::Array(_, _) => array_operation(line, words),
         _ => Err(AsmFault::UnknownOpcode { line }),
     }
 }

@@ -3,7 +3,7 @@
 ghost use Rattle.std.specs.Prelude.{◌≡◌, ◌==◌, IfOk};
 ghost use Rattle.std.specs.Str.{bytes_eq};
 ghost use Rattle.list_views.specs.Results.{Answers};
-ghost use Rattle.asm_lines.specs.Statements.{Gives, next_word, no_more, is_new, number_word, one_word, constant_of, constant_line, static_word, field_line, flag_of, flag_words, size_words, sizes_of, method_line, hex_word, attribute_line};
+ghost use Rattle.asm_lines.specs.Statements.{Gives, next_word, no_more, is_new, number_word, constant_of, constant_line, static_word, field_line, flag_of, flag_words, size_words, sizes_of, method_line, hex_word, attribute_line};
 
 use crate::fault::AsmFault;
 use crate::number::{Number, hex_bytes, read_number};

@@ -12,61 +12,61 @@ use Rattle.code_decode.specs.declared.fault.CodeFault.TheVariants.{BadSwitch}
 use Rattle.code_decode.specs.declared.insn.Case.{Case}
 use Rattle.code_decode.specs.declared.insn.Insn.{Insn}
 use Rattle.code_decode.specs.declared.insn.Insn.TheVariants.{Aaload, Aastore, AconstNull, Aload, Aload0, Aload1, Aload2, Aload3, Anewarray, Areturn, Arraylength, Astore, Astore0, Astore1, Astore2, Astore3, Athrow, Baload, Bastore, Bipush, Caload, Castore, Checkcast, Dup, Dup2, Dup2X1, Dup2X2, DupX1, DupX2, Getfield, Getstatic, Goto, GotoW, I2b, I2c, I2s, Iadd, Iaload, Iand, Iastore, Iconst0, Iconst1, Iconst2, Iconst3, Iconst4, Iconst5, IconstM1, Idiv, IfAcmpeq, IfAcmpne, IfIcmpeq, IfIcmpge, IfIcmpgt, IfIcmple, IfIcmplt, IfIcmpne, Ifeq, Ifge, Ifgt, Ifle, Iflt, Ifne, Ifnonnull, Ifnull, Iinc, Iload, Iload0, Iload1, Iload2, Iload3, Imul, Ineg, Instanceof, Invokeinterface, Invokespecial, Invokestatic, Invokevirtual, Ior, Irem, Ireturn, Ishl, Ishr, Istore, Istore0, Istore1, Istore2, Istore3, Isub, Iushr, Ixor, Ldc, LdcW, Lookupswitch, New, Newarray, Nop, Pop, Pop2, Putfield, Putstatic, Return, Saload, Sastore, Sipush, Swap, Tableswitch, WideAload, WideAstore, WideIinc, WideIload, WideIstore}
-use Rattle.code_decode.specs.Shapes as shapes
-use Rattle.code_decode.specs.Shapes.{Shape, shape}
-use Rattle.code_decode.specs.Texts.{signed, distance, padding_of, case_text, shape_text, Reaches, IsTable, IsLookup, FitsShape}
+use Rattle.code_decode.specs.Spellings as spellings
+use Rattle.code_decode.specs.Spellings.{Spelling, spelling}
+use Rattle.code_decode.specs.Texts.{signed, distance, padding_of, case_text, spelling_text, Reaches, IsTable, IsLookup, FitsSpelling}
 use Rattle.code_decode.specs.Reading.{target_at, skip_at, find_by, wide_local, repeat_at, case_at, table_targets_at, table_at, counted_cases_at, lookup_at, interface_at, array_at, wide_increment_at, wide_operand_at, wide_at, increment_at, signed_byte_at, sipush_at, far_jump_at, byte_operand_at, pair_operand_at, jump_operand_at, insn_at}
 use Rattle.code_decode.proofs.Fields.{wide16, wide32, number_again, signed_again, target_again}
 
--- the first byte of a shape, and the others
-abbrev pub first_byte : Shape → ℕ
-first_byte (shapes.WideLocal op n) = 196
-first_byte (shapes.WideIncrement op n v) = 196
-first_byte (shapes.Plain op) = op
-first_byte (shapes.Byte op n) = op
-first_byte (shapes.Pair op n) = op
-first_byte (shapes.SignedByte op v) = op
-first_byte (shapes.SignedPair op v) = op
-first_byte (shapes.Jump op target) = op
-first_byte (shapes.FarJump op target) = op
-first_byte (shapes.Increment op n v) = op
-first_byte (shapes.Table op default low targets) = op
-first_byte (shapes.Lookup op default cases) = op
-first_byte (shapes.Interface op n count) = op
-first_byte (shapes.Array op code) = op
+-- the first byte of a spelling, and the others
+abbrev pub first_byte : Spelling → ℕ
+first_byte (spellings.WideLocal op n) = 196
+first_byte (spellings.WideIncrement op n v) = 196
+first_byte (spellings.Plain op) = op
+first_byte (spellings.Byte op n) = op
+first_byte (spellings.Pair op n) = op
+first_byte (spellings.SignedByte op v) = op
+first_byte (spellings.SignedPair op v) = op
+first_byte (spellings.Jump op target) = op
+first_byte (spellings.FarJump op target) = op
+first_byte (spellings.Increment op n v) = op
+first_byte (spellings.Table op default low targets) = op
+first_byte (spellings.Lookup op default cases) = op
+first_byte (spellings.Interface op n count) = op
+first_byte (spellings.Array op code) = op
 
-abbrev pub other_bytes : ℕ → List ℕ → Shape → List ℕ
-other_bytes pc padding (shapes.Plain op) = []
-other_bytes pc padding (shapes.Byte op n) = n ∷ []
-other_bytes pc padding (shapes.Pair op n) = to_be_bytes w16 n
-other_bytes pc padding (shapes.SignedByte op v) = cast_unsigned w8 v ∷ []
-other_bytes pc padding (shapes.SignedPair op v) = signed w16 v
-other_bytes pc padding (shapes.Jump op target) = signed w16 (distance pc target)
-other_bytes pc padding (shapes.FarJump op target) = signed w32 (distance pc target)
-other_bytes pc padding (shapes.Increment op n v) = n ∷ cast_unsigned w8 v ∷ []
-other_bytes pc padding (shapes.Table op default low targets) =
+abbrev pub other_bytes : ℕ → List ℕ → Spelling → List ℕ
+other_bytes pc padding (spellings.Plain op) = []
+other_bytes pc padding (spellings.Byte op n) = n ∷ []
+other_bytes pc padding (spellings.Pair op n) = to_be_bytes w16 n
+other_bytes pc padding (spellings.SignedByte op v) = cast_unsigned w8 v ∷ []
+other_bytes pc padding (spellings.SignedPair op v) = signed w16 v
+other_bytes pc padding (spellings.Jump op target) = signed w16 (distance pc target)
+other_bytes pc padding (spellings.FarJump op target) = signed w32 (distance pc target)
+other_bytes pc padding (spellings.Increment op n v) = n ∷ cast_unsigned w8 v ∷ []
+other_bytes pc padding (spellings.Table op default low targets) =
     padding ++ (signed w32 (distance pc default) ++ (signed w32 low ++ (signed w32 (low +ℤ pos (length targets - 1)) ++ flat_map (λ target. signed w32 (distance pc target)) targets)))
-other_bytes pc padding (shapes.Lookup op default cases) = padding ++ (signed w32 (distance pc default) ++ (to_be_bytes w32 (length cases) ++ flat_map (case_text pc) cases))
-other_bytes pc padding (shapes.Interface op n count) = to_be_bytes w16 n ++ count ∷ 0 ∷ []
-other_bytes pc padding (shapes.Array op code) = code ∷ []
-other_bytes pc padding (shapes.WideLocal op n) = op ∷ to_be_bytes w16 n
-other_bytes pc padding (shapes.WideIncrement op n v) = op ∷ (to_be_bytes w16 n ++ signed w16 v)
+other_bytes pc padding (spellings.Lookup op default cases) = padding ++ (signed w32 (distance pc default) ++ (to_be_bytes w32 (length cases) ++ flat_map (case_text pc) cases))
+other_bytes pc padding (spellings.Interface op n count) = to_be_bytes w16 n ++ count ∷ 0 ∷ []
+other_bytes pc padding (spellings.Array op code) = code ∷ []
+other_bytes pc padding (spellings.WideLocal op n) = op ∷ to_be_bytes w16 n
+other_bytes pc padding (spellings.WideIncrement op n v) = op ∷ (to_be_bytes w16 n ++ signed w16 v)
 
-pub text_is : (pc : ℕ) (padding : List ℕ) (s : Shape) → shape_text pc padding s ≡ first_byte s ∷ other_bytes pc padding s
-text_is pc padding (shapes.Plain op) = refl
-text_is pc padding (shapes.Byte op n) = refl
-text_is pc padding (shapes.Pair op n) = refl
-text_is pc padding (shapes.SignedByte op v) = refl
-text_is pc padding (shapes.SignedPair op v) = refl
-text_is pc padding (shapes.Jump op target) = refl
-text_is pc padding (shapes.FarJump op target) = refl
-text_is pc padding (shapes.Increment op n v) = refl
-text_is pc padding (shapes.Table op default low targets) = refl
-text_is pc padding (shapes.Lookup op default cases) = refl
-text_is pc padding (shapes.Interface op n count) = refl
-text_is pc padding (shapes.Array op code) = refl
-text_is pc padding (shapes.WideLocal op n) = refl
-text_is pc padding (shapes.WideIncrement op n v) = refl
+pub text_is : (pc : ℕ) (padding : List ℕ) (s : Spelling) → spelling_text pc padding s ≡ first_byte s ∷ other_bytes pc padding s
+text_is pc padding (spellings.Plain op) = refl
+text_is pc padding (spellings.Byte op n) = refl
+text_is pc padding (spellings.Pair op n) = refl
+text_is pc padding (spellings.SignedByte op v) = refl
+text_is pc padding (spellings.SignedPair op v) = refl
+text_is pc padding (spellings.Jump op target) = refl
+text_is pc padding (spellings.FarJump op target) = refl
+text_is pc padding (spellings.Increment op n v) = refl
+text_is pc padding (spellings.Table op default low targets) = refl
+text_is pc padding (spellings.Lookup op default cases) = refl
+text_is pc padding (spellings.Interface op n count) = refl
+text_is pc padding (spellings.Array op code) = refl
+text_is pc padding (spellings.WideLocal op n) = refl
+text_is pc padding (spellings.WideIncrement op n v) = refl
 
 byte_again : (pc : ℕ) (make : ℕ → Insn) (n : ℕ) (rest : List ℕ) → byte_operand_at pc make (n ∷ rest) ≡ Ok (make n, rest)
 unfolding byte_operand_at
@@ -210,7 +210,7 @@ wide_again pc op bytes r e = e
 
 -- ---- each instruction
 
-pub insn_again : (pc : ℕ) (padding rest : List ℕ) (i : Insn) → length padding ≡ padding_of pc → FitsShape pc (shape i) → insn_at pc (first_byte (shape i)) (other_bytes pc padding (shape i) ++ rest) ≡ Ok (i, rest)
+pub insn_again : (pc : ℕ) (padding rest : List ℕ) (i : Insn) → length padding ≡ padding_of pc → FitsSpelling pc (spelling i) → insn_at pc (first_byte (spelling i)) (other_bytes pc padding (spelling i) ++ rest) ≡ Ok (i, rest)
 unfolding insn_at
 insn_again pc padding rest Nop len fits = refl
 insn_again pc padding rest AconstNull len fits = refl

@@ -8,8 +8,8 @@ use Rattle.std.proofs.lemmas.List.{length-append}
 use Rattle.std.proofs.lemmas.List.Concat.{flat_map-cons}
 use Rattle.code_decode.specs.declared.fault.CodeFault.{CodeFault}
 use Rattle.code_decode.specs.declared.insn.Insn.{Insn}
-use Rattle.code_decode.specs.Shapes.{Shape, Plain, Byte, Pair, SignedByte, SignedPair, Jump, FarJump, Increment, Table, Lookup, Interface, Array, WideLocal, WideIncrement, shape}
-use Rattle.code_decode.specs.Texts.{padding_of, zeros, signed, distance, case_text, shape_text, text, Fits}
+use Rattle.code_decode.specs.Spellings.{Spelling, Plain, Byte, Pair, SignedByte, SignedPair, Jump, FarJump, Increment, Table, Lookup, Interface, Array, WideLocal, WideIncrement, spelling}
+use Rattle.code_decode.specs.Texts.{padding_of, zeros, signed, distance, case_text, spelling_text, text, Fits}
 use Rattle.code_decode.specs.Codes.{Spells, IsReading}
 use Rattle.code_decode.specs.Encoding.{plain_text, code_of, ArePlaced, IsCode}
 use Rattle.code_decode.proofs.Takes.{length-zeros}
@@ -18,7 +18,7 @@ longer : (op : ℕ) (p z rest : List ℕ) → length p ≡ length z → length (
 longer op p z rest e = ap suc (length-append p rest ∙ ap (λ (n : ℕ). n + length rest) e ∙ sym (length-append z rest))
 
 -- Only the length of the padding counts.
-same_length : (pc : ℕ) (s : Shape) (p z : List ℕ) → length p ≡ length z → length (shape_text pc p s) ≡ length (shape_text pc z s)
+same_length : (pc : ℕ) (s : Spelling) (p z : List ℕ) → length p ≡ length z → length (spelling_text pc p s) ≡ length (spelling_text pc z s)
 same_length pc (Table op default low targets) p z e = longer op p z (signed w32 (distance pc default) ++ (signed w32 low ++ (signed w32 (low +ℤ pos (length targets - 1)) ++ flat_map (λ target. signed w32 (distance pc target)) targets))) e
 same_length pc (Lookup op default cases) p z e = longer op p z (signed w32 (distance pc default) ++ (to_be_bytes w32 (length cases) ++ flat_map (case_text pc) cases)) e
 same_length pc (Plain op) p z e = refl
@@ -35,7 +35,7 @@ same_length pc (WideLocal op n) p z e = refl
 same_length pc (WideIncrement op n v) p z e = refl
 
 plain_length : (pc : ℕ) (padding : List ℕ) (i : Insn) → length padding ≡ padding_of pc → length (text pc padding i) ≡ length (plain_text pc i)
-plain_length pc padding i e = same_length pc (shape i) padding (zeros (padding_of pc)) (e ∙ sym (length-zeros (padding_of pc)))
+plain_length pc padding i e = same_length pc (spelling i) padding (zeros (padding_of pc)) (e ∙ sym (length-zeros (padding_of pc)))
 
 placed : (pc : ℕ) (xs : List (ℕ × Insn)) (bytes : List ℕ) → Spells pc xs bytes → ArePlaced pc xs
 placed pc [] bytes h = tt

@@ -7,7 +7,7 @@ use Rattle.std.proofs.lemmas.Bool.{eqb-true, and_parts}
 use Rattle.std.proofs.lemmas.List.{length-append}
 use Rattle.code_decode.specs.declared.fault.CodeFault.{CodeFault}
 use Rattle.code_decode.specs.declared.insn.Insn.{Insn}
-use Rattle.code_decode.specs.Shapes.{shape}
+use Rattle.code_decode.specs.Spellings.{spelling}
 use Rattle.code_decode.specs.Texts.{text}
 use Rattle.code_decode.specs.Reading.{◌>>=◌, Gives, insn_at}
 use Rattle.code_decode.specs.Codes.{targets, starts, stands, first_stray, Spells, IsReading, insns_from, with_targets, decode_of}
@@ -111,9 +111,9 @@ spelled_again pc [] bytes h = subst (λ (b : List ℕ). insns_from 0 pc b ≡ Ok
 spelled_again pc (x ∷ xs) bytes h =
     let padding = h.0 in
     let rest = h.1 in
-    let first = first_byte (shape x.1) in
-    let others = other_bytes pc padding (shape x.1) in
-    let is : text pc padding x.1 ≡ first ∷ others = text_is pc padding (shape x.1) in
+    let first = first_byte (spelling x.1) in
+    let others = other_bytes pc padding (spelling x.1) in
+    let is : text pc padding x.1 ≡ first ∷ others = text_is pc padding (spelling x.1) in
     let whole : bytes ≡ first ∷ (others ++ rest) = h.5 ∙ ap (λ (t : List ℕ). t ++ rest) is in
     let read : insn_at pc first (others ++ rest) ≡ Ok (x.1, rest) = insn_again pc padding rest x.1 h.3 h.4 in
     let long : length (others ++ rest) - length rest ≡ length others = omega (arith, length-append others rest) in

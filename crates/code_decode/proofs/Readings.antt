@@ -4,14 +4,14 @@ use Rattle.std.specs.Prelude.{option_map}
 use Rattle.std.specs.List.{AllByRecursion}
 use Rattle.std.proofs.lemmas.Bool.{eqb-true}
 use Rattle.code_decode.specs.declared.insn.Insn.{Insn}
-use Rattle.code_decode.specs.Shapes.{shape, Plain, Byte, Pair, Jump}
+use Rattle.code_decode.specs.Spellings.{spelling, Plain, Byte, Pair, Jump}
 use Rattle.code_decode.specs.Reading as reading
 use Rattle.code_decode.specs.Reading.{opcode_of, find, find_by, plain_low, plain_high, with_byte, with_pair, with_jump, OperandLayout, first_of, single_layout, operand_layout, plain, layout, operands_at, insn_at}
 use Rattle.code_decode.proofs.Fields.{IsBytes, ok_is}
-use Rattle.code_decode.proofs.Takes.{TakesShape, plain_takes, byte_operand_takes, pair_operand_takes, jump_operand_takes, far_jump_takes, signed_byte_takes, sipush_takes, increment_takes, array_takes, interface_takes, table_takes, lookup_takes, wide_takes, chosen, some_is, found_by}
+use Rattle.code_decode.proofs.Takes.{TakesSpelling, plain_takes, byte_operand_takes, pair_operand_takes, jump_operand_takes, far_jump_takes, signed_byte_takes, sipush_takes, increment_takes, array_takes, interface_takes, table_takes, lookup_takes, wide_takes, chosen, some_is, found_by}
 
 abbrev IsPlain : Insn → Type 0
-IsPlain i = shape i ≡ Plain (opcode_of (shape i))
+IsPlain i = spelling i ≡ Plain (opcode_of (spelling i))
 
 low_rows : AllByRecursion IsPlain plain_low
 low_rows = (refl, (refl, (refl, (refl, (refl, (refl, (refl, (refl, (refl, (refl, (refl, (refl, (refl, (refl, (refl, (refl, (refl, (refl, (refl, (refl, (refl, (refl, (refl, (refl, (refl, (refl, (refl, (refl, (refl, (refl, (refl, (refl, (refl, (refl, (refl, tt)))))))))))))))))))))))))))))))))))
@@ -19,33 +19,33 @@ low_rows = (refl, (refl, (refl, (refl, (refl, (refl, (refl, (refl, (refl, (refl,
 high_rows : AllByRecursion IsPlain plain_high
 high_rows = (refl, (refl, (refl, (refl, (refl, (refl, (refl, (refl, (refl, (refl, (refl, (refl, (refl, (refl, (refl, (refl, (refl, (refl, (refl, (refl, (refl, (refl, (refl, (refl, (refl, (refl, (refl, (refl, (refl, tt)))))))))))))))))))))))))))))
 
-byte_rows : AllByRecursion (λ make. (n : ℕ) → shape (make n) ≡ Byte (opcode_of (shape (make 0))) n) with_byte
+byte_rows : AllByRecursion (λ make. (n : ℕ) → spelling (make n) ≡ Byte (opcode_of (spelling (make 0))) n) with_byte
 byte_rows = (λ n. refl, (λ n. refl, (λ n. refl, (λ n. refl, (λ n. refl, tt)))))
 
-pair_rows : AllByRecursion (λ make. (n : ℕ) → shape (make n) ≡ Pair (opcode_of (shape (make 0))) n) with_pair
+pair_rows : AllByRecursion (λ make. (n : ℕ) → spelling (make n) ≡ Pair (opcode_of (spelling (make 0))) n) with_pair
 pair_rows = (λ n. refl, (λ n. refl, (λ n. refl, (λ n. refl, (λ n. refl, (λ n. refl, (λ n. refl, (λ n. refl, (λ n. refl, (λ n. refl, (λ n. refl, (λ n. refl, tt))))))))))))
 
-jump_rows : AllByRecursion (λ make. (n : ℕ) → shape (make n) ≡ Jump (opcode_of (shape (make 0))) n) with_jump
+jump_rows : AllByRecursion (λ make. (n : ℕ) → spelling (make n) ≡ Jump (opcode_of (spelling (make 0))) n) with_jump
 jump_rows = (λ n. refl, (λ n. refl, (λ n. refl, (λ n. refl, (λ n. refl, (λ n. refl, (λ n. refl, (λ n. refl, (λ n. refl, (λ n. refl, (λ n. refl, (λ n. refl, (λ n. refl, (λ n. refl, (λ n. refl, (λ n. refl, (λ n. refl, tt)))))))))))))))))
 
-found : (is : List Insn) (op : ℕ) (i : Insn) → AllByRecursion IsPlain is → find is op ≡ Some i → shape i ≡ Plain op
+found : (is : List Insn) (op : ℕ) (i : Insn) → AllByRecursion IsPlain is → find is op ≡ Some i → spelling i ≡ Plain op
 found [] op i rows e = absurd cc
 found (j ∷ js) op i rows e =
-    elim (chosen (eqb op (opcode_of (shape j))) (Some j) (find js op) (Some i) e) [
-      | inl p ↦ subst (λ (k : Insn). shape k ≡ Plain op) (some_is j i p.1) (rows.0 ∙ ap (λ (k : ℕ). Plain k) (sym (eqb-true op (opcode_of (shape j)) p.0)))
+    elim (chosen (eqb op (opcode_of (spelling j))) (Some j) (find js op) (Some i) e) [
+      | inl p ↦ subst (λ (k : Insn). spelling k ≡ Plain op) (some_is j i p.1) (rows.0 ∙ ap (λ (k : ℕ). Plain k) (sym (eqb-true op (opcode_of (spelling j)) p.0)))
       | inr p ↦ found js op i rows.1 p.1
     ]
 
-found_either : (op : ℕ) (a b : Option Insn) (i : Insn) → find plain_low op ≡ a → find plain_high op ≡ b → first_of a b ≡ Some i → shape i ≡ Plain op
+found_either : (op : ℕ) (a b : Option Insn) (i : Insn) → find plain_low op ≡ a → find plain_high op ≡ b → first_of a b ≡ Some i → spelling i ≡ Plain op
 found_either op (Some j) b i ea eb e = found plain_low op i low_rows (ea ∙ e)
 found_either op None b i ea eb e = found plain_high op i high_rows (eb ∙ e)
 
 abbrev Reads : ℕ → ℕ → Option OperandLayout → List ℕ → Insn × List ℕ → Type 0
-Reads pc op f bytes x = IsBytes bytes → operands_at pc op f bytes ≡ Ok x → TakesShape pc op bytes (shape x.0) x.1
+Reads pc op f bytes x = IsBytes bytes → operands_at pc op f bytes ≡ Ok x → TakesSpelling pc op bytes (spelling x.0) x.1
 
 -- a test for one opcode, and what follows where it fails
 tested : (pc op k : ℕ) (f : OperandLayout) (rest : Option OperandLayout) (bytes : List ℕ) (x : Insn × List ℕ) (b : Bool) → eqb op k ≡ b → Reads pc k (Some f) bytes x → Reads pc op rest bytes x → Reads pc op (cond b (Some f) rest) bytes x
-tested pc op k f rest bytes x true e this other fits h = subst (λ (o : ℕ). TakesShape pc o bytes (shape x.0) x.1) (sym (eqb-true op k e)) (this fits h)
+tested pc op k f rest bytes x true e this other fits h = subst (λ (o : ℕ). TakesSpelling pc o bytes (spelling x.0) x.1) (sym (eqb-true op k e)) (this fits h)
 tested pc op k f rest bytes x false e this other fits h = other fits h
 
 unread : (pc op : ℕ) (bytes : List ℕ) (x : Insn × List ℕ) → Reads pc op None bytes x
@@ -80,7 +80,7 @@ plain_reads : (pc op : ℕ) (bytes : List ℕ) (x : Insn × List ℕ) (a : Optio
 plain_reads pc op bytes x (Some i) rest e other fits h = plain_takes pc op bytes i x fits (found_either op (find plain_low op) (find plain_high op) i refl refl e) (ok_is (i, bytes) x h)
 plain_reads pc op bytes x None rest e other fits h = other fits h
 
-pub insn_takes : (pc op : ℕ) (bytes : List ℕ) (x : Insn × List ℕ) → IsBytes bytes → insn_at pc op bytes ≡ Ok x → TakesShape pc op bytes (shape x.0) x.1
+pub insn_takes : (pc op : ℕ) (bytes : List ℕ) (x : Insn × List ℕ) → IsBytes bytes → insn_at pc op bytes ≡ Ok x → TakesSpelling pc op bytes (spelling x.0) x.1
 unfolding insn_at
 insn_takes pc op bytes x =
     plain_reads pc op bytes x (plain op) (operand_layout op) refl

@@ -13,35 +13,35 @@ use Rattle.code_decode.specs.declared.fault.CodeFault.TheVariants.{Truncated, Ba
 use Rattle.code_decode.specs.declared.insn.Case.{Case}
 use Rattle.code_decode.specs.declared.insn.Insn.{Insn}
 use Rattle.code_decode.specs.declared.insn.Insn.TheVariants as insns
-use Rattle.code_decode.specs.Shapes.{Shape, Plain, Byte, Pair, SignedByte, SignedPair, Jump, FarJump, Increment, Table, Lookup, Interface, Array, WideLocal, WideIncrement, shape}
-use Rattle.code_decode.specs.Texts.{signed, distance, padding_of, case_text, shape_text, Reaches, is_rising, FitsShape, zeros}
+use Rattle.code_decode.specs.Spellings.{Spelling, Plain, Byte, Pair, SignedByte, SignedPair, Jump, FarJump, Increment, Table, Lookup, Interface, Array, WideLocal, WideIncrement, spelling}
+use Rattle.code_decode.specs.Texts.{signed, distance, padding_of, case_text, spelling_text, Reaches, is_rising, FitsSpelling, zeros}
 use Rattle.code_decode.specs.Reading.{◌>>=◌, byte_at, number_at, signed_at, target_at, skip_at, opcode_of, find_by, wide_local, repeat_at, case_at, table_targets_at, table_at, counted_cases_at, lookup_at, interface_at, array_at, wide_increment_at, wide_operand_at, wide_at, increment_at, signed_byte_at, sipush_at, far_jump_at, byte_operand_at, pair_operand_at, jump_operand_at}
-use Rattle.code_decode.specs.Codes.{shape_targets}
+use Rattle.code_decode.specs.Codes.{spelling_targets}
 use Rattle.code_decode.proofs.Fields.{IsBytes, IsBytes-drop, bind_ok, guard_ok, guarded, ok_is, Takes, Takes-then, byte_takes, wide16, wide32, number_takes, signed_takes, target_takes}
 
--- ---- an instruction of a shape
+-- ---- an instruction of a spelling
 
 abbrev pub AreNear : List ℕ → Type 0
 AreNear places = AllByRecursion (λ place. place < 65535) places
 
--- the bytes of a shape at a place
-pub record IsShapeText (pc : ℕ) (s : Shape) (bytes : List ℕ) : Type 0 where
+-- the bytes of a spelling at a place
+pub record IsSpellingText (pc : ℕ) (s : Spelling) (bytes : List ℕ) : Type 0 where
   pub padding : List ℕ
   pub long : length padding ≡ padding_of pc
-  pub fits : FitsShape pc s
-  pub is : bytes ≡ shape_text pc padding s
+  pub fits : FitsSpelling pc s
+  pub is : bytes ≡ spelling_text pc padding s
 
-pub record TakesShape (pc op : ℕ) (bytes : List ℕ) (s : Shape) (rest : List ℕ) : Type 0 where
+pub record TakesSpelling (pc op : ℕ) (bytes : List ℕ) (s : Spelling) (rest : List ℕ) : Type 0 where
   pub text : List ℕ
   pub taken : Takes bytes text rest
-  pub same : AreNear (shape_targets s) → IsShapeText pc s (op ∷ text)
+  pub same : AreNear (spelling_targets s) → IsSpellingText pc s (op ∷ text)
 
 pub length-zeros : (n : ℕ) → length (zeros n) ≡ n
 length-zeros zero = refl
 length-zeros (suc n) = ap suc (length-zeros n)
 
--- a shape without padding
-unpadded : (pc : ℕ) (s : Shape) (bytes : List ℕ) → FitsShape pc s → bytes ≡ shape_text pc (zeros (padding_of pc)) s → IsShapeText pc s bytes
+-- a spelling without padding
+unpadded : (pc : ℕ) (s : Spelling) (bytes : List ℕ) → FitsSpelling pc s → bytes ≡ spelling_text pc (zeros (padding_of pc)) s → IsSpellingText pc s bytes
 unpadded pc s bytes f e = record { padding = zeros (padding_of pc); long = length-zeros (padding_of pc); fits = f; is = e }
 
 abbrev read : Insn → List ℕ → Insn × List ℕ
@@ -50,30 +50,30 @@ read i rest = (i, rest)
 abbrev answer : Insn × List ℕ → Result (Insn × List ℕ) CodeFault
 answer x = Ok x
 
--- what a reader answered, by the shape of the instruction that it made
-made : (pc op : ℕ) (bytes : List ℕ) (i : Insn) (rest : List ℕ) (s : Shape) (x : Insn × List ℕ) → read i rest ≡ x → shape i ≡ s → TakesShape pc op bytes s rest → TakesShape pc op bytes (shape x.0) x.1
+-- what a reader answered, by the spelling of the instruction that it made
+made : (pc op : ℕ) (bytes : List ℕ) (i : Insn) (rest : List ℕ) (s : Spelling) (x : Insn × List ℕ) → read i rest ≡ x → spelling i ≡ s → TakesSpelling pc op bytes s rest → TakesSpelling pc op bytes (spelling x.0) x.1
 made pc op bytes i rest s x e h t =
-    subst (λ (y : Insn × List ℕ). TakesShape pc op bytes (shape y.0) y.1) e (subst (λ (z : Shape). TakesShape pc op bytes z rest) (sym h) t)
+    subst (λ (y : Insn × List ℕ). TakesSpelling pc op bytes (spelling y.0) y.1) e (subst (λ (z : Spelling). TakesSpelling pc op bytes z rest) (sym h) t)
 
-pub plain_takes : (pc op : ℕ) (bytes : List ℕ) (i : Insn) (x : Insn × List ℕ) → IsBytes bytes → shape i ≡ Plain op → read i bytes ≡ x → TakesShape pc op bytes (shape x.0) x.1
+pub plain_takes : (pc op : ℕ) (bytes : List ℕ) (i : Insn) (x : Insn × List ℕ) → IsBytes bytes → spelling i ≡ Plain op → read i bytes ≡ x → TakesSpelling pc op bytes (spelling x.0) x.1
 plain_takes pc op bytes i x fits h e =
     made pc op bytes i bytes (Plain op) x e h (record { text = []; taken = record { parts = refl; rest_fits = fits }; same = λ _. unpadded pc (Plain op) (op ∷ []) tt refl })
 
-pub byte_operand_takes : (pc op : ℕ) (make : ℕ → Insn) (bytes : List ℕ) (x : Insn × List ℕ) → IsBytes bytes → ((n : ℕ) → shape (make n) ≡ Byte op n) → byte_operand_at pc make bytes ≡ Ok x → TakesShape pc op bytes (shape x.0) x.1
+pub byte_operand_takes : (pc op : ℕ) (make : ℕ → Insn) (bytes : List ℕ) (x : Insn × List ℕ) → IsBytes bytes → ((n : ℕ) → spelling (make n) ≡ Byte op n) → byte_operand_at pc make bytes ≡ Ok x → TakesSpelling pc op bytes (spelling x.0) x.1
 unfolding byte_operand_at
 byte_operand_takes pc op make bytes x fits h e =
     let b = bind_ok (byte_at pc bytes) (λ n. Ok (make n.0, n.1)) x e in
     let t = byte_takes pc bytes b.0 fits b.1 in
     made pc op bytes (make b.0.0) b.0.1 (Byte op b.0.0) x (ok_is (read (make b.0.0) b.0.1) x b.2) (h b.0.0) (record { text = b.0.0 ∷ []; taken = t.0; same = λ _. unpadded pc (Byte op b.0.0) (op ∷ b.0.0 ∷ []) t.1 refl })
 
-pub pair_operand_takes : (pc op : ℕ) (make : ℕ → Insn) (bytes : List ℕ) (x : Insn × List ℕ) → IsBytes bytes → ((n : ℕ) → shape (make n) ≡ Pair op n) → pair_operand_at pc make bytes ≡ Ok x → TakesShape pc op bytes (shape x.0) x.1
+pub pair_operand_takes : (pc op : ℕ) (make : ℕ → Insn) (bytes : List ℕ) (x : Insn × List ℕ) → IsBytes bytes → ((n : ℕ) → spelling (make n) ≡ Pair op n) → pair_operand_at pc make bytes ≡ Ok x → TakesSpelling pc op bytes (spelling x.0) x.1
 unfolding pair_operand_at
 pair_operand_takes pc op make bytes x fits h e =
     let b = bind_ok (number_at w16 pc bytes) (λ n. Ok (make n.0, n.1)) x e in
     let t = number_takes w16 (2 ^ 16) wide16 pc bytes b.0 fits b.1 in
     made pc op bytes (make b.0.0) b.0.1 (Pair op b.0.0) x (ok_is (read (make b.0.0) b.0.1) x b.2) (h b.0.0) (record { text = to_be_bytes w16 b.0.0; taken = t.0; same = λ _. unpadded pc (Pair op b.0.0) (op ∷ to_be_bytes w16 b.0.0) t.1 refl })
 
-pub jump_operand_takes : (pc op : ℕ) (make : ℕ → Insn) (bytes : List ℕ) (x : Insn × List ℕ) → IsBytes bytes → ((n : ℕ) → shape (make n) ≡ Jump op n) → jump_operand_at pc make bytes ≡ Ok x → TakesShape pc op bytes (shape x.0) x.1
+pub jump_operand_takes : (pc op : ℕ) (make : ℕ → Insn) (bytes : List ℕ) (x : Insn × List ℕ) → IsBytes bytes → ((n : ℕ) → spelling (make n) ≡ Jump op n) → jump_operand_at pc make bytes ≡ Ok x → TakesSpelling pc op bytes (spelling x.0) x.1
 unfolding jump_operand_at
 jump_operand_takes pc op make bytes x fits h e =
     let b = bind_ok (target_at w16 pc bytes) (λ n. Ok (make n.0, n.1)) x e in
@@ -81,7 +81,7 @@ jump_operand_takes pc op make bytes x fits h e =
     made pc op bytes (make b.0.0) b.0.1 (Jump op b.0.0) x (ok_is (read (make b.0.0) b.0.1) x b.2) (h b.0.0)
     (record { text = t.text; taken = t.taken; same = λ near. let s = t.same near.0 in unpadded pc (Jump op b.0.0) (op ∷ t.text) s.1 (ap (λ (u : List ℕ). op ∷ u) s.0) })
 
-pub far_jump_takes : (pc : ℕ) (bytes : List ℕ) (x : Insn × List ℕ) → IsBytes bytes → far_jump_at pc bytes ≡ Ok x → TakesShape pc 200 bytes (shape x.0) x.1
+pub far_jump_takes : (pc : ℕ) (bytes : List ℕ) (x : Insn × List ℕ) → IsBytes bytes → far_jump_at pc bytes ≡ Ok x → TakesSpelling pc 200 bytes (spelling x.0) x.1
 unfolding far_jump_at
 far_jump_takes pc bytes x fits e =
     let b = bind_ok (target_at w32 pc bytes) (λ n. Ok (insns.GotoW n.0, n.1)) x e in
@@ -93,7 +93,7 @@ far_jump_takes pc bytes x fits e =
 pub signed_byte : (n : ℕ) → n < 2 ^ 8 → (cast_unsigned w8 (cast_signed w8 n) ≡ n) × FitsSigned w8 (cast_signed w8 n)
 signed_byte n lt = (of_z-to_z w8 n lt, search (arith, ints))
 
-pub signed_byte_takes : (pc : ℕ) (bytes : List ℕ) (x : Insn × List ℕ) → IsBytes bytes → signed_byte_at pc bytes ≡ Ok x → TakesShape pc 16 bytes (shape x.0) x.1
+pub signed_byte_takes : (pc : ℕ) (bytes : List ℕ) (x : Insn × List ℕ) → IsBytes bytes → signed_byte_at pc bytes ≡ Ok x → TakesSpelling pc 16 bytes (spelling x.0) x.1
 unfolding signed_byte_at
 signed_byte_takes pc bytes x fits e =
     let b = bind_ok (byte_at pc bytes) (λ n. Ok (insns.Bipush (cast_signed w8 n.0), n.1)) x e in
@@ -102,7 +102,7 @@ signed_byte_takes pc bytes x fits e =
     made pc 16 bytes (insns.Bipush (cast_signed w8 b.0.0)) b.0.1 (SignedByte 16 (cast_signed w8 b.0.0)) x (ok_is (read (insns.Bipush (cast_signed w8 b.0.0)) b.0.1) x b.2) refl
     (record { text = b.0.0 ∷ []; taken = t.0; same = λ _. unpadded pc (SignedByte 16 (cast_signed w8 b.0.0)) (16 ∷ b.0.0 ∷ []) s.1 (ap (λ (u : ℕ). 16 ∷ u ∷ []) (sym s.0)) })
 
-pub sipush_takes : (pc : ℕ) (bytes : List ℕ) (x : Insn × List ℕ) → IsBytes bytes → sipush_at pc bytes ≡ Ok x → TakesShape pc 17 bytes (shape x.0) x.1
+pub sipush_takes : (pc : ℕ) (bytes : List ℕ) (x : Insn × List ℕ) → IsBytes bytes → sipush_at pc bytes ≡ Ok x → TakesSpelling pc 17 bytes (spelling x.0) x.1
 unfolding sipush_at
 sipush_takes pc bytes x fits e =
     let b = bind_ok (signed_at w16 pc bytes) (λ n. Ok (insns.Sipush n.0, n.1)) x e in
@@ -110,7 +110,7 @@ sipush_takes pc bytes x fits e =
     made pc 17 bytes (insns.Sipush b.0.0) b.0.1 (SignedPair 17 b.0.0) x (ok_is (read (insns.Sipush b.0.0) b.0.1) x b.2) refl
     (record { text = signed w16 b.0.0; taken = t.0; same = λ _. unpadded pc (SignedPair 17 b.0.0) (17 ∷ signed w16 b.0.0) t.1 refl })
 
-pub increment_takes : (pc : ℕ) (bytes : List ℕ) (x : Insn × List ℕ) → IsBytes bytes → increment_at pc bytes ≡ Ok x → TakesShape pc 132 bytes (shape x.0) x.1
+pub increment_takes : (pc : ℕ) (bytes : List ℕ) (x : Insn × List ℕ) → IsBytes bytes → increment_at pc bytes ≡ Ok x → TakesSpelling pc 132 bytes (spelling x.0) x.1
 unfolding increment_at
 increment_takes pc bytes x fits e =
     let a = bind_ok (byte_at pc bytes) (λ n. byte_at pc n.1 >>= λ v. Ok (insns.Iinc n.0 (cast_signed w8 v.0), v.1)) x e in
@@ -127,7 +127,7 @@ increment_takes pc bytes x fits e =
       same = λ _. unpadded pc shown (132 ∷ a.0.0 ∷ b.0.0 ∷ []) (t.1, s.1) (ap (λ (u : ℕ). 132 ∷ a.0.0 ∷ u ∷ []) (sym s.0));
     })
 
-pub wide_increment_takes : (pc : ℕ) (bytes : List ℕ) (x : Insn × List ℕ) → IsBytes bytes → wide_increment_at pc bytes ≡ Ok x → (text : List ℕ) × Takes bytes text x.1 × (IsShapeText pc (shape x.0) (196 ∷ 132 ∷ text))
+pub wide_increment_takes : (pc : ℕ) (bytes : List ℕ) (x : Insn × List ℕ) → IsBytes bytes → wide_increment_at pc bytes ≡ Ok x → (text : List ℕ) × Takes bytes text x.1 × (IsSpellingText pc (spelling x.0) (196 ∷ 132 ∷ text))
 unfolding wide_increment_at
 wide_increment_takes pc bytes x fits e =
     let a = bind_ok (number_at w16 pc bytes) (λ n. signed_at w16 pc n.1 >>= λ v. Ok (insns.WideIinc n.0 v.0, v.1)) x e in
@@ -136,10 +136,10 @@ wide_increment_takes pc bytes x fits e =
     let u = signed_takes w16 (2 ^ 16) wide16 pc a.0.1 b.0 t.0.rest_fits b.1 in
     let i = insns.WideIinc a.0.0 b.0.0 in
     let text = to_be_bytes w16 a.0.0 ++ signed w16 b.0.0 in
-    subst (λ (y : Insn × List ℕ). (text : List ℕ) × Takes bytes text y.1 × (IsShapeText pc (shape y.0) (196 ∷ 132 ∷ text))) (ok_is (read i b.0.1) x b.2)
+    subst (λ (y : Insn × List ℕ). (text : List ℕ) × Takes bytes text y.1 × (IsSpellingText pc (spelling y.0) (196 ∷ 132 ∷ text))) (ok_is (read i b.0.1) x b.2)
     (text, Takes-then bytes (to_be_bytes w16 a.0.0) a.0.1 (signed w16 b.0.0) b.0.1 t.0 u.0, unpadded pc (WideIncrement 132 a.0.0 b.0.0) (196 ∷ 132 ∷ text) (t.1, u.1) refl)
 
-pub array_takes : (pc : ℕ) (bytes : List ℕ) (x : Insn × List ℕ) → IsBytes bytes → array_at pc bytes ≡ Ok x → TakesShape pc 188 bytes (shape x.0) x.1
+pub array_takes : (pc : ℕ) (bytes : List ℕ) (x : Insn × List ℕ) → IsBytes bytes → array_at pc bytes ≡ Ok x → TakesSpelling pc 188 bytes (spelling x.0) x.1
 unfolding array_at
 array_takes pc bytes x fits e =
     let b = bind_ok (byte_at pc bytes) (λ code. cond (ltb 3 code.0 && ltb code.0 12) (Ok (insns.Newarray code.0, code.1)) (Err (BadOperand pc))) x e in
@@ -151,7 +151,7 @@ array_takes pc bytes x fits e =
     made pc 188 bytes (insns.Newarray b.0.0) b.0.1 (Array 188 b.0.0) x g.1 refl
     (record { text = b.0.0 ∷ []; taken = t.0; same = λ _. unpadded pc (Array 188 b.0.0) (188 ∷ b.0.0 ∷ []) (omega arith, omega arith) refl })
 
-pub interface_takes : (pc : ℕ) (bytes : List ℕ) (x : Insn × List ℕ) → IsBytes bytes → interface_at pc bytes ≡ Ok x → TakesShape pc 185 bytes (shape x.0) x.1
+pub interface_takes : (pc : ℕ) (bytes : List ℕ) (x : Insn × List ℕ) → IsBytes bytes → interface_at pc bytes ≡ Ok x → TakesSpelling pc 185 bytes (spelling x.0) x.1
 unfolding interface_at
 interface_takes pc bytes x fits e =
     let a = bind_ok (number_at w16 pc bytes) (λ n. byte_at pc n.1 >>= λ count. byte_at pc count.1 >>= λ last. cond (eqb last.0 0) (Ok (insns.Invokeinterface n.0 count.0, last.1)) (Err (BadOperand pc))) x e in
@@ -247,7 +247,7 @@ guard_repeat false d r y e = (refl, e)
 
 table_parts : (pc : ℕ) (bytes padded : List ℕ) (d : ℕ × List ℕ) (l h : ℤ × List ℕ) (ts : List ℕ × List ℕ) (x : Insn × List ℕ) → IsBytes bytes
     → skip_at (padding_of pc) pc bytes ≡ Ok padded → target_at w32 pc padded ≡ Ok d → signed_at w32 pc d.1 ≡ Ok l → signed_at w32 pc l.1 ≡ Ok h → table_targets_at pc l.0 h.0 h.1 ≡ Ok ts
-    → answer (read (insns.Tableswitch d.0 l.0 ts.0) ts.1) ≡ Ok x → TakesShape pc 170 bytes (shape x.0) x.1
+    → answer (read (insns.Tableswitch d.0 l.0 ts.0) ts.1) ≡ Ok x → TakesSpelling pc 170 bytes (spelling x.0) x.1
 unfolding table_targets_at
 table_parts pc bytes padded d l h ts x fits e1 e2 e3 e4 e5 e6 =
     let g = guard_repeat (int_lt h.0 l.0) (BadSwitch pc) (repeat_at (target_at w32 pc) (unsigned_abs (h.0 -ℤ l.0) + 1) h.1) ts e5 in
@@ -283,7 +283,7 @@ table_parts pc bytes padded d l h ts x fits e1 e2 e3 e4 e5 e6 =
           };
     })
 
-pub table_takes : (pc : ℕ) (bytes : List ℕ) (x : Insn × List ℕ) → IsBytes bytes → table_at pc bytes ≡ Ok x → TakesShape pc 170 bytes (shape x.0) x.1
+pub table_takes : (pc : ℕ) (bytes : List ℕ) (x : Insn × List ℕ) → IsBytes bytes → table_at pc bytes ≡ Ok x → TakesSpelling pc 170 bytes (spelling x.0) x.1
 unfolding table_at
 table_takes pc bytes x fits e =
     let a = bind_ok (skip_at (padding_of pc) pc bytes) (λ padded. target_at w32 pc padded >>= λ default. signed_at w32 pc default.1 >>= λ low. signed_at w32 pc low.1 >>= λ high. table_targets_at pc low.0 high.0 high.1 >>= λ targets. Ok (insns.Tableswitch default.0 low.0 targets.0, targets.1)) x e in
@@ -303,7 +303,7 @@ guard_counted false d r y e = absurd cc
 
 lookup_parts : (pc : ℕ) (bytes padded : List ℕ) (d n : ℕ × List ℕ) (cs : List Case × List ℕ) (x : Insn × List ℕ) → IsBytes bytes
     → skip_at (padding_of pc) pc bytes ≡ Ok padded → target_at w32 pc padded ≡ Ok d → number_at w32 pc d.1 ≡ Ok n → counted_cases_at n.0 pc n.1 ≡ Ok cs
-    → cond (is_rising cs.0) (answer (read (insns.Lookupswitch d.0 cs.0) cs.1)) (Err (BadSwitch pc)) ≡ Ok x → TakesShape pc 171 bytes (shape x.0) x.1
+    → cond (is_rising cs.0) (answer (read (insns.Lookupswitch d.0 cs.0) cs.1)) (Err (BadSwitch pc)) ≡ Ok x → TakesSpelling pc 171 bytes (spelling x.0) x.1
 unfolding counted_cases_at
 lookup_parts pc bytes padded d n cs x fits e1 e2 e3 e4 e5 =
     let i = insns.Lookupswitch d.0 cs.0 in
@@ -337,7 +337,7 @@ lookup_parts pc bytes padded d n cs x fits e1 e2 e3 e4 e5 =
           };
     })
 
-pub lookup_takes : (pc : ℕ) (bytes : List ℕ) (x : Insn × List ℕ) → IsBytes bytes → lookup_at pc bytes ≡ Ok x → TakesShape pc 171 bytes (shape x.0) x.1
+pub lookup_takes : (pc : ℕ) (bytes : List ℕ) (x : Insn × List ℕ) → IsBytes bytes → lookup_at pc bytes ≡ Ok x → TakesSpelling pc 171 bytes (spelling x.0) x.1
 unfolding lookup_at
 lookup_takes pc bytes x fits e =
     let a = bind_ok (skip_at (padding_of pc) pc bytes) (λ padded. target_at w32 pc padded >>= λ default. number_at w32 pc default.1 >>= λ count. counted_cases_at count.0 pc count.1 >>= λ cases. cond (is_rising cases.0) (Ok (insns.Lookupswitch default.0 cases.0, cases.1)) (Err (BadSwitch pc))) x e in
@@ -348,8 +348,8 @@ lookup_takes pc bytes x fits e =
 
 -- ---- behind `wide`
 
--- the instructions that a reader of operands makes have the shape
-local_rows : AllByRecursion (λ make. (n : ℕ) → shape (make n) ≡ WideLocal (opcode_of (shape (make 0))) n) wide_local
+-- the instructions that a reader of operands makes have the spelling
+local_rows : AllByRecursion (λ make. (n : ℕ) → spelling (make n) ≡ WideLocal (opcode_of (spelling (make 0))) n) wide_local
 local_rows = (λ n. refl, (λ n. refl, (λ n. refl, (λ n. refl, tt))))
 
 pub chosen : {A : Type 0} (b : Bool) (x y z : A) → cond b x y ≡ z → ((b ≡ true) × (x ≡ z)) ⊎ ((b ≡ false) × (y ≡ z))
@@ -363,28 +363,28 @@ pub some_is : {A : Type 0} (x y : A) → just x ≡ just y → x ≡ y
 some_is x y e = cc
 
 -- a row that is found is a row of the list
-pub found_by : (S : ℕ → ℕ → Shape) (makes : List (ℕ → Insn)) (op : ℕ) (make : ℕ → Insn) → AllByRecursion (λ make. (n : ℕ) → shape (make n) ≡ S (opcode_of (shape (make 0))) n) makes → find_by makes op ≡ Some make → (n : ℕ) → shape (make n) ≡ S op n
+pub found_by : (S : ℕ → ℕ → Spelling) (makes : List (ℕ → Insn)) (op : ℕ) (make : ℕ → Insn) → AllByRecursion (λ make. (n : ℕ) → spelling (make n) ≡ S (opcode_of (spelling (make 0))) n) makes → find_by makes op ≡ Some make → (n : ℕ) → spelling (make n) ≡ S op n
 found_by S [] op make rows e = absurd cc
 found_by S (m ∷ ms) op make rows e =
-    elim (chosen (eqb op (opcode_of (shape (m 0)))) (Some m) (find_by ms op) (Some make) e) [
-      | inl p ↦ λ n. subst (λ (f : ℕ → Insn). shape (f n) ≡ S op n) (some_is m make p.1) (rows.0 n ∙ ap (λ (k : ℕ). S k n) (sym (eqb-true op (opcode_of (shape (m 0))) p.0)))
+    elim (chosen (eqb op (opcode_of (spelling (m 0)))) (Some m) (find_by ms op) (Some make) e) [
+      | inl p ↦ λ n. subst (λ (f : ℕ → Insn). spelling (f n) ≡ S op n) (some_is m make p.1) (rows.0 n ∙ ap (λ (k : ℕ). S k n) (sym (eqb-true op (opcode_of (spelling (m 0))) p.0)))
       | inr p ↦ found_by S ms op make rows.1 p.1
     ]
 
-wide_operand_takes : (pc op : ℕ) (a : Option (ℕ → Insn)) (bytes : List ℕ) (x : Insn × List ℕ) → IsBytes bytes → find_by wide_local op ≡ a → wide_operand_at pc op a bytes ≡ Ok x → (text : List ℕ) × Takes bytes text x.1 × (IsShapeText pc (shape x.0) (196 ∷ op ∷ text))
+wide_operand_takes : (pc op : ℕ) (a : Option (ℕ → Insn)) (bytes : List ℕ) (x : Insn × List ℕ) → IsBytes bytes → find_by wide_local op ≡ a → wide_operand_at pc op a bytes ≡ Ok x → (text : List ℕ) × Takes bytes text x.1 × (IsSpellingText pc (spelling x.0) (196 ∷ op ∷ text))
 unfolding wide_operand_at
 wide_operand_takes pc op (Some make) bytes x fits h e =
     let b = bind_ok (number_at w16 pc bytes) (λ n. Ok (make n.0, n.1)) x e in
     let t = number_takes w16 (2 ^ 16) wide16 pc bytes b.0 fits b.1 in
-    let s : shape (make b.0.0) ≡ WideLocal op b.0.0 = found_by WideLocal wide_local op make local_rows h b.0.0 in
+    let s : spelling (make b.0.0) ≡ WideLocal op b.0.0 = found_by WideLocal wide_local op make local_rows h b.0.0 in
     let text = to_be_bytes w16 b.0.0 in
-    subst (λ (y : Insn × List ℕ). (text : List ℕ) × Takes bytes text y.1 × (IsShapeText pc (shape y.0) (196 ∷ op ∷ text))) (ok_is (read (make b.0.0) b.0.1) x b.2)
-    (text, t.0, subst (λ (z : Shape). IsShapeText pc z (196 ∷ op ∷ text)) (sym s) (unpadded pc (WideLocal op b.0.0) (196 ∷ op ∷ text) t.1 refl))
+    subst (λ (y : Insn × List ℕ). (text : List ℕ) × Takes bytes text y.1 × (IsSpellingText pc (spelling y.0) (196 ∷ op ∷ text))) (ok_is (read (make b.0.0) b.0.1) x b.2)
+    (text, t.0, subst (λ (z : Spelling). IsSpellingText pc z (196 ∷ op ∷ text)) (sym s) (unpadded pc (WideLocal op b.0.0) (196 ∷ op ∷ text) t.1 refl))
 wide_operand_takes pc op None bytes x fits h e =
     let g = guard_counted (eqb op 132) (BadOperand pc) (wide_increment_at pc bytes) x e in
-    subst (λ (k : ℕ). (text : List ℕ) × Takes bytes text x.1 × (IsShapeText pc (shape x.0) (196 ∷ k ∷ text))) (sym (eqb-true op 132 g.0)) (wide_increment_takes pc bytes x fits g.1)
+    subst (λ (k : ℕ). (text : List ℕ) × Takes bytes text x.1 × (IsSpellingText pc (spelling x.0) (196 ∷ k ∷ text))) (sym (eqb-true op 132 g.0)) (wide_increment_takes pc bytes x fits g.1)
 
-pub wide_takes : (pc : ℕ) (bytes : List ℕ) (x : Insn × List ℕ) → IsBytes bytes → wide_at pc bytes ≡ Ok x → TakesShape pc 196 bytes (shape x.0) x.1
+pub wide_takes : (pc : ℕ) (bytes : List ℕ) (x : Insn × List ℕ) → IsBytes bytes → wide_at pc bytes ≡ Ok x → TakesSpelling pc 196 bytes (spelling x.0) x.1
 unfolding wide_at
 wide_takes pc bytes x fits e =
     let a = bind_ok (byte_at pc bytes) (λ op. wide_operand_at pc op.0 (find_by wide_local op.0) op.1) x e in

@@ -5,31 +5,31 @@ use Rattle.std.specs.List.{list_all, list_any}
 use Rattle.code_decode.specs.declared.fault.CodeFault.{CodeFault}
 use Rattle.code_decode.specs.declared.fault.CodeFault.TheVariants.{BadTarget}
 use Rattle.code_decode.specs.declared.insn.Insn.{Insn}
-use Rattle.code_decode.specs.Shapes.{Shape, Plain, Byte, Pair, SignedByte, SignedPair, Jump, FarJump, Increment, Table, Lookup, Interface, Array, WideLocal, WideIncrement, shape}
+use Rattle.code_decode.specs.Spellings.{Spelling, Plain, Byte, Pair, SignedByte, SignedPair, Jump, FarJump, Increment, Table, Lookup, Interface, Array, WideLocal, WideIncrement, spelling}
 use Rattle.code_decode.specs.Texts.{padding_of, text, Fits}
 use Rattle.code_decode.specs.Reading.{◌>>=◌, insn_at}
 
 -- ---- what a code's instructions are
 
-abbrev pub shape_targets : Shape → List ℕ
-shape_targets (Plain op) = []
-shape_targets (Byte op n) = []
-shape_targets (Pair op n) = []
-shape_targets (SignedByte op v) = []
-shape_targets (SignedPair op v) = []
-shape_targets (Jump op target) = target ∷ []
-shape_targets (FarJump op target) = target ∷ []
-shape_targets (Increment op n v) = []
-shape_targets (Table op default low targets) = default ∷ targets
-shape_targets (Lookup op default cases) = default ∷ map (λ c. c.target) cases
-shape_targets (Interface op n count) = []
-shape_targets (Array op code) = []
-shape_targets (WideLocal op n) = []
-shape_targets (WideIncrement op n v) = []
+abbrev pub spelling_targets : Spelling → List ℕ
+spelling_targets (Plain op) = []
+spelling_targets (Byte op n) = []
+spelling_targets (Pair op n) = []
+spelling_targets (SignedByte op v) = []
+spelling_targets (SignedPair op v) = []
+spelling_targets (Jump op target) = target ∷ []
+spelling_targets (FarJump op target) = target ∷ []
+spelling_targets (Increment op n v) = []
+spelling_targets (Table op default low targets) = default ∷ targets
+spelling_targets (Lookup op default cases) = default ∷ map (λ c. c.target) cases
+spelling_targets (Interface op n count) = []
+spelling_targets (Array op code) = []
+spelling_targets (WideLocal op n) = []
+spelling_targets (WideIncrement op n v) = []
 
 -- where an instruction may jump to
 abbrev pub targets : Insn → List ℕ
-targets insn = shape_targets (shape insn)
+targets insn = spelling_targets (spelling insn)
 
 -- where the instructions begin
 abbrev pub starts : List (ℕ × Insn) → List ℕ

@@ -1,11 +1,11 @@
+pub mod Spellings
+pub mod SpellingViews
+pub mod Names
+pub mod Texts
+pub mod Reading
 pub mod Codes
 pub mod Encoding
 pub mod Flow
-pub mod Marks
-pub mod Names
-pub mod Parts
-pub mod Reading
-pub mod Shapes
 pub mod Tables
-pub mod Texts
+pub mod Marks
 pub mod Faults

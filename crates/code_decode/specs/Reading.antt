@@ -11,8 +11,8 @@ use Rattle.code_decode.specs.declared.fault.CodeFault.TheVariants.{Truncated, Un
 use Rattle.code_decode.specs.declared.insn.Case.{Case}
 use Rattle.code_decode.specs.declared.insn.Insn.{Insn}
 use Rattle.code_decode.specs.declared.insn.Insn.TheVariants.{Aaload, Aastore, AconstNull, Aload, Aload0, Aload1, Aload2, Aload3, Anewarray, Areturn, Arraylength, Astore, Astore0, Astore1, Astore2, Astore3, Athrow, Baload, Bastore, Bipush, Caload, Castore, Checkcast, Dup, Dup2, Dup2X1, Dup2X2, DupX1, DupX2, Getfield, Getstatic, Goto, GotoW, I2b, I2c, I2s, Iadd, Iaload, Iand, Iastore, Iconst0, Iconst1, Iconst2, Iconst3, Iconst4, Iconst5, IconstM1, Idiv, IfAcmpeq, IfAcmpne, IfIcmpeq, IfIcmpge, IfIcmpgt, IfIcmple, IfIcmplt, IfIcmpne, Ifeq, Ifge, Ifgt, Ifle, Iflt, Ifne, Ifnonnull, Ifnull, Iinc, Iload, Iload0, Iload1, Iload2, Iload3, Imul, Ineg, Instanceof, Invokeinterface, Invokespecial, Invokestatic, Invokevirtual, Ior, Irem, Ireturn, Ishl, Ishr, Istore, Istore0, Istore1, Istore2, Istore3, Isub, Iushr, Ixor, Ldc, LdcW, Lookupswitch, New, Newarray, Nop, Pop, Pop2, Putfield, Putstatic, Return, Saload, Sastore, Sipush, Swap, Tableswitch, WideAload, WideAstore, WideIinc, WideIload, WideIstore}
-use Rattle.code_decode.specs.Shapes as shapes
-use Rattle.code_decode.specs.Shapes.{Shape, shape}
+use Rattle.code_decode.specs.Spellings as spellings
+use Rattle.code_decode.specs.Spellings.{Spelling, spelling}
 use Rattle.code_decode.specs.Texts.{padding_of, is_rising}
 
 -- want of memory
@@ -59,30 +59,30 @@ skip_at n pc bytes = if nat_lt (length bytes) n then Err (Truncated pc) else Ok 
 
 -- ---- which instructions there are, by their operands; the opcodes are those of the table
 
-abbrev pub opcode_of : Shape → ℕ
-opcode_of (shapes.Plain op) = op
-opcode_of (shapes.Byte op n) = op
-opcode_of (shapes.Pair op n) = op
-opcode_of (shapes.SignedByte op v) = op
-opcode_of (shapes.SignedPair op v) = op
-opcode_of (shapes.Jump op target) = op
-opcode_of (shapes.FarJump op target) = op
-opcode_of (shapes.Increment op n v) = op
-opcode_of (shapes.Table op default low targets) = op
-opcode_of (shapes.Lookup op default cases) = op
-opcode_of (shapes.Interface op n count) = op
-opcode_of (shapes.Array op code) = op
-opcode_of (shapes.WideLocal op n) = op
-opcode_of (shapes.WideIncrement op n v) = op
+abbrev pub opcode_of : Spelling → ℕ
+opcode_of (spellings.Plain op) = op
+opcode_of (spellings.Byte op n) = op
+opcode_of (spellings.Pair op n) = op
+opcode_of (spellings.SignedByte op v) = op
+opcode_of (spellings.SignedPair op v) = op
+opcode_of (spellings.Jump op target) = op
+opcode_of (spellings.FarJump op target) = op
+opcode_of (spellings.Increment op n v) = op
+opcode_of (spellings.Table op default low targets) = op
+opcode_of (spellings.Lookup op default cases) = op
+opcode_of (spellings.Interface op n count) = op
+opcode_of (spellings.Array op code) = op
+opcode_of (spellings.WideLocal op n) = op
+opcode_of (spellings.WideIncrement op n v) = op
 
 -- the first instruction of the opcode
 abbrev pub find : List Insn → ℕ → Option Insn
 find [] op = None
-find (i ∷ is) op = if op == opcode_of (shape i) then Some i else find is op
+find (i ∷ is) op = if op == opcode_of (spelling i) then Some i else find is op
 
 abbrev pub find_by : List (ℕ → Insn) → ℕ → Option (ℕ → Insn)
 find_by [] op = None
-find_by (i ∷ is) op = if op == opcode_of (shape (i 0)) then Some i else find_by is op
+find_by (i ∷ is) op = if op == opcode_of (spelling (i 0)) then Some i else find_by is op
 
 -- no operands: constants, loads, stores
 abbrev pub plain_low : List Insn

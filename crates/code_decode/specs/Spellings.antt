@@ -7,141 +7,141 @@ use Rattle.code_decode.specs.declared.insn.Insn.TheVariants.{Aaload, Aastore, Ac
 
 -- What an instruction is in a code. The first number is the opcode wherever instructions of more than one opcode have
 -- the form.
-pub data Shape : Type 0 where
+pub data Spelling : Type 0 where
   -- the opcode alone
-  Plain : ℕ → Shape
+  Plain : ℕ → Spelling
   -- a number of one byte, of two, and the same signed
-  Byte : ℕ → ℕ → Shape
-  Pair : ℕ → ℕ → Shape
-  SignedByte : ℕ → ℤ → Shape
-  SignedPair : ℕ → ℤ → Shape
+  Byte : ℕ → ℕ → Spelling
+  Pair : ℕ → ℕ → Spelling
+  SignedByte : ℕ → ℤ → Spelling
+  SignedPair : ℕ → ℤ → Spelling
   -- a target, as a distance of two bytes or of four
-  Jump : ℕ → ℕ → Shape
-  FarJump : ℕ → ℕ → Shape
+  Jump : ℕ → ℕ → Spelling
+  FarJump : ℕ → ℕ → Spelling
   -- a local of one byte and a signed number of one byte
-  Increment : ℕ → ℕ → ℤ → Shape
+  Increment : ℕ → ℕ → ℤ → Spelling
   -- default, lowest key, targets
-  Table : ℕ → ℕ → ℤ → List ℕ → Shape
+  Table : ℕ → ℕ → ℤ → List ℕ → Spelling
   -- default, cases
-  Lookup : ℕ → ℕ → List Case → Shape
+  Lookup : ℕ → ℕ → List Case → Spelling
   -- a pool entry, a count
-  Interface : ℕ → ℕ → ℕ → Shape
+  Interface : ℕ → ℕ → ℕ → Spelling
   -- the code of an element type
-  Array : ℕ → ℕ → Shape
+  Array : ℕ → ℕ → Spelling
   -- behind the opcode 196: the opcode, and a local of two bytes
-  WideLocal : ℕ → ℕ → Shape
+  WideLocal : ℕ → ℕ → Spelling
   -- behind the opcode 196: the opcode, a local of two bytes and a signed number of two bytes
-  WideIncrement : ℕ → ℕ → ℤ → Shape
+  WideIncrement : ℕ → ℕ → ℤ → Spelling
 
-abbrev pub shape : Insn → Shape
-shape Nop = Plain 0
-shape AconstNull = Plain 1
-shape IconstM1 = Plain 2
-shape Iconst0 = Plain 3
-shape Iconst1 = Plain 4
-shape Iconst2 = Plain 5
-shape Iconst3 = Plain 6
-shape Iconst4 = Plain 7
-shape Iconst5 = Plain 8
-shape (Bipush v) = SignedByte 16 v
-shape (Sipush v) = SignedPair 17 v
-shape (Ldc n) = Byte 18 n
-shape (LdcW n) = Pair 19 n
-shape (Iload n) = Byte 21 n
-shape (Aload n) = Byte 25 n
-shape Iload0 = Plain 26
-shape Iload1 = Plain 27
-shape Iload2 = Plain 28
-shape Iload3 = Plain 29
-shape Aload0 = Plain 42
-shape Aload1 = Plain 43
-shape Aload2 = Plain 44
-shape Aload3 = Plain 45
-shape Iaload = Plain 46
-shape Aaload = Plain 50
-shape Baload = Plain 51
-shape Caload = Plain 52
-shape Saload = Plain 53
-shape (Istore n) = Byte 54 n
-shape (Astore n) = Byte 58 n
-shape Istore0 = Plain 59
-shape Istore1 = Plain 60
-shape Istore2 = Plain 61
-shape Istore3 = Plain 62
-shape Astore0 = Plain 75
-shape Astore1 = Plain 76
-shape Astore2 = Plain 77
-shape Astore3 = Plain 78
-shape Iastore = Plain 79
-shape Aastore = Plain 83
-shape Bastore = Plain 84
-shape Castore = Plain 85
-shape Sastore = Plain 86
-shape Pop = Plain 87
-shape Pop2 = Plain 88
-shape Dup = Plain 89
-shape DupX1 = Plain 90
-shape DupX2 = Plain 91
-shape Dup2 = Plain 92
-shape Dup2X1 = Plain 93
-shape Dup2X2 = Plain 94
-shape Swap = Plain 95
-shape Iadd = Plain 96
-shape Isub = Plain 100
-shape Imul = Plain 104
-shape Idiv = Plain 108
-shape Irem = Plain 112
-shape Ineg = Plain 116
-shape Ishl = Plain 120
-shape Ishr = Plain 122
-shape Iushr = Plain 124
-shape Iand = Plain 126
-shape Ior = Plain 128
-shape Ixor = Plain 130
-shape (Iinc n v) = Increment 132 n v
-shape I2b = Plain 145
-shape I2c = Plain 146
-shape I2s = Plain 147
-shape (Ifeq target) = Jump 153 target
-shape (Ifne target) = Jump 154 target
-shape (Iflt target) = Jump 155 target
-shape (Ifge target) = Jump 156 target
-shape (Ifgt target) = Jump 157 target
-shape (Ifle target) = Jump 158 target
-shape (IfIcmpeq target) = Jump 159 target
-shape (IfIcmpne target) = Jump 160 target
-shape (IfIcmplt target) = Jump 161 target
-shape (IfIcmpge target) = Jump 162 target
-shape (IfIcmpgt target) = Jump 163 target
-shape (IfIcmple target) = Jump 164 target
-shape (IfAcmpeq target) = Jump 165 target
-shape (IfAcmpne target) = Jump 166 target
-shape (Goto target) = Jump 167 target
-shape (Tableswitch default low targets) = Table 170 default low targets
-shape (Lookupswitch default cases) = Lookup 171 default cases
-shape Ireturn = Plain 172
-shape Areturn = Plain 176
-shape Return = Plain 177
-shape (Getstatic n) = Pair 178 n
-shape (Putstatic n) = Pair 179 n
-shape (Getfield n) = Pair 180 n
-shape (Putfield n) = Pair 181 n
-shape (Invokevirtual n) = Pair 182 n
-shape (Invokespecial n) = Pair 183 n
-shape (Invokestatic n) = Pair 184 n
-shape (Invokeinterface n count) = Interface 185 n count
-shape (New n) = Pair 187 n
-shape (Newarray code) = Array 188 code
-shape (Anewarray n) = Pair 189 n
-shape Arraylength = Plain 190
-shape Athrow = Plain 191
-shape (Checkcast n) = Pair 192 n
-shape (Instanceof n) = Pair 193 n
-shape (Ifnull target) = Jump 198 target
-shape (Ifnonnull target) = Jump 199 target
-shape (GotoW target) = FarJump 200 target
-shape (WideIload n) = WideLocal 21 n
-shape (WideAload n) = WideLocal 25 n
-shape (WideIstore n) = WideLocal 54 n
-shape (WideAstore n) = WideLocal 58 n
-shape (WideIinc n v) = WideIncrement 132 n v
+abbrev pub spelling : Insn → Spelling
+spelling Nop = Plain 0
+spelling AconstNull = Plain 1
+spelling IconstM1 = Plain 2
+spelling Iconst0 = Plain 3
+spelling Iconst1 = Plain 4
+spelling Iconst2 = Plain 5
+spelling Iconst3 = Plain 6
+spelling Iconst4 = Plain 7
+spelling Iconst5 = Plain 8
+spelling (Bipush v) = SignedByte 16 v
+spelling (Sipush v) = SignedPair 17 v
+spelling (Ldc n) = Byte 18 n
+spelling (LdcW n) = Pair 19 n
+spelling (Iload n) = Byte 21 n
+spelling (Aload n) = Byte 25 n
+spelling Iload0 = Plain 26
+spelling Iload1 = Plain 27
+spelling Iload2 = Plain 28
+spelling Iload3 = Plain 29
+spelling Aload0 = Plain 42
+spelling Aload1 = Plain 43
+spelling Aload2 = Plain 44
+spelling Aload3 = Plain 45
+spelling Iaload = Plain 46
+spelling Aaload = Plain 50
+spelling Baload = Plain 51
+spelling Caload = Plain 52
+spelling Saload = Plain 53
+spelling (Istore n) = Byte 54 n
+spelling (Astore n) = Byte 58 n
+spelling Istore0 = Plain 59
+spelling Istore1 = Plain 60
+spelling Istore2 = Plain 61
+spelling Istore3 = Plain 62
+spelling Astore0 = Plain 75
+spelling Astore1 = Plain 76
+spelling Astore2 = Plain 77
+spelling Astore3 = Plain 78
+spelling Iastore = Plain 79
+spelling Aastore = Plain 83
+spelling Bastore = Plain 84
+spelling Castore = Plain 85
+spelling Sastore = Plain 86
+spelling Pop = Plain 87
+spelling Pop2 = Plain 88
+spelling Dup = Plain 89
+spelling DupX1 = Plain 90
+spelling DupX2 = Plain 91
+spelling Dup2 = Plain 92
+spelling Dup2X1 = Plain 93
+spelling Dup2X2 = Plain 94
+spelling Swap = Plain 95
+spelling Iadd = Plain 96
+spelling Isub = Plain 100
+spelling Imul = Plain 104
+spelling Idiv = Plain 108
+spelling Irem = Plain 112
+spelling Ineg = Plain 116
+spelling Ishl = Plain 120
+spelling Ishr = Plain 122
+spelling Iushr = Plain 124
+spelling Iand = Plain 126
+spelling Ior = Plain 128
+spelling Ixor = Plain 130
+spelling (Iinc n v) = Increment 132 n v
+spelling I2b = Plain 145
+spelling I2c = Plain 146
+spelling I2s = Plain 147
+spelling (Ifeq target) = Jump 153 target
+spelling (Ifne target) = Jump 154 target
+spelling (Iflt target) = Jump 155 target
+spelling (Ifge target) = Jump 156 target
+spelling (Ifgt target) = Jump 157 target
+spelling (Ifle target) = Jump 158 target
+spelling (IfIcmpeq target) = Jump 159 target
+spelling (IfIcmpne target) = Jump 160 target
+spelling (IfIcmplt target) = Jump 161 target
+spelling (IfIcmpge target) = Jump 162 target
+spelling (IfIcmpgt target) = Jump 163 target
+spelling (IfIcmple target) = Jump 164 target
+spelling (IfAcmpeq target) = Jump 165 target
+spelling (IfAcmpne target) = Jump 166 target
+spelling (Goto target) = Jump 167 target
+spelling (Tableswitch default low targets) = Table 170 default low targets
+spelling (Lookupswitch default cases) = Lookup 171 default cases
+spelling Ireturn = Plain 172
+spelling Areturn = Plain 176
+spelling Return = Plain 177
+spelling (Getstatic n) = Pair 178 n
+spelling (Putstatic n) = Pair 179 n
+spelling (Getfield n) = Pair 180 n
+spelling (Putfield n) = Pair 181 n
+spelling (Invokevirtual n) = Pair 182 n
+spelling (Invokespecial n) = Pair 183 n
+spelling (Invokestatic n) = Pair 184 n
+spelling (Invokeinterface n count) = Interface 185 n count
+spelling (New n) = Pair 187 n
+spelling (Newarray code) = Array 188 code
+spelling (Anewarray n) = Pair 189 n
+spelling Arraylength = Plain 190
+spelling Athrow = Plain 191
+spelling (Checkcast n) = Pair 192 n
+spelling (Instanceof n) = Pair 193 n
+spelling (Ifnull target) = Jump 198 target
+spelling (Ifnonnull target) = Jump 199 target
+spelling (GotoW target) = FarJump 200 target
+spelling (WideIload n) = WideLocal 21 n
+spelling (WideAload n) = WideLocal 25 n
+spelling (WideIstore n) = WideLocal 54 n
+spelling (WideAstore n) = WideLocal 58 n
+spelling (WideIinc n v) = WideIncrement 132 n v

@@ -7,7 +7,7 @@ use Rattle.std.specs.List.{flat_map, AllByRecursion}
 use Rattle.std.proofs.Common.{◌-ℤ◌}
 use Rattle.code_decode.specs.declared.insn.Case.{Case}
 use Rattle.code_decode.specs.declared.insn.Insn.{Insn}
-use Rattle.code_decode.specs.Shapes.{Shape, Plain, Byte, Pair, SignedByte, SignedPair, Jump, FarJump, Increment, Table, Lookup, Interface, Array, WideLocal, WideIncrement, shape}
+use Rattle.code_decode.specs.Spellings.{Spelling, Plain, Byte, Pair, SignedByte, SignedPair, Jump, FarJump, Increment, Table, Lookup, Interface, Array, WideLocal, WideIncrement, spelling}
 
 -- the bytes of a signed number, in two's complement and big-endian
 abbrev pub signed : Width → ℤ → List ℕ
@@ -34,26 +34,26 @@ abbrev pub lookup_text : ℕ → List ℕ → ℕ → List Case → List ℕ
 lookup_text pc padding default cases =
     padding ++ (signed w32 (distance pc default) ++ (to_be_bytes w32 (length cases) ++ flat_map (case_text pc) cases))
 
--- the bytes of a shape at a place; the padding counts in switches alone
-abbrev pub shape_text : ℕ → List ℕ → Shape → List ℕ
-shape_text pc padding (Plain op) = op ∷ []
-shape_text pc padding (Byte op n) = op ∷ n ∷ []
-shape_text pc padding (Pair op n) = op ∷ to_be_bytes w16 n
-shape_text pc padding (SignedByte op v) = op ∷ cast_unsigned w8 v ∷ []
-shape_text pc padding (SignedPair op v) = op ∷ signed w16 v
-shape_text pc padding (Jump op target) = op ∷ signed w16 (distance pc target)
-shape_text pc padding (FarJump op target) = op ∷ signed w32 (distance pc target)
-shape_text pc padding (Increment op n v) = op ∷ n ∷ cast_unsigned w8 v ∷ []
-shape_text pc padding (Table op default low targets) = op ∷ table_text pc padding default low targets
-shape_text pc padding (Lookup op default cases) = op ∷ lookup_text pc padding default cases
-shape_text pc padding (Interface op n count) = op ∷ (to_be_bytes w16 n ++ count ∷ 0 ∷ [])
-shape_text pc padding (Array op code) = op ∷ code ∷ []
-shape_text pc padding (WideLocal op n) = 196 ∷ op ∷ to_be_bytes w16 n
-shape_text pc padding (WideIncrement op n v) = 196 ∷ op ∷ (to_be_bytes w16 n ++ signed w16 v)
+-- the bytes of a spelling at a place; the padding counts in switches alone
+abbrev pub spelling_text : ℕ → List ℕ → Spelling → List ℕ
+spelling_text pc padding (Plain op) = op ∷ []
+spelling_text pc padding (Byte op n) = op ∷ n ∷ []
+spelling_text pc padding (Pair op n) = op ∷ to_be_bytes w16 n
+spelling_text pc padding (SignedByte op v) = op ∷ cast_unsigned w8 v ∷ []
+spelling_text pc padding (SignedPair op v) = op ∷ signed w16 v
+spelling_text pc padding (Jump op target) = op ∷ signed w16 (distance pc target)
+spelling_text pc padding (FarJump op target) = op ∷ signed w32 (distance pc target)
+spelling_text pc padding (Increment op n v) = op ∷ n ∷ cast_unsigned w8 v ∷ []
+spelling_text pc padding (Table op default low targets) = op ∷ table_text pc padding default low targets
+spelling_text pc padding (Lookup op default cases) = op ∷ lookup_text pc padding default cases
+spelling_text pc padding (Interface op n count) = op ∷ (to_be_bytes w16 n ++ count ∷ 0 ∷ [])
+spelling_text pc padding (Array op code) = op ∷ code ∷ []
+spelling_text pc padding (WideLocal op n) = 196 ∷ op ∷ to_be_bytes w16 n
+spelling_text pc padding (WideIncrement op n v) = 196 ∷ op ∷ (to_be_bytes w16 n ++ signed w16 v)
 
 -- the bytes of an instruction at a place
 abbrev pub text : ℕ → List ℕ → Insn → List ℕ
-text pc padding insn = shape_text pc padding (shape insn)
+text pc padding insn = spelling_text pc padding (spelling insn)
 
 -- a target of two bytes whose distance fits
 pub record Reaches (w : Width) (pc target : ℕ) : Type 0 where
@@ -85,25 +85,25 @@ pub record IsLookup (pc default : ℕ) (cases : List Case) : Type 0 where
   pub rising : IsTrue (is_rising cases)
 
 -- Every number and distance fits its field, and the rules on switches and operands hold.
-abbrev pub FitsShape : ℕ → Shape → Type 0
-FitsShape pc (Plain op) = Unit {0}
-FitsShape pc (Byte op n) = n < 2 ^ 8
-FitsShape pc (Pair op n) = n < 2 ^ 16
-FitsShape pc (SignedByte op v) = FitsSigned w8 v
-FitsShape pc (SignedPair op v) = FitsSigned w16 v
-FitsShape pc (Jump op target) = Reaches w16 pc target
-FitsShape pc (FarJump op target) = Reaches w32 pc target
-FitsShape pc (Increment op n v) = (n < 2 ^ 8) × FitsSigned w8 v
-FitsShape pc (Table op default low targets) = IsTable pc default low targets
-FitsShape pc (Lookup op default cases) = IsLookup pc default cases
-FitsShape pc (Interface op n count) = (n < 2 ^ 16) × (count < 2 ^ 8)
-FitsShape pc (Array op code) = (4 ≤ code) × (code ≤ 11)
-FitsShape pc (WideLocal op n) = n < 2 ^ 16
-FitsShape pc (WideIncrement op n v) = (n < 2 ^ 16) × FitsSigned w16 v
+abbrev pub FitsSpelling : ℕ → Spelling → Type 0
+FitsSpelling pc (Plain op) = Unit {0}
+FitsSpelling pc (Byte op n) = n < 2 ^ 8
+FitsSpelling pc (Pair op n) = n < 2 ^ 16
+FitsSpelling pc (SignedByte op v) = FitsSigned w8 v
+FitsSpelling pc (SignedPair op v) = FitsSigned w16 v
+FitsSpelling pc (Jump op target) = Reaches w16 pc target
+FitsSpelling pc (FarJump op target) = Reaches w32 pc target
+FitsSpelling pc (Increment op n v) = (n < 2 ^ 8) × FitsSigned w8 v
+FitsSpelling pc (Table op default low targets) = IsTable pc default low targets
+FitsSpelling pc (Lookup op default cases) = IsLookup pc default cases
+FitsSpelling pc (Interface op n count) = (n < 2 ^ 16) × (count < 2 ^ 8)
+FitsSpelling pc (Array op code) = (4 ≤ code) × (code ≤ 11)
+FitsSpelling pc (WideLocal op n) = n < 2 ^ 16
+FitsSpelling pc (WideIncrement op n v) = (n < 2 ^ 16) × FitsSigned w16 v
 
 -- an instruction that has bytes at a place
 abbrev pub Fits : ℕ → Insn → Type 0
-Fits pc insn = FitsShape pc (shape insn)
+Fits pc insn = FitsSpelling pc (spelling insn)
 
 -- padding of zero bytes
 abbrev pub zeros : ℕ → List ℕ

@@ -1,5 +1,5 @@
 //! Reading a whole code.
-ghost use Rattle.std.specs.Prelude.{◌≡◌, ◌≤◌, ◌^◌, ◌<◌, ℕ, List, length, IfOk, Ok, None};
+ghost use Rattle.std.specs.Prelude.{◌≡◌, ◌^◌, ◌<◌, ℕ, List, length, IfOk, Ok, None};
 ghost use Rattle.code_decode.specs.declared.insn.Insn.{Insn};
 ghost use Rattle.code_decode.specs.Codes.{targets, first_stray, insns_from, decode_of, IsReading};
 ghost use Rattle.code_decode.specs.Encoding.{IsCode};
@@ -9,8 +9,8 @@ ghost use Rattle.code_decode.specs.Reading.{Gives};
 
 use crate::fault::CodeFault;
 use crate::insn::{Case, Insn};
-use crate::parts::{Parts, parts_of};
 use crate::reading::insn_at;
+use crate::spelling::{SpellingView, spelling_of};
 use crate::starts::Starts;
 use std::alloc::Global;
 
@@ -47,13 +47,13 @@ fn cases_stand(starts: &Starts, cases: &[Case]) -> bool
 fn targets_stand(starts: &Starts, insn: &Insn) -> bool
     ensures { result ≡ list_all (marked starts.now) (targets insn.now) }
 {
-    match parts_of(insn) {
-        Parts::Jump(_, target) => starts.has(target),
-        Parts::FarJump(_, target) => starts.has(target),
-        Parts::Table(_, default, _, targets) => {
+    match spelling_of(insn) {
+        SpellingView::Jump(_, target) => starts.has(target),
+        SpellingView::FarJump(_, target) => starts.has(target),
+        SpellingView::Table(_, default, _, targets) => {
             starts.has(default) && all_stand(starts, targets.as_slice())
         }
-        Parts::Lookup(_, default, cases) => {
+        SpellingView::Lookup(_, default, cases) => {
             starts.has(default) && cases_stand(starts, cases.as_slice())
         }
         _ => true,

@@ -1,13 +1,13 @@
 //! Where control goes from an instruction, and how many bytes the instruction has.
 ghost use Rattle.std.specs.Prelude.{◌≡◌, ◌+◌, ◌*◌, ◌<◌, ◌^◌, length, IfOk, map, ◌∷◌};
-ghost use Rattle.code_decode.specs.Codes.{shape_targets, targets};
+ghost use Rattle.code_decode.specs.Codes.{spelling_targets, targets};
 ghost use Rattle.code_decode.specs.Encoding.{plain_text};
 ghost use Rattle.code_decode.specs.Flow.{falls_through};
-ghost use Rattle.code_decode.specs.Parts.{shown};
-ghost use Rattle.code_decode.specs.Texts.{padding_of, zeros, table_text, lookup_text, shape_text, IsTable, IsLookup, FitsShape, Fits};
+ghost use Rattle.code_decode.specs.SpellingViews.{shown};
+ghost use Rattle.code_decode.specs.Texts.{padding_of, zeros, table_text, lookup_text, spelling_text, IsTable, IsLookup, FitsSpelling, Fits};
 
 use crate::insn::{Case, Insn};
-use crate::parts::{Parts, padding_of, parts_of};
+use crate::spelling::{SpellingView, padding_of, spelling_of};
 use list_views::Seq;
 use std::alloc::{AllocError, Global};
 
@@ -48,14 +48,18 @@ fn table_targets(alloc: Global, default: u16, targets: &[u16]) -> Result<Seq<u16
     Ok(found)
 }
 
-fn parts_targets(alloc: Global, parts: Parts<'_>) -> Result<Seq<u16>, AllocError>
-    ensures { IfOk result (λ s. s ≡ shape_targets (shown parts.entry)) }
+fn spelling_targets(alloc: Global, spelling: SpellingView<'_>) -> Result<Seq<u16>, AllocError>
+    ensures { IfOk result (λ s. s ≡ spelling_targets (shown spelling.entry)) }
 {
-    match parts {
-        Parts::Jump(_, target) => Seq::from_slice(alloc, &[target]),
-        Parts::FarJump(_, target) => Seq::from_slice(alloc, &[target]),
-        Parts::Table(_, default, _, targets) => table_targets(alloc, default, targets.as_slice()),
-        Parts::Lookup(_, default, cases) => case_targets(alloc, default, cases.as_slice()),
+    match spelling {
+        SpellingView::Jump(_, target) => Seq::from_slice(alloc, &[target]),
+        SpellingView::FarJump(_, target) => Seq::from_slice(alloc, &[target]),
+        SpellingView::Table(_, default, _, targets) => table_targets(
+            alloc,
+            default,
+            targets.as_slice(),
+        ),
+        SpellingView::Lookup(_, default, cases) => case_targets(alloc, default, cases.as_slice()),
         _ => Ok(Seq::new(alloc)),
     }
 }
@@ -68,7 +72,7 @@ fn parts_targets(alloc: Global, parts: Parts<'_>) -> Result<Seq<u16>, AllocError
 pub fn targets(alloc: Global, insn: &Insn) -> Result<Seq<u16>, AllocError>
     ensures { IfOk result (λ s. s ≡ targets insn.now) }
 {
-    parts_targets(alloc, parts_of(insn))
+    spelling_targets(alloc, spelling_of(insn))
 }
 
 #[tactic(auto, using(crate::proofs::Lengths::few_targets, crate::proofs::Lengths::table_len))]
@@ -89,27 +93,27 @@ fn lookup_length(pc: u16, default: u16, cases: &[Case]) -> usize
     padding_of(pc) + 8 + 8 * cases.len()
 }
 
-fn parts_length(pc: u16, parts: Parts<'_>) -> usize
-    requires { FitsShape pc (shown parts) }
-    ensures { result ≡ length (shape_text pc (zeros (padding_of pc)) (shown parts.entry)) }
+fn spelling_length(pc: u16, spelling: SpellingView<'_>) -> usize
+    requires { FitsSpelling pc (shown spelling) }
+    ensures { result ≡ length (spelling_text pc (zeros (padding_of pc)) (shown spelling.entry)) }
 {
-    match parts {
-        Parts::Plain(_) => 1,
-        Parts::Byte(_, _) => 2,
-        Parts::Pair(_, _) => 3,
-        Parts::SignedByte(_, _) => 2,
-        Parts::SignedPair(_, _) => 3,
-        Parts::Jump(_, _) => 3,
-        Parts::FarJump(_, _) => 5,
-        Parts::Increment(_, _, _) => 3,
-        Parts::Table(_, default, low, targets) => {
+    match spelling {
+        SpellingView::Plain(_) => 1,
+        SpellingView::Byte(_, _) => 2,
+        SpellingView::Pair(_, _) => 3,
+        SpellingView::SignedByte(_, _) => 2,
+        SpellingView::SignedPair(_, _) => 3,
+        SpellingView::Jump(_, _) => 3,
+        SpellingView::FarJump(_, _) => 5,
+        SpellingView::Increment(_, _, _) => 3,
+        SpellingView::Table(_, default, low, targets) => {
             table_length(pc, default, &low, targets.as_slice()) + 1
         }
-        Parts::Lookup(_, default, cases) => lookup_length(pc, default, cases.as_slice()) + 1,
-        Parts::Interface(_, _, _) => 5,
-        Parts::Array(_, _) => 2,
-        Parts::WideLocal(_, _) => 4,
-        Parts::WideIncrement(_, _, _) => 6,
+        SpellingView::Lookup(_, default, cases) => lookup_length(pc, default, cases.as_slice()) + 1,
+        SpellingView::Interface(_, _, _) => 5,
+        SpellingView::Array(_, _) => 2,
+        SpellingView::WideLocal(_, _) => 4,
+        SpellingView::WideIncrement(_, _, _) => 6,
     }
 }
 
@@ -118,5 +122,5 @@ pub fn length(pc: u16, insn: &Insn) -> usize
     requires { Fits pc insn.now }
     ensures { result ≡ length (plain_text pc insn.now) }
 {
-    parts_length(pc, parts_of(insn))
+    spelling_length(pc, spelling_of(insn))
 }

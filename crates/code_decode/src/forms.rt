@@ -1,5 +1,5 @@
 //! Which instruction an opcode stands for, by what follows it.
-ghost use Rattle.std.specs.Prelude.{◌≡◌, option_map, is_some, IsSome};
+ghost use Rattle.std.specs.Prelude.{◌≡◌, option_map};
 ghost use Rattle.code_decode.specs.Reading.{find, find_by, plain, plain_low, plain_high, with_byte, with_pair, with_jump, wide_local};
 
 use crate::insn::Insn;

@@ -8,7 +8,7 @@ use crate::cases::is_rising;
 use crate::fault::CodeFault;
 use crate::forms::{plain, wide_local, with_byte, with_jump, with_pair};
 use crate::insn::{Case, Insn};
-use crate::parts::padding_of;
+use crate::spelling::padding_of;
 use list_views::Seq;
 use std::alloc::Global;
 

@@ -1,5 +1,5 @@
 //! Exception tables.
-ghost use Rattle.std.specs.Prelude.{◌≡◌, List, ℕ, Ok, OnOk};
+ghost use Rattle.std.specs.Prelude.{◌≡◌, List, Ok, OnOk};
 ghost use Rattle.std.specs.List.{AllByRecursion};
 ghost use Rattle.code_decode.specs.Codes.{starts, stands};
 ghost use Rattle.code_decode.specs.Marks.{marked};

@@ -2,14 +2,14 @@
 ghost use Rattle.std.specs.Prelude.{◌≡◌, ◌++◌, ◌∷◌, ◌<◌, ◌-◌, pos, ◌+ℤ◌, OnOk, IfOk, Ok};
 ghost use Rattle.std.specs.Int.{w16, w32, to_be_bytes};
 ghost use Rattle.std.specs.Int.RustNames.{FitsSigned};
-ghost use Rattle.std.specs.List.{flat_map, AllByRecursion};
+ghost use Rattle.std.specs.List.{flat_map};
 ghost use Rattle.code_decode.specs.Codes.{decode_of};
 ghost use Rattle.code_decode.specs.Encoding.{plain_text, code_of, IsCode};
-ghost use Rattle.code_decode.specs.Parts.{shown};
-ghost use Rattle.code_decode.specs.Texts.{signed, distance, padding_of, zeros, case_text, table_text, lookup_text, shape_text, Reaches, IsTable, IsLookup, FitsShape, Fits};
+ghost use Rattle.code_decode.specs.SpellingViews.{shown};
+ghost use Rattle.code_decode.specs.Texts.{signed, distance, padding_of, zeros, case_text, table_text, lookup_text, spelling_text, Reaches, IsTable, IsLookup, FitsSpelling, Fits};
 
 use crate::insn::{Case, Insn};
-use crate::parts::{Parts, padding_of, parts_of};
+use crate::spelling::{SpellingView, padding_of, spelling_of};
 use std::alloc::{AllocError, Global};
 
 /// The opcode before wider operands.
@@ -183,44 +183,46 @@ fn put_wide_increment(out: &mut Vec<u8>, op: u8, local: u16, value: &i16) -> Res
     Ok(())
 }
 
-fn put_parts(out: &mut Vec<u8>, pc: u16, parts: Parts<'_>) -> Result<(), AllocError>
-    requires { FitsShape pc (shown parts) }
-    ensures { OnOk result (out.new.items ≡ out.old.items ++ shape_text pc (zeros (padding_of pc)) (shown parts.entry)) }
+fn put_spelling(out: &mut Vec<u8>, pc: u16, spelling: SpellingView<'_>) -> Result<(), AllocError>
+    requires { FitsSpelling pc (shown spelling) }
+    ensures { OnOk result (out.new.items ≡ out.old.items ++ spelling_text pc (zeros (padding_of pc)) (shown spelling.entry)) }
 {
-    match parts {
-        Parts::Plain(op) => out.push(op)?,
-        Parts::Byte(op, number) => out.extend_from_slice(&[op, number])?,
-        Parts::Pair(op, number) => {
+    match spelling {
+        SpellingView::Plain(op) => out.push(op)?,
+        SpellingView::Byte(op, number) => out.extend_from_slice(&[op, number])?,
+        SpellingView::Pair(op, number) => {
             out.push(op)?;
             put_pair(out, number)?;
         }
-        Parts::SignedByte(op, value) => out.extend_from_slice(&[op, value.cast_unsigned()])?,
-        Parts::SignedPair(op, value) => {
+        SpellingView::SignedByte(op, value) => out.extend_from_slice(&[op, value.cast_unsigned()])?,
+        SpellingView::SignedPair(op, value) => {
             out.push(op)?;
             put_signed_pair(out, &value)?;
         }
-        Parts::Jump(op, target) => {
+        SpellingView::Jump(op, target) => {
             out.push(op)?;
             put_near_target(out, pc, target)?;
         }
-        Parts::FarJump(op, target) => put_far_jump(out, op, pc, target)?,
-        Parts::Increment(op, local, value) => {
+        SpellingView::FarJump(op, target) => put_far_jump(out, op, pc, target)?,
+        SpellingView::Increment(op, local, value) => {
             out.extend_from_slice(&[op, local, value.cast_unsigned()])?;
         }
-        Parts::Table(op, default, low, targets) => {
+        SpellingView::Table(op, default, low, targets) => {
             put_table_insn(out, op, pc, default, &low, targets.as_slice())?;
         }
-        Parts::Lookup(op, default, cases) => {
+        SpellingView::Lookup(op, default, cases) => {
             put_lookup_insn(out, op, pc, default, cases.as_slice())?;
         }
-        Parts::Interface(op, entry, count) => {
+        SpellingView::Interface(op, entry, count) => {
             out.push(op)?;
             put_pair(out, entry)?;
             out.extend_from_slice(&[count, 0])?;
         }
-        Parts::Array(op, code) => out.extend_from_slice(&[op, code])?,
-        Parts::WideLocal(op, local) => put_wide_local(out, op, local)?,
-        Parts::WideIncrement(op, local, value) => put_wide_increment(out, op, local, &value)?,
+        SpellingView::Array(op, code) => out.extend_from_slice(&[op, code])?,
+        SpellingView::WideLocal(op, local) => put_wide_local(out, op, local)?,
+        SpellingView::WideIncrement(op, local, value) => put_wide_increment(
+            out, op, local, &value,
+        )?,
     }
     Ok(())
 }
@@ -234,7 +236,7 @@ pub fn put_insn(out: &mut Vec<u8>, pc: u16, insn: &Insn) -> Result<(), AllocErro
     requires { Fits pc insn.now }
     ensures { OnOk result (out.new.items ≡ out.old.items ++ plain_text pc insn.now) }
 {
-    put_parts(out, pc, parts_of(insn))
+    put_spelling(out, pc, spelling_of(insn))
 }
 
 fn code_of(alloc: Global, insns: &[(u16, Insn)]) -> Result<Vec<u8>, AllocError>

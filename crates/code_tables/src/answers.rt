@@ -2,7 +2,7 @@
 ghost use Rattle.std.specs.Prelude.{◌<◌, ◌^◌, IfOk, vec_len};
 
 use anyhow::{Context, Result, bail};
-use code_decode::{CodeFault, Handler, Insn, Parts, check_table, decode, name, parts_of};
+use code_decode::{CodeFault, Handler, Insn, SpellingView, check_table, decode, name, spelling_of};
 use std::alloc::Global;
 use std::fmt::Write;
 use table_cases::{Case, ascii};
@@ -49,16 +49,16 @@ fn table_answer(alloc: Global, case: &Case<'_>) -> Result<String> {
 }
 
 fn write_operands(line: &mut String, insn: &Insn) -> Result<()> {
-    match parts_of(insn) {
-        Parts::Plain(_) => {}
-        Parts::Byte(_, number) => write!(line, " {number}")?,
-        Parts::Pair(_, number) => write!(line, " {number}")?,
-        Parts::SignedByte(_, value) => write!(line, " {value}")?,
-        Parts::SignedPair(_, value) => write!(line, " {value}")?,
-        Parts::Jump(_, target) => write!(line, " {target}")?,
-        Parts::FarJump(_, target) => write!(line, " {target}")?,
-        Parts::Increment(_, local, value) => write!(line, " {local} {value}")?,
-        Parts::Table(_, default, low, targets) => {
+    match spelling_of(insn) {
+        SpellingView::Plain(_) => {}
+        SpellingView::Byte(_, number) => write!(line, " {number}")?,
+        SpellingView::Pair(_, number) => write!(line, " {number}")?,
+        SpellingView::SignedByte(_, value) => write!(line, " {value}")?,
+        SpellingView::SignedPair(_, value) => write!(line, " {value}")?,
+        SpellingView::Jump(_, target) => write!(line, " {target}")?,
+        SpellingView::FarJump(_, target) => write!(line, " {target}")?,
+        SpellingView::Increment(_, local, value) => write!(line, " {local} {value}")?,
+        SpellingView::Table(_, default, low, targets) => {
             let Ok(count) = u32::try_from(targets.len()) else {
                 bail!("a switch has too many targets");
             };
@@ -68,7 +68,7 @@ fn write_operands(line: &mut String, insn: &Insn) -> Result<()> {
                 write!(line, " {target}")?;
             }
         }
-        Parts::Lookup(_, default, cases) => {
+        SpellingView::Lookup(_, default, cases) => {
             let count = cases.len();
             write!(line, " {default} {count}")?;
             for case in cases.as_slice() {
@@ -77,10 +77,10 @@ fn write_operands(line: &mut String, insn: &Insn) -> Result<()> {
                 write!(line, " {key} {target}")?;
             }
         }
-        Parts::Interface(_, entry, count) => write!(line, " {entry} {count}")?,
-        Parts::Array(_, code) => write!(line, " {code}")?,
-        Parts::WideLocal(_, local) => write!(line, " {local}")?,
-        Parts::WideIncrement(_, local, value) => write!(line, " {local} {value}")?,
+        SpellingView::Interface(_, entry, count) => write!(line, " {entry} {count}")?,
+        SpellingView::Array(_, code) => write!(line, " {code}")?,
+        SpellingView::WideLocal(_, local) => write!(line, " {local}")?,
+        SpellingView::WideIncrement(_, local, value) => write!(line, " {local} {value}")?,
     }
     Ok(())
 }
