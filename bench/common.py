@@ -1,4 +1,5 @@
-"""What the scripts that time `vector_tables` share: its path, the time that it takes for a case, and the printed table."""
+"""What the scripts that time programs for tables share: a program's path, the time and the memory that it takes for a case, and
+the printed table."""
 import pathlib, resource, struct, subprocess, sys
 
 TOP = pathlib.Path(__file__).resolve().parent.parent
@@ -41,20 +42,35 @@ def answer_and_seconds(path, line):
     return answer, best
 
 
+# Runs a program and prints the most KiB that it had at once. A process of its own does this: a program starts with the mark that
+# its parent reached, and this script's is high.
+PEAK = 'import os,sys; p=os.posix_spawn(sys.argv[1],sys.argv[1:],{}); _,s,u=os.wait4(p,0); sys.exit(s!=0 or str(u.ru_maxrss))'
+
+
+def peak_memory(path, line):
+    """The most memory in MiB that the program had at once, for a line of input."""
+    done = subprocess.run([sys.executable, '-c', PEAK, path], input=line, stdout=subprocess.DEVNULL, stderr=subprocess.PIPE)
+    if not done.stderr.strip().isdigit():
+        sys.exit('the program failed: %r' % done.stderr[:80])
+    return int(done.stderr) / 1024
+
+
 def print_row(words):
     print(''.join('%-11s' % word for word in words).rstrip(), flush=True)
 
 
-def print_times(usage, heading, cases, name='vector_tables'):
-    """A line for each case: its words, and the milliseconds of processor time that it takes beyond an empty input.
+def print_times(usage, heading, cases, name='vector_tables', memory=False):
+    """A line for each case: its words, and the milliseconds of processor time that it takes beyond an empty input; with `memory`
+    the most memory too that the program had at once, the input included.
 
     A case is a list of words to print, the fields of the program's input, and a test that its answer passes.
     """
     path = program(usage, name)
     _, empty = answer_and_seconds(path, b'')
-    print_row(heading + ['ms'])
+    print_row(heading + ['ms'] + ['MiB'] * memory)
     for words, fields, is_right in cases:
-        answer, took = answer_and_seconds(path, '\t'.join(fields).encode() + b'\n')
+        line = '\t'.join(fields).encode() + b'\n'
+        answer, took = answer_and_seconds(path, line)
         if not is_right(answer):
             sys.exit('another answer than wanted: %r' % answer[:80])
-        print_row(words + ['%.1f' % (1000 * (took - empty))])
+        print_row(words + ['%.1f' % (1000 * (took - empty))] + ['%.1f' % peak_memory(path, line)] * memory)
