@@ -165,14 +165,10 @@ held_name request held (n ∷ names) (t ∷ told) name at (suc place) e tells wi
 held_is_read : (held : Told) (limit before after : ℕ) (fault : FileFault) (content : List ℕ) → held ≡ Content content → length content ≤ limit → (Rose before after → ⊥) → ReadFails fault held limit before after → ⊥
 held_is_read held limit before after Failed content told within none fails = none fails
 held_is_read held limit before after TooLong content told within none fails =
-    let longer : IsPastLimit (Content content) limit = subst (λ t. IsPastLimit t limit) told fails in
+    let longer : IsPastLimit (Content content) limit = subst (λ t. IsPastLimit t limit) told fails.0 in
     omega (arith, longer, within)
-held_is_read held limit before after Missing content told within none fails = subst IsNotHeld told fails
+held_is_read held limit before after Missing content told within none fails = subst IsNotHeld told fails.0
 held_is_read held limit before after Memory content told within none fails = fails
-
-rose_since : (before between after : ℕ) → before ≤ between → Rose between after → Rose before after
-rose_since before between after le (inl more) = inl (omega arith)
-rose_since before between after le (inr greatest) = inr greatest
 
 -- the files of a command that are told within their limits are read
 all_read : {F : Type 0} (held : F → List ℕ → Told) (faults : F → ℕ) (leaves : F → List ℕ → F → Type 0) (words : List (List ℕ)) (r s : Request) (m n told : List (List ℕ)) (old new : F) (name : List ℕ) (fault : FileFault)
@@ -184,7 +180,7 @@ all_read held faults leaves words r s m n told old new name fault command unread
     let is : IsHeld (held old) name (limit_of s unread.place) = subst (λ (k : ℕ). IsHeld (held old) name (limit_of s k)) here (held_name s (held old) n told name 0 unread.place named handed.told handed.within) in
     let within : length is.content ≤ limit_of r unread.place = subst (λ (q : Request). length is.content ≤ limit_of q unread.place) (sym one.0) is.is_within in
     held_is_read (held old name) (limit_of r unread.place) (faults unread.between) (faults new) fault is.content is.is_told within
-    (λ rose. none (rose_since (faults old) (faults unread.between) (faults new) unread.counted rose)) unread.cause
+    (λ rose. none (subst (λ (count : ℕ). Rose count (faults new)) unread.still rose)) unread.cause
 
 abbrev no_memory : Refused
 no_memory = answers.Memory

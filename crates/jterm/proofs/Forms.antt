@@ -4,17 +4,19 @@ use Rattle.std.specs.Int.{w32, int_wrap}
 use Rattle.std.specs.Prelude.{◌+ℤ◌}
 use Rattle.jvm_values.specs.declared.heap.Value.{Value}
 use Rattle.jvm_values.specs.declared.heap.Value.TheVariants.{Int, Null, Ref}
-use Rattle.jvm_values.specs.declared.state.Frame.{Frame}
+use Rattle.jvm_values.specs.States.{MachineFrame, PlaceTypes}
 use Rattle.jterm.specs.Options.{◌>>=◌}
 use Rattle.jterm.specs.Machine.{top_int, int_of_local, iconst_of, iload_of, istore_of, iadd_of}
-use Rattle.jterm.specs.Typing.{PlaceType, UnsetPlace, IntPlace, NullPlace, RefPlace, FrameType, top_int_place, int_place, iconst_types, iload_types, istore_types, iadd_types}
+use Rattle.jvm_values.specs.declared.typing.PlaceType.{PlaceType}
+use Rattle.jvm_values.specs.declared.typing.PlaceType.TheVariants as holding
+use Rattle.jterm.specs.Typing.{top_int_place, int_place, iconst_types, iload_types, istore_types, iadd_types}
 
 -- what a place holds is of its type; of null and references nothing is asked
 abbrev pub Fills : PlaceType → Option Value → Type 0
-Fills IntPlace held = (v : ℤ) × (held ≡ Some (Int v))
-Fills UnsetPlace held = Unit {0}
-Fills NullPlace held = Unit {0}
-Fills (RefPlace t) held = Unit {0}
+Fills holding.Int held = (v : ℤ) × (held ≡ Some (Int v))
+Fills holding.Unset held = Unit {0}
+Fills holding.Null held = Unit {0}
+Fills (holding.Ref t) held = Unit {0}
 
 abbrev pub FillLocals : List PlaceType → List (Option Value) → Type 0
 FillLocals [] [] = Unit {0}
@@ -28,13 +30,13 @@ FillStack (p ∷ ps) (v ∷ vs) = Fills p (Some v) × FillStack ps vs
 FillStack [] (v ∷ vs) = ⊥
 FillStack (p ∷ ps) [] = ⊥
 
-pub record FillFrame (types : FrameType) (frame : Frame) : Type 0 where
+pub record FillFrame (types : PlaceTypes) (frame : MachineFrame) : Type 0 where
   pub locals : FillLocals types.locals frame.locals
   pub stack : FillStack types.stack frame.stack
 
 -- a form did something to a frame, and left these types
-pub record Makes (types : FrameType) (frame : Frame) (made : Option Frame) : Type 0 where
-  pub after : Frame
+pub record Makes (types : PlaceTypes) (frame : MachineFrame) (made : Option MachineFrame) : Type 0 where
+  pub after : MachineFrame
   pub made_is : made ≡ Some after
   pub same_method : after.method ≡ frame.method
   pub fits : FillFrame types after
@@ -51,13 +53,13 @@ takes below places v values f e = record { int = v; under = values; taken = refl
 
 pub take_int : (places below : List PlaceType) (values : List Value) → top_int_place places ≡ Some below → FillStack places values → TakesInt below values
 take_int [] below values e f = absurd (cc)
-take_int (UnsetPlace ∷ places) below values e f = absurd (cc)
-take_int (NullPlace ∷ places) below values e f = absurd (cc)
-take_int (RefPlace t ∷ places) below values e f = absurd (cc)
-take_int (IntPlace ∷ places) below [] e f = absurd f
-take_int (IntPlace ∷ places) below (Int v ∷ values) e f = takes below places v values f.1 (cc)
-take_int (IntPlace ∷ places) below (Null ∷ values) e f = let h : Some Null ≡ Some (Int f.0.0) = f.0.1 in absurd (cc)
-take_int (IntPlace ∷ places) below (Ref r ∷ values) e f = let h : Some (Ref r) ≡ Some (Int f.0.0) = f.0.1 in absurd (cc)
+take_int (holding.Unset ∷ places) below values e f = absurd (cc)
+take_int (holding.Null ∷ places) below values e f = absurd (cc)
+take_int (holding.Ref t ∷ places) below values e f = absurd (cc)
+take_int (holding.Int ∷ places) below [] e f = absurd f
+take_int (holding.Int ∷ places) below (Int v ∷ values) e f = takes below places v values f.1 (cc)
+take_int (holding.Int ∷ places) below (Null ∷ values) e f = let h : Some Null ≡ Some (Int f.0.0) = f.0.1 in absurd (cc)
+take_int (holding.Int ∷ places) below (Ref r ∷ values) e f = let h : Some (Ref r) ≡ Some (Int f.0.0) = f.0.1 in absurd (cc)
 
 -- a local that the types have as an int is an int
 pub record ReadsInt (n : ℕ) (locals : List (Option Value)) : Type 0 where
@@ -66,34 +68,34 @@ pub record ReadsInt (n : ℕ) (locals : List (Option Value)) : Type 0 where
   pub read : slice_get locals n ≡ Some local
   pub int_is : int_of_local local ≡ Some int
 
-reads : (local : Option Value) (locals : List (Option Value)) → Fills IntPlace local → ReadsInt 0 (local ∷ locals)
+reads : (local : Option Value) (locals : List (Option Value)) → Fills holding.Int local → ReadsInt 0 (local ∷ locals)
 reads local locals f = record { local = local; int = f.0; read = refl; int_is = subst (λ (o : Option Value). int_of_local o ≡ Some f.0) (sym f.1) refl }
 
-reads_at : (p : PlaceType) (local : Option Value) (locals : List (Option Value)) → int_place p ≡ Some IntPlace → Fills p local → ReadsInt 0 (local ∷ locals)
-reads_at IntPlace local locals e f = reads local locals f
-reads_at UnsetPlace local locals e f = absurd (cc)
-reads_at NullPlace local locals e f = absurd (cc)
-reads_at (RefPlace t) local locals e f = absurd (cc)
+reads_at : (p : PlaceType) (local : Option Value) (locals : List (Option Value)) → int_place p ≡ Some holding.Int → Fills p local → ReadsInt 0 (local ∷ locals)
+reads_at holding.Int local locals e f = reads local locals f
+reads_at holding.Unset local locals e f = absurd (cc)
+reads_at holding.Null local locals e f = absurd (cc)
+reads_at (holding.Ref t) local locals e f = absurd (cc)
 
-pub read_int : (n : ℕ) (types : List PlaceType) (locals : List (Option Value)) (p : PlaceType) → slice_get types n ≡ Some p → int_place p ≡ Some IntPlace → FillLocals types locals → ReadsInt n locals
+pub read_int : (n : ℕ) (types : List PlaceType) (locals : List (Option Value)) (p : PlaceType) → slice_get types n ≡ Some p → int_place p ≡ Some holding.Int → FillLocals types locals → ReadsInt n locals
 read_int n [] locals p e i f = absurd (cc)
 read_int n (q ∷ types) [] p e i f = absurd f
 read_int zero (q ∷ types) (local ∷ locals) p e i f =
     let same : q ≡ p = cc in
-    reads_at q local locals (subst (λ (x : PlaceType). int_place x ≡ Some IntPlace) (sym same) i) f.0
+    reads_at q local locals (subst (λ (x : PlaceType). int_place x ≡ Some holding.Int) (sym same) i) f.0
 read_int (suc n) (q ∷ types) (local ∷ locals) p e i f =
     let r = read_int n types locals p e i f.1 in
     record { local = r.local; int = r.int; read = r.read; int_is = r.int_is }
 
 -- only an int is read as one
-pub int_place-int : (p q : PlaceType) → int_place p ≡ Some q → q ≡ IntPlace
-int_place-int IntPlace q e = cc
-int_place-int UnsetPlace q e = absurd (cc)
-int_place-int NullPlace q e = absurd (cc)
-int_place-int (RefPlace t) q e = absurd (cc)
+pub int_place-int : (p q : PlaceType) → int_place p ≡ Some q → q ≡ holding.Int
+int_place-int holding.Int q e = cc
+int_place-int holding.Unset q e = absurd (cc)
+int_place-int holding.Null q e = absurd (cc)
+int_place-int (holding.Ref t) q e = absurd (cc)
 
 -- an int that is stored into a local fills it
-pub FillLocals-set : (n : ℕ) (types : List PlaceType) (locals : List (Option Value)) (v : ℤ) → FillLocals types locals → FillLocals (slice_set types n IntPlace) (slice_set locals n (Some (Int v)))
+pub FillLocals-set : (n : ℕ) (types : List PlaceType) (locals : List (Option Value)) (v : ℤ) → FillLocals types locals → FillLocals (slice_set types n holding.Int) (slice_set locals n (Some (Int v)))
 FillLocals-set n [] [] v f = tt
 FillLocals-set n [] (o ∷ os) v f = absurd f
 FillLocals-set n (p ∷ ps) [] v f = absurd f
@@ -114,34 +116,34 @@ and_then-some (Some a) f b e = (a, refl, e)
 pub some-same : {A : Type 0} (a b : A) → Some a ≡ Some b → a ≡ b
 some-same a b e = cc
 
-pub iconst_makes : (v : ℤ) (types after : FrameType) (frame : Frame) → iconst_types types ≡ Some after → FillFrame types frame → Makes after frame (iconst_of v frame)
+pub iconst_makes : (v : ℤ) (types after : PlaceTypes) (frame : MachineFrame) → iconst_types types ≡ Some after → FillFrame types frame → Makes after frame (iconst_of v frame)
 unfolding iconst_types iconst_of
 iconst_makes v types after frame e f =
-    let same : record types { stack = IntPlace ∷ types.stack } ≡ after = some-same _ _ e in
+    let same : record types { stack = holding.Int ∷ types.stack } ≡ after = some-same _ _ e in
     record {
       after = record frame { stack = Int v ∷ frame.stack };
       made_is = refl;
       same_method = refl;
-      fits = subst (λ (x : FrameType). FillFrame x (record frame { stack = Int v ∷ frame.stack })) same (record { locals = f.locals; stack = ((v, refl), f.stack) });
+      fits = subst (λ (x : PlaceTypes). FillFrame x (record frame { stack = Int v ∷ frame.stack })) same (record { locals = f.locals; stack = ((v, refl), f.stack) });
     }
 
-pub iload_makes : (n : ℕ) (types after : FrameType) (frame : Frame) → iload_types n types ≡ Some after → FillFrame types frame → Makes after frame (iload_of n frame)
+pub iload_makes : (n : ℕ) (types after : PlaceTypes) (frame : MachineFrame) → iload_types n types ≡ Some after → FillFrame types frame → Makes after frame (iload_of n frame)
 unfolding iload_types iload_of
 iload_makes n types after frame e f =
     let first = and_then-some _ _ _ e in
     let second = and_then-some _ _ _ first.2 in
-    let int : second.0 ≡ IntPlace = int_place-int _ _ second.1 in
+    let int : second.0 ≡ holding.Int = int_place-int _ _ second.1 in
     let r = read_int n types.locals frame.locals first.0 first.1 (subst (λ (q : PlaceType). int_place first.0 ≡ Some q) int second.1) f.locals in
     let same : record types { stack = second.0 ∷ types.stack } ≡ after = some-same _ _ second.2 in
-    let made : Frame = record frame { stack = Int r.int ∷ frame.stack } in
+    let made : MachineFrame = record frame { stack = Int r.int ∷ frame.stack } in
     record {
       after = made;
       made_is = rw (r.read, r.int_is);
       same_method = refl;
-      fits = subst (λ (x : FrameType). FillFrame x made) same (record { locals = f.locals; stack = subst (λ (q : PlaceType). FillStack (q ∷ types.stack) (Int r.int ∷ frame.stack)) (sym int) ((r.int, refl), f.stack) });
+      fits = subst (λ (x : PlaceTypes). FillFrame x made) same (record { locals = f.locals; stack = subst (λ (q : PlaceType). FillStack (q ∷ types.stack) (Int r.int ∷ frame.stack)) (sym int) ((r.int, refl), f.stack) });
     }
 
-pub iadd_makes : (types after : FrameType) (frame : Frame) → iadd_types types ≡ Some after → FillFrame types frame → Makes after frame (iadd_of frame)
+pub iadd_makes : (types after : PlaceTypes) (frame : MachineFrame) → iadd_types types ≡ Some after → FillFrame types frame → Makes after frame (iadd_of frame)
 unfolding iadd_types iadd_of
 iadd_makes types after frame e f =
     let first = and_then-some _ _ _ e in
@@ -149,13 +151,13 @@ iadd_makes types after frame e f =
     let right = take_int types.stack first.0 frame.stack first.1 f.stack in
     let left = take_int first.0 second.0 right.under second.1 right.fits in
     let sum : ℤ = int_wrap w32 (left.int +ℤ right.int) in
-    let same : record types { stack = IntPlace ∷ second.0 } ≡ after = some-same _ _ second.2 in
-    let made : Frame = record frame { stack = Int sum ∷ left.under } in
+    let same : record types { stack = holding.Int ∷ second.0 } ≡ after = some-same _ _ second.2 in
+    let made : MachineFrame = record frame { stack = Int sum ∷ left.under } in
     record {
       after = made;
       made_is = rw (right.taken, left.taken);
       same_method = refl;
-      fits = subst (λ (x : FrameType). FillFrame x made) same (record { locals = f.locals; stack = ((sum, refl), left.fits) });
+      fits = subst (λ (x : PlaceTypes). FillFrame x made) same (record { locals = f.locals; stack = ((sum, refl), left.fits) });
     }
 
 -- a test that chose a value was true
@@ -163,7 +165,7 @@ pub chosen : {A : Type 0} (b : Bool) (x y : A) → (if b then Some x else None) 
 chosen true x y e = (refl, some-same x y e)
 chosen false x y e = absurd (cc)
 
-pub istore_makes : (n : ℕ) (types after : FrameType) (frame : Frame) → istore_types n types ≡ Some after → FillFrame types frame → Makes after frame (istore_of n frame)
+pub istore_makes : (n : ℕ) (types after : PlaceTypes) (frame : MachineFrame) → istore_types n types ≡ Some after → FillFrame types frame → Makes after frame (istore_of n frame)
 unfolding istore_types istore_of
 istore_makes n types after frame e f =
     let first = and_then-some _ _ _ e in
@@ -171,10 +173,10 @@ istore_makes n types after frame e f =
     let taken = take_int types.stack first.0 frame.stack first.1 f.stack in
     let long : length types.locals ≡ length frame.locals = length-FillLocals types.locals frame.locals f.locals in
     let test : nat_lt n (length frame.locals) ≡ true = subst (λ (k : ℕ). nat_lt n k ≡ true) long here.0 in
-    let made : Frame = record frame { locals = slice_set frame.locals n (Some (Int taken.int)); stack = taken.under } in
+    let made : MachineFrame = record frame { locals = slice_set frame.locals n (Some (Int taken.int)); stack = taken.under } in
     record {
       after = made;
       made_is = rw (taken.taken, test);
       same_method = refl;
-      fits = subst (λ (x : FrameType). FillFrame x made) here.1 (record { locals = FillLocals-set n types.locals frame.locals taken.int f.locals; stack = taken.fits });
+      fits = subst (λ (x : PlaceTypes). FillFrame x made) here.1 (record { locals = FillLocals-set n types.locals frame.locals taken.int f.locals; stack = taken.fits });
     }

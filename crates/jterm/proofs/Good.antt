@@ -9,9 +9,8 @@ use Rattle.jvm_values.specs.declared.heap.Value.{Value}
 use Rattle.jvm_values.specs.declared.heap.Value.TheVariants.{Int}
 use Rattle.jvm_values.specs.declared.types.Kind.TheVariants as kinds
 use Rattle.jvm_values.specs.declared.types.Slot.TheVariants.{Num}
-use Rattle.jvm_values.specs.declared.state.Frame.{Frame}
+use Rattle.jvm_values.specs.States.{MachineFrame, MachineState}
 use Rattle.jvm_values.specs.declared.state.Mode.TheVariants.{Normal}
-use Rattle.jvm_values.specs.declared.state.State.{State}
 use Rattle.class_world.specs.World.{World}
 use Rattle.class_program.specs.declared.program.Method.{Method}
 use Rattle.jterm.specs.declared.form.Form.{Form}
@@ -22,7 +21,9 @@ use Rattle.jterm.specs.FirstPath.{IsStraight}
 use Rattle.jterm.specs.Forms.{AreRising, FirstAtZero}
 use Rattle.jterm.specs.Headline.{AllEnd, FitsDescription}
 use Rattle.jterm.specs.Machine.{Program}
-use Rattle.jterm.specs.Typing.{PlaceType, UnsetPlace, entry_types, type_of_slot}
+use Rattle.jvm_values.specs.declared.typing.PlaceType.{PlaceType}
+use Rattle.jvm_values.specs.declared.typing.PlaceType.TheVariants as holding
+use Rattle.jterm.specs.Typing.{entry_types, type_of_slot}
 use Rattle.jterm.proofs.Closed.{closed_rising, first_rising}
 use Rattle.jterm.proofs.Forms.{FillLocals, FillStack}
 use Rattle.jterm.proofs.PassComplete.{within_length}
@@ -30,7 +31,7 @@ use Rattle.jterm.proofs.Places.{Reads, reads_of}
 use Rattle.jterm.proofs.Runs.{Finishes}
 use Rattle.jterm.proofs.Straight.{Stands, FillLocals-within, FillStack-within, finishes_from}
 
-fill_unset : (n : ℕ) → FillLocals (replicate n UnsetPlace) (replicate n None)
+fill_unset : (n : ℕ) → FillLocals (replicate n holding.Unset) (replicate n None)
 fill_unset zero = tt
 fill_unset (suc n) = (tt, fill_unset n)
 
@@ -55,7 +56,7 @@ same_first methods a b only first =
     cc
 
 -- a state that the line fits stands at the start of its straight method
-stands : (program : Program) (method : Method) (line : Line) (s : IsStraight program.world line.params method) (state : State) → program.methods ≡ method ∷ [] → FitsDescription line program state → (place : ℕ) → place ≡ 0 → Stands program.world program method s.typed.0 place state
+stands : (program : Program) (method : Method) (line : Line) (s : IsStraight program.world line.params method) (state : MachineState) → program.methods ≡ method ∷ [] → FitsDescription line program state → (place : ℕ) → place ≡ 0 → Stands program.world program method s.typed.0 place state
 stands program method line s state only f place z =
     let world : World = program.world in
     let entry = s.typed.1.entry in
@@ -65,7 +66,7 @@ stands program method line s state only f place z =
     let unset : replicate (f.method.max_locals - line.params) None ≡ replicate (method.max_locals - line.params) None = ap (λ (m : Method). replicate {A = Option Value} (m.max_locals - line.params) None) same in
     let held : f.frame.locals ≡ map (λ v. Some (Int v)) f.ints ++ replicate (method.max_locals - line.params) None = f.locals ∙ ap (λ (os : List (Option Value)). map (λ v. Some (Int v)) f.ints ++ os) unset in
     let locals : FillLocals (entry_types world method).locals f.frame.locals =
-    rw (counted, takes, held) (fill_ints world f.ints line.params (replicate (method.max_locals - line.params) UnsetPlace) (replicate (method.max_locals - line.params) None) f.count (fill_unset (method.max_locals - line.params))) in
+    rw (counted, takes, held) (fill_ints world f.ints line.params (replicate (method.max_locals - line.params) holding.Unset) (replicate (method.max_locals - line.params) None) f.count (fill_unset (method.max_locals - line.params))) in
     let stack : FillStack [] f.frame.stack = rw f.stack tt in
     record {
       frame = f.frame;
@@ -82,7 +83,7 @@ stands program method line s state only f place z =
     }
 
 -- and its run finishes
-finishes : (program : Program) (method : Method) (line : Line) → IsStraight program.world line.params method → AreRising method.insns → program.methods ≡ method ∷ [] → (state : State) → FitsDescription line program state → Finishes program state
+finishes : (program : Program) (method : Method) (line : Line) → IsStraight program.world line.params method → AreRising method.insns → program.methods ≡ method ∷ [] → (state : MachineState) → FitsDescription line program state → Finishes program state
 finishes program method line s rising only state f =
     let reads : Reads method.insns s.forms = reads_of method.insns s.forms s.forms_are rising in
     let head = head_of s.forms s.returns.before (s.returns.place, Ireturn) s.returns.last in
@@ -102,7 +103,7 @@ params_fit world params method s =
     let same = within_length world (entry_types world method).locals entry.there.locals entry.locals in
     let wide : length entry.there.locals ≡ method.max_locals = (s.typed.1.each 0 entry.there entry.is_there).locals in
     let counted : length method.params ≡ params = ap length s.of_ints.takes ∙ length-replicate params (Num kinds.Int) in
-    let split : length (entry_types world method).locals ≡ length (map (type_of_slot world) method.params) + length (replicate (method.max_locals - length method.params) UnsetPlace) = length-append _ _ in
+    let split : length (entry_types world method).locals ≡ length (map (type_of_slot world) method.params) + length (replicate (method.max_locals - length method.params) holding.Unset) = length-append _ _ in
     let front : length (map (type_of_slot world) method.params) ≡ length method.params = length-map method.params (type_of_slot world) in
     omega (arith, same, wide, counted, split, front)
 
@@ -118,13 +119,13 @@ zeros_length params max_locals fits =
     let back : length (replicate {A = Option Value} (max_locals - params) None) ≡ max_locals - params = length-replicate (max_locals - params) None in
     omega (arith, split, front, ints, back, fits)
 
-abbrev frame_of : List (Option Value) → Frame
+abbrev frame_of : List (Option Value) → MachineFrame
 frame_of locals = record { method = 0; pc = 0; locals = locals; stack = [] }
 
-abbrev state_of : Frame → State
+abbrev state_of : MachineFrame → MachineState
 state_of frame = record { frames = frame ∷ []; heap = record { objects = [] }; mode = Normal; statics = [] }
 
-fitting : (program : Program) (method : Method) (line : Line) → IsStraight program.world line.params method → program.methods ≡ method ∷ [] → (state : State) × FitsDescription line program state
+fitting : (program : Program) (method : Method) (line : Line) → IsStraight program.world line.params method → program.methods ≡ method ∷ [] → (state : MachineState) × FitsDescription line program state
 fitting program method line s only = (
   state_of (frame_of (zeros line.params method.max_locals)),
   record {
@@ -147,7 +148,7 @@ fitting program method line s only = (
 )
 
 -- where nothing is refused, some state fits
-pub good_fits : (desc : List ℕ) (files : List (List ℕ)) (g : IsGood desc files) → (state : State) × FitsDescription g.line g.program state
+pub good_fits : (desc : List ℕ) (files : List (List ℕ)) (g : IsGood desc files) → (state : MachineState) × FitsDescription g.line g.program state
 good_fits desc files g = fitting g.program g.built.method g.line g.built.straight g.built.only
 
 -- every state that the line fits ends
@@ -156,7 +157,7 @@ AllEnd-good desc files g =
     let program : Program = g.program in
     let path = g.built in
     let rising : AreRising path.method.insns = first_rising path.method program.methods path.only (closed_rising program.world g.named.entry program.methods g.named.closed) in
-    let done : (state : State) → FitsDescription g.line program state → Finishes program state = finishes program path.method g.line path.straight rising path.only in
+    let done : (state : MachineState) → FitsDescription g.line program state → Finishes program state = finishes program path.method g.line path.straight rising path.only in
     record {
       line = g.line;
       program = program;

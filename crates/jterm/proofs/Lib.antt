@@ -16,7 +16,6 @@ pub mod Deciding
 pub mod FormLists
 pub mod FirstPaths
 pub mod Results
-pub mod Pieces
 pub mod Files
 pub mod Rising
 pub mod Closed

@@ -15,7 +15,10 @@ use Rattle.jterm.specs.Machine.{first_place, form_at}
 use Rattle.jterm.specs.Forms.{FirstAtZero}
 use Rattle.jterm.specs.Pass.{Passes, entry_known, known_after, known_along}
 use Rattle.jterm.specs.FirstPath.{ReturnsLast}
-use Rattle.jterm.specs.Typing.{PlaceType, UnsetPlace, IntPlace, NullPlace, RefPlace, FrameType, IsWithin, AreWithin, Types, Leads, LeadsTo, IsTyping, HasTyping, types_after, places_after, iconst_types, iload_types, istore_types, iadd_types, top_int_place, int_place, entry_types, type_of_slot}
+use Rattle.jvm_values.specs.declared.typing.PlaceType.{PlaceType}
+use Rattle.jvm_values.specs.declared.typing.PlaceType.TheVariants as holding
+use Rattle.jvm_values.specs.States.{PlaceTypes}
+use Rattle.jterm.specs.Typing.{IsWithin, AreWithin, Types, Leads, LeadsTo, IsTyping, HasTyping, types_after, places_after, iconst_types, iload_types, istore_types, iadd_types, top_int_place, int_place, entry_types, type_of_slot}
 use Rattle.jterm.proofs.Forms.{some-same, and_then-some, chosen, int_place-int}
 use Rattle.jterm.proofs.PassSound.{place_of, not_return}
 use Rattle.jterm.proofs.Places.{Reads, form_at-place}
@@ -24,31 +27,31 @@ use Rattle.jterm.proofs.Straight.{turn, returned_int}
 -- ---- what is known is within what a typing says
 
 within_trans : (world : World) (b : Bool) (p q : PlaceType) → IsWithin world (place_of b) p → IsWithin world p q → IsWithin world (place_of b) q
-within_trans world b p UnsetPlace h k = tt
-within_trans world true IntPlace IntPlace h k = tt
-within_trans world true UnsetPlace IntPlace h k = absurd k
-within_trans world true NullPlace IntPlace h k = absurd k
-within_trans world true (RefPlace t) IntPlace h k = absurd k
-within_trans world false UnsetPlace IntPlace h k = absurd k
-within_trans world false IntPlace IntPlace h k = absurd h
-within_trans world false NullPlace IntPlace h k = absurd h
-within_trans world false (RefPlace t) IntPlace h k = absurd h
-within_trans world true UnsetPlace NullPlace h k = absurd k
-within_trans world true IntPlace NullPlace h k = absurd k
-within_trans world true NullPlace NullPlace h k = absurd h
-within_trans world true (RefPlace t) NullPlace h k = absurd h
-within_trans world false UnsetPlace NullPlace h k = absurd k
-within_trans world false IntPlace NullPlace h k = absurd h
-within_trans world false NullPlace NullPlace h k = absurd h
-within_trans world false (RefPlace t) NullPlace h k = absurd h
-within_trans world true UnsetPlace (RefPlace s) h k = absurd k
-within_trans world true IntPlace (RefPlace s) h k = absurd k
-within_trans world true NullPlace (RefPlace s) h k = absurd h
-within_trans world true (RefPlace t) (RefPlace s) h k = absurd h
-within_trans world false UnsetPlace (RefPlace s) h k = absurd k
-within_trans world false IntPlace (RefPlace s) h k = absurd h
-within_trans world false NullPlace (RefPlace s) h k = absurd h
-within_trans world false (RefPlace t) (RefPlace s) h k = absurd h
+within_trans world b p holding.Unset h k = tt
+within_trans world true holding.Int holding.Int h k = tt
+within_trans world true holding.Unset holding.Int h k = absurd k
+within_trans world true holding.Null holding.Int h k = absurd k
+within_trans world true (holding.Ref t) holding.Int h k = absurd k
+within_trans world false holding.Unset holding.Int h k = absurd k
+within_trans world false holding.Int holding.Int h k = absurd h
+within_trans world false holding.Null holding.Int h k = absurd h
+within_trans world false (holding.Ref t) holding.Int h k = absurd h
+within_trans world true holding.Unset holding.Null h k = absurd k
+within_trans world true holding.Int holding.Null h k = absurd k
+within_trans world true holding.Null holding.Null h k = absurd h
+within_trans world true (holding.Ref t) holding.Null h k = absurd h
+within_trans world false holding.Unset holding.Null h k = absurd k
+within_trans world false holding.Int holding.Null h k = absurd h
+within_trans world false holding.Null holding.Null h k = absurd h
+within_trans world false (holding.Ref t) holding.Null h k = absurd h
+within_trans world true holding.Unset (holding.Ref s) h k = absurd k
+within_trans world true holding.Int (holding.Ref s) h k = absurd k
+within_trans world true holding.Null (holding.Ref s) h k = absurd h
+within_trans world true (holding.Ref t) (holding.Ref s) h k = absurd h
+within_trans world false holding.Unset (holding.Ref s) h k = absurd k
+within_trans world false holding.Int (holding.Ref s) h k = absurd h
+within_trans world false holding.Null (holding.Ref s) h k = absurd h
+within_trans world false (holding.Ref t) (holding.Ref s) h k = absurd h
 
 locals_trans : (world : World) (set : List Bool) (mid wide : List PlaceType) → AreWithin world (map place_of set) mid → AreWithin world mid wide → AreWithin world (map place_of set) wide
 locals_trans world [] [] wide h k = k
@@ -57,16 +60,16 @@ locals_trans world (b ∷ set) [] wide h k = absurd h
 locals_trans world (b ∷ set) (p ∷ mid) [] h k = absurd k
 locals_trans world (b ∷ set) (p ∷ mid) (q ∷ wide) h k = (within_trans world b p q h.0 k.0, locals_trans world set mid wide h.1 k.1)
 
-stack_trans : (world : World) (depth : ℕ) (mid wide : List PlaceType) → AreWithin world (replicate depth IntPlace) mid → AreWithin world mid wide → AreWithin world (replicate depth IntPlace) wide
+stack_trans : (world : World) (depth : ℕ) (mid wide : List PlaceType) → AreWithin world (replicate depth holding.Int) mid → AreWithin world mid wide → AreWithin world (replicate depth holding.Int) wide
 stack_trans world zero [] wide h k = k
 stack_trans world zero (p ∷ mid) wide h k = absurd h
 stack_trans world (suc depth) [] wide h k = absurd h
 stack_trans world (suc depth) (p ∷ mid) [] h k = absurd k
 stack_trans world (suc depth) (p ∷ mid) (q ∷ wide) h k = (within_trans world true p q h.0 k.0, stack_trans world depth mid wide h.1 k.1)
 
-pub record Known_within (world : World) (known : Known) (types : FrameType) : Type 0 where
+pub record Known_within (world : World) (known : Known) (types : PlaceTypes) : Type 0 where
   pub locals : AreWithin world (map place_of known.set) types.locals
-  pub stack : AreWithin world (replicate known.depth IntPlace) types.stack
+  pub stack : AreWithin world (replicate known.depth holding.Int) types.stack
 
 locals_length : (world : World) (set : List Bool) (wide : List PlaceType) → AreWithin world (map place_of set) wide → length set ≡ length wide
 locals_length world [] [] h = refl
@@ -74,7 +77,7 @@ locals_length world [] (p ∷ wide) h = absurd h
 locals_length world (b ∷ set) [] h = absurd h
 locals_length world (b ∷ set) (p ∷ wide) h = let e = locals_length world set wide h.1 in ap suc e
 
-stack_length : (world : World) (depth : ℕ) (wide : List PlaceType) → AreWithin world (replicate depth IntPlace) wide → depth ≡ length wide
+stack_length : (world : World) (depth : ℕ) (wide : List PlaceType) → AreWithin world (replicate depth holding.Int) wide → depth ≡ length wide
 stack_length world zero [] h = refl
 stack_length world zero (p ∷ wide) h = absurd h
 stack_length world (suc depth) [] h = absurd h
@@ -87,15 +90,15 @@ within_length world (b ∷ narrow) [] h = absurd h
 within_length world (b ∷ narrow) (p ∷ wide) h = let e = within_length world narrow wide h.1 in ap suc e
 
 -- a local that a typing has as an int is known to be one
-known_int : (world : World) (n : ℕ) (set : List Bool) (wide : List PlaceType) (p : PlaceType) → AreWithin world (map place_of set) wide → slice_get wide n ≡ Some p → p ≡ IntPlace → slice_index_or set n false ≡ true
+known_int : (world : World) (n : ℕ) (set : List Bool) (wide : List PlaceType) (p : PlaceType) → AreWithin world (map place_of set) wide → slice_get wide n ≡ Some p → p ≡ holding.Int → slice_index_or set n false ≡ true
 known_int world n [] [] p h e i = absurd (cc)
 known_int world n [] (q ∷ wide) p h e i = absurd h
 known_int world n (b ∷ set) [] p h e i = absurd h
 known_int world zero (true ∷ set) (q ∷ wide) p h e i = refl
-known_int world zero (false ∷ set) (q ∷ wide) p h e i = let same : q ≡ IntPlace = some-same q p e ∙ i in let w : IsWithin world UnsetPlace IntPlace = subst (IsWithin world UnsetPlace) same h.0 in absurd w
+known_int world zero (false ∷ set) (q ∷ wide) p h e i = let same : q ≡ holding.Int = some-same q p e ∙ i in let w : IsWithin world holding.Unset holding.Int = subst (IsWithin world holding.Unset) same h.0 in absurd w
 known_int world (suc n) (b ∷ set) (q ∷ wide) p h e i = known_int world n set wide p h.1 e i
 
-locals_set : (world : World) (n : ℕ) (set : List Bool) (wide : List PlaceType) → AreWithin world (map place_of set) wide → AreWithin world (map place_of (slice_set set n true)) (slice_set wide n IntPlace)
+locals_set : (world : World) (n : ℕ) (set : List Bool) (wide : List PlaceType) → AreWithin world (map place_of set) wide → AreWithin world (map place_of (slice_set set n true)) (slice_set wide n holding.Int)
 locals_set world n [] [] h = tt
 locals_set world n [] (q ∷ wide) h = absurd h
 locals_set world n (b ∷ set) [] h = absurd h
@@ -105,19 +108,19 @@ locals_set world (suc n) (b ∷ set) (q ∷ wide) h = (h.0, locals_set world n s
 -- an int on the top of a typing's stack is one of those known
 record Less (world : World) (depth : ℕ) (below : List PlaceType) : Type 0 where
   some : 0 < depth
-  within : AreWithin world (replicate (depth - 1) IntPlace) below
+  within : AreWithin world (replicate (depth - 1) holding.Int) below
 
-less : (world : World) (depth : ℕ) (wide below : List PlaceType) → AreWithin world (replicate depth IntPlace) wide → top_int_place wide ≡ Some below → Less world depth below
+less : (world : World) (depth : ℕ) (wide below : List PlaceType) → AreWithin world (replicate depth holding.Int) wide → top_int_place wide ≡ Some below → Less world depth below
 less world depth [] below h e = absurd (cc)
-less world depth (UnsetPlace ∷ wide) below h e = absurd (cc)
-less world depth (NullPlace ∷ wide) below h e = absurd (cc)
-less world depth (RefPlace t ∷ wide) below h e = absurd (cc)
-less world zero (IntPlace ∷ wide) below h e = absurd h
-less world (suc d) (IntPlace ∷ wide) below h e =
+less world depth (holding.Unset ∷ wide) below h e = absurd (cc)
+less world depth (holding.Null ∷ wide) below h e = absurd (cc)
+less world depth (holding.Ref t ∷ wide) below h e = absurd (cc)
+less world zero (holding.Int ∷ wide) below h e = absurd h
+less world (suc d) (holding.Int ∷ wide) below h e =
     let n : suc d - 1 ≡ d = omega arith in
-    record { some = omega arith; within = rw n (subst (AreWithin world (replicate d IntPlace)) (some-same wide below e) h.1) }
+    record { some = omega arith; within = rw n (subst (AreWithin world (replicate d holding.Int)) (some-same wide below e) h.1) }
 
-record KnownAfter (world : World) (max_stack : ℕ) (form : Form) (known : Known) (after : FrameType) : Type 0 where
+record KnownAfter (world : World) (max_stack : ℕ) (form : Form) (known : Known) (after : PlaceTypes) : Type 0 where
   later : Known
   known_is : known_after max_stack form known ≡ Some later
   within : Known_within world later after
@@ -125,12 +128,12 @@ record KnownAfter (world : World) (max_stack : ℕ) (form : Form) (known : Known
 nat_lt-true : (a b : ℕ) → a < b → nat_lt a b ≡ true
 nat_lt-true a b h = grind (arith, nat_tests)
 
-knows : (world : World) (method : Method) (form : Form) (known : Known) (types after : FrameType) → (form ≡ Ireturn → ⊥) → Known_within world known types → types_after world method form types ≡ Some after → length after.stack ≤ method.max_stack → KnownAfter world method.max_stack form known after
+knows : (world : World) (method : Method) (form : Form) (known : Known) (types after : PlaceTypes) → (form ≡ Ireturn → ⊥) → Known_within world known types → types_after world method form types ≡ Some after → length after.stack ≤ method.max_stack → KnownAfter world method.max_stack form known after
 unfolding iconst_types iload_types istore_types iadd_types
 knows world method (Iconst v) known types after other w e room =
-    let same : (let t : FrameType = record types { stack = IntPlace ∷ types.stack } in t) ≡ after = some-same _ _ e in
+    let same : (let t : PlaceTypes = record types { stack = holding.Int ∷ types.stack } in t) ≡ after = some-same _ _ e in
     let depth = stack_length world known.depth types.stack w.stack in
-    let long : length after.stack ≡ suc (length types.stack) = ap (λ (t : FrameType). length t.stack) (sym same) in
+    let long : length after.stack ≡ suc (length types.stack) = ap (λ (t : PlaceTypes). length t.stack) (sym same) in
     let fits = nat_lt-true known.depth method.max_stack (omega arith) in
     record {
       later = record known { depth = known.depth + 1 };
@@ -140,12 +143,12 @@ knows world method (Iconst v) known types after other w e room =
 knows world method (Iload n) known types after other w e room =
     let first = and_then-some (slice_get types.locals n) (λ local. int_place local >>= λ int. Some (record types { stack = int ∷ types.stack })) after e in
     let second = and_then-some (int_place first.0) (λ int. Some (record types { stack = int ∷ types.stack })) after first.2 in
-    let q_is : second.0 ≡ IntPlace = int_place-int first.0 second.0 second.1 in
-    let p_is : first.0 ≡ IntPlace = place_int first.0 second.0 second.1 in
+    let q_is : second.0 ≡ holding.Int = int_place-int first.0 second.0 second.1 in
+    let p_is : first.0 ≡ holding.Int = place_int first.0 second.0 second.1 in
     let set = known_int world n known.set types.locals first.0 w.locals first.1 p_is in
-    let same : (let t : FrameType = record types { stack = second.0 ∷ types.stack } in t) ≡ after = some-same _ _ second.2 in
+    let same : (let t : PlaceTypes = record types { stack = second.0 ∷ types.stack } in t) ≡ after = some-same _ _ second.2 in
     let depth = stack_length world known.depth types.stack w.stack in
-    let long : length after.stack ≡ suc (length types.stack) = ap (λ (t : FrameType). length t.stack) (sym same) in
+    let long : length after.stack ≡ suc (length types.stack) = ap (λ (t : PlaceTypes). length t.stack) (sym same) in
     let fits = nat_lt-true known.depth method.max_stack (omega arith) in
     record {
       later = record known { depth = known.depth + 1 };
@@ -153,13 +156,13 @@ knows world method (Iload n) known types after other w e room =
       within = subst (Known_within world (record known { depth = known.depth + 1 })) same (record { locals = w.locals; stack = rw (add-one known.depth, q_is) (tt, w.stack) });
     }
   where
-    place_int : (p q : PlaceType) → int_place p ≡ Some q → p ≡ IntPlace
-    place_int IntPlace q e = refl
-    place_int UnsetPlace q e = absurd (cc)
-    place_int NullPlace q e = absurd (cc)
-    place_int (RefPlace t) q e = absurd (cc)
+    place_int : (p q : PlaceType) → int_place p ≡ Some q → p ≡ holding.Int
+    place_int holding.Int q e = refl
+    place_int holding.Unset q e = absurd (cc)
+    place_int holding.Null q e = absurd (cc)
+    place_int (holding.Ref t) q e = absurd (cc)
 knows world method (Istore n) known types after other w e room =
-    let first = and_then-some (top_int_place types.stack) (λ below. if nat_lt n (length types.locals) then Some (let t : FrameType = record { locals = slice_set types.locals n IntPlace; stack = below } in t) else None) after e in
+    let first = and_then-some (top_int_place types.stack) (λ below. if nat_lt n (length types.locals) then Some (let t : PlaceTypes = record { locals = slice_set types.locals n holding.Int; stack = below } in t) else None) after e in
     let l = less world known.depth types.stack first.0 w.stack first.1 in
     let c = chosen (nat_lt n (length types.locals)) _ after first.2 in
     let long = locals_length world known.set types.locals w.locals in
@@ -171,11 +174,11 @@ knows world method (Istore n) known types after other w e room =
       within = subst (Known_within world (record { set = slice_set known.set n true; depth = known.depth - 1 })) c.1 (record { locals = locals_set world n known.set types.locals w.locals; stack = l.within });
     }
 knows world method Iadd known types after other w e room =
-    let first = and_then-some (top_int_place types.stack) (λ left. top_int_place left >>= λ below. Some (let t : FrameType = record types { stack = IntPlace ∷ below } in t)) after e in
-    let second = and_then-some (top_int_place first.0) (λ below. Some (let t : FrameType = record types { stack = IntPlace ∷ below } in t)) after first.2 in
+    let first = and_then-some (top_int_place types.stack) (λ left. top_int_place left >>= λ below. Some (let t : PlaceTypes = record types { stack = holding.Int ∷ below } in t)) after e in
+    let second = and_then-some (top_int_place first.0) (λ below. Some (let t : PlaceTypes = record types { stack = holding.Int ∷ below } in t)) after first.2 in
     let l = less world known.depth types.stack first.0 w.stack first.1 in
     let m = less world (known.depth - 1) first.0 second.0 l.within second.1 in
-    let same : (let t : FrameType = record types { stack = IntPlace ∷ second.0 } in t) ≡ after = some-same _ _ second.2 in
+    let same : (let t : PlaceTypes = record types { stack = holding.Int ∷ second.0 } in t) ≡ after = some-same _ _ second.2 in
     let some = l.some in
     let more = m.some in
     let two = nat_lt-true 1 known.depth (omega arith) in
@@ -185,7 +188,7 @@ knows world method Iadd known types after other w e room =
       known_is = rw two refl;
       within = subst (Known_within world (record known { depth = known.depth - 1 })) same (record {
         locals = w.locals;
-        stack = subst (λ (d : ℕ). AreWithin world (replicate d IntPlace) (IntPlace ∷ second.0)) (sym back) (tt, m.within);
+        stack = subst (λ (d : ℕ). AreWithin world (replicate d holding.Int) (holding.Int ∷ second.0)) (sym back) (tt, m.within);
       });
     }
 knows world method Ireturn known types after other w e room = absurd (other refl)
@@ -215,7 +218,7 @@ record Taken (max_stack : ℕ) (before : List (ℕ × Form)) (known : Known) : T
 taken_first : (max_stack : ℕ) (i : ℕ × Form) (before : List (ℕ × Form)) (known later : Known) → known_after max_stack i.1 known ≡ Some later → Taken max_stack before later → Taken max_stack (i ∷ before) known
 taken_first max_stack i before known later e t = record { last = t.last; along = rw e t.along; some = t.some }
 
-taken_along : (world : World) (method : Method) (typing : Types) (forms : List (ℕ × Form)) → IsTyping world method typing → Reads method.insns forms → (before done : List (ℕ × Form)) (place : ℕ) → forms ≡ done ++ (before ++ (place, Ireturn) ∷ []) → All (λ i. i.1 ≢ Ireturn) before → (known : Known) (types : FrameType) → typing (start before place) ≡ Some types → Known_within world known types → Taken method.max_stack before known
+taken_along : (world : World) (method : Method) (typing : Types) (forms : List (ℕ × Form)) → IsTyping world method typing → Reads method.insns forms → (before done : List (ℕ × Form)) (place : ℕ) → forms ≡ done ++ (before ++ (place, Ireturn) ∷ []) → All (λ i. i.1 ≢ Ireturn) before → (known : Known) (types : PlaceTypes) → typing (start before place) ≡ Some types → Known_within world known types → Taken method.max_stack before known
 taken_along world method typing forms typed reading [] done place split others known types at w =
     let found : form_at method.insns place ≡ Some (Ireturn, None) =
     form_at-place method.insns forms done (place, Ireturn) [] reading split in
@@ -243,13 +246,13 @@ taken_along world method typing forms typed reading (i ∷ before) done place sp
 
 -- ---- the entry
 
-unset_places : (n : ℕ) → replicate n UnsetPlace ≡ map place_of (replicate n false)
+unset_places : (n : ℕ) → replicate n holding.Unset ≡ map place_of (replicate n false)
 unset_places zero = refl
-unset_places (suc n) = ap (λ (ps : List PlaceType). UnsetPlace ∷ ps) (unset_places n)
+unset_places (suc n) = ap (λ (ps : List PlaceType). holding.Unset ∷ ps) (unset_places n)
 
-entry_places : (world : World) (n k : ℕ) → map (type_of_slot world) (replicate n (Num kinds.Int)) ++ replicate k UnsetPlace ≡ map place_of (replicate n true ++ replicate k false)
+entry_places : (world : World) (n k : ℕ) → map (type_of_slot world) (replicate n (Num kinds.Int)) ++ replicate k holding.Unset ≡ map place_of (replicate n true ++ replicate k false)
 entry_places world zero k = unset_places k
-entry_places world (suc n) k = ap (λ (ps : List PlaceType). IntPlace ∷ ps) (entry_places world n k)
+entry_places world (suc n) k = ap (λ (ps : List PlaceType). holding.Int ∷ ps) (entry_places world n k)
 
 start_zero : (before : List (ℕ × Form)) (place : ℕ) → FirstAtZero (before ++ (place, Ireturn) ∷ []) → start before place ≡ 0
 start_zero [] place h = h
@@ -264,10 +267,10 @@ Passes-HasTyping world method count forms params reading returns typing =
     let rest = method.max_locals - length method.params in
     let counted : length method.params ≡ count = ap length params ∙ length-replicate count (Num kinds.Int) in
     let long : length (entry_types world method).locals ≡ length entry.there.locals = within_length world (entry_types world method).locals entry.there.locals entry.locals in
-    let parts : length (entry_types world method).locals ≡ length (map (type_of_slot world) method.params) + length (replicate (method.max_locals - length method.params) UnsetPlace) =
-    length-append (map (type_of_slot world) method.params) (replicate (method.max_locals - length method.params) UnsetPlace) in
+    let parts : length (entry_types world method).locals ≡ length (map (type_of_slot world) method.params) + length (replicate (method.max_locals - length method.params) holding.Unset) =
+    length-append (map (type_of_slot world) method.params) (replicate (method.max_locals - length method.params) holding.Unset) in
     let front : length (map (type_of_slot world) method.params) ≡ length method.params = length-map method.params (type_of_slot world) in
-    let back = length-replicate (method.max_locals - length method.params) UnsetPlace in
+    let back = length-replicate (method.max_locals - length method.params) holding.Unset in
     let limit = there.locals in
     let places : (entry_types world method).locals ≡ map place_of (replicate count true ++ replicate (method.max_locals - count) false) =
     rw (counted, params) (entry_places world count (method.max_locals - count)) in

@@ -16,7 +16,10 @@ use Rattle.class_program.specs.declared.program.CatchRange.{CatchRange}
 use Rattle.class_program.specs.declared.program.Method.{Method}
 use Rattle.jterm.specs.Machine.{first_place}
 use Rattle.jterm.specs.Pass.{Passes, entry_known, pushed, known_after, known_along}
-use Rattle.jterm.specs.Typing.{PlaceType, UnsetPlace, IntPlace, FrameType, AreWithin, Types, Leads, LeadsTo, LeadsToHandler, CanCatch, IsOfWorld, IsTyped, HasTyping, types_after, places_after, iconst_types, iload_types, istore_types, iadd_types, ireturn_types, type_of_slot}
+use Rattle.jvm_values.specs.declared.typing.PlaceType.{PlaceType}
+use Rattle.jvm_values.specs.declared.typing.PlaceType.TheVariants as holding
+use Rattle.jvm_values.specs.States.{PlaceTypes}
+use Rattle.jterm.specs.Typing.{AreWithin, Types, Leads, LeadsTo, LeadsToHandler, CanCatch, IsOfWorld, IsTyped, HasTyping, types_after, places_after, iconst_types, iload_types, istore_types, iadd_types, ireturn_types, type_of_slot}
 use Rattle.jterm.proofs.Forms.{some-same, and_then-some}
 use Rattle.jterm.proofs.Tests.{by_if, eq-of-test}
 use Rattle.jterm.specs.Forms.{RiseFrom, FirstAtZero}
@@ -25,11 +28,11 @@ use Rattle.jterm.proofs.Places.{Reads, form_at-place}
 -- ---- what is known, as types
 
 abbrev pub place_of : Bool → PlaceType
-place_of true = IntPlace
-place_of false = UnsetPlace
+place_of true = holding.Int
+place_of false = holding.Unset
 
-abbrev pub types_of : Known → FrameType
-types_of known = record { locals = map place_of known.set; stack = replicate known.depth IntPlace }
+abbrev pub types_of : Known → PlaceTypes
+types_of known = record { locals = map place_of known.set; stack = replicate known.depth holding.Int }
 
 -- the pass goes on to a return at the end with an int on the stack
 abbrev pub Goes : ℕ → List (ℕ × Form) → Known → Type 0
@@ -72,31 +75,31 @@ and-both : (a b : Bool) → (a && b) ≡ true → (a ≡ true) × (b ≡ true)
 and-both true b e = (refl, e)
 and-both false b e = absurd (cc)
 
-replicate-add-one : (n : ℕ) → IntPlace ∷ replicate n IntPlace ≡ replicate (n + 1) IntPlace
+replicate-add-one : (n : ℕ) → holding.Int ∷ replicate n holding.Int ≡ replicate (n + 1) holding.Int
 replicate-add-one n = rw (add-one n) refl
 
-slice_get-set : (set : List Bool) (n : ℕ) → slice_index_or set n false ≡ true → slice_get (map place_of set) n ≡ Some IntPlace
+slice_get-set : (set : List Bool) (n : ℕ) → slice_index_or set n false ≡ true → slice_get (map place_of set) n ≡ Some holding.Int
 slice_get-set [] n e = absurd (cc)
 slice_get-set (b ∷ set) zero e = ap (λ (c : Bool). Some (place_of c)) e
 slice_get-set (b ∷ set) (suc n) e = slice_get-set set n e
 
-slice_set-map : (set : List Bool) (n : ℕ) → slice_set (map place_of set) n IntPlace ≡ map place_of (slice_set set n true)
+slice_set-map : (set : List Bool) (n : ℕ) → slice_set (map place_of set) n holding.Int ≡ map place_of (slice_set set n true)
 slice_set-map [] n = refl
 slice_set-map (b ∷ set) zero = refl
 slice_set-map (b ∷ set) (suc n) = ap (λ (ps : List PlaceType). place_of b ∷ ps) (slice_set-map set n)
 
 -- a stack of ints with one on the top
-stack_less : (depth : ℕ) → 0 < depth → replicate depth IntPlace ≡ IntPlace ∷ replicate (depth - 1) IntPlace
+stack_less : (depth : ℕ) → 0 < depth → replicate depth holding.Int ≡ holding.Int ∷ replicate (depth - 1) holding.Int
 stack_less zero h = absurd (omega arith)
 stack_less (suc d) h = let e : suc d - 1 ≡ d = omega arith in rw e refl
 
-pushes : (max_stack max_locals : ℕ) (known after : Known) → Fine max_stack max_locals known → pushed max_stack known ≡ Some after → Fine max_stack max_locals after × ((let types : FrameType = record { locals = map place_of known.set; stack = IntPlace ∷ replicate known.depth IntPlace } in types) ≡ types_of after)
+pushes : (max_stack max_locals : ℕ) (known after : Known) → Fine max_stack max_locals known → pushed max_stack known ≡ Some after → Fine max_stack max_locals after × ((let types : PlaceTypes = record { locals = map place_of known.set; stack = holding.Int ∷ replicate known.depth holding.Int } in types) ≡ types_of after)
 pushes max_stack max_locals known after f e =
     let t = taken (nat_lt known.depth max_stack) (record known { depth = known.depth + 1 }) after e in
     let below = nat_lt-of known.depth max_stack t.0 in
     let made : Fine max_stack max_locals (record known { depth = known.depth + 1 }) = record { locals = f.locals; stack = omega arith } in (
       subst (Fine max_stack max_locals) t.1 made,
-      ap (λ (s : List PlaceType). let types : FrameType = record { locals = map place_of known.set; stack = s } in types) (replicate-add-one known.depth) ∙ ap types_of t.1,
+      ap (λ (s : List PlaceType). let types : PlaceTypes = record { locals = map place_of known.set; stack = s } in types) (replicate-add-one known.depth) ∙ ap types_of t.1,
     )
 
 agrees : (world : World) (max_stack max_locals : ℕ) (method : Method) (form : Form) (known after : Known) → Fine max_stack max_locals known → known_after max_stack form known ≡ Some after → Agrees world max_stack max_locals method form known after
@@ -127,7 +130,7 @@ agrees world max_stack max_locals method Iadd known after f e =
     let made : Fine max_stack max_locals (record known { depth = known.depth - 1 }) = (let d = f.stack in record { locals = f.locals; stack = omega arith }) in
     record {
       fine = subst (Fine max_stack max_locals) t.1 made;
-      types = rw (first, second) (ap (λ (s : List PlaceType). let types : FrameType = record { locals = map place_of known.set; stack = s } in Some types) (sym second) ∙ ap (λ (k : Known). Some (types_of k)) t.1);
+      types = rw (first, second) (ap (λ (s : List PlaceType). let types : PlaceTypes = record { locals = map place_of known.set; stack = s } in Some types) (sym second) ∙ ap (λ (k : Known). Some (types_of k)) t.1);
     }
 agrees world max_stack max_locals method Ireturn known after f e = absurd (cc)
 
@@ -139,7 +142,7 @@ known_at max_stack [] known place = None
 known_at max_stack (i ∷ rest) known place =
     if i.0 == place then Some known else (known_after max_stack i.1 known >>= λ after. known_at max_stack rest after place)
 
-abbrev typed : Option Known → Option FrameType
+abbrev typed : Option Known → Option PlaceTypes
 typed (Some known) = Some (types_of known)
 typed None = None
 
@@ -168,7 +171,7 @@ known_at-later max_stack i rest known after there place r e h =
     let other : (i.0 == place) ≡ false = grind (arith, nat_tests) in
     rw (other, e) h
 
-typed-some : (o : Option Known) (types : FrameType) → typed o ≡ Some types → (known : Known) × (o ≡ Some known) × (types_of known ≡ types)
+typed-some : (o : Option Known) (types : PlaceTypes) → typed o ≡ Some types → (known : Known) × (o ≡ Some known) × (types_of known ≡ types)
 typed-some None types e = absurd (cc)
 typed-some (Some known) types e = (known, refl, some-same _ _ e)
 
@@ -177,7 +180,7 @@ AreWithin-places world [] = tt
 AreWithin-places world (true ∷ set) = (tt, AreWithin-places world set)
 AreWithin-places world (false ∷ set) = (tt, AreWithin-places world set)
 
-AreWithin-ints : (world : World) (depth : ℕ) → AreWithin world (replicate depth IntPlace) (replicate depth IntPlace)
+AreWithin-ints : (world : World) (depth : ℕ) → AreWithin world (replicate depth holding.Int) (replicate depth holding.Int)
 AreWithin-ints world zero = tt
 AreWithin-ints world (suc depth) = (tt, AreWithin-ints world depth)
 
@@ -188,7 +191,7 @@ record Whole (world : World) (method : Method) (known : Known) (forms : List (�
   reading : Reads method.insns forms
   no_table : method.table ≡ []
 
-int_is_set : IntPlace ≢ UnsetPlace
+int_is_set : holding.Int ≢ holding.Unset
 int_is_set e = cc
 
 all_none : {A : Type 0} (P : A → Type 0) → All P []
@@ -201,12 +204,12 @@ place_of_world world false = tt
 places_of_world : (world : World) (set : List Bool) → All (IsOfWorld world) (map place_of set)
 places_of_world world set = All-map (IsOfWorld world) place_of set (λ k d h. place_of_world world (get_or set k d))
 
-typed_at : (world : World) (method : Method) (first known : Known) (forms : List (ℕ × Form)) (w : Whole world method first forms) (done rest : List (ℕ × Form)) (i : ℕ × Form) (after : FrameType) → forms ≡ done ++ i ∷ rest → Fine method.max_stack method.max_locals known → types_after world method i.1 (types_of known) ≡ Some after → All (LeadsTo world (typing_of method.max_stack forms first) after) (places_after i.1 (first_place rest)) → IsTyped world method (typing_of method.max_stack forms first) i.0 (types_of known)
+typed_at : (world : World) (method : Method) (first known : Known) (forms : List (ℕ × Form)) (w : Whole world method first forms) (done rest : List (ℕ × Form)) (i : ℕ × Form) (after : PlaceTypes) → forms ≡ done ++ i ∷ rest → Fine method.max_stack method.max_locals known → types_after world method i.1 (types_of known) ≡ Some after → All (LeadsTo world (typing_of method.max_stack forms first) after) (places_after i.1 (first_place rest)) → IsTyped world method (typing_of method.max_stack forms first) i.0 (types_of known)
 typed_at world method first known forms w done rest i after split fine runs leads = record {
   locals = length-map known.set place_of ∙ fine.locals;
-  stack = subst (λ (n : ℕ). n ≤ method.max_stack) (sym (length-replicate known.depth IntPlace)) fine.stack;
-  set = All-replicate (λ entry. entry ≢ UnsetPlace) known.depth IntPlace int_is_set;
-  of_world = All-append (IsOfWorld world) (map place_of known.set) (replicate known.depth IntPlace) (places_of_world world known.set) (All-replicate (IsOfWorld world) known.depth IntPlace tt);
+  stack = subst (λ (n : ℕ). n ≤ method.max_stack) (sym (length-replicate known.depth holding.Int)) fine.stack;
+  set = All-replicate (λ entry. entry ≢ holding.Unset) known.depth holding.Int int_is_set;
+  of_world = All-append (IsOfWorld world) (map place_of known.set) (replicate known.depth holding.Int) (places_of_world world known.set) (All-replicate (IsOfWorld world) known.depth holding.Int tt);
   form = i.1;
   next = first_place rest;
   stands = form_at-place method.insns forms done i rest w.reading split;
@@ -234,7 +237,7 @@ leads_none P form next e = subst (λ (f : Form). All P (places_after f next)) (s
 pub not_return : (max_stack : ℕ) (form : Form) (known after : Known) → known_after max_stack form known ≡ Some after → form ≡ Ireturn → ⊥
 not_return max_stack form known after e r = let n : known_after max_stack form known ≡ None = ap (λ (f : Form). known_after max_stack f known) r in cc
 
-returns_int : (world : World) (method : Method) (number : Kind) (form : Form) (known : Known) → method.result ≡ Some (Num number) → form ≡ Ireturn → 0 < known.depth → types_after world method form (types_of known) ≡ Some (record { locals = map place_of known.set; stack = replicate (known.depth - 1) IntPlace })
+returns_int : (world : World) (method : Method) (number : Kind) (form : Form) (known : Known) → method.result ≡ Some (Num number) → form ≡ Ireturn → 0 < known.depth → types_after world method form (types_of known) ≡ Some (record { locals = map place_of known.set; stack = replicate (known.depth - 1) holding.Int })
 unfolding ireturn_types
 returns_int world method number form known result r some = rw (r, result, stack_less known.depth some) refl
 
@@ -276,7 +279,7 @@ each_from world method first known forms w (i ∷ j ∷ rest) done split low ris
 
 -- ---- the entry
 
-unset_within : (world : World) (n : ℕ) → AreWithin world (replicate n UnsetPlace) (map place_of (replicate n false))
+unset_within : (world : World) (n : ℕ) → AreWithin world (replicate n holding.Unset) (map place_of (replicate n false))
 unset_within world zero = tt
 unset_within world (suc n) = (tt, unset_within world n)
 
@@ -308,7 +311,7 @@ HasTyping-Passes world method count number forms params result no_table reading 
         entry = record {
           there = types_of first;
           is_there = ap typed (first_at method.max_stack forms first goes reading.first);
-          locals = rw (counted, params) (ints_within world count (replicate (method.max_locals - count) UnsetPlace) (replicate (method.max_locals - count) false) (unset_within world (method.max_locals - count)));
+          locals = rw (counted, params) (ints_within world count (replicate (method.max_locals - count) holding.Unset) (replicate (method.max_locals - count) false) (unset_within world (method.max_locals - count)));
           stack = tt;
         };
         each = λ place types h.

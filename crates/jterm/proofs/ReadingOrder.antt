@@ -65,16 +65,18 @@ first_contents_more request held between names contents all k name content limit
 
 -- why the file at this place was not read
 pub has_cause : {T F : Type 0} (held : F → List ℕ → Told) (faults : F → ℕ) (leaves : F → List ℕ → F → Type 0) (request : Request) (names : List (List ℕ)) (old between new : F) (place : ℕ) (name : List ℕ) (contents : List (List ℕ)) (fault : FileFault) (limit : ℕ)
-    → held between ≡ held old → limit ≡ limit_of request place → faults old ≤ faults between
+    → held between ≡ held old → limit ≡ limit_of request place → faults between ≡ faults old
     → slice_get names place ≡ Some name → AreContents request 0 (held old) (take place names) contents
     → AreRead leaves (take place names) old between → leaves between name new
     → (IsErrOf {T = T} (Err fault) Failed → Rose (faults between) (faults new))
     → (IsErrOf {T = T} (Err fault) TooLong → IsPastLimit (held between name) limit)
     → (IsErrOf {T = T} (Err fault) Missing → IsNotHeld (held between name))
+    → (IsErrOf {T = T} (Err fault) TooLong → faults new ≡ faults between)
+    → (IsErrOf {T = T} (Err fault) Missing → faults new ≡ faults between)
     → HasCause held faults leaves request names old new (stopped_at name fault)
-has_cause held faults leaves request names old between new place name contents Failed limit same e le named earlier led last failed too_long missing =
-    record { place = place; is_named = named; contents = contents; earlier = earlier; between = between; led = led; counted = le; last = last; cause = failed refl }
-has_cause held faults leaves request names old between new place name contents TooLong limit same e le named earlier led last failed too_long missing =
+has_cause held faults leaves request names old between new place name contents Failed limit same e stood named earlier led last failed too_long missing long_still missing_still =
+    record { place = place; is_named = named; contents = contents; earlier = earlier; between = between; led = led; still = stood; last = last; cause = failed refl }
+has_cause held faults leaves request names old between new place name contents TooLong limit same e stood named earlier led last failed too_long missing long_still missing_still =
     record {
       place = place;
       is_named = named;
@@ -82,10 +84,10 @@ has_cause held faults leaves request names old between new place name contents T
       earlier = earlier;
       between = between;
       led = led;
-      counted = le;
+      still = stood;
       last = last;
-      cause = subst (λ h. IsPastLimit (h name) (limit_of request place)) same (subst (IsPastLimit (held between name)) e (too_long refl));
+      cause = (subst (λ h. IsPastLimit (h name) (limit_of request place)) same (subst (IsPastLimit (held between name)) e (too_long refl)), long_still refl);
     }
-has_cause held faults leaves request names old between new place name contents Missing limit same e le named earlier led last failed too_long missing =
-    record { place = place; is_named = named; contents = contents; earlier = earlier; between = between; led = led; counted = le; last = last; cause = subst (λ h. IsNotHeld (h name)) same (missing refl) }
-has_cause held faults leaves request names old between new place name contents Memory limit same e le named earlier led last failed too_long missing = tt
+has_cause held faults leaves request names old between new place name contents Missing limit same e stood named earlier led last failed too_long missing long_still missing_still =
+    record { place = place; is_named = named; contents = contents; earlier = earlier; between = between; led = led; still = stood; last = last; cause = (subst (λ h. IsNotHeld (h name)) same (missing refl), missing_still refl) }
+has_cause held faults leaves request names old between new place name contents Memory limit same e stood named earlier led last failed too_long missing long_still missing_still = tt

@@ -2,9 +2,8 @@
 use Rattle.std.specs.Prelude.{◌≡◌, ℕ, ◌-◌, List, [], ◌∷◌, ◌++◌, length, map, All, replicate, slice_get, Option, Some, None, Ok, FitsSigned, ℤ, IsTrue}
 use Rattle.std.specs.Int.{w32}
 use Rattle.jvm_values.specs.declared.heap.Value.TheVariants.{Int}
-use Rattle.jvm_values.specs.declared.state.Frame.{Frame}
+use Rattle.jvm_values.specs.States.{MachineFrame, MachineState}
 use Rattle.jvm_values.specs.declared.state.Mode.TheVariants.{Normal}
-use Rattle.jvm_values.specs.declared.state.State.{State}
 use Rattle.jvm_values.specs.declared.types.Kind.TheVariants as kinds
 use Rattle.jvm_values.specs.declared.types.Slot.TheVariants.{Num}
 use Rattle.class_world.specs.Resolve.{has_body}
@@ -66,11 +65,11 @@ pub record NameProgram (files : List (List ℕ)) (desc : List ℕ) (line : Line)
 -- The state fits the line in the program, whose first method takes the line's ints and nothing else: one frame of that
 -- method at its start, as many locals as it may have, an int in each parameter's local, the other locals unset, an empty
 -- stack, and normal mode. The program has no static fields. The heap is any, since none of the forms reads it.
-pub record FitsDescription (line : Line) (program : Program) (state : State) : Type 0 where
+pub record FitsDescription (line : Line) (program : Program) (state : MachineState) : Type 0 where
   pub method : Method
   pub first : slice_get program.methods 0 ≡ Some method
   pub takes : method.params ≡ replicate line.params (Num kinds.Int)
-  pub frame : Frame
+  pub frame : MachineFrame
   pub frames : state.frames ≡ frame ∷ []
   pub method_is : frame.method ≡ 0
   pub start : frame.pc ≡ 0
@@ -91,5 +90,5 @@ pub record AllEnd (files : List (List ℕ)) (desc : List ℕ) : Type 0 where
   pub line : Line
   pub program : Program
   pub named : NameProgram files desc line program
-  pub ends : (state : State) → FitsDescription line program state → Ends program state
-  pub never_stuck : (state : State) → FitsDescription line program state → IsNeverStuck program state
+  pub ends : (state : MachineState) → FitsDescription line program state → Ends program state
+  pub never_stuck : (state : MachineState) → FitsDescription line program state → IsNeverStuck program state

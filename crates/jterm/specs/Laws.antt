@@ -4,7 +4,7 @@ use Rattle.jterm.specs.declared.verdict.Request.{Request}
 use Rattle.jterm.specs.declared.verdict.Verdict.{Verdict}
 use Rattle.jterm.specs.declared.verdict.Refused.{Refused}
 use Rattle.jterm.specs.declared.verdict.Refused.TheVariants.{Memory}
-use Rattle.jvm_values.specs.declared.state.State.{State}
+use Rattle.jvm_values.specs.States.{MachineState}
 use Rattle.jterm.specs.Decision.{IsAnswer, IsGood}
 use Rattle.jterm.specs.Headline.{FitsDescription}
 
@@ -15,4 +15,4 @@ AnswersAreOne = (request : Request) (contents : List (List ℕ)) (a b : Result V
 
 -- where the answer is yes, the headline speaks of some state: the line fits one
 abbrev pub SomeStateFits : Type 0
-SomeStateFits = (desc : List ℕ) (files : List (List ℕ)) (good : IsGood desc files) → (state : State) × FitsDescription good.line good.program state
+SomeStateFits = (desc : List ℕ) (files : List (List ℕ)) (good : IsGood desc files) → (state : MachineState) × FitsDescription good.line good.program state

@@ -1,4 +1,3 @@
-pub mod Texts
 pub mod Options
 pub mod Forms
 pub mod Machine

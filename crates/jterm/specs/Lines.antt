@@ -1,13 +1,13 @@
 -- The lines that say why a call has no output.
 use Rattle.std.specs.Prelude.{ℕ, List, [], ◌∷◌, ◌++◌, codes}
 use Rattle.std.specs.Fmt.{decimal}
+use Rattle.fault_words.specs.Words.{joined}
 use Rattle.io_ports.specs.declared.files.FileFault.{FileFault}
 use Rattle.io_ports.specs.declared.files.FileFault.TheVariants.{Failed, TooLong, Missing, Memory}
 use Rattle.jterm.specs.declared.verdict.Place.{Place}
 use Rattle.jterm.specs.declared.verdict.Place.TheVariants.{Class, Listing, Description, Link}
 use Rattle.jterm.specs.declared.verdict.Fault.{Fault}
 use Rattle.jterm.specs.Faults.{fault_text}
-use Rattle.jterm.specs.Texts.{joined}
 
 -- the file or the step that has a fault
 abbrev pub place_text : Place → List ℕ

@@ -7,10 +7,9 @@ use Rattle.std.specs.Prelude.{◌≡◌, ℕ, zero, suc, ◌==◌, nat_lt, if◌
 use Rattle.std.specs.Int.{w32, int_wrap}
 use Rattle.jvm_values.specs.declared.heap.Value.{Value}
 use Rattle.jvm_values.specs.declared.heap.Value.TheVariants.{Int, Null, Ref}
-use Rattle.jvm_values.specs.declared.state.Frame.{Frame}
+use Rattle.jvm_values.specs.States.{MachineFrame, MachineState}
 use Rattle.jvm_values.specs.declared.state.Mode.TheVariants.{Normal, Throwing}
 use Rattle.jvm_values.specs.declared.state.Mode.{Mode}
-use Rattle.jvm_values.specs.declared.state.State.{State}
 use Rattle.jterm.specs.declared.form.Form.{Form}
 use Rattle.jterm.specs.declared.form.Form.TheVariants.{Iconst, Iload, Istore, Iadd, Ireturn}
 use Rattle.class_program.specs.declared.op.Op.{Op}
@@ -60,24 +59,24 @@ int_of_local (Some (Ref r)) = None
 int_of_local None = None
 
 -- iconst, bipush: pushes the int
-unfoldable pub iconst_of : ℤ → Frame → Option Frame
+unfoldable pub iconst_of : ℤ → MachineFrame → Option MachineFrame
 iconst_of v frame = Some (record frame { stack = Int v ∷ frame.stack })
 
 -- iload: the local is an int, and is pushed
-unfoldable pub iload_of : ℕ → Frame → Option Frame
+unfoldable pub iload_of : ℕ → MachineFrame → Option MachineFrame
 iload_of n frame = do
   local ← slice_get frame.locals n
   v ← int_of_local local
   Some (record frame { stack = Int v ∷ frame.stack })
 
 -- istore: takes the top int into a local of the frame
-unfoldable pub istore_of : ℕ → Frame → Option Frame
+unfoldable pub istore_of : ℕ → MachineFrame → Option MachineFrame
 istore_of n frame = do
   taken ← top_int frame.stack
   if nat_lt n (length frame.locals) then Some (record frame { locals = slice_set frame.locals n (Some (Int taken.0)); stack = taken.1 }) else None
 
 -- iadd: takes two ints and pushes their sum, wrapped to 32 bits
-unfoldable pub iadd_of : Frame → Option Frame
+unfoldable pub iadd_of : MachineFrame → Option MachineFrame
 iadd_of frame = do
   right ← top_int frame.stack
   left ← top_int right.1
@@ -86,13 +85,13 @@ iadd_of frame = do
 -- what one step gives: a state to go on from, the end of the run by a return or by a throw that nothing catches, or
 -- nothing that the table names
 pub data Outcome : Type 0 where
-  Going : State → Outcome
+  Going : MachineState → Outcome
   Returned : Option Value → Outcome
   Threw : ℕ → Outcome
   Stuck : Outcome
 
 -- the frame goes on at a place
-unfoldable pub going : State → List Frame → Option ℕ → Option Frame → Option Outcome
+unfoldable pub going : MachineState → List MachineFrame → Option ℕ → Option MachineFrame → Option Outcome
 going state below next changed = do
   place ← next
   frame ← changed
@@ -100,7 +99,7 @@ going state below next changed = do
 
 -- a call has returned a value: its caller goes on after its invoke instruction with the value on its stack, and
 -- without a caller the run has returned
-unfoldable pub returned : Program → State → Value → List Frame → Option Outcome
+unfoldable pub returned : Program → MachineState → Value → List MachineFrame → Option Outcome
 returned program state v [] = Some (Returned (Some v))
 returned program state v (caller ∷ below) = do
   method ← slice_get program.methods caller.method
@@ -108,7 +107,7 @@ returned program state v (caller ∷ below) = do
   going state below call.1 (Some (record caller { stack = v ∷ caller.stack }))
 
 -- one form, run in the frame `frame` over the frames `below`; every form that is not said to jump goes on at `next`
-abbrev pub perform : Program → Form → Option ℕ → State → Frame → List Frame → Option Outcome
+abbrev pub perform : Program → Form → Option ℕ → MachineState → MachineFrame → List MachineFrame → Option Outcome
 perform program (Iconst v) next state frame below = going state below next (iconst_of v frame)
 perform program (Iload n) next state frame below = going state below next (iload_of n frame)
 perform program (Istore n) next state frame below = going state below next (istore_of n frame)
@@ -118,7 +117,7 @@ perform program Ireturn next state frame below = do
   returned program state (Int taken.0) below
 
 -- normal mode: the instruction at the top frame's place
-unfoldable pub normal_step : Program → State → List Frame → Option Outcome
+unfoldable pub normal_step : Program → MachineState → List MachineFrame → Option Outcome
 normal_step program state [] = None
 normal_step program state (frame ∷ below) = do
   method ← slice_get program.methods frame.method
@@ -127,23 +126,23 @@ normal_step program state (frame ∷ below) = do
 
 -- a throw that nothing in the top frame takes: that frame goes and its caller's stack is emptied; with one frame left the
 -- run ends with the throw
-abbrev pub uncaught : State → ℕ → List Frame → Outcome
+abbrev pub uncaught : MachineState → ℕ → List MachineFrame → Outcome
 uncaught state thrown [] = Threw thrown
 uncaught state thrown (caller ∷ below) = Going (record state { frames = record caller { stack = [] } ∷ below })
 
 -- throwing mode: the top frame's method has no exception table; the table does not have handlers yet
-unfoldable pub throwing_step : Program → State → ℕ → List Frame → Option Outcome
+unfoldable pub throwing_step : Program → MachineState → ℕ → List MachineFrame → Option Outcome
 throwing_step program state thrown [] = None
 throwing_step program state thrown (frame ∷ below) = do
   method ← slice_get program.methods frame.method
   if length method.table == 0 then Some (uncaught state thrown below) else None
 
-abbrev pub step_in : Program → State → Mode → Option Outcome
+abbrev pub step_in : Program → MachineState → Mode → Option Outcome
 step_in program state Normal = normal_step program state state.frames
 step_in program state (Throwing thrown) = throwing_step program state thrown state.frames
 
 -- one step of the machine
-unfoldable pub step : Program → State → Outcome
+unfoldable pub step : Program → MachineState → Outcome
 step program state = unwrap_or (step_in program state state.mode) Stuck
 
 -- an ended run stays as it is
@@ -154,7 +153,7 @@ step_on program (Threw r) = Threw r
 step_on program Stuck = Stuck
 
 -- the result of `count` steps
-abbrev pub run : Program → ℕ → State → Outcome
+abbrev pub run : Program → ℕ → MachineState → Outcome
 run program zero state = Going state
 run program (suc count) state = step_on program (run program count state)
 
@@ -166,9 +165,9 @@ IsEnd (Threw r) = Unit {0}
 IsEnd Stuck = ⊥
 
 -- some number of steps ends the run
-abbrev pub Ends : Program → State → Type 0
+abbrev pub Ends : Program → MachineState → Type 0
 Ends program state = (count : ℕ) × IsEnd (run program count state)
 
 -- no number of steps makes the run stuck
-abbrev pub IsNeverStuck : Program → State → Type 0
+abbrev pub IsNeverStuck : Program → MachineState → Type 0
 IsNeverStuck program state = (count : ℕ) → run program count state ≡ Stuck → ⊥

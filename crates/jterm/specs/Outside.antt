@@ -39,12 +39,12 @@ abbrev pub AreWithin : Request → ℕ → List (List ℕ) → Type 0
 AreWithin request place [] = ⊤
 AreWithin request place (content ∷ contents) = (length content ≤ limit_of request place) × AreWithin request (place + 1) contents
 
--- why a file was not read: the read failed, and the count of the files' faults rose in it; or the content, where one is told,
--- is past its limit; or none is held, where that is told
+-- why a file was not read: the read failed, and the count of the files' faults rose in it; or it stood still, and the content,
+-- where one is told, is past its limit; or it stood still, and none is held, where that is told
 abbrev pub ReadFails : FileFault → Told → ℕ → ℕ → ℕ → Type 0
 ReadFails Failed told limit before after = Rose before after
-ReadFails TooLong told limit before after = IsPastLimit told limit
-ReadFails Missing told limit before after = IsNotHeld told
+ReadFails TooLong told limit before after = IsPastLimit told limit × (after ≡ before)
+ReadFails Missing told limit before after = IsNotHeld told × (after ≡ before)
 ReadFails Memory told limit before after = ⊥
 
 -- reads of these names, in their order, lead from old files to new ones
@@ -53,8 +53,8 @@ AreRead leaves [] old new = old ≡ new
 AreRead {F} leaves (name ∷ names) old new = (between : F) × leaves old name between × AreRead leaves names between new
 
 -- The file of this name is the first of the named ones that was not read, for this cause. The files before it were read, one
--- after the other, which led from the old files to those between; the read of this very file led on from there to the new
--- ones, and is the one that failed.
+-- after the other, which led from the old files to those between, and none of them failed: the count of faults stood still.
+-- The read of this very file led on from there to the new ones, and is the one that failed.
 pub record IsUnread {F : Type 0} (held : F → List ℕ → Told) (faults : F → ℕ) (leaves : F → List ℕ → F → Type 0) (request : Request) (names : List (List ℕ)) (old new : F) (name : List ℕ) (fault : FileFault) : Type 0 where
   pub place : ℕ
   pub is_named : slice_get names place ≡ Some name
@@ -62,7 +62,7 @@ pub record IsUnread {F : Type 0} (held : F → List ℕ → Told) (faults : F �
   pub earlier : AreContents request 0 (held old) (take place names) contents
   pub between : F
   pub led : AreRead leaves (take place names) old between
-  pub counted : faults old ≤ faults between
+  pub still : faults between ≡ faults old
   pub last : leaves between name new
   pub cause : ReadFails fault (held old name) (limit_of request place) (faults between) (faults new)
 

@@ -6,6 +6,9 @@ use Rattle.jvm_values.specs.declared.types.Ty.{Ty}
 use Rattle.jvm_values.specs.declared.types.Slot.{Slot}
 use Rattle.jvm_values.specs.Subtyping.{class_type, IsReference}
 use Rattle.jvm_values.specs.declared.types.Slot.TheVariants.{Num, Ref}
+use Rattle.jvm_values.specs.declared.typing.PlaceType.{PlaceType}
+use Rattle.jvm_values.specs.declared.typing.PlaceType.TheVariants as holding
+use Rattle.jvm_values.specs.States.{PlaceTypes}
 use Rattle.jterm.specs.declared.form.Form.{Form}
 use Rattle.jterm.specs.declared.form.Form.TheVariants.{Iconst, Iload, Istore, Iadd, Ireturn}
 use Rattle.jterm.specs.Options.{◌>>=◌}
@@ -15,33 +18,21 @@ use Rattle.class_program.specs.declared.program.CatchRange.{CatchRange}
 use Rattle.class_program.specs.declared.program.Method.{Method}
 use Rattle.jterm.specs.Machine.{form_at}
 
--- what a local or a stack entry holds: nothing that may be read, an int, null, or a reference of an erased type
-pub data PlaceType : Type 0 where
-  UnsetPlace : PlaceType
-  IntPlace : PlaceType
-  NullPlace : PlaceType
-  RefPlace : Ty → PlaceType
-
--- the types of a frame's locals, and of its stack from the top down
-pub record FrameType : Type 0 where
-  pub locals : List PlaceType
-  pub stack : List PlaceType
-
 -- what holds the first also holds the second, which is wider
 abbrev pub IsWithin : World → PlaceType → PlaceType → Type 0
-IsWithin world a UnsetPlace = Unit {0}
-IsWithin world IntPlace IntPlace = Unit {0}
-IsWithin world NullPlace NullPlace = Unit {0}
-IsWithin world NullPlace (RefPlace t) = Unit {0}
-IsWithin world (RefPlace s) (RefPlace t) = Sub world s t
-IsWithin world UnsetPlace IntPlace = ⊥
-IsWithin world UnsetPlace NullPlace = ⊥
-IsWithin world UnsetPlace (RefPlace t) = ⊥
-IsWithin world IntPlace NullPlace = ⊥
-IsWithin world IntPlace (RefPlace t) = ⊥
-IsWithin world NullPlace IntPlace = ⊥
-IsWithin world (RefPlace s) IntPlace = ⊥
-IsWithin world (RefPlace s) NullPlace = ⊥
+IsWithin world a holding.Unset = Unit {0}
+IsWithin world holding.Int holding.Int = Unit {0}
+IsWithin world holding.Null holding.Null = Unit {0}
+IsWithin world holding.Null (holding.Ref t) = Unit {0}
+IsWithin world (holding.Ref s) (holding.Ref t) = Sub world s t
+IsWithin world holding.Unset holding.Int = ⊥
+IsWithin world holding.Unset holding.Null = ⊥
+IsWithin world holding.Unset (holding.Ref t) = ⊥
+IsWithin world holding.Int holding.Null = ⊥
+IsWithin world holding.Int (holding.Ref t) = ⊥
+IsWithin world holding.Null holding.Int = ⊥
+IsWithin world (holding.Ref s) holding.Int = ⊥
+IsWithin world (holding.Ref s) holding.Null = ⊥
 
 -- place by place
 abbrev pub AreWithin : World → List PlaceType → List PlaceType → Type 0
@@ -52,44 +43,44 @@ AreWithin world (a ∷ narrow) [] = ⊥
 
 -- an int on the top, and what is below it
 abbrev pub top_int_place : List PlaceType → Option (List PlaceType)
-top_int_place (IntPlace ∷ below) = Some below
-top_int_place (UnsetPlace ∷ below) = None
-top_int_place (NullPlace ∷ below) = None
-top_int_place (RefPlace t ∷ below) = None
+top_int_place (holding.Int ∷ below) = Some below
+top_int_place (holding.Unset ∷ below) = None
+top_int_place (holding.Null ∷ below) = None
+top_int_place (holding.Ref t ∷ below) = None
 top_int_place [] = None
 
 abbrev pub int_place : PlaceType → Option PlaceType
-int_place IntPlace = Some IntPlace
-int_place UnsetPlace = None
-int_place NullPlace = None
-int_place (RefPlace t) = None
+int_place holding.Int = Some holding.Int
+int_place holding.Unset = None
+int_place holding.Null = None
+int_place (holding.Ref t) = None
 
 -- iconst, bipush: an int more
-unfoldable pub iconst_types : FrameType → Option FrameType
-iconst_types types = Some (record types { stack = IntPlace ∷ types.stack })
+unfoldable pub iconst_types : PlaceTypes → Option PlaceTypes
+iconst_types types = Some (record types { stack = holding.Int ∷ types.stack })
 
 -- iload: the local is an int
-unfoldable pub iload_types : ℕ → FrameType → Option FrameType
+unfoldable pub iload_types : ℕ → PlaceTypes → Option PlaceTypes
 iload_types n types = do
   local ← slice_get types.locals n
   int ← int_place local
   Some (record types { stack = int ∷ types.stack })
 
 -- istore: an int on the top, and the local is one of the frame's
-unfoldable pub istore_types : ℕ → FrameType → Option FrameType
+unfoldable pub istore_types : ℕ → PlaceTypes → Option PlaceTypes
 istore_types n types = do
   below ← top_int_place types.stack
-  if nat_lt n (length types.locals) then Some (record { locals = slice_set types.locals n IntPlace; stack = below }) else None
+  if nat_lt n (length types.locals) then Some (record { locals = slice_set types.locals n holding.Int; stack = below }) else None
 
 -- iadd: two ints, then one
-unfoldable pub iadd_types : FrameType → Option FrameType
+unfoldable pub iadd_types : PlaceTypes → Option PlaceTypes
 iadd_types types = do
   left ← top_int_place types.stack
   below ← top_int_place left
-  Some (record types { stack = IntPlace ∷ below })
+  Some (record types { stack = holding.Int ∷ below })
 
 -- ireturn: the method gives a number, and an int is on the top
-unfoldable pub ireturn_types : Option Slot → FrameType → Option FrameType
+unfoldable pub ireturn_types : Option Slot → PlaceTypes → Option PlaceTypes
 ireturn_types (Some (Num kind)) types = do
   below ← top_int_place types.stack
   Some (record types { stack = below })
@@ -97,7 +88,7 @@ ireturn_types (Some (Ref t)) types = None
 ireturn_types None types = None
 
 -- the types after a form, in a world, whose subtypes some forms will ask; None where it does not find what it needs
-abbrev pub types_after : World → Method → Form → FrameType → Option FrameType
+abbrev pub types_after : World → Method → Form → PlaceTypes → Option PlaceTypes
 types_after world method (Iconst v) types = iconst_types types
 types_after world method (Iload n) types = iload_types n types
 types_after world method (Istore n) types = istore_types n types
@@ -114,26 +105,26 @@ places_after Ireturn next = []
 
 -- a typing gives types to places of the code
 abbrev pub Types : Type 0
-Types = ℕ → Option FrameType
+Types = ℕ → Option PlaceTypes
 
 -- the typing has at this place types that are as wide as these
-pub record Leads (world : World) (typing : Types) (types : FrameType) (place : ℕ) : Type 0 where
-  pub there : FrameType
+pub record Leads (world : World) (typing : Types) (types : PlaceTypes) (place : ℕ) : Type 0 where
+  pub there : PlaceTypes
   pub is_there : typing place ≡ Some there
   pub locals : AreWithin world types.locals there.locals
   pub stack : AreWithin world types.stack there.stack
 
 -- a form may lead to this place: it is one of the code's
-abbrev pub LeadsTo : World → Types → FrameType → Option ℕ → Type 0
+abbrev pub LeadsTo : World → Types → PlaceTypes → Option ℕ → Type 0
 LeadsTo world typing types (Some place) = Leads world typing types place
 LeadsTo world typing types None = ⊥
 
 -- what a place holds is nothing, an int, null, or of a reference type of the world that is its own erasure
 abbrev pub IsOfWorld : World → PlaceType → Type 0
-IsOfWorld world UnsetPlace = Unit {0}
-IsOfWorld world IntPlace = Unit {0}
-IsOfWorld world NullPlace = Unit {0}
-IsOfWorld world (RefPlace t) = IsReference (length world) t × (erase world t ≡ t)
+IsOfWorld world holding.Unset = Unit {0}
+IsOfWorld world holding.Int = Unit {0}
+IsOfWorld world holding.Null = Unit {0}
+IsOfWorld world (holding.Ref t) = IsReference (length world) t × (erase world t ≡ t)
 
 -- Throwable's number among the built-in classes
 abbrev pub throwable : ℕ
@@ -152,35 +143,35 @@ abbrev pub IsCovered : CatchRange → ℕ → Type 0
 IsCovered entry place = (entry.start ≤ place) × (place < entry.end)
 
 -- a covered place leads to the entry's handler with its own locals, and the object that is caught alone on the stack
-abbrev pub LeadsToHandler : World → Types → FrameType → ℕ → CatchRange → Type 0
+abbrev pub LeadsToHandler : World → Types → PlaceTypes → ℕ → CatchRange → Type 0
 LeadsToHandler world typing types place entry =
-    IsCovered entry place → Leads world typing (record { locals = types.locals; stack = RefPlace (erase world (caught_class entry)) ∷ [] }) entry.handler
+    IsCovered entry place → Leads world typing (record { locals = types.locals; stack = holding.Ref (erase world (caught_class entry)) ∷ [] }) entry.handler
 
 -- The typing holds at one place: locals and stack fit the method's limits, no stack entry is unset, the types are the
 -- world's, a form stands there and finds what it needs, and it leads to places, and to handlers, whose types are as wide as
 -- those that it leaves.
-pub record IsTyped (world : World) (method : Method) (typing : Types) (place : ℕ) (types : FrameType) : Type 0 where
+pub record IsTyped (world : World) (method : Method) (typing : Types) (place : ℕ) (types : PlaceTypes) : Type 0 where
   pub locals : length types.locals ≡ method.max_locals
   pub stack : length types.stack ≤ method.max_stack
-  pub set : All (λ entry. entry ≢ UnsetPlace) types.stack
+  pub set : All (λ entry. entry ≢ holding.Unset) types.stack
   pub of_world : All (IsOfWorld world) (types.locals ++ types.stack)
   pub form : Form
   pub next : Option ℕ
   pub stands : form_at method.insns place ≡ Some (form, next)
-  pub after : FrameType
+  pub after : PlaceTypes
   pub runs : types_after world method form types ≡ Some after
   pub leads : All (LeadsTo world typing after) (places_after form next)
   pub handlers : All (LeadsToHandler world typing types place) method.table
 
 -- what a parameter holds: an int, or a reference of its erased type
 abbrev pub type_of_slot : World → Slot → PlaceType
-type_of_slot world (Num kind) = IntPlace
-type_of_slot world (Ref t) = RefPlace (erase world t)
+type_of_slot world (Num kind) = holding.Int
+type_of_slot world (Ref t) = holding.Ref (erase world t)
 
 -- the types at a method's entry: its parameters in the first locals, the other locals unset, and an empty stack
-abbrev pub entry_types : World → Method → FrameType
+abbrev pub entry_types : World → Method → PlaceTypes
 entry_types world method = record {
-  locals = map (type_of_slot world) method.params ++ replicate (method.max_locals - length method.params) UnsetPlace;
+  locals = map (type_of_slot world) method.params ++ replicate (method.max_locals - length method.params) holding.Unset;
   stack = [];
 }
 
@@ -188,7 +179,7 @@ entry_types world method = record {
 pub record IsTyping (world : World) (method : Method) (typing : Types) : Type 0 where
   pub catches : All (CanCatch world) method.table
   pub entry : Leads world typing (entry_types world method) 0
-  pub each : (place : ℕ) (types : FrameType) → typing place ≡ Some types → IsTyped world method typing place types
+  pub each : (place : ℕ) (types : PlaceTypes) → typing place ≡ Some types → IsTyped world method typing place types
 
 -- the method has a typing
 abbrev pub HasTyping : World → Method → Type 0

@@ -12,7 +12,6 @@ mod laws;
 mod line;
 mod lines;
 mod listing;
-mod texts;
 mod top;
 mod typing;
 mod verdict;

@@ -4,7 +4,7 @@ ghost use Rattle.std.specs.List.{position, list_all};
 ghost use Rattle.jterm.specs.declared.line.Line.{Line};
 ghost use Rattle.jterm.specs.Description.{IsLine, int_descriptor, IsFirstWord, IsEnclosed, IsParams, ends_word};
 
-use crate::texts::joined;
+use fault_words::joined;
 use list_views::{Bytes, Seq};
 use std::alloc::{AllocError, Global};
 

@@ -2,9 +2,8 @@
 ghost use Rattle.std.specs.Prelude.{◌≡◌, IfOk, string_bytes};
 ghost use Rattle.jterm.specs.Lines.{usage_lines, memory_line, write_line, file_line, read_line, refusal_line, file_fault_text, place_text};
 
-use crate::faults::fault_text;
-use crate::texts::joined;
 use crate::{Fault, Place};
+use fault_words::joined;
 use io_ports::FileFault;
 use list_views::Seq;
 use std::alloc::{AllocError, Global};
@@ -52,7 +51,7 @@ pub(crate) fn refusal_text(
     ensures { IfOk result (λ line. line ≡ refusal_line place fault.now) }
 {
     let place = place_text(alloc, place)?;
-    let fault = fault_text(alloc, fault)?;
+    let fault = fault.text(alloc)?;
     joined(
         alloc,
         &[b"jterm: ", place.as_bytes(), b": ", fault.as_slice(), b"\n"],

@@ -1,4 +1,4 @@
-use Rattle.std.proofs.Common.{suc, map, add-one, string_bytes, sym, subst, ◌∙◌, arith}
+use Rattle.std.proofs.Common.{suc, map, add-one, string_bytes, sym, subst, ◌∙◌, refl, arith}
 use Rattle.jterm.specs.Stop.{HasCause}
 use Rattle.jterm.proofs.ReadingOrder.{take_words_more, get_word, first_read_more, first_contents_more, map_more, has_cause}
 use Rattle.jterm.proofs.inputs.read_inputs.Goals as goal
@@ -15,9 +15,9 @@ returns-in-Err g c =
     let named = get_word string_bytes files c.loop-place.place c.name-item.result c.as_str-name.result.now (omega arith) c.name-item.is c.as_str-name.ensures.value in
     let cause = has_cause g.F.Files.held g.F.Files.faults g.F.Files.leaves c.args.command.now.request (map string_bytes files)
     c.args.files.now c.loop-place.files c.read.new.self c.loop-place.place c.as_str-name.result.now _ c.in-Err.fault c.limit-limit.result
-    c.loop-place.invariant.held c.limit-limit.ensures.value c.loop-place.invariant.counts named c.loop-place.invariant.contents
+    c.loop-place.invariant.held c.limit-limit.ensures.value c.loop-place.invariant.still named c.loop-place.invariant.contents
     c.loop-place.invariant.reads c.read.ensures.leaves
-    c.in-Err.ensures.failed c.in-Err.ensures.too_long c.in-Err.ensures.missing in
+    c.in-Err.ensures.failed c.in-Err.ensures.too_long c.in-Err.ensures.missing c.in-Err.ensures.too_long_is_no_fault c.in-Err.ensures.missing_is_no_fault in
     record {
       contents = tt;
       cause = subst (HasCause _ _ _ _ _ _ _) (sym c.stop_at.ensures) cause;
@@ -34,6 +34,6 @@ loop-place-preserved g c =
           c.as_str-name.result.now c.in-Ok.content.items c.limit-limit.result c.loop-place.place more grown c.loop-place.invariant.contents c.loop-place.invariant.held
           c.in-Ok.ensures.content c.in-Ok.ensures.within c.limit-limit.ensures.value;
       held = c.in-Ok.ensures.keeps ∙ c.loop-place.invariant.held;
-      counts = omega (arith, c.in-Ok.ensures.counts);
+      still = c.in-Ok.ensures.read_is_no_fault refl ∙ c.loop-place.invariant.still;
       reads = first_read_more _ _ _ _ _ _ _ more c.loop-place.invariant.reads c.read.ensures.leaves;
     })

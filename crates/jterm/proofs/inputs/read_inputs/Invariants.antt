@@ -1,4 +1,4 @@
-use Rattle.std.proofs.Common.{◌≡◌, ◌≤◌, map, take, string_bytes}
+use Rattle.std.proofs.Common.{◌≡◌, map, take, string_bytes}
 use Rattle.jterm.specs.Outside.{AreContents, AreRead}
 use Rattle.jterm.proofs.inputs.read_inputs.Given as goal
 
@@ -10,6 +10,6 @@ invariant-loop-place g l =
     record {
       contents : AreContents l.command.request 0 (files.held l.initial.files) (take l.place names) (map (λ file. file.items) l.inputs.items);
       held : files.held l.files ≡ files.held l.initial.files;
-      counts : files.faults l.initial.files ≤ files.faults l.files;
+      still : files.faults l.files ≡ files.faults l.initial.files;
       reads : AreRead files.leaves (take l.place names) l.initial.files l.files;
     }
