@@ -8,3 +8,4 @@ pub mod Outcome
 pub mod WritingLaws
 pub mod RuleLaws
 pub mod KnownLaws
+pub mod Numbers

@@ -8,3 +8,4 @@ pub mod View
 pub mod Writing
 pub mod Faults
 pub mod Known
+pub mod Numbers

@@ -1,13 +1,31 @@
 //! Attributes: skipped by their length, or a method's code.
 
-ghost use Rattle.std.specs.Prelude.{◌≡◌, ◌≤◌, ◌<◌, ◌^◌, ◌+◌, ◌*◌, IfOk, List, [], length, Ok, is_some};
-ghost use Rattle.class_read.specs.Reading.{Gives, repeated, named_at, collected, sized_at};
-ghost use Rattle.class_read.specs.FirstFault.{class_index_at, is_catch, attribute_name_at, content_at, skipped_at, attributes_at, handler_at, table_at, code_at};
-ghost use Rattle.class_pool.specs.Text.{utf8_at, class_name_at};
+ghost use Rattle.std.specs.Prelude.{◌≡◌, IfOk, length, Ok, Some};
+ghost use Rattle.class_read.specs.Reading.{Gives, repeated, named_at};
+ghost use Rattle.class_read.specs.FirstFault.{class_index_at, content_at, skipped_at, attributes_at};
+ghost use Rattle.class_pool.specs.Text.{utf8_at};
 
 use crate::fault::ClassFault;
 use crate::field::{bytes_of, place, u2, u4};
 use crate::known::KnownPool;
+
+/// A Utf8 entry whose index stands at the front: the index and the text.
+pub(crate) fn indexed_text<'a>(
+    total: usize,
+    pool: &KnownPool<'a>,
+    bytes: &'a [u8],
+) -> Result<((u16, &'a [u8]), &'a [u8]), ClassFault>
+    ensures text { Gives (λ x. (x.0.1.now, x.1.now)) result (named_at (utf8_at pool.now) total bytes.now) }
+    ensures index { IfOk result (λ x. utf8_at pool.now x.0.0 ≡ Some x.0.1.now) }
+{
+    let (index, rest) = u2(total, bytes)?;
+    match pool.utf8(index) {
+        Some(text) => Ok(((index, text), rest)),
+        None => Err(ClassFault::BadDescriptor {
+            at: place(total, bytes),
+        }),
+    }
+}
 
 /// The text of a Utf8 entry, whose index stands at the front.
 pub(crate) fn text<'a>(
@@ -17,13 +35,8 @@ pub(crate) fn text<'a>(
 ) -> Result<(&'a [u8], &'a [u8]), ClassFault>
     ensures { Gives (λ x. (x.0.now, x.1.now)) result (named_at (utf8_at pool.now) total bytes.now) }
 {
-    let (index, rest) = u2(total, bytes)?;
-    match pool.utf8(index) {
-        Some(text) => Ok((text, rest)),
-        None => Err(ClassFault::BadDescriptor {
-            at: place(total, bytes),
-        }),
-    }
+    let ((_, text), rest) = indexed_text(total, pool, bytes)?;
+    Ok((text, rest))
 }
 
 /// The name of a class, whose Class entry's index stands at the front.

@@ -1,7 +1,6 @@
 //! A method's code.
 
-ghost use Rattle.std.specs.Prelude.{◌≡◌, List, [], length, Ok};
-ghost use Rattle.class_pool.specs.Text.{class_name_at};
+ghost use Rattle.std.specs.Prelude.{◌≡◌, [], length, Ok};
 ghost use Rattle.class_read.specs.Reading.{Gives, repeated, collected, sized_at};
 ghost use Rattle.class_read.specs.View.{code_content};
 ghost use Rattle.class_read.specs.FirstFault.{is_catch, catch_at, code_length_at, handler_at, table_at, code_at};

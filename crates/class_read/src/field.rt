@@ -1,6 +1,6 @@
 //! Fields at the front of what is left of a file of `total` bytes. Each call answers the field and the bytes after it.
 
-ghost use Rattle.std.specs.Prelude.{◌≡◌, ◌-◌, length, Ok};
+ghost use Rattle.std.specs.Prelude.{◌≡◌, ◌-◌, Ok};
 ghost use Rattle.class_read.specs.Reading.{Gives, place, u2_at, u4_at, bytes_at};
 
 use crate::fault::ClassFault;

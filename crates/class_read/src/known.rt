@@ -1,15 +1,17 @@
 //! A pool beside what its texts are: each text is looked at once, however often it is named.
 
-ghost use Rattle.std.specs.Prelude.{◌≡◌, IfOk, map, length, false, Option};
+ghost use Rattle.std.specs.Prelude.{◌≡◌, ◌<◌, ◌+◌, IfOk, OnOk, map, length, false, Option};
 ghost use Rattle.std.specs.Option.{option_copied, option_map_or};
 ghost use Rattle.class_base.specs.ClassNames.{is_class_name};
 ghost use Rattle.class_base.specs.MemberKinds.{is_descriptor, receiver_words};
-ghost use Rattle.class_pool.specs.Text.{places_of, utf8_at, class_name_at};
+ghost use Rattle.class_pool.specs.Text.{places_of, entry_at, utf8_at, class_name_at};
 ghost use Rattle.class_read.specs.Known.{kinds_of, place_kinds};
+ghost use Rattle.class_read.specs.Numbers.{place_number, number_of, kept_place, KeepsFirst};
 
 use class_base::{MemberKind, STATIC, field_type, has_flag, is_class_name, method_words};
 use class_pool::Pool;
 use std::alloc::{AllocError, Global};
+use std::collections::BTreeMap;
 use std::marker::Model;
 
 /// What the text of an entry may stand for; nothing where the entry has no text.
@@ -23,11 +25,13 @@ pub(crate) struct Kinds {
     words: Option<usize>,
 }
 
-/// A pool and what each of its texts may stand for. Its value is the list of the pool's entries.
+/// A pool, and for each of its places what its text may stand for and the number of the text. Its value is the list of
+/// the pool's entries.
 #[derive(Drop)]
 pub(crate) struct KnownPool<'a> {
     pool: Pool<'a>,
     kinds: Vec<Kinds>,
+    numbers: Vec<u16>,
 }
 
 impl<'a> Model for KnownPool<'a> {
@@ -35,12 +39,13 @@ impl<'a> Model for KnownPool<'a> {
     ghost use Rattle.class_pool.specs.declared.entry.PoolEntry.{PoolEntry};
     ghost use Rattle.class_pool.specs.Text.{places_of};
     ghost use Rattle.class_read.specs.Known.{place_kinds};
+    ghost use Rattle.class_read.specs.Numbers.{place_number};
 
     ghost Value = { List PoolEntry };
 
     ghost view = { λ k. k.pool };
 
-    ghost invariant = { λ k. k.kinds.items ≡ map place_kinds (places_of k.pool) };
+    ghost invariant = { λ k. (k.kinds.items ≡ map place_kinds (places_of k.pool)) × (k.numbers.items ≡ map (place_number (places_of k.pool)) (places_of k.pool)) };
 }
 
 fn kinds_of(text: Option<&[u8]>) -> Kinds
@@ -71,6 +76,42 @@ fn all_kinds(alloc: Global, pool: &Pool<'_>) -> Result<Vec<Kinds>, AllocError>
     Ok(kinds)
 }
 
+/// The number of the text at the place `i`: the first place that has it. `first` keeps the first places of the texts
+/// before that.
+fn number<'a>(
+    first: &mut BTreeMap<&'a [u8], u16>,
+    pool: &Pool<'a>,
+    i: u16,
+) -> Result<u16, AllocError>
+    requires there { i < length (places_of pool.now) }
+    requires kept { KeepsFirst (places_of pool.now) i (λ t. kept_place (λ k. k.now) first.old t) }
+    ensures number { IfOk result (λ n. n ≡ place_number (places_of pool.now) (entry_at pool.now i)) }
+    ensures keeps { OnOk result (KeepsFirst (places_of pool.now) (i + 1) (λ t. kept_place (λ k. k.now) first.new t)) }
+{
+    let Some(text) = pool.utf8(i) else {
+        return Ok(0);
+    };
+    if let Some(number) = first.get(text) {
+        return Ok(*number);
+    }
+    let _none = first.insert(text, i)?;
+    Ok(i)
+}
+
+/// The number of each place's text, from place 0 on. Each text is compared with as many others as the number of all has
+/// binary digits.
+fn all_numbers(alloc: Global, pool: &Pool<'_>) -> Result<Vec<u16>, AllocError>
+    ensures { IfOk result (λ v. v.items ≡ map (place_number (places_of pool.now)) (places_of pool.now)) }
+{
+    let mut first = BTreeMap::new(alloc);
+    let mut numbers = Vec::new(alloc);
+    'places: for i in 0..pool.count() {
+        let number = number(&mut first, pool, i)?;
+        numbers.push(number)?;
+    }
+    Ok(numbers)
+}
+
 fn receiver_words(flags: u16) -> usize
     ensures { result ≡ receiver_words flags }
 {
@@ -78,12 +119,17 @@ fn receiver_words(flags: u16) -> usize
 }
 
 impl<'a> KnownPool<'a> {
-    /// The pool, with each of its texts looked at.
+    /// The pool, with each of its texts looked at and numbered.
     pub(crate) fn new(alloc: Global, pool: Pool<'a>) -> Result<KnownPool<'a>, AllocError>
         ensures { IfOk result (λ known. known ≡ pool.entry) }
     {
         let kinds = all_kinds(alloc, &pool)?;
-        Ok(KnownPool { pool, kinds })
+        let numbers = all_numbers(alloc, &pool)?;
+        Ok(KnownPool {
+            pool,
+            kinds,
+            numbers,
+        })
     }
 
     /// The pool alone.
@@ -113,6 +159,16 @@ impl<'a> KnownPool<'a> {
         match self.kinds.get(i as usize) {
             Some(kinds) => *kinds,
             None => kinds_of(None),
+        }
+    }
+
+    /// The number of the text of the Utf8 entry `i`: equal texts have one number.
+    pub(crate) fn number(&self, i: u16) -> u16
+        ensures { result ≡ number_of self.now i }
+    {
+        match self.numbers.get(i as usize) {
+            Some(number) => *number,
+            None => 0,
         }
     }
 

@@ -10,6 +10,7 @@ mod member;
 mod method;
 mod reading;
 mod rules;
+mod seen;
 mod text;
 mod view;
 mod well_formed;

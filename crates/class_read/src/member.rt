@@ -1,30 +1,34 @@
 //! Fields and methods.
 
-ghost use Rattle.std.specs.Prelude.{◌≡◌, ◌≤◌, ◌<◌, ◌^◌, ◌+◌, ◌*◌, IfOk, List, [], ◌∷◌, ◌++◌, map, length, Ok, not};
-ghost use Rattle.std.specs.List.{list_any};
+ghost use Rattle.std.specs.Prelude.{◌≡◌, ◌<◌, ◌^◌, ◌+◌, IfOk, [], map, Ok, Some};
+ghost use Rattle.class_pool.specs.Text.{utf8_at};
+ghost use Rattle.class_read.specs.Numbers.{keys_in, AreNumbers, Joins};
 ghost use Rattle.class_read.specs.Reading.{Gives, repeated};
 ghost use Rattle.class_read.specs.View.{field_content, method_content};
 ghost use Rattle.class_read.specs.Rules.{has_code};
-ghost use Rattle.class_read.specs.FirstFault.{is_new, descriptor_at, new_descriptor_at, head_at, field_at, method_at, more_fields_at, more_methods_at, fields_at, methods_at};
+ghost use Rattle.class_read.specs.FirstFault.{descriptor_at, new_descriptor_at, head_at, field_at, method_at, more_fields_at, more_methods_at, fields_at, methods_at};
 
-use crate::attribute::{attributes, text};
+use crate::attribute::{attributes, indexed_text};
 use crate::fault::ClassFault;
 use crate::field::{place, u2};
 use crate::known::KnownPool;
 use crate::method;
+use crate::seen::SeenMembers;
 use crate::view::{FieldView, MethodView};
-use class_base::{ABSTRACT, MemberKind, NATIVE, Seen, has_flag};
+use class_base::{ABSTRACT, MemberKind, NATIVE, has_flag};
 use list_views::Seq;
 use std::alloc::Global;
 
+/// The descriptor of such a member: the index of its entry, and the text.
 fn descriptor<'a>(
     total: usize,
     pool: &KnownPool<'a>,
     kind: MemberKind,
     flags: u16,
     bytes: &'a [u8],
-) -> Result<(&'a [u8], &'a [u8]), ClassFault>
-    ensures { Gives (λ x. (x.0.now, x.1.now)) result (descriptor_at total pool.now kind flags bytes.now) }
+) -> Result<((u16, &'a [u8]), &'a [u8]), ClassFault>
+    ensures desc { Gives (λ x. (x.0.1.now, x.1.now)) result (descriptor_at total pool.now kind flags bytes.now) }
+    ensures index { IfOk result (λ x. utf8_at pool.now x.0.0 ≡ Some x.0.1.now) }
 {
     let (index, rest) = u2(total, bytes)?;
     let Some(desc) = pool.utf8(index) else {
@@ -37,23 +41,28 @@ fn descriptor<'a>(
             at: place(total, bytes),
         });
     }
-    Ok((desc, rest))
+    Ok(((index, desc), rest))
 }
 
-/// The descriptor of a member whose name and descriptor no earlier one has.
+/// The descriptor of a member whose name, the text of the entry `index`, and descriptor no earlier one has. The member
+/// joins those.
 fn new_descriptor<'a>(
     total: usize,
     pool: &KnownPool<'a>,
     kind: MemberKind,
-    seen: &Seen<'a>,
+    seen: &mut SeenMembers,
     flags: u16,
+    index: u16,
     name: &'a [u8],
     bytes: &'a [u8],
 ) -> Result<(&'a [u8], &'a [u8]), ClassFault>
-    ensures { Gives (λ x. (x.0.now, x.1.now)) result (new_descriptor_at total pool.now kind seen.now flags name.now bytes.now) }
+    requires numbers { AreNumbers pool.now seen.old }
+    requires name { utf8_at pool.now index ≡ Some name.now }
+    ensures desc { Gives (λ x. (x.0.now, x.1.now)) result (new_descriptor_at total pool.now kind (keys_in pool.now seen.old) flags name.now bytes.now) }
+    ensures joins { IfOk result (λ x. Joins pool.now seen.old seen.new (name.now, x.0.now)) }
 {
-    let (desc, rest) = descriptor(total, pool, kind, flags, bytes)?;
-    if seen.has(name, desc) {
+    let ((desc_index, desc), rest) = descriptor(total, pool, kind, flags, bytes)?;
+    if !seen.add(pool, index, desc_index)? {
         return Err(ClassFault::DuplicateMember {
             at: place(total, bytes),
         });
@@ -61,20 +70,22 @@ fn new_descriptor<'a>(
     Ok((desc, rest))
 }
 
-/// A member up to its attributes.
+/// A member up to its attributes. It joins those that were seen.
 #[tactic(auto, unfolding(crate::specs::FirstFault::head_at))]
 fn head<'a>(
     total: usize,
     pool: &KnownPool<'a>,
     kind: MemberKind,
-    seen: &Seen<'a>,
+    seen: &mut SeenMembers,
     bytes: &'a [u8],
 ) -> Result<(FieldView<'a>, &'a [u8]), ClassFault>
-    ensures { Gives (λ x. (field_content x.0, x.1.now)) result (head_at total pool.now kind seen.now bytes.now) }
+    requires { AreNumbers pool.now seen.old }
+    ensures head { Gives (λ x. (field_content x.0, x.1.now)) result (head_at total pool.now kind (keys_in pool.now seen.old) bytes.now) }
+    ensures joins { IfOk result (λ x. Joins pool.now seen.old seen.new (x.0.name.now, x.0.desc.now)) }
 {
     let (flags, rest) = u2(total, bytes)?;
-    let (name, rest) = text(total, pool, rest)?;
-    let (desc, rest) = new_descriptor(total, pool, kind, seen, flags, name, rest)?;
+    let ((index, name), rest) = indexed_text(total, pool, rest)?;
+    let (desc, rest) = new_descriptor(total, pool, kind, seen, flags, index, name, rest)?;
     Ok((FieldView { flags, name, desc }, rest))
 }
 
@@ -83,10 +94,12 @@ fn head<'a>(
 fn field<'a>(
     total: usize,
     pool: &KnownPool<'a>,
-    seen: &Seen<'a>,
+    seen: &mut SeenMembers,
     bytes: &'a [u8],
 ) -> Result<((FieldView<'a>, u64), &'a [u8]), ClassFault>
-    ensures field { Gives (λ x. ((field_content x.0.0, x.0.1), x.1.now)) result (field_at total pool.now seen.now bytes.now) }
+    requires { AreNumbers pool.now seen.old }
+    ensures field { Gives (λ x. ((field_content x.0.0, x.0.1), x.1.now)) result (field_at total pool.now (keys_in pool.now seen.old) bytes.now) }
+    ensures joins { IfOk result (λ x. Joins pool.now seen.old seen.new (x.0.0.name.now, x.0.0.desc.now)) }
     ensures small { IfOk result (λ x. x.0.1 < 2 ^ 32) }
 {
     let (field, rest) = head(total, pool, MemberKind::Field, seen, bytes)?;
@@ -106,10 +119,12 @@ fn method<'a>(
     alloc: Global,
     total: usize,
     pool: &KnownPool<'a>,
-    seen: &Seen<'a>,
+    seen: &mut SeenMembers,
     bytes: &'a [u8],
 ) -> Result<((MethodView<'a>, u64), &'a [u8]), ClassFault>
-    ensures method { Gives (λ x. ((method_content x.0.0, x.0.1), x.1.now)) result (method_at total pool.now seen.now bytes.now) }
+    requires { AreNumbers pool.now seen.old }
+    ensures method { Gives (λ x. ((method_content x.0.0, x.0.1), x.1.now)) result (method_at total pool.now (keys_in pool.now seen.old) bytes.now) }
+    ensures joins { IfOk result (λ x. Joins pool.now seen.old seen.new (x.0.0.name.now, x.0.0.desc.now)) }
     ensures small { IfOk result (λ x. x.0.1 < 2 ^ 32) }
 {
     let (head, rest) = head(total, pool, MemberKind::Method, seen, bytes)?;
@@ -133,13 +148,12 @@ fn field_times<'a>(
     ensures fields { Gives (λ x. ((map field_content x.0.0, x.0.1), x.1.now)) result (repeated (more_fields_at total pool.now) count ([], 0) bytes.now) }
     ensures small { IfOk result (λ x. x.0.1 < 2 ^ 48) }
 {
-    let mut seen = Seen::new(alloc);
+    let mut seen = SeenMembers::new(alloc);
     let mut fields = Seq::new(alloc);
     let mut skipped = 0;
     let mut rest = bytes;
     'fields: for _ in 0..count {
-        let ((more, attributes), after) = field(total, pool, &seen, rest)?;
-        seen.add(more.name, more.desc)?;
+        let ((more, attributes), after) = field(total, pool, &mut seen, rest)?;
         fields.push(more)?;
         skipped += attributes;
         rest = after;
@@ -172,13 +186,12 @@ fn method_times<'a>(
     ensures methods { Gives (λ x. ((map method_content x.0.0, x.0.1), x.1.now)) result (repeated (more_methods_at total pool.now) count ([], 0) bytes.now) }
     ensures small { IfOk result (λ x. x.0.1 < 2 ^ 48) }
 {
-    let mut seen = Seen::new(alloc);
+    let mut seen = SeenMembers::new(alloc);
     let mut methods = Seq::new(alloc);
     let mut skipped = 0;
     let mut rest = bytes;
     'methods: for _ in 0..count {
-        let ((more, attributes), after) = method(alloc, total, pool, &seen, rest)?;
-        seen.add(more.name, more.desc)?;
+        let ((more, attributes), after) = method(alloc, total, pool, &mut seen, rest)?;
         methods.push(more)?;
         skipped += attributes;
         rest = after;

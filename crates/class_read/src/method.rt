@@ -1,7 +1,6 @@
 //! The attributes of a method: its code, and those that are skipped.
 
-ghost use Rattle.std.specs.Prelude.{◌≡◌, ◌≤◌, ◌<◌, ◌^◌, ◌+◌, ◌*◌, IfOk, List, [], length, Ok, None};
-ghost use Rattle.class_pool.specs.Text.{utf8_at};
+ghost use Rattle.std.specs.Prelude.{◌≡◌, ◌≤◌, ◌<◌, ◌^◌, ◌+◌, IfOk, Ok, None};
 ghost use Rattle.class_read.specs.Reading.{Gives, repeated};
 ghost use Rattle.class_read.specs.View.{found_content};
 ghost use Rattle.class_read.specs.FirstFault.{is_code_name, may_stand, method_name_at, code_found_at, one_more_at, method_attribute_at, method_attributes_at};

@@ -1,6 +1,6 @@
 //! A whole class file.
 
-ghost use Rattle.std.specs.Prelude.{◌≡◌, ◌≤◌, ◌<◌, ◌^◌, ◌+◌, ℕ, List, [], map, length, IfOk, Ok};
+ghost use Rattle.std.specs.Prelude.{◌≡◌, ◌<◌, ◌+◌, ℕ, List, [], map, length, IfOk, Ok};
 ghost use Rattle.list_views.specs.ByteLists.{IsBytes};
 ghost use Rattle.class_read.specs.Reading.{Gives, repeated, collected};
 ghost use Rattle.class_read.specs.Content.{ClassContent};

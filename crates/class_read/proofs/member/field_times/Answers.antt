@@ -16,7 +16,8 @@ fields-preserved c =
     let stepped = field_steps _ _ _ _ _ c.fields.skipped _ _ _ _ c.fields.invariant.keys c.in_ok-more.ensures.field c.in_ok-push.ensures.items in
     record {
       small = omega (arith, c.in_ok-more.ensures.small);
-      keys = field_seen _ _ _ _ _ c.fields.invariant.keys c.in_ok-push.ensures.items c.in_ok-add.ensures;
+      numbers = c.in_ok-more.ensures.joins.numbers;
+      keys = field_seen _ _ _ _ _ c.fields.invariant.keys c.in_ok-push.ensures.items c.in_ok-more.ensures.joins.keys;
       same = goes (more_fields_at c.args.total c.args.pool.now) _ _ _ _ _ _ _ c.fields-test.true stepped c.fields.invariant.same;
     }
 

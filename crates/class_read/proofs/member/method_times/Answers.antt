@@ -16,7 +16,8 @@ methods-preserved c =
     let stepped = method_steps _ _ _ _ _ c.methods.skipped _ _ _ _ c.methods.invariant.keys c.in_ok-more.ensures.method c.in_ok-push.ensures.items in
     record {
       small = omega (arith, c.in_ok-more.ensures.small);
-      keys = method_seen _ _ _ _ _ c.methods.invariant.keys c.in_ok-push.ensures.items c.in_ok-add.ensures;
+      numbers = c.in_ok-more.ensures.joins.numbers;
+      keys = method_seen _ _ _ _ _ c.methods.invariant.keys c.in_ok-push.ensures.items c.in_ok-more.ensures.joins.keys;
       same = goes (more_methods_at c.args.total c.args.pool.now) _ _ _ _ _ _ _ c.methods-test.true stepped c.methods.invariant.same;
     }
 
