@@ -1,3 +1,5 @@
+pub mod BitLaws
+pub mod Checking
 pub mod Fitting
 pub mod PairLaws
 pub mod PatternLaws

@@ -13,43 +13,43 @@ has_swapped a b pairs =
     let high : max b a ≡ max a b = omega arith in
     ap (λ (x : ℕ). has_pair (x, max b a) pairs) low ∙ ap (λ (y : ℕ). has_pair (min a b, y) pairs) high
 
-cond_true : {A : Type 0} (s : Bool) (x y : A) → s ≡ true → cond s x y ≡ x
+pub cond_true : {A : Type 0} (s : Bool) (x y : A) → s ≡ true → cond s x y ≡ x
 cond_true true x y e = refl
 cond_true false x y e = absurd (false≢true e)
 
-cond_false : {A : Type 0} (s : Bool) (x y : A) → s ≡ false → cond s x y ≡ y
+pub cond_false : {A : Type 0} (s : Bool) (x y : A) → s ≡ false → cond s x y ≡ y
 cond_false true x y e = absurd (false≢true (sym e))
 cond_false false x y e = refl
 
-abbrev Before : ℕ × ℕ → ℕ × ℕ → Type 0
+abbrev pub Before : ℕ × ℕ → ℕ × ℕ → Type 0
 Before p q = (p.0 < q.0) ⊎ ((p.0 ≡ q.0) × (p.1 < q.1))
 
-before_is : (p q : ℕ × ℕ) → is_before p q ≡ true → Before p q
+pub before_is : (p q : ℕ × ℕ) → is_before p q ≡ true → Before p q
 before_is p q e = go (eqb p.0 q.0) refl e
   where
     go : (t : Bool) → eqb p.0 q.0 ≡ t → cond t (ltb p.1 q.1) (ltb p.0 q.0) ≡ true → Before p q
     go true f h = inr (eqb-true p.0 q.0 f, ltb-true p.1 q.1 h)
     go false f h = inl (ltb-true p.0 q.0 h)
 
-is_before_from : (p q : ℕ × ℕ) → Before p q → is_before p q ≡ true
+pub is_before_from : (p q : ℕ × ℕ) → Before p q → is_before p q ≡ true
 is_before_from p q (inl l) = cond_false (eqb p.0 q.0) _ _ (ne_eqb p.0 q.0 (omega (arith, l))) ∙ lt-ltb p.0 q.0 l
 is_before_from p q (inr h) = cond_true (eqb p.0 q.0) _ _ (eq-eqb p.0 q.0 h.0) ∙ lt-ltb p.1 q.1 h.1
 
-bool_cases : (b : Bool) → (b ≡ true) ⊎ (b ≡ false)
+pub bool_cases : (b : Bool) → (b ≡ true) ⊎ (b ≡ false)
 bool_cases true = inl refl
 bool_cases false = inr refl
 
-never_both : (p q : ℕ × ℕ) → Before p q → Before q p → ⊥
+pub never_both : (p q : ℕ × ℕ) → Before p q → Before q p → ⊥
 never_both p q (inl l) (inl m) = omega (arith, l, m)
 never_both p q (inl l) (inr m) = omega (arith, l, m.0)
 never_both p q (inr l) (inl m) = omega (arith, l.0, m)
 never_both p q (inr l) (inr m) = omega (arith, l.1, m.1)
 
-never_itself : (p q : ℕ × ℕ) → p ≡ q → Before p q → ⊥
+pub never_itself : (p q : ℕ × ℕ) → p ≡ q → Before p q → ⊥
 never_itself p q e (inl l) = let f : p.0 ≡ q.0 = ap (λ (x : ℕ × ℕ). x.0) e in omega (arith, l)
 never_itself p q e (inr l) = let f : p.1 ≡ q.1 = ap (λ (x : ℕ × ℕ). x.1) e in omega (arith, l.1)
 
-onward : (p q r : ℕ × ℕ) → Before p q → Before q r → Before p r
+pub onward : (p q r : ℕ × ℕ) → Before p q → Before q r → Before p r
 onward p q r (inl l) (inl m) = inl (omega (arith, l, m))
 onward p q r (inl l) (inr m) = inl (omega (arith, l, m.0))
 onward p q r (inr l) (inl m) = inl (omega (arith, l.0, m))
@@ -58,36 +58,36 @@ onward p q r (inr l) (inr m) = inr (l.0 ∙ m.0, omega (arith, l.1, m.1))
 not_before : (p q : ℕ × ℕ) → (Before p q → ⊥) → is_before p q ≡ false
 not_before p q h = elim (bool_cases (is_before p q)) [ inl e ↦ absurd (h (before_is p q e)) | inr e ↦ e ]
 
-same_is : (p q : ℕ × ℕ) → is_same p q ≡ true → p ≡ q
+pub same_is : (p q : ℕ × ℕ) → is_same p q ≡ true → p ≡ q
 same_is (a, b) (c, d) e =
     let h = and_parts (eqb a c) (eqb b d) e in
     let f : ℕ → ℕ × ℕ = λ x. (x, b) in
     let g : ℕ → ℕ × ℕ = λ y. (c, y) in
     ap f (eqb-true a c h.0) ∙ ap g (eqb-true b d h.1)
 
-is_same_from : (p q : ℕ × ℕ) → p ≡ q → is_same p q ≡ true
+pub is_same_from : (p q : ℕ × ℕ) → p ≡ q → is_same p q ≡ true
 is_same_from p q e = and_from (eqb p.0 q.0) (eqb p.1 q.1) (eq-eqb p.0 q.0 (ap (λ (x : ℕ × ℕ). x.0) e)) (eq-eqb p.1 q.1 (ap (λ (x : ℕ × ℕ). x.1) e))
 
-not_same : (p q : ℕ × ℕ) → (p ≡ q → ⊥) → is_same p q ≡ false
+pub not_same : (p q : ℕ × ℕ) → (p ≡ q → ⊥) → is_same p q ≡ false
 not_same p q h = elim (bool_cases (is_same p q)) [ inl e ↦ absurd (h (same_is p q e)) | inr e ↦ e ]
 
 -- how two pairs stand: as one, the first before, or the first behind
-record IsOne (p q : ℕ × ℕ) : Type 0 where
-  is : p ≡ q
-  same : is_same p q ≡ true
-  after : is_before q p ≡ false
+pub record IsOne (p q : ℕ × ℕ) : Type 0 where
+  pub is : p ≡ q
+  pub same : is_same p q ≡ true
+  pub after : is_before q p ≡ false
 
-record IsLess (p q : ℕ × ℕ) : Type 0 where
-  order : Before p q
-  same : is_same p q ≡ false
-  before : is_before p q ≡ true
-  after : is_before q p ≡ false
+pub record IsLess (p q : ℕ × ℕ) : Type 0 where
+  pub order : Before p q
+  pub same : is_same p q ≡ false
+  pub before : is_before p q ≡ true
+  pub after : is_before q p ≡ false
 
-record IsMore (p q : ℕ × ℕ) : Type 0 where
-  order : Before q p
-  same : is_same p q ≡ false
-  before : is_before p q ≡ false
-  after : is_before q p ≡ true
+pub record IsMore (p q : ℕ × ℕ) : Type 0 where
+  pub order : Before q p
+  pub same : is_same p q ≡ false
+  pub before : is_before p q ≡ false
+  pub after : is_before q p ≡ true
 
 one : (p q : ℕ × ℕ) → p ≡ q → IsOne p q
 one p q e = record { is = e; same = is_same_from p q e; after = not_before q p (never_itself q p (sym e)) }
@@ -98,7 +98,7 @@ less p q h = record { order = h; same = not_same p q (λ e. never_itself p q e h
 behind : (p q : ℕ × ℕ) → Before q p → IsMore p q
 behind p q h = record { order = h; same = not_same p q (λ e. never_itself q p (sym e) h); before = not_before p q (never_both q p h); after = is_before_from q p h }
 
-standing : (p q : ℕ × ℕ) → IsOne p q ⊎ (IsLess p q ⊎ IsMore p q)
+pub standing : (p q : ℕ × ℕ) → IsOne p q ⊎ (IsLess p q ⊎ IsMore p q)
 standing (a, b) (c, d) = elim (cases_lt a c) [
   | inl l ↦ inr (inl (less (a, b) (c, d) (inl l)))
   | inr l ↦ elim (cases_lt c a) [
@@ -177,7 +177,7 @@ first_with q p (r ∷ rest) h e = elim (standing p r) [
   ]
 ]
 
-pub rising_with : (p : ℕ × ℕ) (xs : List (ℕ × ℕ)) → p.0 < p.1 → IsRising xs → IsRising (with_pair p xs)
+pub rising_with : (p : ℕ × ℕ) (xs : List (ℕ × ℕ)) → (p.0 < p.1) × (p.1 < 2048) → IsRising xs → IsRising (with_pair p xs)
 rising_with p [] l h = (l, (tt, tt))
 rising_with p (q ∷ rest) l h = elim (standing p q) [
   | inl c ↦ subst IsRising (sym (cond_true (is_same p q) _ _ c.same)) h
@@ -189,16 +189,16 @@ rising_with p (q ∷ rest) l h = elim (standing p q) [
 
 -- ---- having a pair
 
-or_true : (s t : Bool) → s ≡ true → (s || t) ≡ true
+pub or_true : (s t : Bool) → s ≡ true → (s || t) ≡ true
 or_true true t e = refl
 or_true false t e = absurd (false≢true e)
 
-or_rest : (s t : Bool) → s ≡ false → (s || t) ≡ t
+pub or_rest : (s t : Bool) → s ≡ false → (s || t) ≡ t
 or_rest true t e = absurd (false≢true (sym e))
 or_rest false t e = refl
 
 -- a pair that stands somewhere behind is behind the first
-behind_first : (q p : ℕ × ℕ) (rest : List (ℕ × ℕ)) → IsFirst q rest → IsRising rest → has_pair p rest ≡ true → Before q p
+pub behind_first : (q p : ℕ × ℕ) (rest : List (ℕ × ℕ)) → IsFirst q rest → IsRising rest → has_pair p rest ≡ true → Before q p
 behind_first q p [] f r h = absurd (false≢true h)
 behind_first q p (x ∷ rest) f r h = elim (bool_cases (is_same p x)) [
   | inl s ↦ subst (λ (y : ℕ × ℕ). Before q y) (sym (same_is p x s)) (before_is q x f)
@@ -336,8 +336,8 @@ module _ (a b : ℕ) (xs first second : List (ℕ × ℕ)) (low high place : ℕ
   after_insert after f e =
       e ∙ ap (λ (i : ℕ). insert xs i (low, high)) place_ok ∙ ap (insert xs (place_in (pair_of a b) xs)) pair_is ∙ sym (put_new (pair_of a b) xs (λ s. false≢true (sym f ∙ stands_back s)))
 
-  pub inserted_rises : (after : List (ℕ × ℕ)) → there ≡ false → (a ≡ b → ⊥) → IsRising xs → after ≡ insert xs place (low, high) → IsRising after
-  inserted_rises after f d r e = subst IsRising (sym (after_insert after f e)) (rising_with (pair_of a b) xs (lower_first a b d) r)
+  pub inserted_rises : (after : List (ℕ × ℕ)) → there ≡ false → (a ≡ b → ⊥) → (a < 2048) × (b < 2048) → IsRising xs → after ≡ insert xs place (low, high) → IsRising after
+  inserted_rises after f d low r e = subst IsRising (sym (after_insert after f e)) (rising_with (pair_of a b) xs (lower_first a b d, omega (arith, low.0, low.1)) r)
 
   pub there_again : there ≡ true → added a b xs ≡ xs
   there_again t = put_again (pair_of a b) xs (stands t)

@@ -1,9 +1,11 @@
 -- What cells are, their types, and which of them may describe one object.
-use Rattle.std.specs.Prelude.{◌≡◌, ℕ, ◌==◌, Bool, true, false, not, ◌&&◌, ◌||◌, if◌then◌else◌, List, [], ◌∷◌, Option, Some, None}
+use Rattle.std.specs.Prelude.{◌≡◌, ℕ, ◌<◌, ◌==◌, Bool, true, false, not, ◌&&◌, ◌||◌, if◌then◌else◌, List, [], ◌∷◌, Option, Some, None}
 use Rattle.jvm_values.specs.declared.types.Ty.{Ty}
 use Rattle.jvm_values.specs.declared.shape.Shape.{Shape}
 use Rattle.jvm_values.specs.Subtyping.{class_type, array_of, array_of_numbers}
 use Rattle.abs_cells.specs.declared.cells.Cell.{Cell}
+use Rattle.abs_cells.specs.declared.cells.CellSort.{CellSort}
+use Rattle.abs_cells.specs.declared.cells.CellSort.TheVariants.{Any, Reference, Known}
 use Rattle.abs_cells.specs.declared.cells.Cell.TheVariants.{Int, Null, Obj, Nums, Refs, Unk}
 use Rattle.abs_cells.specs.AbstractStates.{AbstractState}
 use Rattle.abs_cells.specs.PairLists.{has}
@@ -37,6 +39,12 @@ is_int (Obj class ids) = false
 is_int (Nums kind len) = false
 is_int (Refs element len shape) = false
 is_int (Unk bound nullable shape) = false
+
+-- the cells of a sort
+abbrev pub sort_test : CellSort → Cell → Bool
+sort_test Any cell = true
+sort_test Reference cell = is_reference cell
+sort_test Known cell = is_known cell
 
 -- the ids that a known cell names: an instance's fields, an array's length
 abbrev pub ids_of : Cell → List ℕ
@@ -93,6 +101,11 @@ abbrev pub cell_in : List (ℕ × Cell) → ℕ → Option Cell
 cell_in [] id = None
 cell_in (c ∷ cells) id = if c.0 == id then Some c.1 else cell_in cells id
 
+-- it is there, and is of some sort
+abbrev pub is_of_sort : (Cell → Bool) → Option Cell → Bool
+is_of_sort sort None = false
+is_of_sort sort (Some cell) = sort cell
+
 -- the cell of an id
 abbrev pub cell_at : AbstractState → ℕ → Option Cell
 cell_at state id = cell_in state.cells id
@@ -111,5 +124,6 @@ abbrev pub Share : AbstractState → ℕ → ℕ → Type 0
 Share state a b = has a b state.share ≡ true
 
 -- the least number that no id has
-abbrev pub IsFresh : AbstractState → ℕ → Type 0
-IsFresh state n = cell_at state n ≡ None
+pub record IsFresh (state : AbstractState) (n : ℕ) : Type 0 where
+  pub free : cell_at state n ≡ None
+  pub least : (m : ℕ) → m < n → HasCell (λ _. true) state m

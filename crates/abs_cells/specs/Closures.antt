@@ -34,15 +34,17 @@ pub record MayMeet (state : AbstractState) (x y : ℕ) : Type 0 where
   pub q_counts : HasCell is_reference state q
   pub meet : (p ≡ q) ⊎ Share state p q
 
--- `k` is in `x`'s closure, or shares with a hazy id there
+-- `k` shares with a hazy id of `x`'s closure
 pub record SharesThere (state : AbstractState) (k x : ℕ) : Type 0 where
   pub q : ℕ
   pub from_x : KnownFrom state x q
   pub hazy : HasCell is_hazy state q
   pub share : Share state k q
 
-abbrev pub MayBeIn : AbstractState → ℕ → ℕ → Type 0
-MayBeIn state k x = KnownFrom state x k ⊎ SharesThere state k x
+-- `k` is in `x`'s closure or shares with a hazy id there, and is no int and not null
+pub record MayBeIn (state : AbstractState) (k x : ℕ) : Type 0 where
+  pub counts : HasCell is_reference state k
+  pub there : KnownFrom state x k ⊎ SharesThere state k x
 
 -- known cells give no cycle from `x`, and no hazy id there may have one in its region
 pub record IsFiniteId (state : AbstractState) (x : ℕ) : Type 0 where

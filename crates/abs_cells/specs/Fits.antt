@@ -26,11 +26,11 @@ Meaning = ℕ → Value
 
 -- ---- positions
 
--- each local that has an id has its value; one that is unset, or that one of the two frames does not have, takes anything
+-- each local that has an id has its value; one that is unset, or that the abstract frame does not have, takes anything
 pub record FitsFrame (meaning : Meaning) (frame : AbstractFrame) (machine : MachineFrame) : Type 0 where
   pub method : machine.method ≡ frame.method
   pub pc : machine.pc ≡ frame.pc
-  pub locals : (n id : ℕ) (local : Option Value) → slice_get frame.locals n ≡ Some (Some id) → slice_get machine.locals n ≡ Some local → local ≡ Some (meaning id)
+  pub locals : (n id : ℕ) → slice_get frame.locals n ≡ Some (Some id) → slice_get machine.locals n ≡ Some (Some (meaning id))
   pub stack : machine.stack ≡ map meaning frame.stack
 
 -- the frames, where the values of the static fields follow the locals of the bottom frame

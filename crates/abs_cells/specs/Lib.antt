@@ -2,6 +2,7 @@ pub mod AbstractStates
 pub mod Cells
 pub mod Closures
 pub mod Fits
+pub mod IdSets
 pub mod Laws
 pub mod PairLists
 pub mod Patterns

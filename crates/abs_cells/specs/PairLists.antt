@@ -18,10 +18,10 @@ abbrev pub IsFirst : ℕ × ℕ → List (ℕ × ℕ) → Type 0
 IsFirst p [] = Unit {0}
 IsFirst p (q ∷ rest) = is_before p q ≡ true
 
--- each pair has its lower number first, and stands before the next
+-- each pair has its lower number first and its other one below 2,048, and stands before the next
 abbrev pub IsRising : List (ℕ × ℕ) → Type 0
 IsRising [] = Unit {0}
-IsRising (p ∷ rest) = (p.0 < p.1) × (IsFirst p rest × IsRising rest)
+IsRising (p ∷ rest) = ((p.0 < p.1) × (p.1 < 2048)) × (IsFirst p rest × IsRising rest)
 
 -- a pair is among some pairs
 abbrev pub has_pair : ℕ × ℕ → List (ℕ × ℕ) → Bool

@@ -8,7 +8,8 @@ use Rattle.jvm_values.specs.TypedHeaps.{WorldTypes}
 use Rattle.abs_cells.specs.declared.cells.Cell.{Cell}
 use Rattle.abs_cells.specs.declared.cells.Cell.TheVariants.{Int, Null, Obj, Nums, Refs, Unk}
 use Rattle.abs_cells.specs.AbstractStates.{AbstractFrame, AbstractState}
-use Rattle.abs_cells.specs.Cells.{is_known, is_reference, is_int, ids_in, cell_at, HasCell, AreEqual, Share}
+use Rattle.abs_cells.specs.PairLists.{has}
+use Rattle.abs_cells.specs.Cells.{is_known, is_reference, is_int, ids_in, is_of_sort, cell_in, cell_at, HasCell, AreEqual, Share}
 
 -- the ids of cells rise, and are below a number
 abbrev pub AreIdsRising : ℕ → List (ℕ × Cell) → Type 0
@@ -26,6 +27,17 @@ ids_of_frame frame = given_ids frame.locals ++ frame.stack
 -- every id that frames, the thrown object and cells name
 abbrev pub ids_used : AbstractState → List ℕ
 ids_used state = flat_map ids_of_frame state.frames ++ (given_ids (state.throwing ∷ []) ++ flat_map (λ c. ids_in c.1) state.cells)
+
+-- all pairs of the one list are pairs of the other
+abbrev pub AreAmong : List (ℕ × ℕ) → List (ℕ × ℕ) → Type 0
+AreAmong some others = (a b : ℕ) → has a b some ≡ true → has a b others ≡ true
+
+-- two ids may be a pair: both are references, and not both are known
+abbrev pub may_join : List (ℕ × Cell) → ℕ → ℕ → Bool
+may_join cells a b = (is_of_sort is_reference (cell_in cells a) && is_of_sort is_reference (cell_in cells b)) && not (is_of_sort is_known (cell_in cells a) && is_of_sort is_known (cell_in cells b))
+
+abbrev pub MayAllJoin : List (ℕ × Cell) → List (ℕ × ℕ) → Type 0
+MayAllJoin cells pairs = (a b : ℕ) → a < b → has a b pairs ≡ true → may_join cells a b ≡ true
 
 -- cells rise by id, and ids are below 2,048; every id that is used has a cell; each pair of ids with one object is a
 -- pair that shares; pairs join references, and not two known ones

@@ -1,4 +1,7 @@
 //! Cells: what an abstract state knows of the value of an id.
+ghost use Rattle.std.specs.Prelude.{◌≡◌};
+ghost use Rattle.abs_cells.specs.Cells.{is_known, is_hazy, is_reference, is_int, sort_test};
+
 use crate::ids::{Id, Ids};
 use jvm_values::{Kind, Shape, Ty};
 use lin_core::Interval;
@@ -22,4 +25,56 @@ pub enum Cell {
     Refs(Ty, Id, Shape),
     /// An object of this type or one below it, whose region has this shape; or null, where the flag is set.
     Unk(Ty, bool, Shape),
+}
+
+/// A sort of cells.
+#[derive(Clone, Copy, Debug, PartialEq, Eq)]
+pub enum CellSort {
+    /// Every cell.
+    Any,
+    /// The cells of references, `Null` apart.
+    Reference,
+    /// The cells whose object's class or kind is known exactly.
+    Known,
+}
+
+impl Cell {
+    /// Whether the class or kind of the object is known exactly.
+    pub fn is_known(&self) -> bool
+        ensures { result ≡ is_known self.now }
+    {
+        matches!(self, Cell::Obj(_, _) | Cell::Nums(_, _))
+    }
+
+    /// Whether of the object its type and its region's shape are known.
+    pub fn is_hazy(&self) -> bool
+        ensures { result ≡ is_hazy self.now }
+    {
+        matches!(self, Cell::Refs(_, _, _) | Cell::Unk(_, _, _))
+    }
+
+    /// Whether this is the cell of a reference that is not `Null`.
+    pub fn is_reference(&self) -> bool
+        ensures { result ≡ is_reference self.now }
+    {
+        self.is_known() || self.is_hazy()
+    }
+
+    /// Whether this is the cell of an int.
+    pub fn is_int(&self) -> bool
+        ensures { result ≡ is_int self.now }
+    {
+        matches!(self, Cell::Int(_))
+    }
+
+    /// Whether the cell is of a sort.
+    pub fn is_of(&self, sort: CellSort) -> bool
+        ensures { result ≡ sort_test sort self.now }
+    {
+        match sort {
+            CellSort::Any => true,
+            CellSort::Reference => self.is_reference(),
+            CellSort::Known => self.is_known(),
+        }
+    }
 }

@@ -5,15 +5,19 @@
 #![tactic(auto)]
 
 mod cells;
+mod checks;
 mod ids;
 mod laws;
 mod pairs;
 mod replays;
+mod sets;
 mod states;
 
-pub use cells::Cell;
+pub use cells::{Cell, CellSort};
+pub use checks::well_formed;
 pub use ids::{Id, Ids};
 pub use laws::{fitting_frames_agree, known_ids_are_apart, patterns_are_one};
 pub use pairs::{ListPairs, Pairs};
 pub use replays::{PairCall, replay};
+pub use sets::IdSet;
 pub use states::{AbsFrame, AbsState};

@@ -1,8 +1,10 @@
 //! Sets of unordered pairs of ids.
 ghost use Rattle.std.specs.Prelude.{◌≡◌, ◌≢◌, ◌<◌, ℕ, List, [], OnOk, OnErr, slice_get, IsTrue, ◌↔◌, Some};
 ghost use Rattle.abs_cells.specs.PairLists.{IsRising, added, removed, has, is_before, place_in};
+ghost use Rattle.abs_cells.specs.IdSets.{joins, are_touched};
 
 use crate::ids::Id;
+use crate::sets::IdSet;
 use std::alloc::{AllocError, Global};
 use std::marker::Model;
 
@@ -40,6 +42,11 @@ pub trait Pairs: Drop {
     /// The pair with number `n` in rising order, counted from 0, or None past the end. It takes no memory.
     fn nth(&self, n: usize) -> Option<(Id, Id)>
         ensures value { result ≡ slice_get (pairs self.now) n }
+        ensures rising { IsRising (pairs self.now) };
+
+    /// Whether some pair has one id in `x` and the other one in `y`. It takes no memory.
+    fn touches(&self, x: &IdSet, y: &IdSet) -> bool
+        ensures value { result ≡ are_touched x.now y.now (pairs self.now) }
         ensures rising { IsRising (pairs self.now) };
 }
 
@@ -86,6 +93,25 @@ fn stands_at(pairs: &[(Id, Id)], place: usize, pair: (Id, Id)) -> bool
     place < pairs.len() && pairs[place].0 == pair.0 && pairs[place].1 == pair.1
 }
 
+/// Whether a pair has one id in `x` and the other one in `y`.
+fn joins(x: &IdSet, y: &IdSet, pair: (Id, Id)) -> bool
+    ensures { result ≡ joins x.now y.now pair }
+{
+    (x.has(pair.0) && y.has(pair.1)) || (x.has(pair.1) && y.has(pair.0))
+}
+
+/// Whether some of the pairs do.
+fn some_joins(x: &IdSet, y: &IdSet, pairs: &[(Id, Id)]) -> bool
+    ensures { result ≡ are_touched x.now y.now pairs.now }
+{
+    for pair in pairs {
+        if joins(x, y, *pair) {
+            return true;
+        }
+    }
+    false
+}
+
 impl Pairs for ListPairs {
     ghost pairs = { λ s. s };
 
@@ -119,5 +145,9 @@ impl Pairs for ListPairs {
 
     fn nth(&self, n: usize) -> Option<(Id, Id)> {
         self.pairs.get(n).copied()
+    }
+
+    fn touches(&self, x: &IdSet, y: &IdSet) -> bool {
+        some_joins(x, y, &self.pairs)
     }
 }

@@ -23,7 +23,7 @@ invariant_of-self c = inserted_rises c.args.a c.args.b c.self.inside.pairs.items
   place_is = c.place_of-place.ensures;
   there_to = c.stands_at.ensures.0;
   there_from = c.stands_at.ensures.1;
-}) c.insert.new.self.items c.if-not-stands_at.true c.requires.differ c.self.invariant c.in_ok-insert.ensures.items
+}) c.insert.new.self.items c.if-not-stands_at.true c.requires.differ c.requires.low c.self.invariant c.in_ok-insert.ensures.items
 
 pub returns-in_ok-insert-clause-ok : goal.returns-in_ok-insert-clause-ok
 returns-in_ok-insert-clause-ok c = after_insert c.args.a c.args.b c.self.inside.pairs.items c.deref.result.now c.deref-2.result.now c.min.result c.max.result c.place_of-place.result c.stands_at.result (record {
