@@ -1,7 +1,7 @@
 -- What a call selects is one of the reached methods.
 use Rattle.std.proofs.Common.{◌≡◌, ◌++◌, ◌||◌, ◌&&◌, ℕ, zero, suc, ◌+◌, ◌<◌, ◌≤◌, Bool, true, false, not, cond, eqb, ltb, List, [], ◌∷◌, length, get_or, Option, Some, None, Ok, Err, sym, refl, ap, ◌∙◌, subst, inl, inr, ◌⊎◌, arith}
 use Rattle.std.specs.Prelude.{flat_map, slice_get, map, position, option_and_then}
-use Rattle.std.specs.List.{list_any, list_all, filter, filter_map, cons_option, find, range_with_len, position_or_len}
+use Rattle.std.specs.List.{list_any, list_all, filter, filter_map, cons_option, range_with_len, position_or_len}
 use Rattle.std.specs.Option.{option_map, option_map_or, option_or}
 use Rattle.std.proofs.lemmas.Bool.{false≢true, and_from, and_parts, or_left, or_right, or_from, lt-ltb, ltb-true, eqb-true, cases_lt}
 use Rattle.std.proofs.lemmas.List.Folds.{list_any-append, list_all-append}
@@ -24,12 +24,14 @@ use Rattle.class_world.specs.Select.{is_selectable, selectable_method, select, i
 use Rattle.class_world.specs.Select.Selection.{Runs, Lacks, Unfit}
 use Rattle.class_program.specs.Runs.{with_body, selected_body, selections, call_selections, runs}
 use Rattle.class_program.specs.Methods.{method_of}
-use Rattle.class_program.specs.Reached.{same_method, has_method, with_one, with_new, runs_in, runs_said, runs_from, contents_of, methods_of, op_numbered, insns_numbered, method_numbered}
+use Rattle.class_program.specs.Reached.{has_runs, is_closed, same_method, has_method, with_one, with_new, runs_in, runs_said, runs_from, contents_of, methods_of, op_numbered, insns_numbered, method_numbered}
 use Rattle.class_world.specs.Linked.{supers_closed}
 use Rattle.class_program.proofs.Room.{same_self}
 use Rattle.class_program.proofs.Reaching.{made_by}
 use Rattle.class_program.proofs.GoingThrough.{IsReaching, all_gone}
-use Rattle.class_program.specs.Selected.{op_at, selection_at, selected_in, selected_at, can_receive, can_receive_at, has_runs, is_closed}
+use Rattle.class_program.specs.Instructions.{first_place, instruction_at}
+use Rattle.class_program.specs.Programs.{Program, refs_of, insn_at, op_at}
+use Rattle.class_program.specs.Selected.{selection_at, selected_in, selected_at, can_receive, can_receive_at}
 
 -- ---- what all of a list has
 
@@ -44,18 +46,10 @@ module _ {A : Type 0} (p : A → Bool) where
   all_right xs ys e = (and_parts (list_all p xs) (list_all p ys) (sym (list_all-append p xs ys) ∙ e)).1
 
   -- at a place
-  all_get : (xs : List A) (i : ℕ) (x : A) → list_all p xs ≡ true → slice_get xs i ≡ Some x → p x ≡ true
+  pub all_get : (xs : List A) (i : ℕ) (x : A) → list_all p xs ≡ true → slice_get xs i ≡ Some x → p x ≡ true
   all_get [] i x e s = cc
   all_get (y ∷ ys) zero x e s = let same : y ≡ x = cc in subst (λ (z : A). p z ≡ true) same (and_parts (p y) (list_all p ys) e).0
   all_get (y ∷ ys) (suc i) x e s = all_get ys i x (and_parts (p y) (list_all p ys) e).1 s
-
-all_found : {A : Type 0} (q p : A → Bool) (xs : List A) (x : A) → list_all p xs ≡ true → find q xs ≡ Some x → p x ≡ true
-all_found q p [] x e f = cc
-all_found {A} q p (y ∷ ys) x e f = go (q y) f (all_found q p ys x (and_parts (p y) (list_all p ys) e).1)
-  where
-    go : (b : Bool) → cond b (Some y) (find q ys) ≡ Some x → (find q ys ≡ Some x → p x ≡ true) → p x ≡ true
-    go true g rest = let same : y ≡ x = cc in subst (λ (z : A). p z ≡ true) same (and_parts (p y) (list_all p ys) e).0
-    go false g rest = rest g
 
 -- what stands in a list of lists stands in each
 all_flat : {A B : Type 0} (p : B → Bool) (f : A → List B) (xs : List A) → list_all p (flat_map f xs) ≡ true → list_all (λ x. list_all p (f x)) xs ≡ true
@@ -108,14 +102,14 @@ each_has world p [] [] e h = refl
 each_has world p [] (m ∷ methods) e h = cc
 each_has world p (r ∷ rs) methods e h = go (each_has world p rs) (method_at world r) e h
   where
-    of : ℕ × MethodContent → Said Method
+    of : MethodRef × MethodContent → Said Method
     of x = method_of world x.0 x.1
 
-    contents : List (ℕ × MethodContent)
-    contents = filter_map (λ ref. option_map (λ m. (ref.class, m)) (method_at world ref)) rs
+    contents : List (MethodRef × MethodContent)
+    contents = filter_map (λ ref. option_map (λ m. (ref, m)) (method_at world ref)) rs
 
     runs_at : Option MethodContent → List MethodRef
-    runs_at o = option_map_or (λ m. runs_said world (method_of world r.class m)) o []
+    runs_at o = option_map_or (λ m. runs_said world (method_of world r m)) o []
 
     Rest : Type 0
     Rest = (ms : List Method) → each of contents ≡ Ok ms → list_all p (flat_map (runs_from world) rs) ≡ true → list_all (λ m. list_all p (runs_in world m)) ms ≡ true
@@ -128,9 +122,9 @@ each_has world p (r ∷ rs) methods e h = go (each_has world p rs) (method_at wo
     both rest (Ok y) (Err fault) q f k = cc
     both rest (Err fault) t q f k = cc
 
-    go : Rest → (o : Option MethodContent) → each of (cons_option (option_map (λ m. (r.class, m)) o) contents) ≡ Ok methods → list_all p (runs_at o ++ flat_map (runs_from world) rs) ≡ true → list_all (λ m. list_all p (runs_in world m)) methods ≡ true
+    go : Rest → (o : Option MethodContent) → each of (cons_option (option_map (λ m. (r, m)) o) contents) ≡ Ok methods → list_all p (runs_at o ++ flat_map (runs_from world) rs) ≡ true → list_all (λ m. list_all p (runs_in world m)) methods ≡ true
     go rest None f k = rest methods f k
-    go rest (Some c) f k = both rest (method_of world r.class c) (each of contents) refl f k
+    go rest (Some c) f k = both rest (method_of world r c) (each of contents) refl f k
 
 -- ---- a call's number in it changes nothing that it runs
 
@@ -173,27 +167,41 @@ made_closed world entry refs methods e m =
 
 -- ---- the instruction at a place
 
-op_has : (world : World) (refs : List MethodRef) (methods : List Method) (number pc : ℕ) (op : Op) → is_closed world refs methods ≡ true → op_at methods number pc ≡ Some op → list_all (has_method refs) (runs world op) ≡ true
-unfolding op_at runs_in
-op_has world refs methods number pc op e a = go (slice_get methods number) refl a
+-- what stands at some place stands among the instructions
+pub stands_there : {A : Type 0} (p : A → Bool) (xs : List (ℕ × A)) (pc : ℕ) (x : A × Option ℕ) → list_all (λ y. p y.1) xs ≡ true → instruction_at xs pc ≡ Some x → p x.0 ≡ true
+stands_there p [] pc x e f = cc
+stands_there {A} p (y ∷ ys) pc x e f = go (eqb y.0 pc) f (stands_there p ys pc x (and_parts (p y.1) (list_all (λ z. p z.1) ys) e).1)
   where
-    runs_ok : ℕ × Op → Bool
-    runs_ok x = list_all (has_method refs) (runs world x.1)
+    go : (b : Bool) → cond b (Some (y.1, first_place ys)) (instruction_at ys pc) ≡ Some x → (instruction_at ys pc ≡ Some x → p x.0 ≡ true) → p x.0 ≡ true
+    go true g rest = let same : y.1 ≡ x.0 = cc in subst (λ (z : A). p z ≡ true) same (and_parts (p y.1) (list_all (λ z. p z.1) ys) e).0
+    go false g rest = rest g
 
-    inside : (m : Method) → has_runs world refs m ≡ true → (f : Option (ℕ × Op)) → find (λ x. eqb x.0 pc) m.insns ≡ f → option_map (λ x. x.1) f ≡ Some op → list_all (has_method refs) (runs world op) ≡ true
+-- an instruction of a program is one of a method's
+pub op_among : (p : Op → Bool) (methods : List Method) (number pc : ℕ) (op : Op) → list_all (λ m. list_all (λ y. p y.1) m.insns) methods ≡ true → op_at methods number pc ≡ Some op → p op ≡ true
+unfolding insn_at
+op_among p methods number pc op e a = go (slice_get methods number) refl a
+  where
+    inside : (m : Method) → list_all (λ y. p y.1) m.insns ≡ true → (f : Option (Op × Option ℕ)) → instruction_at m.insns pc ≡ f → option_map (λ x. x.0) f ≡ Some op → p op ≡ true
     inside m h None q g = cc
-    inside m h (Some x) q g =
-        let same : x.1 ≡ op = cc in
-        subst (λ (o : Op). list_all (has_method refs) (runs world o) ≡ true) same
-        (all_found (λ y. eqb y.0 pc) runs_ok m.insns x (all_flat (has_method refs) (λ y. runs world y.1) m.insns h) q)
+    inside m h (Some x) q g = let same : x.0 ≡ op = cc in subst (λ (o : Op). p o ≡ true) same (stands_there p m.insns pc x h q)
 
-    go : (o : Option Method) → slice_get methods number ≡ o → option_and_then (λ m. option_map (λ x. x.1) (find (λ x. eqb x.0 pc) m.insns)) o ≡ Some op → list_all (has_method refs) (runs world op) ≡ true
+    go : (o : Option Method) → slice_get methods number ≡ o → option_map (λ x. x.0) (option_and_then (λ m. instruction_at m.insns pc) o) ≡ Some op → p op ≡ true
     go None s g = cc
-    go (Some m) s g = inside m (all_get (has_runs world refs) methods number m e s) (find (λ x. eqb x.0 pc) m.insns) refl g
+    go (Some m) s g = inside m (all_get (λ y. list_all (λ z. p z.1) y.insns) methods number m e s) (instruction_at m.insns pc) refl g
+
+pub insns_have : (world : World) (refs : List MethodRef) (ms : List Method) → is_closed world refs ms ≡ true → list_all (λ m. list_all (λ y. list_all (has_method refs) (runs world y.1)) m.insns) ms ≡ true
+unfolding runs_in
+insns_have world refs [] h = refl
+insns_have world refs (m ∷ ms) h =
+    let r = and_parts (has_runs world refs m) (is_closed world refs ms) h in
+    and_from _ _ (all_flat (has_method refs) (λ y. runs world y.1) m.insns r.0) (insns_have world refs ms r.1)
+
+op_has : (world : World) (refs : List MethodRef) (methods : List Method) (number pc : ℕ) (op : Op) → is_closed world refs methods ≡ true → op_at methods number pc ≡ Some op → list_all (has_method refs) (runs world op) ≡ true
+op_has world refs methods number pc op e a = op_among (λ o. list_all (has_method refs) (runs world o)) methods number pc op (insns_have world refs methods e) a
 
 -- ---- what a class selects
 
-found_at : (place : ℕ → Option ℕ) (xs : List ℕ) (r : ℕ × ℕ) → first_found place xs ≡ Some r → place r.0 ≡ Some r.1
+pub found_at : (place : ℕ → Option ℕ) (xs : List ℕ) (r : ℕ × ℕ) → first_found place xs ≡ Some r → place r.0 ≡ Some r.1
 found_at place [] r e = cc
 found_at place (x ∷ xs) r e = go (place x) refl e (found_at place xs r)
   where
@@ -201,7 +209,7 @@ found_at place (x ∷ xs) r e = go (place x) refl e (found_at place xs r)
     go None q f rest = rest f
     go (Some i) q f rest = let same : (x, i) ≡ r = cc in subst (λ (y : ℕ × ℕ). place y.0 ≡ Some y.1) same q
 
-selectable_there : (world : World) (class : ℕ) (name desc : List ℕ) (i : ℕ) → selectable_method world class name desc ≡ Some i → option_map_or is_selectable (method_at world (method_ref (class, i))) false ≡ true
+pub selectable_there : (world : World) (class : ℕ) (name desc : List ℕ) (i : ℕ) → selectable_method world class name desc ≡ Some i → option_map_or is_selectable (method_at world (method_ref (class, i))) false ≡ true
 unfolding selectable_method
 selectable_there world class name desc i e = go (declared_method world class name desc) e
   where
@@ -277,10 +285,10 @@ prefix_stops p (x ∷ xs) e = go (p x) e (prefix_stops p xs)
     go true f rest = omega arith
     go false f rest = omega (arith, rest f)
 
-position_there : (p : MethodRef → Bool) (xs : List MethodRef) → list_any p xs ≡ true → position p xs ≡ Some (position_or_len p xs)
+pub position_there : (p : MethodRef → Bool) (xs : List MethodRef) → list_any p xs ≡ true → position p xs ≡ Some (position_or_len p xs)
 position_there p xs e = ap (λ b. cond b (Some (position_or_len p xs)) None) (lt-ltb (position_or_len p xs) (length xs) (prefix_stops p xs e))
 
-abbrev IsAnswered : Option Selected → Type 0
+abbrev pub IsAnswered : Option Selected → Type 0
 IsAnswered o = (s : Selected) × (o ≡ Some s)
 
 -- of a selection that runs no method but a reached one
@@ -314,7 +322,7 @@ lacking : (refs : List MethodRef) → IsAnswered (selected_in refs Lacks)
 unfolding selected_in
 lacking refs = (answers.Abstract, refl)
 
-op_answered : (world : World) (refs : List MethodRef) (op : Op) (class : ℕ) → list_all (has_method refs) (runs world op) ≡ true → can_receive world op class ≡ true → IsAnswered (option_and_then (selected_in refs) (selection_at world op class))
+pub op_answered : (world : World) (refs : List MethodRef) (op : Op) (class : ℕ) → list_all (has_method refs) (runs world op) ≡ true → can_receive world op class ≡ true → IsAnswered (option_and_then (selected_in refs) (selection_at world op class))
 unfolding runs call_selections can_receive selection_at
 op_answered world refs (Invokevirtual call) class h r = go (method_at world call.method) h
   where
@@ -339,13 +347,13 @@ op_answered world refs (Anewarray t) class h r = absurd (false≢true r)
 op_answered world refs (Checkcast t) class h r = absurd (false≢true r)
 op_answered world refs (Instanceof t) class h r = absurd (false≢true r)
 
-pub place_answered : (world : World) (refs : List MethodRef) (methods : List Method) (number pc class : ℕ) → is_closed world refs methods ≡ true → can_receive_at world methods number pc class ≡ true → IsAnswered (selected_at world refs methods number pc class)
+pub place_answered : (p : Program) (number pc class : ℕ) → is_closed p.world (refs_of p.methods) p.methods ≡ true → can_receive_at p number pc class ≡ true → IsAnswered (selected_at p number pc class)
 unfolding can_receive_at selected_at
-place_answered world refs methods number pc class e r = go (op_at methods number pc) refl r
+place_answered p number pc class e r = go (op_at p.methods number pc) refl r
   where
-    go : (o : Option Op) → op_at methods number pc ≡ o → option_map_or (λ op. can_receive world op class) o false ≡ true → IsAnswered (option_and_then (selected_in refs) (option_and_then (λ op. selection_at world op class) o))
+    go : (o : Option Op) → op_at p.methods number pc ≡ o → option_map_or (λ op. can_receive p.world op class) o false ≡ true → IsAnswered (option_and_then (selected_in (refs_of p.methods)) (option_and_then (λ op. selection_at p.world op class) o))
     go None q f = absurd (false≢true f)
-    go (Some op) q f = op_answered world refs op class (op_has world refs methods number pc op e q) f
+    go (Some op) q f = op_answered p.world (refs_of p.methods) op class (op_has p.world (refs_of p.methods) p.methods number pc op e q) f
 
 receives_within : (world : World) (op : Op) (class : ℕ) → can_receive world op class ≡ true → class < length world
 unfolding can_receive
@@ -364,25 +372,24 @@ receives_within world (Anewarray t) class r = absurd (false≢true r)
 receives_within world (Checkcast t) class r = absurd (false≢true r)
 receives_within world (Instanceof t) class r = absurd (false≢true r)
 
-pub place_within : (world : World) (methods : List Method) (number pc class : ℕ) → can_receive_at world methods number pc class ≡ true → class < length world
+pub place_within : (p : Program) (number pc class : ℕ) → can_receive_at p number pc class ≡ true → class < length p.world
 unfolding can_receive_at
-place_within world methods number pc class r = go (op_at methods number pc) r
+place_within p number pc class r = go (op_at p.methods number pc) r
   where
-    go : (o : Option Op) → option_map_or (λ op. can_receive world op class) o false ≡ true → class < length world
+    go : (o : Option Op) → option_map_or (λ op. can_receive p.world op class) o false ≡ true → class < length p.world
     go None f = absurd (false≢true f)
-    go (Some op) f = receives_within world op class f
+    go (Some op) f = receives_within p.world op class f
 
 -- ---- what the code looks up
 
-pub op_found : (methods : List Method) (number pc : ℕ) (m : Method) (insns : List (ℕ × Op)) (r : Option Op) → number < length methods → m ≡ get_or methods number m → insns ≡ m.insns → r ≡ option_map (λ x. x.1) (find (λ x. eqb x.0 pc) insns) → r ≡ op_at methods number pc
-unfolding op_at
-op_found methods number pc m insns r l e q a =
-    a ∙ ap (λ xs. option_map (λ x. x.1) (find (λ x. eqb x.0 pc) xs)) q
-    ∙ ap (option_and_then (λ y. option_map (λ x. x.1) (find (λ x. eqb x.0 pc) y.insns))) (sym (slice_get_read methods (length methods) number m refl l e))
+pub insn_found : (methods : List Method) (number pc : ℕ) (m : Method) (r : Option (Op × Option ℕ)) → number < length methods → m ≡ get_or methods number m → r ≡ instruction_at m.insns pc → r ≡ insn_at methods number pc
+unfolding insn_at
+insn_found methods number pc m r l e a =
+    a ∙ ap (option_and_then (λ y. instruction_at y.insns pc)) (sym (slice_get_read methods (length methods) number m refl l e))
 
-pub op_past : (methods : List Method) (number pc : ℕ) → length methods ≤ number → None ≡ op_at methods number pc
-unfolding op_at
-op_past methods number pc l = ap (option_and_then (λ y. option_map (λ x. x.1) (find (λ x. eqb x.0 pc) y.insns))) (sym (slice_get_past methods number l))
+pub insn_past : (methods : List Method) (number pc : ℕ) → length methods ≤ number → None ≡ insn_at methods number pc
+unfolding insn_at
+insn_past methods number pc l = ap (option_and_then (λ y. instruction_at y.insns pc)) (sym (slice_get_past methods number l))
 
 pub reach_closed : (world : World) (entry : MethodRef) (refs : List MethodRef) (methods : List Method) → IsReaching world entry refs methods → slice_get refs (length methods) ≡ None → is_closed world refs methods ≡ true
 reach_closed world entry refs methods h e =

@@ -28,23 +28,23 @@ use Rattle.class_program.proofs.Bodies.{all_flat_map, runs_all}
 
 contents_append : (world : World) (xs ys : List MethodRef) → contents_of world (xs ++ ys) ≡ contents_of world xs ++ contents_of world ys
 unfolding contents_of
-contents_append world xs ys = filter_map-append (λ ref. option_map (λ m. (ref.class, m)) (method_at world ref)) xs ys
+contents_append world xs ys = filter_map-append (λ ref. option_map (λ m. (ref, m)) (method_at world ref)) xs ys
 
-contents_one : (world : World) (x : MethodRef) (m : MethodContent) (xs : List MethodRef) → method_at world x ≡ Some m → contents_of world (x ∷ xs) ≡ (x.class, m) ∷ contents_of world xs
+contents_one : (world : World) (x : MethodRef) (m : MethodContent) (xs : List MethodRef) → method_at world x ≡ Some m → contents_of world (x ∷ xs) ≡ (x, m) ∷ contents_of world xs
 unfolding contents_of
-contents_one world x m xs e = ap (λ o. cons_option (option_map (λ c. (x.class, c)) o) (filter_map (λ ref. option_map (λ c. (ref.class, c)) (method_at world ref)) xs)) e
+contents_one world x m xs e = ap (λ o. cons_option (option_map (λ c. (x, c)) o) (filter_map (λ ref. option_map (λ c. (ref, c)) (method_at world ref)) xs)) e
 
-said_more : (world : World) (gone : List MethodRef) (x : MethodRef) (content : MethodContent) (methods : List Method) (m : Method) → methods_of world gone ≡ Ok methods → method_at world x ≡ Some content → method_of world x.class content ≡ Ok m → methods_of world (gone ++ x ∷ []) ≡ Ok (methods ++ m ∷ [])
+said_more : (world : World) (gone : List MethodRef) (x : MethodRef) (content : MethodContent) (methods : List Method) (m : Method) → methods_of world gone ≡ Ok methods → method_at world x ≡ Some content → method_of world x content ≡ Ok m → methods_of world (gone ++ x ∷ []) ≡ Ok (methods ++ m ∷ [])
 unfolding methods_of contents_of
 said_more world gone x content methods m e a s =
     ap (each (λ y. method_of world y.0 y.1)) (contents_append world gone (x ∷ []) ∙ ap (λ l. contents_of world gone ++ l) (contents_one world x content [] a))
-    ∙ each_more (λ y. method_of world y.0 y.1) (contents_of world gone) (x.class, content) methods m e s
+    ∙ each_more (λ y. method_of world y.0 y.1) (contents_of world gone) (x, content) methods m e s
 
-said_broken : (world : World) (gone rest : List MethodRef) (x : MethodRef) (content : MethodContent) (methods : List Method) (fault : LinkFault) → methods_of world gone ≡ Ok methods → method_at world x ≡ Some content → method_of world x.class content ≡ Err fault → methods_of world (gone ++ x ∷ rest) ≡ Err fault
+said_broken : (world : World) (gone rest : List MethodRef) (x : MethodRef) (content : MethodContent) (methods : List Method) (fault : LinkFault) → methods_of world gone ≡ Ok methods → method_at world x ≡ Some content → method_of world x content ≡ Err fault → methods_of world (gone ++ x ∷ rest) ≡ Err fault
 unfolding methods_of
 said_broken world gone rest x content methods fault e a s =
     ap (each (λ y. method_of world y.0 y.1)) (contents_append world gone (x ∷ rest) ∙ ap (λ l. contents_of world gone ++ l) (contents_one world x content rest a))
-    ∙ each_broken (λ y. method_of world y.0 y.1) (contents_of world gone) (contents_of world rest) (x.class, content) methods fault e s
+    ∙ each_broken (λ y. method_of world y.0 y.1) (contents_of world gone) (contents_of world rest) (x, content) methods fault e s
 
 -- ---- the definition's list
 
@@ -107,15 +107,15 @@ pub next_body : (world : World) (entry : MethodRef) (refs : List MethodRef) (met
 next_body world entry refs methods x h e = at_all (has_body world) refs (length methods) x h.bodies e
 
 -- what the next method reaches
-next_runs : (world : World) (x : MethodRef) (content : MethodContent) (m : Method) → method_at world x ≡ Some content → method_of world x.class content ≡ Ok m → runs_from world x ≡ runs_in world m
+next_runs : (world : World) (x : MethodRef) (content : MethodContent) (m : Method) → method_at world x ≡ Some content → method_of world x content ≡ Ok m → runs_from world x ≡ runs_in world m
 unfolding runs_from
-next_runs world x content m a s = ap (λ o. option_map_or (λ c. runs_said world (method_of world x.class c)) o []) a ∙ ap (runs_said world) s
+next_runs world x content m a s = ap (λ o. option_map_or (λ c. runs_said world (method_of world x c)) o []) a ∙ ap (runs_said world) s
 
 runs_in_is : (world : World) (m : Method) → runs_in world m ≡ flat_map (λ x. runs world x.1) m.insns
 unfolding runs_in
 runs_in_is world m = refl
 
-pub reach_more : (world : World) (entry : MethodRef) (refs more : List MethodRef) (methods mores : List Method) (x : MethodRef) (content : MethodContent) (m : Method) → IsReaching world entry refs methods → slice_get refs (length methods) ≡ Some x → method_at world x ≡ Some content → method_of world x.class content ≡ Ok m → more ≡ with_new refs (flat_map (λ y. runs world y.1) m.insns) → mores ≡ methods ++ m ∷ [] → IsReaching world entry more mores
+pub reach_more : (world : World) (entry : MethodRef) (refs more : List MethodRef) (methods mores : List Method) (x : MethodRef) (content : MethodContent) (m : Method) → IsReaching world entry refs methods → slice_get refs (length methods) ≡ Some x → method_at world x ≡ Some content → method_of world x content ≡ Ok m → more ≡ with_new refs (flat_map (λ y. runs world y.1) m.insns) → mores ≡ methods ++ m ∷ [] → IsReaching world entry more mores
 reach_more world entry refs more methods mores x content m h e a s r q =
     let found = flat_map (λ y. runs world y.1) m.insns in
     let bodies = all_flat_map (has_body world) (λ y. runs world y.1) m.insns (λ y. runs_all world y.1) in
@@ -133,7 +133,7 @@ reach_more world entry refs more methods mores x content m h e a s r q =
     }
 
 -- the next method breaks a rule
-pub reach_broken : (world : World) (entry : MethodRef) (refs : List MethodRef) (methods : List Method) (x : MethodRef) (content : MethodContent) (fault : LinkFault) → IsReaching world entry refs methods → slice_get refs (length methods) ≡ Some x → method_at world x ≡ Some content → (fault ≡ Memory) ⊎ (method_of world x.class content ≡ Err fault) → (fault ≡ Memory) ⊎ (methods_of world (reached world entry) ≡ Err fault)
+pub reach_broken : (world : World) (entry : MethodRef) (refs : List MethodRef) (methods : List Method) (x : MethodRef) (content : MethodContent) (fault : LinkFault) → IsReaching world entry refs methods → slice_get refs (length methods) ≡ Some x → method_at world x ≡ Some content → (fault ≡ Memory) ⊎ (method_of world x content ≡ Err fault) → (fault ≡ Memory) ⊎ (methods_of world (reached world entry) ≡ Err fault)
 reach_broken world entry refs methods x content fault h e a (inl m) = inl m
 reach_broken world entry refs methods x content fault h e a (inr s) =
     let room = h.room in

@@ -7,5 +7,15 @@ pub mod Room
 pub mod Bodies
 pub mod GoingThrough
 pub mod Closed
+pub mod Places
 pub mod RisingCodes
 pub mod Rising
+pub mod Made
+pub mod Got
+pub mod GoodTypes
+pub mod GoodShapes
+pub mod GoodPlaces
+pub mod GoodNames
+pub mod GoodCalls
+pub mod GoodOps
+pub mod GoodPrograms

@@ -6,7 +6,7 @@ use Rattle.code_decode.specs.declared.fault.CodeFault.{CodeFault}
 use Rattle.code_decode.specs.declared.insn.Insn.{Insn}
 use Rattle.code_decode.specs.Codes.{starts, stands, first_stray, insns_from, with_targets, decode_of}
 use Rattle.code_decode.specs.Reading.{◌>>=◌, insn_at}
-use Rattle.class_program.specs.Selected.{rises_from}
+use Rattle.class_program.specs.Instructions.{rises_from, starts_at_zero, is_placed}
 
 lower : {A : Type 0} (p q : ℕ) (xs : List (ℕ × A)) → p ≤ q → rises_from q xs ≡ true → rises_from p xs ≡ true
 lower p q [] l e = refl
@@ -33,14 +33,37 @@ decoded_rise zero pc (op ∷ bytes) xs e = go (insn_at pc op bytes) e (λ passed
     go (Ok x) f rest = behind x.0 (length bytes - length x.1) (insns_from (length bytes - length x.1) (pc + 1) bytes) refl f rest
 decoded_rise (suc passed) pc (b ∷ bytes) xs e = lower pc (pc + 1) xs (omega arith) (decoded_rise passed (pc + 1) bytes xs e)
 
-pub code_rises : (code : List ℕ) (xs : List (ℕ × Insn)) → decode_of code ≡ Ok xs → rises_from 0 xs ≡ true
-unfolding decode_of
-code_rises code xs e = go (insns_from 0 0 code) refl e
+decoded_first : (code : List ℕ) (xs : List (ℕ × Insn)) → insns_from 0 0 code ≡ Ok xs → starts_at_zero xs ≡ true
+unfolding insns_from
+decoded_first [] xs e = let same : [] ≡ xs = cc in subst (λ (ys : List (ℕ × Insn)). starts_at_zero ys ≡ true) same refl
+decoded_first (op ∷ bytes) xs e = go (insn_at 0 op bytes) e
   where
-    tested : (o : Option ℕ) (ys : List (ℕ × Insn)) → with_targets ys o ≡ Ok xs → ys ≡ xs
-    tested None ys f = cc
-    tested (Some pc) ys f = cc
+    behind : (insn : Insn) (s : Result (List (ℕ × Insn)) CodeFault) → (s >>= λ rest. Ok ((0, insn) ∷ rest)) ≡ Ok xs → starts_at_zero xs ≡ true
+    behind insn (Err fault) f = cc
+    behind insn (Ok ys) f =
+        let same : (0, insn) ∷ ys ≡ xs = cc in
+        subst (λ (zs : List (ℕ × Insn)). starts_at_zero zs ≡ true) same refl
 
-    go : (r : Result (List (ℕ × Insn)) CodeFault) → insns_from 0 0 code ≡ r → (r >>= λ insns. with_targets insns (first_stray (stands (starts insns)) insns)) ≡ Ok xs → rises_from 0 xs ≡ true
+    go : (r : Result (Insn × List ℕ) CodeFault) → (r >>= λ x. insns_from (length bytes - length x.1) (0 + 1) bytes >>= λ rest. Ok ((0, x.0) ∷ rest)) ≡ Ok xs → starts_at_zero xs ≡ true
+    go (Err fault) f = cc
+    go (Ok x) f = behind x.0 (insns_from (length bytes - length x.1) (0 + 1) bytes) f
+
+-- what is decoded is what is read from the start, and has no stray target
+pub decoded : (code : List ℕ) (xs : List (ℕ × Insn)) → decode_of code ≡ Ok xs → (insns_from 0 0 code ≡ Ok xs) × (first_stray (stands (starts xs)) xs ≡ None)
+unfolding decode_of
+decoded code xs e = go (insns_from 0 0 code) refl e
+  where
+    tested : (ys : List (ℕ × Insn)) (o : Option ℕ) → first_stray (stands (starts ys)) ys ≡ o → insns_from 0 0 code ≡ Ok ys → with_targets ys o ≡ Ok xs → (insns_from 0 0 code ≡ Ok xs) × (first_stray (stands (starts xs)) xs ≡ None)
+    tested ys None s q f =
+        let same : ys ≡ xs = cc in
+        subst (λ (zs : List (ℕ × Insn)). (insns_from 0 0 code ≡ Ok zs) × (first_stray (stands (starts zs)) zs ≡ None)) same (q, s)
+    tested ys (Some pc) s q f = cc
+
+    go : (r : Result (List (ℕ × Insn)) CodeFault) → insns_from 0 0 code ≡ r → (r >>= λ insns. with_targets insns (first_stray (stands (starts insns)) insns)) ≡ Ok xs → (insns_from 0 0 code ≡ Ok xs) × (first_stray (stands (starts xs)) xs ≡ None)
     go (Err fault) q f = cc
-    go (Ok ys) q f = subst (λ (zs : List (ℕ × Insn)). rises_from 0 zs ≡ true) (tested (first_stray (stands (starts ys)) ys) ys f) (decoded_rise 0 0 code ys q)
+    go (Ok ys) q f = tested ys (first_stray (stands (starts ys)) ys) refl q f
+
+pub code_placed : (code : List ℕ) (xs : List (ℕ × Insn)) → decode_of code ≡ Ok xs → is_placed xs ≡ true
+code_placed code xs e =
+    let read = (decoded code xs e).0 in
+    and_from (starts_at_zero xs) (rises_from 0 xs) (decoded_first code xs read) (decoded_rise 0 0 code xs read)

@@ -1,3 +1,4 @@
+pub mod Instructions
 pub mod Signatures
 pub mod Operands
 pub mod Refusals
@@ -6,5 +7,8 @@ pub mod Runs
 pub mod Said
 pub mod Methods
 pub mod Reached
+pub mod Programs
 pub mod Selected
+pub mod Good
+pub mod Views
 pub mod Reads

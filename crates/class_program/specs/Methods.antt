@@ -18,6 +18,7 @@ use Rattle.class_world.specs.declared.fault.MethodName.{MethodName}
 use Rattle.class_program.specs.declared.op.Op.{Op}
 use Rattle.class_program.specs.declared.program.CatchRange.{CatchRange}
 use Rattle.class_program.specs.declared.program.Method.{Method}
+use Rattle.class_world.specs.declared.world.MethodRef.{MethodRef}
 use Rattle.class_world.specs.World.{World, class_of, is_static, is_native, is_synchronized}
 use Rattle.class_world.specs.Descriptors.{class_slot}
 use Rattle.class_program.specs.Said.{Said, ◌>>=◌, unless, each}
@@ -107,20 +108,21 @@ with_receiver class flags params = if is_static flags then params else class_slo
 -- ---- the method
 
 -- what the method is, whose instructions name others as methods of the world
-unfoldable pub method_of : World → ℕ → MethodContent → Said Method
-method_of world class m =
-    let name = method_name world class m in
-    unless (static_init world class) (do
+unfoldable pub method_of : World → MethodRef → MethodContent → Said Method
+method_of world ref m =
+    let name = method_name world ref.class m in
+    unless (static_init world ref.class) (do
       code ← code_of name m
       types ← unless (synchronized name m) (own_types world name m.desc)
       insns ← insns_of name code
-      ops ← ops_of world class name insns
-      table ← table_of world (pool_of world class) code.table
+      ops ← ops_of world ref.class name insns
+      table ← table_of world (pool_of world ref.class) code.table
       Ok (record {
-        class = class;
+        class = ref.class;
+        index = ref.index;
         name = m.name;
         desc = m.desc;
-        params = with_receiver class m.flags types.params;
+        params = with_receiver ref.class m.flags types.params;
         result = types.result;
         max_stack = code.max_stack;
         max_locals = code.max_locals;

@@ -14,6 +14,7 @@ use Rattle.class_base.specs.declared.types.FieldType.{FieldType}
 use Rattle.class_base.specs.ClassNames.{is_class_name}
 use Rattle.class_base.specs.Types.{field_type}
 use Rattle.code_decode.specs.declared.insn.Insn.{Insn}
+use Rattle.jvm_values.specs.Kinds.{kind_of_code}
 use Rattle.jvm_values.specs.declared.types.Base.{Base}
 use Rattle.jvm_values.specs.declared.types.Base.TheVariants as bases
 use Rattle.jvm_values.specs.declared.types.Ty.{Ty}
@@ -240,12 +241,9 @@ call_op calls.Interface call = Invokeinterface call
 
 -- ---- instructions
 
--- the codes of float, double and long (section 6.5, newarray)
-abbrev pub is_unsupported_code : ℕ → Bool
-is_unsupported_code code = (code == 6) || (code == 7) || (code == 11)
-
+-- an array of whole numbers; the codes of float, double and long are those of no kind (section 6.5, newarray)
 unfoldable pub numbers_op : Insn → ℕ → Result Op Refusal
-numbers_op insn code = if is_unsupported_code code then Err UnsupportedType else Ok (Plain insn)
+numbers_op insn code = if is_none (kind_of_code code) then Err UnsupportedType else Ok (Plain insn)
 
 unfoldable pub field_operand : World → List PoolEntry → FieldForm → ℕ → Result Op Refusal
 field_operand world pool form entry = do

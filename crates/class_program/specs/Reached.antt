@@ -4,7 +4,7 @@
 -- comes to. A method that breaks a rule reaches nothing, so of the methods that break one the first is the same
 -- whatever the ones behind it would reach.
 use Rattle.std.specs.Prelude.{ℕ, zero, suc, ◌==◌, ◌&&◌, not, Bool, if◌then◌else◌, List, [], ◌∷◌, ◌++◌, length, map, position, Ok, Err}
-use Rattle.std.specs.List.{list_any, flat_map, filter_map}
+use Rattle.std.specs.List.{list_any, list_all, flat_map, filter_map}
 use Rattle.std.specs.Option.{option_map, option_map_or}
 use Rattle.class_read.specs.Content.{MethodContent}
 use Rattle.class_program.specs.declared.op.Call.{Call}
@@ -48,7 +48,7 @@ runs_said world (Err fault) = []
 
 -- the methods that a method of the world can run; one that breaks a rule runs none
 unfoldable pub runs_from : World → MethodRef → List MethodRef
-runs_from world ref = option_map_or (λ m. runs_said world (method_of world ref.class m)) (method_at world ref) []
+runs_from world ref = option_map_or (λ m. runs_said world (method_of world ref m)) (method_at world ref) []
 
 -- ---- the reached methods
 
@@ -68,9 +68,9 @@ reached world entry = reached_within world entry (method_count world)
 
 -- ---- the program
 
--- the methods of a list with their classes' numbers; what is no method of the world is passed over
-unfoldable pub contents_of : World → List MethodRef → List (ℕ × MethodContent)
-contents_of world refs = filter_map (λ ref. option_map (λ m. (ref.class, m)) (method_at world ref)) refs
+-- the methods of a list with what declares them; what is no method of the world is passed over
+unfoldable pub contents_of : World → List MethodRef → List (MethodRef × MethodContent)
+contents_of world refs = filter_map (λ ref. option_map (λ m. (ref, m)) (method_at world ref)) refs
 
 -- what the methods of a list are, or the first fault of the first one that has any
 unfoldable pub methods_of : World → List MethodRef → Said (List Method)
@@ -91,6 +91,7 @@ insns_numbered refs insns = map (λ x. (x.0, op_numbered refs x.1)) insns
 abbrev pub method_numbered : List MethodRef → Method → Method
 method_numbered refs m = record {
   class = m.class;
+  index = m.index;
   name = m.name;
   desc = m.desc;
   params = m.params;
@@ -107,3 +108,11 @@ unfoldable pub close_of : World → MethodRef → Said (List Method)
 close_of world entry = do
   methods ← methods_of world (reached world entry)
   Ok (map (method_numbered (reached world entry)) methods)
+
+-- a list of methods has all that a method's instructions can run
+abbrev pub has_runs : World → List MethodRef → Method → Bool
+has_runs world refs m = list_all (has_method refs) (runs_in world m)
+
+-- it has all that the methods of a program can run
+abbrev pub is_closed : World → List MethodRef → List Method → Bool
+is_closed world refs methods = list_all (has_runs world refs) methods

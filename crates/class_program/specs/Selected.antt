@@ -1,11 +1,9 @@
 -- What a virtual or interface call of a program does once it knows its receiver's class, with the number of the method
 -- that it runs (JVM specification, section 6.5, invokevirtual and invokeinterface).
-use Rattle.std.specs.Prelude.{ℕ, ◌+◌, ◌==◌, ◌&&◌, nat_le, Bool, true, false, List, [], ◌∷◌, position, slice_get, Option, Some, None, option_and_then}
-use Rattle.std.specs.List.{find, list_all}
+use Rattle.std.specs.Prelude.{ℕ, Bool, false, List, position, Option, Some, None, option_and_then}
 use Rattle.std.specs.Option.{option_map, option_map_or}
 use Rattle.class_program.specs.declared.op.Op.{Op}
 use Rattle.class_program.specs.declared.op.Op.TheVariants.{Invokevirtual, Invokeinterface}
-use Rattle.class_program.specs.declared.program.Method.{Method}
 use Rattle.class_program.specs.declared.selected.Selected.{Selected}
 use Rattle.class_program.specs.declared.selected.Selected.TheVariants as answers
 use Rattle.class_world.specs.declared.world.MethodRef.{MethodRef}
@@ -14,11 +12,8 @@ use Rattle.class_world.specs.Fields.{can_be_made}
 use Rattle.class_world.specs.Resolve.{method_at}
 use Rattle.class_world.specs.Select.{Selection, selected_virtual, selected_interface, is_receiver}
 use Rattle.class_world.specs.Select.Selection.{Runs, Lacks, Unfit}
-use Rattle.class_program.specs.Reached.{same_method, has_method, runs_in}
-
--- the instruction at a place of a method, which is given by its number
-unfoldable pub op_at : List Method → ℕ → ℕ → Option Op
-op_at methods number pc = option_and_then (λ m. option_map (λ x. x.1) (find (λ x. x.0 == pc) m.insns)) (slice_get methods number)
+use Rattle.class_program.specs.Programs.{Program, refs_of, op_at}
+use Rattle.class_program.specs.Reached.{same_method}
 
 -- What a call does on an object of a class: the name and the descriptor are those of the method that resolution gave.
 -- Other instructions select nothing.
@@ -33,10 +28,10 @@ selected_in refs (Runs ref) = option_map answers.Method (position (same_method r
 selected_in refs Lacks = Some answers.Abstract
 selected_in refs Unfit = Some answers.NoInterface
 
--- the answer of the instruction at a place
-unfoldable pub selected_at : World → List MethodRef → List Method → ℕ → ℕ → ℕ → Option Selected
-selected_at world refs methods number pc class =
-    option_and_then (selected_in refs) (option_and_then (λ op. selection_at world op class) (op_at methods number pc))
+-- the answer of the instruction at a place of the method of a number
+unfoldable pub selected_at : Program → ℕ → ℕ → ℕ → Option Selected
+selected_at p number pc class =
+    option_and_then (selected_in (refs_of p.methods)) (option_and_then (λ op. selection_at p.world op class) (op_at p.methods number pc))
 
 -- The instruction is a call that selects, and an object of the class can be its receiver. For an interface call it can be
 -- of any class that has objects.
@@ -45,21 +40,5 @@ can_receive world (Invokevirtual call) class = is_receiver world call.class clas
 can_receive world (Invokeinterface call) class = can_be_made world class
 can_receive world _ class = false
 
-unfoldable pub can_receive_at : World → List Method → ℕ → ℕ → ℕ → Bool
-can_receive_at world methods number pc class = option_map_or (λ op. can_receive world op class) (op_at methods number pc) false
-
--- a list of methods has all that a method's instructions can run
-abbrev pub has_runs : World → List MethodRef → Method → Bool
-has_runs world refs m = list_all (has_method refs) (runs_in world m)
-
--- it has all that the methods of a program can run
-abbrev pub is_closed : World → List MethodRef → List Method → Bool
-is_closed world refs methods = list_all (has_runs world refs) methods
-
--- the instructions stand at rising places, from a place on
-abbrev pub rises_from : {A : Type 0} → ℕ → List (ℕ × A) → Bool
-rises_from place [] = true
-rises_from place (x ∷ xs) = nat_le place x.0 && rises_from (x.0 + 1) xs
-
-abbrev pub is_rising : Method → Bool
-is_rising m = rises_from 0 m.insns
+unfoldable pub can_receive_at : Program → ℕ → ℕ → ℕ → Bool
+can_receive_at p number pc class = option_map_or (λ op. can_receive p.world op class) (op_at p.methods number pc) false

@@ -2,11 +2,13 @@
 ghost use Rattle.class_world.specs.Resolve.{has_body};
 ghost use Rattle.class_world.specs.Worlds.{classes_of};
 ghost use Rattle.std.specs.Prelude.{◌≡◌, ◌<◌, [], map, length, IfOk, OnOk, IsTrue, flat_map};
+ghost use Rattle.std.specs.List.{list_all};
 ghost use Rattle.class_program.specs.Said.{Says};
 ghost use Rattle.class_program.specs.Runs.{runs};
-ghost use Rattle.class_program.specs.Selected.{is_closed};
-ghost use Rattle.class_program.specs.Reached.{with_new, reached, methods_of, numbered, op_numbered, insns_numbered, method_numbered, close_of};
+ghost use Rattle.class_program.specs.Programs.{refs_of};
+ghost use Rattle.class_program.specs.Reached.{with_new, reached, methods_of, numbered, op_numbered, insns_numbered, method_numbered, close_of, is_closed};
 
+use crate::insns::Instructions;
 use crate::method::method_of;
 use crate::op::{Call, Op};
 use crate::program::{Method, Program};
@@ -51,6 +53,8 @@ fn reach<'a>(
     requires { IsTrue (has_body (classes_of world.now) entry) }
     ensures methods { Says (λ r. r.1) result (methods_of (classes_of world.now) (reached (classes_of world.now) entry)) }
     ensures refs { IfOk result (λ r. r.0 ≡ reached (classes_of world.now) entry) }
+    ensures numbers { IfOk result (λ r. refs_of r.1 ≡ r.0) }
+    ensures bodies { IfOk result (λ r. IsTrue (list_all (has_body (classes_of world.now)) r.0)) }
     ensures closed { IfOk result (λ r. IsTrue (is_closed (classes_of world.now) r.0 r.1)) }
 {
     let mut refs = MethodRefs::new(alloc);
@@ -89,7 +93,7 @@ fn op_numbered(refs: &MethodRefs, op: Op) -> Op
 }
 
 /// The instructions with the numbers of their calls' methods.
-fn insns_numbered(
+fn items_numbered(
     alloc: Global,
     refs: &MethodRefs,
     insns: Seq<(u16, Op)>,
@@ -103,6 +107,18 @@ fn insns_numbered(
     Ok(done)
 }
 
+/// The instructions at their places with the numbers of their calls' methods.
+fn insns_numbered(
+    alloc: Global,
+    refs: &MethodRefs,
+    insns: Instructions,
+) -> Result<Instructions, AllocError>
+    ensures { IfOk result (λ r. r ≡ insns_numbered refs.now insns) }
+{
+    let items = items_numbered(alloc, refs, insns.into_seq())?;
+    Ok(Instructions::new(items))
+}
+
 fn method_numbered<'a>(
     alloc: Global,
     refs: &MethodRefs,
@@ -112,6 +128,7 @@ fn method_numbered<'a>(
 {
     Ok(Method {
         class: method.class,
+        index: method.index,
         name: method.name,
         desc: method.desc,
         params: method.params,
@@ -160,13 +177,14 @@ impl<'a> Program<'a> {
         requires { IsTrue (has_body (classes_of world) entry) }
         ensures methods { Says (λ program. program.methods) result (close_of (classes_of world.entry) entry) }
         ensures world { IfOk result (λ program. program.world ≡ world.entry) }
+        ensures entry { IfOk result (λ program. program.entry ≡ entry) }
         ensures statics { IfOk result (λ program. program.statics ≡ []) }
-        ensures refs { IfOk result (λ program. program.refs ≡ reached (classes_of world.entry) entry) }
     {
         let (refs, methods) = reach(&world, alloc, entry)?;
         let methods = methods_numbered(alloc, &refs, methods)?;
         Ok(Program {
             world,
+            entry,
             methods,
             statics: Seq::new(alloc),
             refs,

@@ -5,6 +5,8 @@ mod call_operand;
 mod class_operand;
 mod closing;
 mod field_operand;
+mod good;
+mod insns;
 mod member_operand;
 mod method;
 mod op;
@@ -18,6 +20,7 @@ mod runs;
 mod selected;
 mod signature;
 
+pub use insns::Instructions;
 pub use op::{Call, FieldUse, Op};
 pub use program::{CatchRange, Method, Program, StaticField};
 pub use selected::Selected;

@@ -14,6 +14,7 @@ ghost use Rattle.class_program.specs.Ops.{pool_of};
 ghost use Rattle.class_world.specs.Resolve.{method_at, has_body};
 ghost use Rattle.class_program.specs.Methods.{method_name, static_init, code_of, synchronized, own_types, in_method, table_said, insns_of, op_said, ops_of, caught, catch_of, range_of, table_of, with_receiver, method_of};
 
+use crate::insns::Instructions;
 use crate::op::Op;
 use crate::ops::{fault_at, op_of};
 use crate::program::{CatchRange, Method};
@@ -277,18 +278,19 @@ fn pool<'w, 'a>(world: &'w World<'a>, class: u32) -> &'w Pool<'a>
     &view.pool
 }
 
-/// The method that a class declares, whose calls have no numbers yet, or the first rule that it breaks.
+/// The method of that class and place, whose calls have no numbers yet, or the first rule that it breaks.
 #[tactic(auto, unfolding(crate::specs::Methods::method_of))]
 fn declared<'a>(
     world: &World<'a>,
     alloc: Global,
-    class: u32,
+    method: MethodRef,
     view: &MethodView<'a>,
 ) -> Result<Method<'a>, LinkFault>
-    requires class { class < length (classes_of world.now) }
+    requires class { method.class < length (classes_of world.now) }
     requires short { IsTrue (has_short_code (method_content view.now)) }
-    ensures { Says (λ m. m) result (method_of (classes_of world.now) class (method_content view.now)) }
+    ensures { Says (λ m. m) result (method_of (classes_of world.now) method (method_content view.now)) }
 {
+    let class = method.class;
     keeps_static_init(world, alloc, class)?;
     let name = method_name(world, alloc, class, view)?;
     let code = code_of(alloc, &name, view)?;
@@ -299,13 +301,14 @@ fn declared<'a>(
     let table = table_of(world, alloc, pool(world, class), code.table.as_slice())?;
     Ok(Method {
         class,
+        index: method.index,
         name: Bytes::new(view.name),
         desc: Bytes::new(view.desc),
         params: with_receiver(alloc, class, view.flags, types.params)?,
         result: types.result,
         max_stack: code.max_stack,
         max_locals: code.max_locals,
-        insns,
+        insns: Instructions::new(insns),
         table,
     })
 }
@@ -317,10 +320,10 @@ pub(crate) fn method_of<'a>(
     method: MethodRef,
 ) -> Result<Method<'a>, LinkFault>
     requires { IsTrue (has_body (classes_of world.now) method) }
-    ensures { (content : MethodContent) → method_at (classes_of world.now) method ≡ Some content → Says (λ m. m) result (method_of (classes_of world.now) method.class content) }
+    ensures { (content : MethodContent) → method_at (classes_of world.now) method ≡ Some content → Says (λ m. m) result (method_of (classes_of world.now) method content) }
 {
     match world.method_at(method) {
-        Some(view) => declared(world, alloc, method.class, view),
+        Some(view) => declared(world, alloc, method, view),
         None => Err(LinkFault::Memory),
     }
 }

@@ -2,7 +2,7 @@
 ghost use Rattle.class_world.specs.Worlds.{classes_of};
 ghost use Rattle.std.specs.Prelude.{◌≡◌, ◌<◌, length, IfOk};
 ghost use Rattle.class_program.specs.Operands.{operand_of};
-ghost use Rattle.class_program.specs.Ops.{is_other_constant, constant_of, is_unsupported_code, numbers_op, field_operand, class_operand, call_operand, op_with, op_of};
+ghost use Rattle.class_program.specs.Ops.{is_other_constant, constant_of, numbers_op, field_operand, class_operand, call_operand, op_with, op_of};
 ghost use Rattle.class_program.specs.Refusals.{Gives, fault_at};
 ghost use Rattle.class_program.specs.Said.{Says};
 
@@ -16,6 +16,7 @@ use crate::refusal::Refusal;
 use class_pool::Pool;
 use class_world::{LinkFault, MethodName, World};
 use code_decode::Insn;
+use jvm_values::Kind;
 use std::alloc::{AllocError, Global};
 
 /// Whether the tag is that of a string, a class, a long, a float or a double.
@@ -46,22 +47,15 @@ fn constant_of(pool: &Pool<'_>, entry: u16) -> Result<Op, Refusal>
     Err(Refusal::Unresolved)
 }
 
-/// Whether the code of `newarray` is that of float, double or long.
-fn is_unsupported_code(code: u8) -> bool
-    ensures { result ≡ is_unsupported_code code }
-{
-    code == 6 || code == 7 || code == 11
-}
-
 /// `newarray`.
 #[tactic(auto, unfolding(crate::specs::Ops::numbers_op))]
 fn numbers_op(insn: Insn, code: u8) -> Result<Op, Refusal>
     ensures { Gives (λ op. op) result (numbers_op insn code) }
 {
-    if is_unsupported_code(code) {
-        return Err(Refusal::UnsupportedType);
+    match Kind::of_code(code) {
+        Some(_) => Ok(Op::Plain(insn)),
+        None => Err(Refusal::UnsupportedType),
     }
-    Ok(Op::Plain(insn))
 }
 
 /// The refusal of an instruction at a place of a method, as a fault.

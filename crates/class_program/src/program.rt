@@ -1,12 +1,14 @@
 //! A world with the methods that an entry reaches.
 ghost use Rattle.class_world.specs.Worlds.{classes_of};
-ghost use Rattle.std.specs.Prelude.{IsTrue};
+ghost use Rattle.std.specs.Prelude.{◌≡◌, Ok, IsTrue};
 ghost use Rattle.std.specs.List.{list_all};
-ghost use Rattle.class_program.specs.Selected.{is_closed, is_rising};
+ghost use Rattle.class_world.specs.Resolve.{has_body};
+ghost use Rattle.class_program.specs.Reached.{reached, close_of, is_closed};
+ghost use Rattle.class_program.specs.Programs.{refs_of};
 
-use crate::op::Op;
+use crate::insns::Instructions;
 use crate::reached::MethodRefs;
-use class_world::World;
+use class_world::{MethodRef, World};
 use jvm_values::Slot;
 use list_views::{Bytes, Seq};
 
@@ -28,6 +30,8 @@ pub struct CatchRange {
 pub struct Method<'a> {
     /// The class that declares it, by its number.
     pub class: u32,
+    /// The method's place in that class's file.
+    pub index: u32,
     /// The method's name.
     pub name: Bytes<'a>,
     /// The method's descriptor.
@@ -40,8 +44,8 @@ pub struct Method<'a> {
     pub max_stack: u16,
     /// The words of the local variables.
     pub max_locals: u16,
-    /// The instructions, each with its place in bytes from the code's start. The places rise.
-    pub insns: Seq<(u16, Op)>,
+    /// The instructions, each found by its place.
+    pub insns: Instructions,
     /// The exception table.
     pub table: Seq<CatchRange>,
 }
@@ -64,11 +68,16 @@ pub struct StaticField<'a> {
 pub struct Program<'a> {
     /// The world.
     pub world: World<'a>,
+    /// The method that a run begins with.
+    pub entry: MethodRef,
     /// The reached methods in order.
     pub methods: Seq<Method<'a>>,
     /// The static fields that reached instructions name; none while they are refused.
     pub statics: Seq<StaticField<'a>>,
     pub(crate) refs: MethodRefs,
-    ghost closed: { IsTrue (is_closed (classes_of world) refs methods) },
-    ghost rising: { IsTrue (list_all is_rising methods) },
+    ghost made: { close_of (classes_of world) entry ≡ Ok methods },
+    ghost numbers: { refs ≡ refs_of methods },
+    ghost reaches: { refs ≡ reached (classes_of world) entry },
+    ghost bodies: { IsTrue (list_all (has_body (classes_of world)) refs) },
+    ghost whole: { IsTrue (is_closed (classes_of world) refs methods) },
 }

@@ -1,15 +1,17 @@
 //! What a call of a program does on an object of a class.
 ghost use Rattle.class_world.specs.Worlds.{classes_of};
-ghost use Rattle.std.specs.Prelude.{◌≡◌, ◌==◌, ◌<◌, if◌then◌else◌, Some, None, length, slice_get, option_and_then, IsTrue};
-ghost use Rattle.std.specs.List.{find};
+ghost use Rattle.std.specs.Prelude.{◌≡◌, ◌<◌, Some, length, option_and_then, IsTrue};
 ghost use Rattle.std.specs.Option.{option_map, option_map_or, option_copied};
 ghost use Rattle.class_world.specs.Resolve.{method_at};
 ghost use Rattle.class_world.specs.Select.Selection.{Runs, Lacks};
 ghost use Rattle.class_world.specs.Select.{selected_virtual, selected_interface};
-ghost use Rattle.class_program.specs.Selected.{rises_from, op_at, selection_at, selected_in, selected_at, can_receive, can_receive_at};
+ghost use Rattle.class_program.specs.Instructions.{instruction_at, at_seen};
+ghost use Rattle.class_program.specs.Programs.{refs_of, insn_at, op_at};
+ghost use Rattle.class_program.specs.Views.{program_of};
+ghost use Rattle.class_program.specs.Selected.{selection_at, selected_in, selected_at, can_receive, can_receive_at};
 
 use crate::op::{Call, Op};
-use crate::program::Program;
+use crate::program::{Method, Program};
 use crate::receivers::is_receiver;
 use class_world::MethodRef;
 
@@ -24,31 +26,35 @@ pub enum Selected {
     NoInterface,
 }
 
-/// How many instructions stand before a place.
-fn count_before(insns: &[(u16, Op)], pc: u16) -> usize
-    requires { IsTrue (rises_from 0 insns.now) }
-    ensures { find (λ x. x.0 == pc) insns.now ≡ option_and_then (λ x. if x.0 == pc then Some x else None) (slice_get insns.now result) }
-{
-    insns.partition_point(|insn| insn.0 < pc)
-}
-
-/// The instruction at a place.
-fn op_in(insns: &[(u16, Op)], pc: u16) -> Option<&Op>
-    requires { IsTrue (rises_from 0 insns.now) }
-    ensures { option_copied result ≡ option_map (λ x. x.1) (find (λ x. x.0 == pc) insns.now) }
-{
-    let insn = insns.get(count_before(insns, pc))?;
-    if insn.0 == pc { Some(&insn.1) } else { None }
+impl<'a> Method<'a> {
+    /// The instruction at a place, and the place of the next one, which the last one does not have; None exactly where
+    /// no instruction stands there. It is found by halving, and takes no memory.
+    pub fn at(&self, pc: u16) -> Option<(&Op, Option<u16>)>
+        ensures { option_map at_seen result ≡ instruction_at self.now.insns pc }
+    {
+        self.insns.at(pc)
+    }
 }
 
 impl<'a> Program<'a> {
+    /// The instruction at a place of the method of a number, and the place of the next one; None exactly where there is
+    /// no such method or no instruction stands there.
+    #[tactic(auto, unfolding(crate::specs::Programs::insn_at))]
+    pub fn at(&self, method: u32, pc: u16) -> Option<(&Op, Option<u16>)>
+        ensures { option_map at_seen result ≡ insn_at self.now.methods method pc }
+    {
+        match self.methods.get(method as usize) {
+            Some(method) => method.at(pc),
+            None => None,
+        }
+    }
+
     /// The instruction at a place of a method.
-    #[tactic(auto, unfolding(crate::specs::Selected::op_at))]
     fn op_at(&self, method: u32, pc: u16) -> Option<&Op>
         ensures { option_copied result ≡ op_at self.now.methods method pc }
     {
-        match self.methods.get(method as usize) {
-            Some(method) => op_in(method.insns.as_slice(), pc),
+        match self.at(method, pc) {
+            Some((op, _)) => Some(op),
             None => None,
         }
     }
@@ -56,7 +62,7 @@ impl<'a> Program<'a> {
     /// The answer for a method that is not abstract; None where it is not reached.
     #[tactic(auto, unfolding(crate::specs::Selected::selected_in))]
     fn numbered(&self, method: MethodRef) -> Option<Selected>
-        ensures { result ≡ selected_in self.now.refs (Runs method) }
+        ensures { result ≡ selected_in (refs_of self.now.methods) (Runs method) }
     {
         match self.refs.number_of(method) {
             Some(number) => Some(Selected::Method(number)),
@@ -67,7 +73,7 @@ impl<'a> Program<'a> {
     /// What a class selects by name and descriptor.
     #[tactic(auto, unfolding(class_world::specs::Select::selected_virtual, crate::specs::Selected::selected_in))]
     fn selected_by(&self, name: &[u8], desc: &[u8], class: u32) -> Option<Selected>
-        ensures { result ≡ selected_in self.now.refs (selected_virtual (classes_of self.now.world) name.now desc.now class) }
+        ensures { result ≡ selected_in (refs_of self.now.methods) (selected_virtual (classes_of self.now.world) name.now desc.now class) }
     {
         match self.world.select_in(name, desc, class) {
             Some(method) => {
@@ -84,7 +90,7 @@ impl<'a> Program<'a> {
     /// What a virtual call does.
     #[tactic(auto, unfolding(crate::specs::Selected::selected_in))]
     fn selected_virtual(&self, call: &Call, class: u32) -> Option<Selected>
-        ensures { result ≡ selected_in self.now.refs (option_map_or (λ m. selected_virtual (classes_of self.now.world) m.name m.desc class) (method_at (classes_of self.now.world) call.now.method) Lacks) }
+        ensures { result ≡ selected_in (refs_of self.now.methods) (option_map_or (λ m. selected_virtual (classes_of self.now.world) m.name m.desc class) (method_at (classes_of self.now.world) call.now.method) Lacks) }
     {
         match self.world.method_at(call.method) {
             Some(named) => self.selected_by(named.name, named.desc, class),
@@ -96,7 +102,7 @@ impl<'a> Program<'a> {
     #[tactic(auto, unfolding(class_world::specs::Select::selected_interface, crate::specs::Selected::selected_in))]
     fn selected_interface(&self, call: &Call, class: u32) -> Option<Selected>
         requires { class < length (classes_of self.now.world) }
-        ensures { result ≡ selected_in self.now.refs (option_map_or (λ m. selected_interface (classes_of self.now.world) call.now.class m.name m.desc class) (method_at (classes_of self.now.world) call.now.method) Lacks) }
+        ensures { result ≡ selected_in (refs_of self.now.methods) (option_map_or (λ m. selected_interface (classes_of self.now.world) call.now.class m.name m.desc class) (method_at (classes_of self.now.world) call.now.method) Lacks) }
     {
         match self.world.method_at(call.method) {
             Some(named) => {
@@ -113,7 +119,7 @@ impl<'a> Program<'a> {
     #[tactic(auto, unfolding(crate::specs::Selected::selection_at))]
     fn selected_by_op(&self, op: &Op, class: u32) -> Option<Selected>
         requires { class < length (classes_of self.now.world) }
-        ensures { result ≡ option_and_then (selected_in self.now.refs) (selection_at (classes_of self.now.world) op.now class) }
+        ensures { result ≡ option_and_then (selected_in (refs_of self.now.methods)) (selection_at (classes_of self.now.world) op.now class) }
     {
         match op {
             Op::Invokevirtual(call) => self.selected_virtual(call, class),
@@ -125,7 +131,7 @@ impl<'a> Program<'a> {
     #[tactic(auto, unfolding(crate::specs::Selected::selected_at))]
     fn selected_at(&self, method: u32, pc: u16, class: u32) -> Option<Selected>
         requires { class < length (classes_of self.now.world) }
-        ensures { result ≡ selected_at (classes_of self.now.world) self.now.refs self.now.methods method pc class }
+        ensures { result ≡ selected_at (program_of self.now) method pc class }
     {
         let op = self.op_at(method, pc)?;
         self.selected_by_op(op, class)
@@ -152,7 +158,7 @@ impl<'a> Program<'a> {
     /// invokevirtual and invokeinterface).
     #[tactic(auto, unfolding(crate::specs::Selected::can_receive_at))]
     pub fn can_receive(&self, method: u32, pc: u16, class: u32) -> bool
-        ensures { result ≡ can_receive_at (classes_of self.now.world) self.now.methods method pc class }
+        ensures { result ≡ can_receive_at (program_of self.now) method pc class }
     {
         match self.op_at(method, pc) {
             Some(op) => self.op_can_receive(op, class),
@@ -164,8 +170,8 @@ impl<'a> Program<'a> {
     ///
     /// It answers where [`Program::can_receive`] says so.
     pub fn select(&self, method: u32, pc: u16, class: u32) -> Selected
-        requires { IsTrue (can_receive_at (classes_of self.now.world) self.now.methods method pc class) }
-        ensures { selected_at (classes_of self.now.world) self.now.refs self.now.methods method pc class ≡ Some result }
+        requires { IsTrue (can_receive_at (program_of self.now) method pc class) }
+        ensures { selected_at (program_of self.now) method pc class ≡ Some result }
     {
         match self.selected_at(method, pc, class) {
             Some(selected) => selected,

@@ -4,5 +4,7 @@
 #![tactic(auto)]
 
 mod form;
+mod laws;
 
 pub use form::{Form, ItemKind, Shuffle, form_of};
+pub use laws::good_ops_have_forms;

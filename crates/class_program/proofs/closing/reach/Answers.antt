@@ -6,6 +6,7 @@ use Rattle.class_program.proofs.Room.{body_at}
 use Rattle.class_program.proofs.Saying.{handed_on}
 use Rattle.class_program.proofs.GoingThrough.{reach_start, next_body, reach_more, reach_broken, reach_end, reach_found, reach_less, reach_smaller}
 use Rattle.class_program.proofs.Closed.{reach_closed}
+use Rattle.class_program.proofs.Made.{reach_numbers}
 use Rattle.class_program.proofs.closing.reach.Goals as goal
 
 pub loop-next-init : goal.loop-next-init
@@ -36,7 +37,7 @@ loop-next-preserved c =
     let at : slice_get c.loop-next.refs (length c.loop-next.methods) ≡ Some c.in-Some.next = ap (slice_get c.loop-next.refs) (sym c.len.ensures) ∙ sym c.in-Some.ensures in
     let content = body_at world c.in-Some.next (next_body world c.args.entry c.loop-next.refs c.loop-next.methods c.in-Some.next c.loop-next.invariant at) in
     reach_more world c.args.entry c.loop-next.refs _ c.loop-next.methods _ c.in-Some.next content.0 c.in_ok-method.method c.loop-next.invariant at content.1
-    (c.in_ok-method.ensures content.0 content.1) (rw (← c.as_slice.ensures) c.in_ok-add_runs.ensures) c.in_ok-push.ensures.items
+    (c.in_ok-method.ensures content.0 content.1) (rw (← c.as_slice.ensures.list) c.in_ok-add_runs.ensures) c.in_ok-push.ensures.items
 
 pub returns-clause-methods : goal.returns-clause-methods
 returns-clause-methods c =
@@ -52,3 +53,11 @@ pub returns-clause-closed : goal.returns-clause-closed
 returns-clause-closed c =
     let at : slice_get c.loop-next.refs (length c.loop-next.methods) ≡ None = ap (slice_get c.loop-next.refs) (sym c.len.ensures) ∙ sym c.in_default.ensures in
     reach_closed (classes_of c.args.world.now) c.args.entry c.loop-next.refs c.loop-next.methods c.loop-next.invariant at
+
+pub returns-clause-numbers : goal.returns-clause-numbers
+returns-clause-numbers c =
+    let at : slice_get c.loop-next.refs (length c.loop-next.methods) ≡ None = ap (slice_get c.loop-next.refs) (sym c.len.ensures) ∙ sym c.in_default.ensures in
+    reach_numbers (classes_of c.args.world.now) c.args.entry c.loop-next.refs c.loop-next.methods c.loop-next.invariant at
+
+pub returns-clause-bodies : goal.returns-clause-bodies
+returns-clause-bodies c = c.loop-next.invariant.bodies

@@ -1,0 +1,250 @@
+-- Every closed program is good.
+use Rattle.std.proofs.Common.{◌≡◌, ℕ, zero, suc, ◌+◌, ◌<◌, ◌≤◌, Bool, true, false, not, cond, List, [], ◌∷◌, length, Option, Some, None, Ok, Err, refl, sym, ap, subst, inl, inr, ◌⊎◌, arith, ◌∙◌}
+use Rattle.std.specs.Prelude.{Result, map, slice_get, IfSome, IsTrue}
+use Rattle.std.specs.List.{list_all, filter_map, cons_option, flat_map}
+use Rattle.std.specs.Option.{option_map, option_map_or}
+use Rattle.std.proofs.lemmas.Bool.{and_parts}
+use Rattle.class_base.specs.declared.handler.Handler.{Handler}
+use Rattle.class_pool.specs.declared.entry.PoolEntry.{PoolEntry}
+use Rattle.class_read.specs.Content.{MethodContent, CodeContent}
+use Rattle.code_decode.specs.declared.insn.Insn.{Insn}
+use Rattle.code_decode.specs.Codes.{targets, starts, stands, decode_of}
+use Rattle.jvm_values.specs.declared.types.Slot.{Slot}
+use Rattle.jvm_values.specs.Subtyping.{IsSlot}
+use Rattle.class_world.specs.declared.fault.MethodName.{MethodName}
+use Rattle.class_world.specs.declared.world.MethodRef.{MethodRef}
+use Rattle.class_world.specs.World.{World, is_static, is_abstract}
+use Rattle.class_world.specs.Linking.{is_linked}
+use Rattle.class_world.specs.Descriptors.{class_slot}
+use Rattle.class_world.specs.Resolve.{method_at, has_body}
+use Rattle.class_program.specs.declared.op.Op.{Op}
+use Rattle.class_program.specs.declared.program.CatchRange.{CatchRange}
+use Rattle.class_program.specs.declared.program.Method.{Method}
+use Rattle.class_program.specs.declared.signature.Signature.{Signature}
+use Rattle.class_program.specs.Operands.{operand_of}
+use Rattle.class_program.specs.Said.{Said, ◌>>=◌, each}
+use Rattle.class_program.specs.Signatures.{declared_signature}
+use Rattle.class_program.specs.Ops.{op_of, pool_of}
+use Rattle.class_program.specs.Methods.{method_name, own_types, insns_of, op_said, ops_of, catch_of, range_of, table_of, with_receiver, method_of}
+use Rattle.class_program.specs.Runs.{runs}
+use Rattle.class_program.specs.Reached.{has_method, is_closed, with_new, runs_from, reached_within, method_count, reached, contents_of, methods_of, op_numbered, insns_numbered, method_numbered, close_of}
+use Rattle.class_program.specs.Instructions.{is_placed}
+use Rattle.class_program.specs.Programs.{Program, IsClosed, ref_of, refs_of}
+use Rattle.class_program.specs.Good.{AllOf, is_place, IsEnd, IsGoodOp, IsGoodRange, IsDeclared, IsGoodMethod, IsGood}
+use Rattle.class_program.proofs.Got.{got_faultless, some_same, all_imply, all_map, all_both, each_good}
+use Rattle.class_program.proofs.Rising.{bind_ok, insns_read, ops_placed, numbered_placed}
+use Rattle.class_program.proofs.Reaching.{Begins, with_new_begins}
+use Rattle.class_program.proofs.GoingThrough.{at_within}
+use Rattle.class_program.proofs.Closed.{insns_have}
+use Rattle.class_program.proofs.Made.{IsMade, method_made}
+use Rattle.class_program.proofs.GoodTypes.{IsGoodSignature, own_signature}
+use Rattle.class_program.proofs.GoodShapes.{Shape, op_shape}
+use Rattle.class_program.proofs.GoodPlaces.{places, ops_places, numbered_places, stands_so, targets_stand, code_below, IsBounded, table_bounded, catch_within}
+use Rattle.class_program.proofs.GoodCalls.{IsTyped}
+use Rattle.class_program.proofs.GoodOps.{op_good}
+
+-- ---- each method is what closing says of its declaration
+
+-- a method with its calls' numbers, and the same without them
+pub record IsMadeOf (world : World) (refs : List MethodRef) (m : Method) : Type 0 where
+  pub ref : MethodRef
+  pub content : MethodContent
+  pub there : method_at world ref ≡ Some content
+  pub plain : Method
+  pub made : IsMade world ref content plain
+  pub same : method_numbered refs plain ≡ m
+
+abbrev AreThere : World → List (MethodRef × MethodContent) → Type 0
+AreThere world xs = AllOf (λ (x : MethodRef × MethodContent). method_at world x.0 ≡ Some x.1) xs
+
+contents_there : (world : World) (refs : List MethodRef) → AreThere world (contents_of world refs)
+unfolding contents_of
+contents_there world [] = tt
+contents_there world (r ∷ rs) = go (method_at world r) refl (contents_there world rs)
+  where
+    go : (o : Option MethodContent) → method_at world r ≡ o → AreThere world (filter_map (λ ref. option_map (λ m. (ref, m)) (method_at world ref)) rs) → AreThere world (cons_option (option_map (λ m. (r, m)) o) (filter_map (λ ref. option_map (λ m. (ref, m)) (method_at world ref)) rs))
+    go None q rest = rest
+    go (Some m) q rest = (q, rest)
+
+all_made : (world : World) (entry : MethodRef) (methods : List Method) → close_of world entry ≡ Ok methods → AllOf (IsMadeOf world (reached world entry)) methods
+unfolding close_of methods_of
+all_made world entry methods e =
+    let refs = reached world entry in
+    let ms = bind_ok (each (λ x. method_of world x.0 x.1) (contents_of world refs)) _ methods e in
+    let same : map (method_numbered refs) ms.0 ≡ methods = cc in
+    let plain = each_good (λ (x : MethodRef × MethodContent). method_at world x.0 ≡ Some x.1) (λ r. IsMadeOf world refs (method_numbered refs r)) (λ x. method_of world x.0 x.1) (contents_of world refs) ms.0
+      (λ x r at made. record { ref = x.0; content = x.1; there = at; plain = r; made = method_made world x.0 x.1 r made; same = refl })
+      (contents_there world refs) ms.1 in
+    subst (λ (xs : List Method). AllOf (IsMadeOf world refs) xs) same (all_map (IsMadeOf world refs) (method_numbered refs) ms.0 plain)
+
+made_class : (world : World) (refs : List MethodRef) (m : Method) (h : IsMadeOf world refs m) → ref_of m ≡ h.ref
+made_class world refs m h = sym (ap ref_of h.same) ∙ sym (ap ref_of h.made.whole)
+
+own_types_are : (world : World) (name : MethodName) (desc : List ℕ) (s : Signature) → own_types world name desc ≡ Ok s → declared_signature world desc ≡ Ok s
+unfolding own_types
+own_types_are world name desc s e = got_faultless name 0 (declared_signature world desc) s e
+
+pub typed_of : (world : World) (refs : List MethodRef) (m : Method) → IsMadeOf world refs m → IsTyped world m
+typed_of world refs m h = subst (IsTyped world) h.same (record {
+    content = h.content;
+    there = ap (method_at world) (sym (ap ref_of h.made.whole)) ∙ h.there;
+    types = h.made.types;
+    types_are = own_types_are world (method_name world h.ref.class h.content) h.content.desc h.made.types h.made.types_are;
+    params = sym (ap (λ (r : Method). r.params) h.made.whole) ∙ ap (λ (c : ℕ). with_receiver c h.content.flags h.made.types.params) (ap (λ (r : Method). r.class) h.made.whole);
+    result = sym (ap (λ (r : Method). r.result) h.made.whole);
+  })
+
+-- ---- the parts of a method
+
+-- an instruction that is read, with its names resolved
+record IsSaid (world : World) (class : ℕ) (all : List (ℕ × Insn)) (op : Op) : Type 0 where
+  pub insn : Insn
+  pub shape : Shape world class insn (operand_of insn) op
+  pub leads : AllOf (λ t. stands (starts all) t ≡ true) (targets insn)
+
+ops_said : (world : World) (class : ℕ) (name : MethodName) (code : CodeContent) (xs : List (ℕ × Insn)) (ys : List (ℕ × Op)) → insns_of name code ≡ Ok xs → ops_of world class name xs ≡ Ok ys → AllOf (λ y. IsSaid world class xs y.1) ys
+unfolding ops_of op_said
+ops_said world class name code xs ys i o =
+    each_good (λ x. AllOf (λ t. stands (starts xs) t ≡ true) (targets x.1)) (λ y. IsSaid world class xs y.1) (op_said world class name) xs ys
+    (λ x y t e.
+      let op = bind_ok (op_of world class name x.0 x.1) _ y e in
+      let same : op.0 ≡ y.1 = cc in
+      record { insn = x.1; shape = subst (λ (z : Op). Shape world class x.1 (operand_of x.1) z) same (op_shape world class name x.0 x.1 op.0 op.1); leads = t })
+    (targets_stand code.code xs (insns_read name code xs i).0) o
+
+-- an entry of a table whose boundaries are good
+good_range : (world : World) (pool : List PoolEntry) (m : Method) (code : CodeContent) (xs : List (ℕ × Insn)) → places m.insns ≡ places xs → AllOf (λ x. x.0 < length code.code) m.insns → (h : Handler) (r : CatchRange) → IsBounded (stands (starts xs)) (length code.code) h → range_of world pool h ≡ Ok r → IsGoodRange world m r
+unfolding range_of
+good_range world pool m code xs same below h r b e =
+    let catch = bind_ok (catch_of world pool h.catch) _ r e in
+    let whole : ◌≡◌ {A = CatchRange} (record { start = h.start; end = h.end; handler = h.handler; catch = catch.0 }) r = cc in
+    subst (IsGoodRange world m) whole (record {
+      start = stands_so m.insns xs h.start same b.start;
+      end = ends b.end;
+      order = b.order;
+      handler = stands_so m.insns xs h.handler same b.handler;
+      catch = catch_within world pool h.catch catch.0 catch.1;
+    })
+  where
+    ends : (stands (starts xs) h.end ≡ true) ⊎ (h.end ≡ length code.code) → IsEnd m.insns h.end
+    ends (inl s) = inl (stands_so m.insns xs h.end same s)
+    ends (inr l) = inr (subst (λ (n : ℕ). AllOf (λ x. x.0 < n) m.insns) (sym l) below)
+
+-- places below a bound, by the list of places
+below_by : {A B : Type 0} (n : ℕ) (xs : List (ℕ × A)) (ys : List (ℕ × B)) → places ys ≡ places xs → AllOf (λ x. x.0 < n) xs → AllOf (λ y. y.0 < n) ys
+below_by n [] [] e h = tt
+below_by n [] (y ∷ ys) e h = cc
+below_by n (x ∷ xs) [] e h = cc
+below_by n (x ∷ xs) (y ∷ ys) e h =
+    let head : x.0 ≡ y.0 = cc in
+    let tail : places ys ≡ places xs = cc in
+    (subst (λ (k : ℕ). k < n) head h.0, below_by n xs ys tail h.1)
+
+has_bodies : (world : World) (methods : List Method) → list_all (has_body world) (refs_of methods) ≡ true → AllOf (λ m. has_body world (ref_of m) ≡ true) methods
+has_bodies world [] e = tt
+has_bodies world (m ∷ ms) e = let r = and_parts (has_body world (ref_of m)) (list_all (has_body world) (refs_of ms)) e in (r.0, has_bodies world ms r.1)
+
+run_there : (refs : List MethodRef) (world : World) (xs : List (ℕ × Op)) → list_all (λ y. list_all (has_method refs) (runs world y.1)) xs ≡ true → AllOf (λ y. list_all (has_method refs) (runs world y.1) ≡ true) xs
+run_there refs world [] e = tt
+run_there refs world (x ∷ xs) e = let r = and_parts (list_all (has_method refs) (runs world x.1)) (list_all (λ y. list_all (has_method refs) (runs world y.1)) xs) e in (r.0, run_there refs world xs r.1)
+
+all_run : (refs : List MethodRef) (world : World) (ms : List Method) → list_all (λ m. list_all (λ y. list_all (has_method refs) (runs world y.1)) m.insns) ms ≡ true → AllOf (λ m. AllOf (λ y. list_all (has_method refs) (runs world y.1) ≡ true) m.insns) ms
+all_run refs world [] e = tt
+all_run refs world (m ∷ ms) e = let r = and_parts (list_all (λ y. list_all (has_method refs) (runs world y.1)) m.insns) (list_all (λ x. list_all (λ y. list_all (has_method refs) (runs world y.1)) x.insns) ms) e in (run_there refs world m.insns r.0, all_run refs world ms r.1)
+
+-- the same instructions with their calls' numbers
+good_insns : (p : Program) (m : Method) (all : List (ℕ × Insn)) (ops : List (ℕ × Op)) → is_linked p.world ≡ true → list_all (has_body p.world) (refs_of p.methods) ≡ true → AllOf (IsTyped p.world) p.methods → places m.insns ≡ places all
+    → AllOf (λ y. IsSaid p.world m.class all y.1) ops → AllOf (λ y. list_all (has_method (refs_of p.methods)) (runs p.world y.1) ≡ true) (insns_numbered (refs_of p.methods) ops) → AllOf (λ y. IsGoodOp p m y.1) (insns_numbered (refs_of p.methods) ops)
+good_insns p m all [] linked bodies typed same said run = tt
+good_insns p m all (y ∷ ys) linked bodies typed same said run =
+    let s = said.0 in
+    (op_good p linked bodies typed m s.insn (operand_of s.insn) y.1 refl s.shape run.0 (all_imply (λ t. stands (starts all) t ≡ true) (λ t. is_place m.insns t ≡ true) (targets s.insn) (λ t q. stands_so m.insns all t same q) s.leads),
+    good_insns p m all ys linked bodies typed same said.1 run.1)
+
+slots_with : (world : World) (class flags : ℕ) (params : List Slot) → class < length world → AllOf (IsSlot (length world)) params → AllOf (IsSlot (length world)) (with_receiver class flags params)
+slots_with world class flags params l h = go (is_static flags)
+  where
+    go : (b : Bool) → AllOf (IsSlot (length world)) (cond b params (class_slot 0 class ∷ params))
+    go true = h
+    go false = ((omega arith, l), h)
+
+bodied_is : (world : World) (ref : MethodRef) (m : MethodContent) → method_at world ref ≡ Some m → has_body world ref ≡ true → is_abstract m.flags ≡ false
+bodied_is world ref m e b = go (is_abstract m.flags) (sym (ap (λ (o : Option MethodContent). not (option_map_or (λ x. is_abstract x.flags) o true)) e) ∙ b)
+  where
+    go : (a : Bool) → not a ≡ true → a ≡ false
+    go false q = refl
+    go true q = cc
+
+good_table : (world : World) (pool : List PoolEntry) (m : Method) (code : CodeContent) (xs : List (ℕ × Insn)) (table : List CatchRange) → places m.insns ≡ places xs → AllOf (λ x. x.0 < length code.code) m.insns → AllOf (λ h. IsBounded (stands (starts xs)) (length code.code) h) code.table → table_of world pool code.table ≡ Ok table → AllOf (IsGoodRange world m) table
+unfolding table_of
+good_table world pool m code xs table same below bounded e = each_good (λ h. IsBounded (stands (starts xs)) (length code.code) h) (IsGoodRange world m) (range_of world pool) code.table table (λ h r b s. good_range world pool m code xs same below h r b s) bounded e
+
+-- the entry is the first of the reached methods
+entry_first : (world : World) (entry : MethodRef) → (rest : List MethodRef) × (reached world entry ≡ entry ∷ rest)
+unfolding reached reached_within
+entry_first world entry = go (method_count world)
+  where
+    go : (n : ℕ) → (rest : List MethodRef) × (reached_within world entry n ≡ entry ∷ rest)
+    go zero = ([], refl)
+    go (suc n) = let b = with_new_begins (entry ∷ []) (flat_map (runs_from world) (reached_within world entry n)) in (b.0, b.1)
+
+-- a method with its calls' numbers
+good_method : (p : Program) → is_linked p.world ≡ true → list_all (has_body p.world) (refs_of p.methods) ≡ true → AllOf (IsTyped p.world) p.methods → (ref : MethodRef) (content : MethodContent) (r : Method) → method_at p.world ref ≡ Some content → IsMade p.world ref content r → has_body p.world ref ≡ true
+    → AllOf (λ y. list_all (has_method (refs_of p.methods)) (runs p.world y.1) ≡ true) (insns_numbered (refs_of p.methods) r.insns) → IsGoodMethod p (method_numbered (refs_of p.methods) r)
+good_method p linked bodies typed ref content r at made body run =
+    let refs = refs_of p.methods in
+    let name = method_name p.world ref.class content in
+    let m = method_numbered refs r in
+    let within = at_within p.world ref content at in
+    let class : ref.class ≡ m.class = ap (λ (x : Method). x.class) made.whole in
+    let ops : made.ops ≡ r.insns = ap (λ (x : Method). x.insns) made.whole in
+    let read = insns_read name made.code made.insns made.insns_are in
+    let same : places m.insns ≡ places made.insns = numbered_places refs r.insns ∙ sym (ap (λ (xs : List (ℕ × Op)). places xs) ops) ∙ ops_places p.world ref.class name made.insns made.ops made.ops_are in
+    let signature = (own_signature p.world content.desc made.types (own_types_are p.world name content.desc made.types made.types_are)).3 in
+    let said = subst (λ (c : ℕ). AllOf (λ y. IsSaid p.world c made.insns y.1) made.ops) class (ops_said p.world ref.class name made.code made.insns made.ops made.insns_are made.ops_are) in
+    let params : with_receiver ref.class content.flags made.types.params ≡ m.params = ap (λ (x : Method). x.params) made.whole in
+    let result : made.types.result ≡ m.result = ap (λ (x : Method). x.result) made.whole in
+    let table : made.table ≡ m.table = ap (λ (x : Method). x.table) made.whole in
+    record {
+      class = subst (λ (c : ℕ). c < length p.world) class within;
+      declared = record {
+        content = content;
+        there = ap (method_at p.world) (sym (ap ref_of made.whole)) ∙ at;
+        body = bodied_is p.world ref content at body;
+        name = sym (ap (λ (x : Method). x.name) made.whole);
+        desc = sym (ap (λ (x : Method). x.desc) made.whole);
+      };
+      params = subst (λ (xs : List Slot). AllOf (IsSlot (length p.world)) xs) params (slots_with p.world ref.class content.flags made.types.params within signature.params);
+      result = subst (λ (o : Option Slot). IfSome o (IsSlot (length p.world))) result signature.result;
+      placed = numbered_placed refs r.insns ∙ sym (ap (λ (xs : List (ℕ × Op)). is_placed xs) ops) ∙ ops_placed p.world ref.class name made.code made.insns made.ops made.insns_are made.ops_are;
+      insns = good_insns p m made.insns r.insns linked bodies typed same (subst (λ (xs : List (ℕ × Op)). AllOf (λ y. IsSaid p.world m.class made.insns y.1) xs) ops said) run;
+      table = subst (λ (xs : List CatchRange). AllOf (IsGoodRange p.world m) xs) table (good_table p.world (pool_of p.world ref.class) m made.code made.insns made.table same (below_by (length made.code.code) made.insns m.insns same (code_below made.code.code made.insns read.0)) (table_bounded made.code made.insns read.1) made.table_is);
+    }
+
+-- ---- the program
+
+good_all : (p : Program) → is_linked p.world ≡ true → list_all (has_body p.world) (refs_of p.methods) ≡ true → AllOf (IsTyped p.world) p.methods → (refs : List MethodRef) → refs ≡ refs_of p.methods → (ms : List Method) → AllOf (IsMadeOf p.world refs) ms → AllOf (λ m. has_body p.world (ref_of m) ≡ true) ms → AllOf (λ m. AllOf (λ y. list_all (has_method (refs_of p.methods)) (runs p.world y.1) ≡ true) m.insns) ms → AllOf (IsGoodMethod p) ms
+good_all p linked bodies typed refs e [] made body run = tt
+good_all p linked bodies typed refs e (m ∷ ms) made body run =
+    let h = made.0 in
+    let same : method_numbered (refs_of p.methods) h.plain ≡ m = ap (λ (xs : List MethodRef). method_numbered xs h.plain) (sym e) ∙ h.same in
+    let own : ref_of m ≡ h.ref = made_class p.world refs m h in
+    (subst (IsGoodMethod p) same (good_method p linked bodies typed h.ref h.content h.plain h.there h.made (subst (λ (r : MethodRef). has_body p.world r ≡ true) own body.0) (subst (λ (x : Method). AllOf (λ y. list_all (has_method (refs_of p.methods)) (runs p.world y.1) ≡ true) x.insns) (sym same) run.0)),
+    good_all p linked bodies typed refs e ms made.1 body.1 run.1)
+
+pub good_program : (p : Program) → IsClosed p → IsGood p
+good_program p h =
+    let refs = reached p.world p.entry in
+    let made = all_made p.world p.entry p.methods h.made in
+    let typed = all_imply (IsMadeOf p.world refs) (IsTyped p.world) p.methods (typed_of p.world refs) made in
+    record {
+      first = first_of p.methods (h.reaches);
+      methods = good_all p h.linked h.bodies typed refs (sym h.reaches) p.methods made (has_bodies p.world p.methods h.bodies) (all_run (refs_of p.methods) p.world p.methods (insns_have p.world (refs_of p.methods) p.methods h.whole));
+    }
+  where
+    first_of : (ms : List Method) → refs_of ms ≡ reached p.world p.entry → (m : Method) × (slice_get ms 0 ≡ Some m) × (ref_of m ≡ p.entry)
+    first_of ms e = let f = entry_first p.world p.entry in head ms f.0 (e ∙ f.1)
+      where
+        head : (xs : List Method) (rest : List MethodRef) → refs_of xs ≡ p.entry ∷ rest → (m : Method) × (slice_get xs 0 ≡ Some m) × (ref_of m ≡ p.entry)
+        head [] rest q = cc
+        head (x ∷ xs) rest q = let same : ref_of x ≡ p.entry = cc in (x, refl, same)

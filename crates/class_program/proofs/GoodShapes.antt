@@ -1,0 +1,77 @@
+-- What an instruction is whose names could be resolved, by what it takes from the constant pool.
+use Rattle.std.proofs.Common.{◌≡◌, ℕ, ◌<◌, Bool, true, false, cond, eqb, ltb, List, length, Option, Some, None, Ok, Err, refl, sym, ap, subst, ◌∙◌}
+use Rattle.std.specs.Prelude.{Result, ℤ, is_none}
+use Rattle.std.specs.Option.{option_map, option_map_or, is_some}
+use Rattle.std.proofs.lemmas.Bool.{ltb-true, and_parts}
+use Rattle.class_pool.specs.declared.entry.PoolEntry.{PoolEntry}
+use Rattle.class_pool.specs.Text.{class_name_at, integer_at, tag_at}
+use Rattle.code_decode.specs.declared.insn.Insn.{Insn}
+use Rattle.jvm_values.specs.Kinds.{kind_of_code}
+use Rattle.jvm_values.specs.declared.types.Ty.{Ty}
+use Rattle.jvm_values.specs.Subtyping.{IsReference}
+use Rattle.class_world.specs.World.{World}
+use Rattle.class_world.specs.declared.fault.MethodName.{MethodName}
+use Rattle.class_program.specs.declared.refusal.Refusal.{Refusal}
+use Rattle.class_program.specs.declared.refusal.Refusal.TheVariants.{UnsupportedType, Unresolved}
+use Rattle.class_program.specs.declared.operand.Operand.{Operand}
+use Rattle.class_program.specs.declared.operand.Operand.TheVariants as operands
+use Rattle.class_program.specs.declared.operand.ClassForm.{ClassForm}
+use Rattle.class_program.specs.declared.op.Op.{Op}
+use Rattle.class_program.specs.declared.op.Op.TheVariants.{Plain, Constant}
+use Rattle.class_program.specs.declared.op.Call.{Call}
+use Rattle.class_program.specs.declared.op.FieldUse.{FieldUse}
+use Rattle.class_program.specs.Operands.{Member, operand_of}
+use Rattle.class_program.specs.Refusals.{◌>>=◌, wanted}
+use Rattle.class_program.specs.Ops.{is_other_constant, constant_of, type_named, type_operand, class_op, field_of, field_op, member_operand, member_tag, call_of, call_op, numbers_op, field_operand, class_operand, call_operand, op_with, pool_of, op_of}
+use Rattle.class_program.proofs.Got.{got, got_wanted, got_faultless}
+use Rattle.class_program.proofs.GoodTypes.{named_type}
+
+abbrev pub Shape : World → ℕ → Insn → Operand → Op → Type 0
+Shape world current insn operands.Nothing op = op ≡ Plain insn
+Shape world current insn (operands.Numbers code) op = (op ≡ Plain insn) × (is_none (kind_of_code code) ≡ false)
+Shape world current insn (operands.Constant entry) op = (v : ℤ) × (op ≡ Constant v)
+Shape world current insn operands.StaticField op = ⊥
+Shape world current insn (operands.Field form entry) op = (m : Member) × (used : FieldUse) × (field_of world m ≡ Ok used) × (op ≡ field_op form used)
+Shape world current insn (operands.Class form entry) op = (t : Ty) × IsReference (length world) t × (class_op world form t ≡ Ok op)
+Shape world current insn (operands.Call form entry) op = (m : Member) × (call : Call) × (call_of world current form m ≡ Ok call) × (op ≡ call_op form call)
+
+constant_shape : (pool : List PoolEntry) (entry : ℕ) (op : Op) → constant_of pool entry ≡ Ok op → (v : ℤ) × (op ≡ Constant v)
+unfolding constant_of
+constant_shape pool entry op e = go (integer_at pool entry) (is_other_constant (tag_at pool entry)) e
+  where
+    go : (o : Option ℤ) (b : Bool) → option_map_or (λ value. Ok (Constant value)) o (cond b (Err UnsupportedType) (Err Unresolved)) ≡ Ok op → (v : ℤ) × (op ≡ Constant v)
+    go (Some v) b f = (v, cc)
+    go None true f = cc
+    go None false f = cc
+
+numbers_shape : (insn : Insn) (code : ℕ) (op : Op) → numbers_op insn code ≡ Ok op → (op ≡ Plain insn) × (is_none (kind_of_code code) ≡ false)
+unfolding numbers_op
+numbers_shape insn code op e = go (is_none (kind_of_code code)) refl e
+  where
+    go : (b : Bool) → is_none (kind_of_code code) ≡ b → cond b (Err UnsupportedType) (Ok (Plain insn)) ≡ Ok op → (op ≡ Plain insn) × (is_none (kind_of_code code) ≡ false)
+    go true q f = cc
+    go false q f = (cc, q)
+
+pub shape_of : (world : World) (current : ℕ) (pool : List PoolEntry) (insn : Insn) (operand : Operand) (op : Op) → op_with world current pool insn operand ≡ Ok op → Shape world current insn operand op
+unfolding op_with field_operand class_operand call_operand type_operand
+shape_of world current pool insn operands.Nothing op e = cc
+shape_of world current pool insn (operands.Numbers code) op e = numbers_shape insn code op e
+shape_of world current pool insn (operands.Constant entry) op e = constant_shape pool entry op e
+shape_of world current pool insn operands.StaticField op e = cc
+shape_of world current pool insn (operands.Field form entry) op e =
+    let m = got (member_operand pool 9 entry) _ op e in
+    let used = got (field_of world m.0) _ op m.2 in
+    (m.0, used.0, used.1, cc)
+shape_of world current pool insn (operands.Class form entry) op e =
+    let t = got (wanted (class_name_at pool entry) >>= type_named world) _ op e in
+    let name = got (wanted (class_name_at pool entry)) _ t.0 t.1 in
+    (t.0, named_type world name.0 t.0 name.2, t.2)
+shape_of world current pool insn (operands.Call form entry) op e =
+    let m = got (member_operand pool (member_tag form) entry) _ op e in
+    let call = got (call_of world current form m.0) _ op m.2 in
+    (m.0, call.0, call.1, cc)
+
+-- the instruction at a place of a method that a class declares
+pub op_shape : (world : World) (class : ℕ) (name : MethodName) (pc : ℕ) (insn : Insn) (op : Op) → op_of world class name pc insn ≡ Ok op → Shape world class insn (operand_of insn) op
+unfolding op_of
+op_shape world class name pc insn op e = shape_of world class (pool_of world class) insn (operand_of insn) op (got_faultless name pc (op_with world class (pool_of world class) insn (operand_of insn)) op e)
