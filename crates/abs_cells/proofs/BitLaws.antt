@@ -1,9 +1,9 @@
 -- One bit of a word, and rows of words.
-use Rattle.std.proofs.Common.{◌≡◌, ◌≢◌, ℕ, zero, suc, ◌+◌, ◌-◌, ◌*◌, ◌/◌, ◌%◌, ◌^◌, ◌<◌, ◌≤◌, Bool, true, false, ◌&&◌, ◌||◌, eqb, List, [], ◌∷◌, ◌⊎◌, inl, inr, refl, sym, ap, ◌∙◌, arith, w64, bit_or, eq-eqb, get_or, set, length}
-use Rattle.std.specs.Int.{bit_at}
+use Rattle.std.proofs.Common.{◌≡◌, ◌≢◌, ℕ, zero, suc, ◌+◌, ◌-◌, ◌*◌, ◌/◌, ◌%◌, ◌^◌, ◌<◌, ◌≤◌, Bool, true, false, ◌&&◌, ◌||◌, eqb, List, [], ◌∷◌, ◌⊎◌, inl, inr, refl, sym, ap, ◌∙◌, arith, w64, bit_or, bit_and, not, eq-eqb, get_or, set, length}
+use Rattle.std.specs.Int.{bit_at, bit_not}
 use Rattle.abs_cells.specs.IdSets.{has_bit}
 use Rattle.std.proofs.lemmas.Bool.{cases_eq, ne_eqb, eqb-true, and_parts}
-use Rattle.std.proofs.lemmas.Nat.Bits.{bit_at_set_same, bit_at_set_other, bit_at-zero}
+use Rattle.std.proofs.lemmas.Nat.Bits.{bit_at_set_same, bit_at_set_other, bit_at_clear_same, bit_at_clear_other, bit_at-zero}
 
 -- a bit is set
 pub with_bit : (word bit n : ℕ) → bit < 64 → eqb (bit_at (bit_or word (1 * 2 ^ bit % 2 ^ 64)) n) 1 ≡ (eqb n bit || eqb (bit_at word n) 1)
@@ -24,3 +24,10 @@ zero_word (w ∷ words) (suc n) h = zero_word words n (and_parts (eqb w 0) (all_
 
 pub no_bit : (words : List ℕ) (n : ℕ) → all_zero words ≡ true → has_bit words n ≡ false
 no_bit words n h = ap (λ (w : ℕ). eqb (bit_at w (n % 64)) 1) (zero_word words (n / 64) h) ∙ ap (λ (b : ℕ). eqb b 1) (bit_at-zero (n % 64))
+
+-- a bit is cleared
+pub without_bit : (word bit n : ℕ) → bit < 64 → n < 64 → eqb (bit_at (bit_and word (bit_not w64 (1 * 2 ^ bit % 2 ^ 64))) n) 1 ≡ (not (eqb n bit) && eqb (bit_at word n) 1)
+without_bit word bit n l m = elim (cases_eq n bit) [
+  | inl e ↦ ap (λ (k : ℕ). eqb (bit_at (bit_and word (bit_not w64 (1 * 2 ^ bit % 2 ^ 64))) k) 1) e ∙ ap (λ (b : ℕ). eqb b 1) (bit_at_clear_same w64 word bit l) ∙ sym (ap (λ (t : Bool). not t && eqb (bit_at word n) 1) (eq-eqb n bit e))
+  | inr d ↦ ap (λ (b : ℕ). eqb b 1) (bit_at_clear_other w64 word bit l n m d) ∙ sym (ap (λ (t : Bool). not t && eqb (bit_at word n) 1) (ne_eqb n bit d))
+]

@@ -1,6 +1,9 @@
 pub mod BitLaws
 pub mod Checking
 pub mod Fitting
+pub mod PackedCalls
+pub mod PackedLaws
+pub mod PackedLooks
 pub mod PairLaws
 pub mod PatternLaws
 pub mod Replaying

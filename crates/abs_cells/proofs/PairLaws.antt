@@ -243,7 +243,7 @@ take_away p (q ∷ rest) h = elim (standing p q) [
   ]
 ]
 
-without_none : (p : ℕ × ℕ) (xs : List (ℕ × ℕ)) → has_pair p xs ≡ false → without_pair p xs ≡ xs
+pub without_none : (p : ℕ × ℕ) (xs : List (ℕ × ℕ)) → has_pair p xs ≡ false → without_pair p xs ≡ xs
 without_none p [] h = refl
 without_none p (q ∷ rest) h = elim (bool_cases (is_same p q)) [
   | inl s ↦ absurd (false≢true (sym h ∙ or_true (is_same p q) (has_pair p rest) s))

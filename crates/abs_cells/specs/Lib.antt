@@ -4,6 +4,7 @@ pub mod Closures
 pub mod Fits
 pub mod IdSets
 pub mod Laws
+pub mod PackedBits
 pub mod PairLists
 pub mod Patterns
 pub mod Replays

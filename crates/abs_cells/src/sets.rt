@@ -1,5 +1,5 @@
 //! Sets of ids.
-ghost use Rattle.std.specs.Prelude.{◌≡◌, ℕ, ◌<◌, ◌==◌, ◌||◌, false};
+ghost use Rattle.std.specs.Prelude.{◌≡◌, ℕ, ◌<◌, ◌==◌, ◌||◌, false, slice_index};
 ghost use Rattle.std.specs.Int.{bit_at};
 ghost use Rattle.abs_cells.specs.IdSets.{has_id};
 
@@ -22,7 +22,7 @@ impl Model for IdSet {
 }
 
 /// A word with one more bit set.
-fn with_bit(word: u64, bit: usize) -> u64
+pub(crate) fn with_bit(word: u64, bit: usize) -> u64
     requires { bit < 64 }
     ensures { (n : ℕ) → (bit_at result n == 1) ≡ ((n == bit) || (bit_at word n == 1)) }
 {
@@ -30,7 +30,7 @@ fn with_bit(word: u64, bit: usize) -> u64
 }
 
 /// Whether a bit of a word is set.
-fn has_bit(word: u64, bit: usize) -> bool
+pub(crate) fn has_bit(word: u64, bit: usize) -> bool
     requires { bit < 64 }
     ensures { result ≡ (bit_at word bit == 1) }
 {
@@ -62,5 +62,13 @@ impl IdSet {
             Some(word) => has_bit(*word, usize::from(a) % 64),
             None => false,
         }
+    }
+
+    /// The bits of the numbers from `64 * n` on, the lowest first.
+    pub(crate) fn word(&self, n: usize) -> u64
+        requires { n < 32 }
+        ensures { result ≡ slice_index self.now n }
+    {
+        self.words[n]
     }
 }
