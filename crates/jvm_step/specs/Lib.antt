@@ -1,0 +1,5 @@
+pub mod Operands
+pub mod Effects
+pub mod Table
+pub mod Running
+pub mod Acts

@@ -1,0 +1,75 @@
+-- The machine's table: the effect of each form of instruction, in a method of a program.
+use Rattle.std.specs.Prelude.{true, false, List, Option, Some}
+use Rattle.std.specs.Option.{option_map}
+use Rattle.jvm_values.specs.declared.heap.Value.{Value}
+use Rattle.jvm_values.specs.declared.heap.Value.TheVariants as values
+use Rattle.jvm_values.specs.declared.heap.Heap.{Heap}
+use Rattle.jvm_values.specs.States.{MachineFrame}
+use Rattle.class_program.specs.declared.op.Op.TheVariants as ops
+use Rattle.class_program.specs.declared.program.Method.{Method}
+use Rattle.op_forms.specs.Forms.{Form}
+use Rattle.op_forms.specs.Forms.Form.{Nop, AconstNull, Iconst, Iload, Aload, Istore, Astore, Iinc, Shuffle, Arith, Ineg, Narrow, If, IfIcmp, IfAcmpeq, IfAcmpne, Ifnull, Ifnonnull, Goto, Tableswitch, Lookupswitch, Ireturn, Areturn, Return, Getstatic, Putstatic, Getfield, Putfield, Invokevirtual, Invokespecial, Invokestatic, Invokeinterface, New, Newarray, Anewarray, Arraylength, NumberLoad, Aaload, NumberStore, Aastore, Athrow, Checkcast, Instanceof}
+use Rattle.class_program.specs.Programs.{Program}
+use Rattle.jvm_step.specs.Effects.{Effect, effect_on, types_of, constant_effect, iload_effect, aload_effect, istore_effect, astore_effect, iinc_effect, shuffle_effect, arith_effect, ineg_effect, narrow_effect, if_effect, if_icmp_effect, if_acmp_effect, if_null_effect, goto_effect, tableswitch_effect, lookupswitch_effect, invokestatic_effect, invokespecial_effect, selecting_effect, ireturn_effect, areturn_effect, return_effect, athrow_effect, getstatic_effect, putstatic_effect, getfield_effect, putfield_effect, new_effect, newarray_effect, anewarray_effect, arraylength_effect, number_load_effect, aaload_effect, number_store_effect, aastore_effect, checkcast_effect, instanceof_effect}
+
+-- what an instruction works on: the frame that runs it, the values of the static fields, and the heap
+pub record Work : Type 0 where
+  pub frame : MachineFrame
+  pub statics : List Value
+  pub heap : Heap
+
+-- an effect on the frame alone, on it and the heap, or on it and the static fields, as one on all three
+abbrev pub on_frame : Work → Option (Effect MachineFrame) → Option (Effect Work)
+on_frame work effect = option_map (effect_on (λ frame. record work { frame = frame })) effect
+
+abbrev pub on_heap : Work → Option (Effect (MachineFrame × Heap)) → Option (Effect Work)
+on_heap work effect = option_map (effect_on (λ x. record work { frame = x.0; heap = x.1 })) effect
+
+abbrev pub on_statics : Work → Option (Effect (MachineFrame × List Value)) → Option (Effect Work)
+on_statics work effect = option_map (effect_on (λ x. record work { frame = x.0; statics = x.1 })) effect
+
+-- the table
+abbrev pub effect_of : Program → Method → Form → Work → Option (Effect Work)
+effect_of p m Nop work = Some (Effect.Next work)
+effect_of p m AconstNull work = on_frame work (constant_effect values.Null work.frame)
+effect_of p m (Iconst n) work = on_frame work (constant_effect (values.Int n) work.frame)
+effect_of p m (Iload n) work = on_frame work (iload_effect n work.frame)
+effect_of p m (Aload n) work = on_frame work (aload_effect n work.frame)
+effect_of p m (Istore n) work = on_frame work (istore_effect n work.frame)
+effect_of p m (Astore n) work = on_frame work (astore_effect n work.frame)
+effect_of p m (Iinc n by) work = on_frame work (iinc_effect n by work.frame)
+effect_of p m (Shuffle shuffle) work = on_frame work (shuffle_effect shuffle work.frame)
+effect_of p m (Arith op) work = on_frame work (arith_effect op work.frame)
+effect_of p m Ineg work = on_frame work (ineg_effect work.frame)
+effect_of p m (Narrow kind) work = on_frame work (narrow_effect kind work.frame)
+effect_of p m (If cond place) work = on_frame work (if_effect cond place work.frame)
+effect_of p m (IfIcmp cond place) work = on_frame work (if_icmp_effect cond place work.frame)
+effect_of p m (IfAcmpeq place) work = on_frame work (if_acmp_effect true place work.frame)
+effect_of p m (IfAcmpne place) work = on_frame work (if_acmp_effect false place work.frame)
+effect_of p m (Ifnull place) work = on_frame work (if_null_effect true place work.frame)
+effect_of p m (Ifnonnull place) work = on_frame work (if_null_effect false place work.frame)
+effect_of p m (Goto place) work = on_frame work (goto_effect place work.frame)
+effect_of p m (Tableswitch default low targets) work = on_frame work (tableswitch_effect default low targets work.frame)
+effect_of p m (Lookupswitch default cases) work = on_frame work (lookupswitch_effect default cases work.frame)
+effect_of p m Ireturn work = on_frame work (ireturn_effect m.result work.frame)
+effect_of p m Areturn work = on_frame work (areturn_effect (types_of p.world) m.result work.heap work.frame)
+effect_of p m Return work = on_frame work (return_effect m.result work.frame)
+effect_of p m (Getstatic place) work = on_frame work (getstatic_effect place work.statics work.frame)
+effect_of p m (Putstatic place) work = on_statics work (putstatic_effect (types_of p.world) p.statics place work.heap work.frame work.statics)
+effect_of p m (Getfield used) work = on_frame work (getfield_effect (types_of p.world) used work.heap work.frame)
+effect_of p m (Putfield used) work = on_heap work (putfield_effect (types_of p.world) used work.frame work.heap)
+effect_of p m (Invokevirtual call) work = on_frame work (selecting_effect p (ops.Invokevirtual call) call work.heap work.frame)
+effect_of p m (Invokespecial call) work = on_frame work (invokespecial_effect p.world m.class call work.heap work.frame)
+effect_of p m (Invokestatic call) work = on_frame work (invokestatic_effect (types_of p.world) call work.heap work.frame)
+effect_of p m (Invokeinterface call) work = on_frame work (selecting_effect p (ops.Invokeinterface call) call work.heap work.frame)
+effect_of p m (New t) work = on_heap work (new_effect (types_of p.world) t work.frame work.heap)
+effect_of p m (Newarray kind) work = on_heap work (newarray_effect kind work.frame work.heap)
+effect_of p m (Anewarray t) work = on_heap work (anewarray_effect t work.frame work.heap)
+effect_of p m Arraylength work = on_frame work (arraylength_effect work.heap work.frame)
+effect_of p m (NumberLoad for) work = on_frame work (number_load_effect for work.heap work.frame)
+effect_of p m Aaload work = on_frame work (aaload_effect work.heap work.frame)
+effect_of p m (NumberStore for) work = on_heap work (number_store_effect for work.frame work.heap)
+effect_of p m Aastore work = on_heap work (aastore_effect (types_of p.world) work.frame work.heap)
+effect_of p m Athrow work = on_frame work (athrow_effect (types_of p.world) work.heap work.frame)
+effect_of p m (Checkcast t) work = on_frame work (checkcast_effect (types_of p.world) t work.heap work.frame)
+effect_of p m (Instanceof t) work = on_frame work (instanceof_effect (types_of p.world) t work.heap work.frame)
