@@ -256,3 +256,14 @@ need_told told missing weigh rule end target multipliers sum fit under h is none
 
 pub need_refused : (missing : DescentFault) (weigh : ℕ → ℤ) (rule : PathRule) (target : Target) (multipliers : List (ℕ × ℤ)) (fault : LinFault) → first_fault (rows_under weigh rule.rows) multipliers ≡ Some fault → need missing weigh rule target multipliers ≡ Some (Lin fault)
 need_refused missing weigh rule target multipliers fault e = ap (need_fault missing (shows_target rule.vars (rows_under weigh rule.rows) target multipliers)) e
+
+-- what is told of a row that has no other fault
+pub shown_done : (taken told : Bool) (found : Option DescentFault) (missing : DescentFault) → taken ≡ true → found ≡ cond told None (Some missing) → told ≡ true → None ≡ cond taken found (Some missing)
+shown_done true true found missing t e h = sym e
+shown_done true false found missing t e h = absurd (cc)
+shown_done false told found missing t e h = absurd (cc)
+
+pub missing_done : (taken told : Bool) (found : Option DescentFault) (missing : DescentFault) → taken ≡ true → found ≡ cond told None (Some missing) → told ≡ false → Some missing ≡ cond taken found (Some missing)
+missing_done true true found missing t e h = absurd (cc)
+missing_done true false found missing t e h = sym e
+missing_done false told found missing t e h = refl

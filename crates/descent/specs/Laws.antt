@@ -7,6 +7,7 @@ use Rattle.lin_core.specs.Weights.{weight_in, AreWeights}
 use Rattle.lin_core.proofs.Signs.{mul-zero_ℤ}
 use Rattle.descent.specs.declared.faults.DescentFault.{DescentFault}
 use Rattle.descent.specs.declared.faults.DescentFault.TheVariants.{NotWeak, NotStrict, NotBounded}
+use Rattle.descent.specs.declared.proof.CutForm.{CutForm}
 use Rattle.descent.specs.declared.rules.PathRule.{PathRule}
 use Rattle.descent.specs.Chains.{Agree}
 use Rattle.descent.specs.Conditions.{IsRule}
@@ -94,3 +95,17 @@ ranking_laws ranking weights = record {
 -- every ranking with weights of at least 0 keeps the laws of orders
 abbrev pub RankingsKeepLaws : Type 0
 RankingsKeepLaws = (ranking : Ranking) → AreWeights ranking.weights → OrderLaws (weak_fault ranking) (strict_fault ranking) (bounded_fault ranking) (λ rule. takes_start ranking rule ≡ true) (λ rule. takes_end ranking rule ≡ true) (start_value ranking) (end_value ranking)
+
+-- the form at a rule's start is over the rule's variables
+pub under_start : (ranking : Ranking) (rule : PathRule) → IsRule rule → Under rule.vars (start_of ranking rule).terms
+under_start ranking rule fit = under_line rule.vars ranking (form_at ranking.forms rule.from) rule.first fit.first
+
+-- what the two orders rank by
+abbrev pub linear_ranking : List CutForm → Ranking
+linear_ranking forms = record { forms = forms; weights = []; sizes = false }
+
+abbrev pub size_ranking : List (ℕ × ℤ) → List CutForm → Ranking
+size_ranking weights forms = record { forms = forms; weights = weights; sizes = true }
+
+pub no_weights : AreWeights []
+no_weights = λ i d w. absurd (omega arith)

@@ -8,10 +8,11 @@ ghost use Rattle.descent.specs.Conditions.{AreForms, AreFew, AreMultiples, AreSl
 ghost use Rattle.descent.specs.Lines.{AddsLine};
 ghost use Rattle.descent.specs.Rankings.{Ranking, weigh_of, form_at, ints_of, sizes_of, base_of, entry_terms, entry_constant, is_taken, takes_start, takes_end, line_of, beyond_base, start_of, fall_of, minus_one, need, refuses, dead_fault};
 
+use crate::faults::DescentFault;
 use crate::proof::CutForm;
 use crate::ranking::{add_entries, form_at, have_slots};
 use crate::rules::{PathRule, SlotForm};
-use lin_core::Scratch;
+use lin_core::{Scratch, combine};
 use std::marker::Model;
 
 /// The first number, less the second.
@@ -97,6 +98,13 @@ impl<'a> Ranks<'a> {
     {
         have_slots(slots, false, self.ints(cut)) && have_slots(slots, true, self.sizes(cut))
     }
+    /// Whether each id of the forms at both ends of a rule has a slot.
+    fn takes_both(&self, rule: &PathRule) -> bool
+        ensures { result ≡ (takes_start self.now rule.now && takes_end self.now rule.now) }
+    {
+        self.takes(rule.from, rule.first.as_slice()) && self.takes(rule.to, rule.last.as_slice())
+    }
+
     /// Adds the form of a cut to a sum, its constant aside, or takes it away.
     fn add_line(&self, scratch: &mut Scratch, cut: u32, slots: &[SlotForm], negative: bool)
         requires weights { AreWeights self.now.weights }
@@ -151,5 +159,82 @@ impl<'a> Ranks<'a> {
     {
         self.add_line(scratch, rule.from, rule.first.as_slice(), true);
         scratch.leaves(&i128::from(self.base(rule.from)))
+    }
+
+    /// That the form at a rule's start minus the form at its end is at least `fall`, else what is missing.
+    pub(crate) fn falls(
+        &self,
+        missing: DescentFault,
+        fall: &i64,
+        rule: &PathRule,
+        multipliers: &[(u32, i64)],
+        scratch: &mut Scratch,
+    ) -> Result<(), DescentFault>
+        requires weights { AreWeights self.now.weights }
+        requires forms { AreForms self.now.forms }
+        requires rule { IsRule rule.now }
+        requires few { AreFew multipliers.now }
+        requires vars { rule.now.vars ≤ variables scratch.old }
+        ensures fault { result_err result ≡ (if takes_start self.now rule.now && takes_end self.now rule.now then need missing (weigh_of self.now) rule.now (fall_of self.now fall.now rule.now) multipliers.now else Some missing) }
+        ensures over { variables scratch.new ≡ variables scratch.old }
+    {
+        if !self.takes_both(rule) {
+            return Err(missing);
+        }
+        combined(rule, self.weights, multipliers, scratch)?;
+        if self.leaves_fall(fall, rule, scratch) {
+            Ok(())
+        } else {
+            Err(missing)
+        }
+    }
+
+    /// That the form at a rule's start is at least 0, else what is missing.
+    pub(crate) fn starts(
+        &self,
+        missing: DescentFault,
+        rule: &PathRule,
+        multipliers: &[(u32, i64)],
+        scratch: &mut Scratch,
+    ) -> Result<(), DescentFault>
+        requires weights { AreWeights self.now.weights }
+        requires forms { AreForms self.now.forms }
+        requires rule { IsRule rule.now }
+        requires few { AreFew multipliers.now }
+        requires vars { rule.now.vars ≤ variables scratch.old }
+        ensures fault { result_err result ≡ (if takes_start self.now rule.now then need missing (weigh_of self.now) rule.now (start_of self.now rule.now) multipliers.now else Some missing) }
+        ensures over { variables scratch.new ≡ variables scratch.old }
+    {
+        if !self.takes(rule.from, rule.first.as_slice()) {
+            return Err(missing);
+        }
+        combined(rule, self.weights, multipliers, scratch)?;
+        if self.leaves_start(rule, scratch) {
+            Ok(())
+        } else {
+            Err(missing)
+        }
+    }
+}
+
+/// The sum of a rule's rows by the multipliers, where these weights are listed.
+fn combined(
+    rule: &PathRule,
+    weights: &[(u32, i64)],
+    multipliers: &[(u32, i64)],
+    scratch: &mut Scratch,
+) -> Result<(), DescentFault>
+    requires weights { AreWeights weights.now }
+    requires rule { IsRule rule.now }
+    requires few { AreFew multipliers.now }
+    requires vars { rule.now.vars ≤ variables scratch.old }
+    ensures fault { MatchResult result (λ _. first_fault (rows_under (weight_in weights.now) rule.now.rows) multipliers.now ≡ None) (λ e. refuses e (first_fault (rows_under (weight_in weights.now) rule.now.rows) multipliers.now)) }
+    ensures sum { OnOk result (IsSumOf (variables scratch.old) (rows_under (weight_in weights.now) rule.now.rows) multipliers.now scratch.new) }
+    ensures within { IsWithin (2 ^ 110) scratch.new }
+    ensures over { variables scratch.new ≡ variables scratch.old }
+{
+    match combine(rule.rows.as_slice(), weights, multipliers, scratch) {
+        Ok(()) => Ok(()),
+        Err(fault) => Err(DescentFault::Lin(fault)),
     }
 }
