@@ -1,1 +1,9 @@
 pub mod Adding
+pub mod Checked
+pub mod Classes
+pub mod Moving
+pub mod Parted
+pub mod Placing
+pub mod Ranked
+pub mod Spread
+pub mod Walked

@@ -1,10 +1,10 @@
 -- The steps of a proof, tested one by one, and the first fault.
-use Rattle.std.specs.Prelude.{ℕ, zero, suc, ◌≡◌, ◌==◌, ◌&&◌, not, Bool, true, false, List, [], ◌∷◌, Option, Some, None, if◌then◌else◌, nat_lt, slice_get, slice_set, length, filter, replicate, ℤ}
+use Rattle.std.specs.Prelude.{ℕ, zero, suc, ◌≡◌, ◌==◌, ◌&&◌, not, Bool, true, false, List, [], ◌∷◌, Option, Some, None, Result, Ok, Err, if◌then◌else◌, nat_lt, slice_get, slice_set, length, filter, replicate, ℤ}
 use Rattle.std.specs.List.{filter_map}
 use Rattle.descent.specs.declared.faults.DescentFault.{DescentFault}
 use Rattle.descent.specs.declared.faults.DescentFault.TheVariants.{NotCovered, BadStep}
 use Rattle.descent.specs.declared.faults.StepFault.{StepFault}
-use Rattle.descent.specs.declared.faults.StepFault.TheVariants.{At}
+use Rattle.descent.specs.declared.faults.StepFault.TheVariants.{At, Memory}
 use Rattle.descent.specs.declared.proof.Proof.{Proof}
 use Rattle.descent.specs.declared.proof.ProofStep.{ProofStep}
 use Rattle.descent.specs.declared.proof.ProofStep.TheVariants.{Empty, Split, Rank, Dead}
@@ -12,6 +12,9 @@ use Rattle.descent.specs.declared.proof.RankRule.{RankRule}
 use Rattle.descent.specs.declared.proof.RankRule.TheVariants.{Weak, Strict}
 use Rattle.descent.specs.declared.proof.RankStep.{RankStep}
 use Rattle.descent.specs.declared.rules.PathRule.{PathRule}
+use Rattle.descent.specs.Chains.{ChainsEnd}
+use Rattle.descent.specs.Conditions.{AreRules, AreSteps}
+use Rattle.descent.specs.Orders.{Says}
 use Rattle.descent.specs.Rankings.{Ranking, weak_fault, strict_fault, bounded_fault, dead_fault}
 use Rattle.descent.specs.Splits.{has, split_fault, edge_fault}
 
@@ -28,21 +31,25 @@ abbrev pub rule_of : RankRule → ℕ
 rule_of (Weak rule fall) = rule
 rule_of (Strict rule fall bound) = rule
 
--- a listed rule: what is to be shown of it
-abbrev pub listed_fault : Ranking → RankRule → Option PathRule → Option DescentFault
-listed_fault ranking listed None = Some (NotCovered (rule_of listed))
-listed_fault ranking (Weak number fall) (Some rule) = weak_fault ranking number rule fall
-listed_fault ranking (Strict number fall bound) (Some rule) = edge_fault (strict_fault ranking number rule fall) (bounded_fault ranking number rule bound)
+-- a listed rule: what is to be shown of it, where an order says this of weak, strict and bounded rules
+abbrev pub listed_fault : Says → Says → Says → RankRule → Option PathRule → Option DescentFault
+listed_fault weak strict bounded listed None = Some (NotCovered (rule_of listed))
+listed_fault weak strict bounded (Weak number fall) (Some rule) = weak number rule fall
+listed_fault weak strict bounded (Strict number fall bound) (Some rule) = edge_fault (strict number rule fall) (bounded number rule bound)
 
 -- the rules of the set and the listed ones, rising: each must stand in both, and a listed one must be as it says
-abbrev pub rank_fault : Ranking → List PathRule → List ℕ → List RankRule → Option DescentFault
-rank_fault ranking rules [] [] = None
-rank_fault ranking rules [] (listed ∷ more) = Some (NotCovered (rule_of listed))
-rank_fault ranking rules (rule ∷ rest) [] = Some (NotCovered rule)
-rank_fault ranking rules (rule ∷ rest) (listed ∷ more) =
+abbrev pub rank_fault : Says → Says → Says → List PathRule → List ℕ → List RankRule → Option DescentFault
+rank_fault weak strict bounded rules [] [] = None
+rank_fault weak strict bounded rules [] (listed ∷ more) = Some (NotCovered (rule_of listed))
+rank_fault weak strict bounded rules (rule ∷ rest) [] = Some (NotCovered rule)
+rank_fault weak strict bounded rules (rule ∷ rest) (listed ∷ more) =
     if nat_lt rule (rule_of listed) then Some (NotCovered rule) else
     (if nat_lt (rule_of listed) rule then Some (NotCovered (rule_of listed)) else
-    edge_fault (listed_fault ranking listed (slice_get rules rule)) (rank_fault ranking rules rest more))
+    edge_fault (listed_fault weak strict bounded listed (slice_get rules rule)) (rank_fault weak strict bounded rules rest more))
+
+-- the same for a step's order
+abbrev pub ranking_fault : Ranking → List PathRule → List ℕ → List RankRule → Option DescentFault
+ranking_fault ranking = rank_fault (weak_fault ranking) (strict_fault ranking) (bounded_fault ranking)
 
 -- the rules that are listed as weak
 abbrev pub if_weak : RankRule → Option ℕ
@@ -68,7 +75,7 @@ empty_fault (rule ∷ rest) = Some (NotCovered rule)
 abbrev pub step_fault : List PathRule → List ℕ → ProofStep → Option DescentFault
 step_fault rules set Empty = empty_fault set
 step_fault rules set (Split parts steps) = split_fault rules set parts steps
-step_fault rules set (Rank step rest) = rank_fault (ranking_of step) rules set step.rules
+step_fault rules set (Rank step rest) = ranking_fault (ranking_of step) rules set step.rules
 step_fault rules set (Dead rule multipliers rest) = if has set rule then dead_at rule (slice_get rules rule) multipliers else Some (NotCovered rule)
 
 -- what a step leaves to later steps: the step's number, and its set
@@ -139,3 +146,13 @@ proof_fault rules (step ∷ rest) = first_fault_from rules 0 (given_first (lengt
 -- a closed proof: every step holds
 abbrev pub Closed : List PathRule → Proof → Type 0
 Closed rules proof = proof_fault rules proof.steps ≡ None
+
+-- what an answer says of a fault that may be there: it is this one, or there is none; want of memory says nothing
+abbrev pub Answers : Result (Unit {0}) StepFault → Option StepFault → Type 0
+Answers (Ok done) fault = fault ≡ None
+Answers (Err Memory) fault = Unit {0}
+Answers (Err (At step broken)) fault = fault ≡ Some (At step broken)
+
+-- where a proof of good rules is closed, every chain of the rules ends
+abbrev pub ClosedProofsEnd : Type 0
+ClosedProofsEnd = (rules : List PathRule) (proof : Proof) → AreRules rules → AreSteps proof.steps → Closed rules proof → ChainsEnd rules

@@ -1,16 +1,24 @@
 //! Proofs that no chain of path rules is infinite: what they are, and the check.
 #![tactic(auto)]
 
+mod checking;
 mod faults;
+mod given;
+mod grouping;
 mod laws;
 mod needs;
 mod orders;
 mod proof;
 mod ranking;
 mod rules;
+mod sets;
+mod splits;
+mod steps;
 
+pub use checking::check_proof;
 pub use faults::{DescentFault, StepFault};
-pub use laws::rankings_keep_laws;
+pub use grouping::components;
+pub use laws::{closed_proofs_end, rankings_keep_laws};
 pub use lin_core::{LinFault, RowKind, Scratch, WRow};
 pub use orders::{LinearOrder, Order, SizeOrder};
 pub use proof::{CutForm, Proof, ProofStep, RankRule, RankStep};

@@ -238,3 +238,24 @@ fn combined(
         Err(fault) => Err(DescentFault::Lin(fault)),
     }
 }
+
+/// That a rule can never be taken: its rows show that -1 is at least 0, where no class has a weight.
+pub(crate) fn dead(
+    number: u32,
+    rule: &PathRule,
+    multipliers: &[(u32, i64)],
+    scratch: &mut Scratch,
+) -> Result<(), DescentFault>
+    requires rule { IsRule rule.now }
+    requires few { AreFew multipliers.now }
+    requires vars { rule.now.vars ≤ variables scratch.old }
+    ensures fault { result_err result ≡ dead_fault number rule.now multipliers.now }
+    ensures over { variables scratch.new ≡ variables scratch.old }
+{
+    combined(rule, &[], multipliers, scratch)?;
+    if scratch.leaves(&-1) {
+        Ok(())
+    } else {
+        Err(DescentFault::NotStrict { rule: number })
+    }
+}
