@@ -1,5 +1,5 @@
 -- What is assembled is the file of a class that keeps every rule.
-use Rattle.std.proofs.Common.{◌≡◌, ℕ, List, Option, Some, None, Ok, Err, refl, ap, subst, ◌∙◌}
+use Rattle.std.proofs.Common.{◌≡◌, ℕ, List, Option, Some, None, Ok, Err, refl, sym, ap, subst, ◌∙◌}
 use Rattle.class_read.specs.declared.text.ClassText.{ClassText}
 use Rattle.class_read.specs.Rules.{WellFormed, content_of}
 use Rattle.class_read.specs.Text.{class_bytes}
@@ -33,14 +33,18 @@ unfaulty : (o : Option AsmFault) (class answer : ClassText) → unless_faulty o 
 unfaulty None class answer h = (refl, cc)
 unfaulty (Some fault) class answer h = absurd cc
 
-class_kept : (line : ℕ) (class : ClassLine) (listing : Listing) (answer : ClassText) → GoodLines (line, class, listing) → class_of line class listing ≡ Ok answer → WellFormed answer × SaysClass class listing (content_of answer)
+class_kept : (line : ℕ) (class : ClassLine) (listing : Listing) (answer : ClassText) → GoodLines (line, class, listing) → class_of line class listing ≡ Ok answer
+    → WellFormed answer × SaysClass class listing (content_of answer) × (listing.first.fault ≡ None) × (answer.minor ≡ 0)
 unfolding class_of
 class_kept line class listing answer good h =
     let faults = all_faults line class listing in
     let u = unfaulty (with_faults listing.first.fault faults) (class_text (pool_in (listing_needs line class listing)) class listing) answer h in
-    let none = no_faults listing.first.fault faults u.0 in (
-      subst WellFormed u.1 (well_formed line class listing good.0 (good.1 (none_first listing.first.fault faults u.0)) none),
+    let none = no_faults listing.first.fault faults u.0 in
+    let whole = none_first listing.first.fault faults u.0 in (
+      subst WellFormed u.1 (well_formed line class listing good.0 (good.1 whole) none),
       subst (λ (c : ClassText). SaysClass class listing (content_of c)) u.1 (class_said line class listing none),
+      whole,
+      sym (ap (λ (c : ClassText). c.minor) u.1),
     )
 
 pub class_file : (text bytes : List ℕ) → assembled text ≡ Ok bytes → IsClassFile text bytes
@@ -56,7 +60,9 @@ class_file text bytes h =
       class = lines.1;
       listing = lines.2;
       lines = a.1;
+      whole = kept.2;
       file = b.0;
+      minor = kept.3;
       bytes_are = bytes_are;
       says = kept.1;
       rules = kept.0;
