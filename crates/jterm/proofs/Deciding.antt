@@ -4,8 +4,7 @@ use Rattle.class_world.specs.Resolve.{has_body}
 use Rattle.class_read.specs.Content.{ClassContent}
 use Rattle.class_world.specs.World.{World, world_of}
 use Rattle.class_world.specs.Linking.{link_fault}
-use Rattle.class_program.specs.Reached.{close_of}
-use Rattle.class_program.specs.declared.program.Method.{Method}
+use Rattle.class_program.specs.Programs.{Program, IsClosed}
 use Rattle.class_world.specs.declared.world.MethodRef.{MethodRef}
 use Rattle.jterm.specs.declared.line.Line.{Line}
 use Rattle.jterm.specs.declared.verdict.Request.TheVariants.{Prove, Asm}
@@ -16,7 +15,6 @@ use Rattle.jterm.specs.declared.verdict.Place.TheVariants as places
 use Rattle.jterm.specs.declared.verdict.Fault.TheVariants as faults
 use Rattle.jterm.specs.Decision.{SaysYes, Answers, Assembles, IsAnswer, YesOrMemory}
 use Rattle.jterm.specs.FirstPath.{IsFirstPath}
-use Rattle.jterm.specs.Machine.{Program, program_of}
 use Rattle.jterm.specs.Description.{IsLine}
 use Rattle.jterm.specs.Headline.{AllSpell, NameClasses, NameWorld, IsEntry, NameEntry, NameProgram, AllEnd}
 use Rattle.jterm.specs.Refusals.{RefusesClasses, RefusesWorld, RefusesProgram}
@@ -70,8 +68,10 @@ closing_refused desc files line entry world (At places.Listing fault) entered r 
 closing_refused desc files line entry world (At places.Description fault) entered r = absurd r
 closing_refused desc files line entry world Memory entered r = tt
 
-pub named_program : (desc : List ℕ) (files : List (List ℕ)) (line : Line) (entry : MethodRef) (world : World) (methods : List Method) → NameEntry files desc world line entry → close_of world entry ≡ Ok methods → NameProgram files desc line (program_of world methods)
-named_program desc files line entry world methods entered closed = record { entry = entry; entered = entered; closed = closed }
+pub named_program : (desc : List ℕ) (files : List (List ℕ)) (line : Line) (entry : MethodRef) (world : World) (program : Program) → NameEntry files desc world line entry → program.world ≡ world → program.entry ≡ entry → IsClosed program → program.statics ≡ [] → NameProgram files desc line program
+named_program desc files line entry world program entered world_is entry_is closed statics =
+    let here : NameEntry files desc program.world line entry = subst (λ (w : World). NameEntry files desc w line entry) (sym world_is) entered in
+    record { entered = subst (NameEntry files desc program.world line) (sym entry_is) here; closed = closed; statics = statics }
 
 pub program_refused : (desc : List ℕ) (files : List (List ℕ)) (line : Line) (program : Program) → NameProgram files desc line program → (IsFirstPath line.params program → ⊥) → Answers desc files (Err (At places.Link faults.NotBuilt))
 program_refused desc files line program named none = record { line = line; program = program; named = named; not_built = none }

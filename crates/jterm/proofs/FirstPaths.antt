@@ -8,9 +8,10 @@ use Rattle.jvm_values.specs.declared.types.Slot.TheVariants.{Num, Ref}
 use Rattle.class_world.specs.World.{World}
 use Rattle.class_program.specs.declared.program.Method.{Method}
 use Rattle.jterm.specs.declared.form.Form.{Form}
-use Rattle.jterm.specs.Forms.{forms_of, AreRising}
+use Rattle.class_program.specs.Instructions.{is_placed}
+use Rattle.class_program.specs.Programs.{Program}
+use Rattle.jterm.specs.Forms.{forms_of}
 use Rattle.jterm.specs.FirstPath.{is_int, IsIntMethod, IsStraight, IsFirstPath}
-use Rattle.jterm.specs.Machine.{program_of}
 use Rattle.jterm.specs.Pass.{Passes}
 use Rattle.jterm.proofs.Places.{reads_of}
 use Rattle.jterm.proofs.PassSound.{HasTyping-Passes}
@@ -46,7 +47,7 @@ all-ints (suc count) = all-ints count
 
 -- ---- methods
 
-pub IsStraight-Passes : (world : World) (params : ℕ) (method : Method) (forms : List (ℕ × Form)) → AreRising method.insns → forms_of method.insns ≡ Some forms → IsIntMethod params method → Passes params method.max_stack method.max_locals forms → IsStraight world params method
+pub IsStraight-Passes : (world : World) (params : ℕ) (method : Method) (forms : List (ℕ × Form)) → IsTrue (is_placed method.insns) → forms_of method.insns ≡ Some forms → IsIntMethod params method → Passes params method.max_stack method.max_locals forms → IsStraight world params method
 IsStraight-Passes world params method forms rising e of_ints passes = record {
   of_ints = of_ints;
   forms = forms;
@@ -58,12 +59,12 @@ IsStraight-Passes world params method forms rising e of_ints passes = record {
 some_is : {A : Type 0} (a b : A) → (let o : Option A = Some a in o) ≡ Some b → a ≡ b
 some_is a b e = cc
 
-pub Passes-IsStraight : (world : World) (params : ℕ) (method : Method) (forms : List (ℕ × Form)) → AreRising method.insns → forms_of method.insns ≡ Some forms → IsStraight world params method → Passes params method.max_stack method.max_locals forms
+pub Passes-IsStraight : (world : World) (params : ℕ) (method : Method) (forms : List (ℕ × Form)) → IsTrue (is_placed method.insns) → forms_of method.insns ≡ Some forms → IsStraight world params method → Passes params method.max_stack method.max_locals forms
 Passes-IsStraight world params method forms rising e p =
     subst (Passes params method.max_stack method.max_locals) (some_is p.forms forms (sym p.forms_are ∙ e))
     (Passes-HasTyping world method params p.forms p.of_ints.takes (reads_of method.insns p.forms p.forms_are rising) p.returns p.typed)
 
-pub straight_answer : (params : ℕ) (method : Method) (forms : List (ℕ × Form)) (answer : Bool) → AreRising method.insns → forms_of method.insns ≡ Some forms → IsIntMethod params method → IsTrue answer ↔ Passes params method.max_stack method.max_locals forms → (world : World) → IsTrue answer ↔ IsStraight world params method
+pub straight_answer : (params : ℕ) (method : Method) (forms : List (ℕ × Form)) (answer : Bool) → IsTrue (is_placed method.insns) → forms_of method.insns ≡ Some forms → IsIntMethod params method → IsTrue answer ↔ Passes params method.max_stack method.max_locals forms → (world : World) → IsTrue answer ↔ IsStraight world params method
 straight_answer params method forms answer rising e of_ints h world = (
   λ t. IsStraight-Passes world params method forms rising e of_ints (h.0 t),
   λ p. h.1 (Passes-IsStraight world params method forms rising e p),
@@ -75,10 +76,10 @@ no_forms world params method e p = let f = p.forms_are in cc
 
 -- ---- programs
 
-pub first_path_answer : (params : ℕ) (methods : List Method) (method : Method) (answer : Bool) → methods ≡ method ∷ [] → ((world : World) → IsTrue answer ↔ IsStraight world params method) → (world : World) → IsTrue answer ↔ IsFirstPath params (program_of world methods)
-first_path_answer params methods method answer only h world = (
-  λ t. record { method = method; only = only; straight = (h world).0 t },
-  λ p. (h world).1 (subst (IsStraight world params) (same p.method method (sym p.only ∙ only)) p.straight),
+pub first_path_answer : (params : ℕ) (program : Program) (method : Method) (answer : Bool) → program.methods ≡ method ∷ [] → ((world : World) → IsTrue answer ↔ IsStraight world params method) → IsTrue answer ↔ IsFirstPath params program
+first_path_answer params program method answer only h = (
+  λ t. record { method = method; only = only; straight = (h program.world).0 t },
+  λ p. (h program.world).1 (subst (IsStraight program.world params) (same p.method method (sym p.only ∙ only)) p.straight),
 )
   where
     same : (a b : Method) → a ∷ [] ≡ b ∷ [] → a ≡ b

@@ -1,5 +1,5 @@
 -- Input that breaks no rule, and whose program is decided, gives the headline.
-use Rattle.std.proofs.Common.{◌≡◌, ℕ, zero, suc, ◌+◌, ◌-◌, ◌≤◌, List, [], ◌∷◌, ◌++◌, length, map, replicate, slice_get, Option, Some, None, refl, ap, sym, ◌∙◌, subst, arith, ℤ, pos, length-append}
+use Rattle.std.proofs.Common.{◌≡◌, ℕ, zero, suc, ◌+◌, ◌-◌, ◌≤◌, List, [], ◌∷◌, ◌++◌, length, map, replicate, slice_get, Option, Some, None, refl, ap, sym, ◌∙◌, subst, arith, ℤ, pos, length-append, IsTrue}
 use Rattle.std.proofs.lemmas.List.{length-replicate, length-map}
 use Rattle.std.proofs.lemmas.List.Elements.{All-replicate}
 use Rattle.std.specs.Prelude.{FitsSigned}
@@ -18,16 +18,17 @@ use Rattle.jterm.specs.declared.form.Form.TheVariants.{Ireturn}
 use Rattle.jterm.specs.declared.line.Line.{Line}
 use Rattle.jterm.specs.Decision.{IsGood}
 use Rattle.jterm.specs.FirstPath.{IsStraight}
-use Rattle.jterm.specs.Forms.{AreRising, FirstAtZero}
 use Rattle.jterm.specs.Headline.{AllEnd, FitsDescription}
-use Rattle.jterm.specs.Machine.{Program}
+use Rattle.class_program.specs.Instructions.{is_placed}
+use Rattle.class_program.specs.Programs.{Program}
+use Rattle.class_program.specs.Good.{IsGoodMethod, AllOf}
+use Rattle.class_program.proofs.GoodPrograms.{good_program}
 use Rattle.jvm_values.specs.declared.typing.PlaceType.{PlaceType}
 use Rattle.jvm_values.specs.declared.typing.PlaceType.TheVariants as holding
 use Rattle.jterm.specs.Typing.{entry_types, type_of_slot}
-use Rattle.jterm.proofs.Closed.{closed_rising, first_rising}
 use Rattle.jterm.proofs.Forms.{FillLocals, FillStack}
 use Rattle.jterm.proofs.PassComplete.{within_length}
-use Rattle.jterm.proofs.Places.{Reads, reads_of}
+use Rattle.jterm.proofs.Places.{FirstAtZero, Reads, reads_of}
 use Rattle.jterm.proofs.Runs.{Finishes}
 use Rattle.jterm.proofs.Straight.{Stands, FillLocals-within, FillStack-within, finishes_from}
 
@@ -83,9 +84,9 @@ stands program method line s state only f place z =
     }
 
 -- and its run finishes
-finishes : (program : Program) (method : Method) (line : Line) → IsStraight program.world line.params method → AreRising method.insns → program.methods ≡ method ∷ [] → (state : MachineState) → FitsDescription line program state → Finishes program state
-finishes program method line s rising only state f =
-    let reads : Reads method.insns s.forms = reads_of method.insns s.forms s.forms_are rising in
+finishes : (program : Program) (method : Method) (line : Line) → IsStraight program.world line.params method → IsTrue (is_placed method.insns) → program.methods ≡ method ∷ [] → (state : MachineState) → FitsDescription line program state → Finishes program state
+finishes program method line s placed only state f =
+    let reads : Reads method.insns s.forms = reads_of method.insns s.forms s.forms_are placed in
     let head = head_of s.forms s.returns.before (s.returns.place, Ireturn) s.returns.last in
     let first : FirstAtZero (head.first ∷ head.rest) = subst FirstAtZero head.split reads.first in
     finishes_from program.world program method s.typed.0 s.forms head.rest [] head.first s.typed.1 reads head.split state
@@ -156,8 +157,8 @@ pub AllEnd-good : (desc : List ℕ) (files : List (List ℕ)) → IsGood desc fi
 AllEnd-good desc files g =
     let program : Program = g.program in
     let path = g.built in
-    let rising : AreRising path.method.insns = first_rising path.method program.methods path.only (closed_rising program.world g.named.entry program.methods g.named.closed) in
-    let done : (state : MachineState) → FitsDescription g.line program state → Finishes program state = finishes program path.method g.line path.straight rising path.only in
+    let placed : IsTrue (is_placed path.method.insns) = (subst (AllOf (IsGoodMethod program)) path.only (good_program program g.named.closed).methods).0.placed in
+    let done : (state : MachineState) → FitsDescription g.line program state → Finishes program state = finishes program path.method g.line path.straight placed path.only in
     record {
       line = g.line;
       program = program;

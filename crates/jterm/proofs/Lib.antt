@@ -17,6 +17,4 @@ pub mod FormLists
 pub mod FirstPaths
 pub mod Results
 pub mod Files
-pub mod Rising
-pub mod Closed
 pub mod Good

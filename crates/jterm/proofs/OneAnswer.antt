@@ -11,6 +11,7 @@ use Rattle.class_read.proofs.ClassLaws.{class_one}
 use Rattle.class_world.specs.World.{World, world_of}
 use Rattle.class_world.specs.Linking.{link_fault}
 use Rattle.class_program.specs.Said.{Said}
+use Rattle.class_program.specs.Programs.{Program}
 use Rattle.class_program.specs.Reached.{close_of}
 use Rattle.class_world.specs.declared.fault.LinkFault.{LinkFault}
 use Rattle.class_program.specs.declared.program.Method.{Method}
@@ -26,8 +27,7 @@ use Rattle.jterm.specs.declared.verdict.Refused.TheVariants.{At, Memory}
 use Rattle.jterm.specs.Decision.{Answers, Assembles, IsAnswer, IsFirstBroken, IsNoLine, yes}
 use Rattle.jterm.specs.Description.{IsLine}
 use Rattle.jterm.specs.FirstPath.{IsFirstPath}
-use Rattle.jterm.specs.Headline.{AllSpell, NameClasses, NameWorld, IsEntry, named_method}
-use Rattle.jterm.specs.Machine.{Program, program_of}
+use Rattle.jterm.specs.Headline.{AllSpell, NameClasses, NameWorld, NameProgram, IsEntry, named_method}
 use Rattle.jterm.proofs.Words.{first_word_unique, IsLine-class, IsLine-name, IsLine-params, params_marks, IsEnclosed-params}
 
 -- ---- classes and the line
@@ -71,17 +71,21 @@ broken_one (file ∷ files) (suc n) (suc m) f g a b = let r = broken_one files n
 -- ---- what a world and a line say
 
 abbrev Says : Type 0
-Says = Result (List Method) Refused
+Says = Result Program Refused
 
 abbrev no_entry : Says
 no_entry = Err (At places.Description faults.NotBuilt)
 
-abbrev closing_says : Said (List Method) → Says
-closing_says (Ok methods) = Ok methods
-closing_says (Err fault) = Err (At places.Link (faults.Link fault))
+-- a program whose instructions name no static field
+abbrev without_statics : World → MethodRef → List Method → Program
+without_statics world entry methods = record { world = world; entry = entry; methods = methods; statics = [] }
+
+abbrev closing_says : World → MethodRef → Said (List Method) → Says
+closing_says world entry (Ok methods) = Ok (without_statics world entry methods)
+closing_says world entry (Err fault) = Err (At places.Link (faults.Link fault))
 
 abbrev body_says : World → MethodRef → Bool → Says
-body_says world entry true = closing_says (close_of world entry)
+body_says world entry true = closing_says world entry (close_of world entry)
 body_says world entry false = no_entry
 
 abbrev entry_says : World → Option MethodRef → Says
@@ -112,18 +116,18 @@ says_no_entry world line links none = says_linked world line links ∙ by_name (
     by_name None e = refl
     by_name (Some entry) e = by_body entry e (has_body world entry) refl
 
-says_closing : (world : World) (line : Line) (entry : MethodRef) (said : Said (List Method)) → link_fault world ≡ None → IsEntry world line entry → close_of world entry ≡ said → says world line ≡ closing_says said
+says_closing : (world : World) (line : Line) (entry : MethodRef) (said : Said (List Method)) → link_fault world ≡ None → IsEntry world line entry → close_of world entry ≡ said → says world line ≡ closing_says world entry said
 says_closing world line entry said links e closed =
-    says_linked world line links ∙ ap (entry_says world) e.named ∙ ap (body_says world entry) e.not_abstract ∙ ap closing_says closed
+    says_linked world line links ∙ ap (entry_says world) e.named ∙ ap (body_says world entry) e.not_abstract ∙ ap (closing_says world entry) closed
 
 -- ---- the answer by what is said
 
 -- the answer where the files spell classes and the description is a line
 abbrev Decides : World → Line → Says → Result Verdict Refused → Type 0
 Decides world line (Err refused) r = r ≡ Err refused
-Decides world line (Ok methods) r =
-    (IsFirstPath line.params (program_of world methods) × (r ≡ Ok yes))
-    ⊎ ((IsFirstPath line.params (program_of world methods) → ⊥) × (r ≡ Err (At places.Link faults.NotBuilt)))
+Decides world line (Ok program) r =
+    (IsFirstPath line.params program × (r ≡ Ok yes))
+    ⊎ ((IsFirstPath line.params program → ⊥) × (r ≡ Err (At places.Link faults.NotBuilt)))
 
 record Broken (files : List (List ℕ)) (r : Result Verdict Refused) : Type 0 where
   number : ℕ
@@ -152,15 +156,21 @@ read_world desc files world line r named decides =
 said_so : (world : World) (line : Line) (a b : Says) (r : Result Verdict Refused) → a ≡ b → Decides world line b r → Decides world line a r
 said_so world line a b r e d = subst (λ (s : Says). Decides world line s r) (sym e) d
 
+-- what is said where they name a program
+says_program : (desc : List ℕ) (files : List (List ℕ)) (line : Line) (program : Program) → NameProgram files desc line program → says program.world line ≡ Ok program
+says_program desc files line program named =
+    let e = named.entered in
+    let whole : without_statics program.world program.entry program.methods ≡ program = λ i. record { world = program.world; entry = program.entry; methods = program.methods; statics = sym named.statics i } in
+    says_closing program.world line program.entry (Ok program.methods) e.linked.links e.is_entry named.closed.made
+    ∙ ap (λ (p : Program). let s : Says = Ok p in s) whole
+
 follows : (desc : List ℕ) (files : List (List ℕ)) (r : Result Verdict Refused) → Answers desc files r → r ≢ Err Memory → Follows desc files r
 follows desc files (Ok verdict) a some =
     let g = a.1 in
     let e = g.named.entered in
     let yes_is : Ok verdict ≡ Ok yes = ap (λ (v : Verdict). let r : Result Verdict Refused = Ok v in r) a.0 in
     read_world desc files g.program.world g.line (Ok verdict) e.linked
-    (said_so g.program.world g.line _ (Ok g.program.methods) (Ok verdict)
-    (says_closing g.program.world g.line g.named.entry (Ok g.program.methods) e.linked.links e.is_entry g.named.closed)
-    (inl (g.built, yes_is)))
+    (said_so g.program.world g.line _ (Ok g.program) (Ok verdict) (says_program desc files g.line g.program g.named) (inl (g.built, yes_is)))
 follows desc files (Err (At (places.Class number) (faults.Class fault))) a some = inl (record { number = number; fault = fault; first = a; is = refl })
 follows desc files (Err (At (places.Class number) (faults.Listing fault))) a some = absurd a
 follows desc files (Err (At (places.Class number) (faults.Link fault))) a some = absurd a
@@ -182,17 +192,15 @@ follows desc files (Err (At places.Link (faults.Link fault))) (inr u) some =
 follows desc files (Err (At places.Link faults.NotBuilt)) a some =
     let e = a.named.entered in
     read_world desc files a.program.world a.line _ e.linked
-    (said_so a.program.world a.line _ (Ok a.program.methods) _
-    (says_closing a.program.world a.line a.named.entry (Ok a.program.methods) e.linked.links e.is_entry a.named.closed)
-    (inr (a.not_built, refl)))
+    (said_so a.program.world a.line _ (Ok a.program) _ (says_program desc files a.line a.program a.named) (inr (a.not_built, refl)))
 follows desc files (Err Memory) a some = absurd (some refl)
 
 decides_one : (world : World) (line : Line) (said : Says) (a b : Result Verdict Refused) → Decides world line said a → Decides world line said b → a ≡ b
 decides_one world line (Err refused) a b d e = d ∙ sym e
-decides_one world line (Ok methods) a b (inl d) (inl e) = d.1 ∙ sym e.1
-decides_one world line (Ok methods) a b (inl d) (inr e) = absurd (e.0 d.0)
-decides_one world line (Ok methods) a b (inr d) (inl e) = absurd (d.0 e.0)
-decides_one world line (Ok methods) a b (inr d) (inr e) = d.1 ∙ sym e.1
+decides_one world line (Ok program) a b (inl d) (inl e) = d.1 ∙ sym e.1
+decides_one world line (Ok program) a b (inl d) (inr e) = absurd (e.0 d.0)
+decides_one world line (Ok program) a b (inr d) (inl e) = absurd (d.0 e.0)
+decides_one world line (Ok program) a b (inr d) (inr e) = d.1 ∙ sym e.1
 
 read_one : (desc : List ℕ) (files : List (List ℕ)) (a b : Result Verdict Refused) → Read desc files a → Read desc files b → a ≡ b
 read_one desc files a b x y =

@@ -11,8 +11,8 @@ use Rattle.jterm.specs.declared.typing.Known.{Known}
 use Rattle.jterm.specs.Options.{◌>>=◌}
 use Rattle.class_world.specs.World.{World}
 use Rattle.class_program.specs.declared.program.Method.{Method}
-use Rattle.jterm.specs.Machine.{first_place, form_at}
-use Rattle.jterm.specs.Forms.{FirstAtZero}
+use Rattle.class_program.specs.Instructions.{first_place}
+use Rattle.jterm.specs.Machine.{form_at}
 use Rattle.jterm.specs.Pass.{Passes, entry_known, known_after, known_along}
 use Rattle.jterm.specs.FirstPath.{ReturnsLast}
 use Rattle.jvm_values.specs.declared.typing.PlaceType.{PlaceType}
@@ -21,7 +21,7 @@ use Rattle.jvm_values.specs.States.{PlaceTypes}
 use Rattle.jterm.specs.Typing.{IsWithin, AreWithin, Types, Leads, LeadsTo, IsTyping, HasTyping, types_after, places_after, iconst_types, iload_types, istore_types, iadd_types, top_int_place, int_place, entry_types, type_of_slot}
 use Rattle.jterm.proofs.Forms.{some-same, and_then-some, chosen, int_place-int}
 use Rattle.jterm.proofs.PassSound.{place_of, not_return}
-use Rattle.jterm.proofs.Places.{Reads, form_at-place}
+use Rattle.jterm.proofs.Places.{FirstAtZero, Reads, form_at-place}
 use Rattle.jterm.proofs.Straight.{turn, returned_int}
 
 -- ---- what is known is within what a typing says

@@ -14,7 +14,7 @@ use Rattle.jterm.specs.Options.{◌>>=◌}
 use Rattle.class_world.specs.World.{World}
 use Rattle.class_program.specs.declared.program.CatchRange.{CatchRange}
 use Rattle.class_program.specs.declared.program.Method.{Method}
-use Rattle.jterm.specs.Machine.{first_place}
+use Rattle.class_program.specs.Instructions.{first_place}
 use Rattle.jterm.specs.Pass.{Passes, entry_known, pushed, known_after, known_along}
 use Rattle.jvm_values.specs.declared.typing.PlaceType.{PlaceType}
 use Rattle.jvm_values.specs.declared.typing.PlaceType.TheVariants as holding
@@ -22,8 +22,7 @@ use Rattle.jvm_values.specs.States.{PlaceTypes}
 use Rattle.jterm.specs.Typing.{AreWithin, Types, Leads, LeadsTo, LeadsToHandler, CanCatch, IsOfWorld, IsTyped, HasTyping, types_after, places_after, iconst_types, iload_types, istore_types, iadd_types, ireturn_types, type_of_slot}
 use Rattle.jterm.proofs.Forms.{some-same, and_then-some}
 use Rattle.jterm.proofs.Tests.{by_if, eq-of-test}
-use Rattle.jterm.specs.Forms.{RiseFrom, FirstAtZero}
-use Rattle.jterm.proofs.Places.{Reads, form_at-place}
+use Rattle.jterm.proofs.Places.{RiseFrom, FirstAtZero, Reads, form_at-place}
 
 -- ---- what is known, as types
 

@@ -1,12 +1,35 @@
 -- The places of a code's instructions rise, so each place has one instruction.
-use Rattle.std.proofs.Common.{◌≡◌, ℕ, suc, ◌≤◌, ◌==◌, List, [], ◌∷◌, ◌++◌, Option, Some, None, refl, sym, ap, ◌∙◌, subst, true, false, Bool, arith}
+use Rattle.std.proofs.Common.{◌≡◌, ℕ, suc, ◌≤◌, ◌==◌, List, [], ◌∷◌, ◌++◌, Option, Some, None, refl, sym, ap, ◌∙◌, subst, true, false, Bool, ◌+◌, IsTrue, add-one, arith}
+use Rattle.std.proofs.lemmas.Bool.{and_parts}
 use Rattle.std.proofs.lemmas.Bool.Decides.{nat_tests}
 use Rattle.std.specs.Option.{option_map}
-use Rattle.std.specs.Prelude.{option_and_then}
+use Rattle.std.specs.Prelude.{option_and_then, nat_le}
 use Rattle.class_program.specs.declared.op.Op.{Op}
 use Rattle.jterm.specs.declared.form.Form.{Form}
-use Rattle.jterm.specs.Forms.{form_of, forms_of, RiseFrom, FirstAtZero, AreRising}
-use Rattle.jterm.specs.Machine.{first_place, instruction_at, form_at}
+use Rattle.class_program.specs.Instructions.{first_place, instruction_at, rises_from, starts_at_zero, is_placed}
+use Rattle.jterm.specs.Forms.{form_of, forms_of}
+use Rattle.jterm.specs.Machine.{form_at}
+use Rattle.jterm.proofs.Tests.{eq-of-test, le-of-test}
+
+-- the places rise, from `low` on
+abbrev pub RiseFrom : {A : Type 0} → ℕ → List (ℕ × A) → Type 0
+RiseFrom low [] = Unit {0}
+RiseFrom low (i ∷ rest) = (low ≤ i.0) × RiseFrom (suc i.0) rest
+
+abbrev pub FirstAtZero : {A : Type 0} → List (ℕ × A) → Type 0
+FirstAtZero [] = Unit {0}
+FirstAtZero (i ∷ rest) = i.0 ≡ 0
+
+rise_of : {A : Type 0} (low : ℕ) (insns : List (ℕ × A)) → rises_from low insns ≡ true → RiseFrom low insns
+rise_of low [] e = tt
+rise_of {A} low (i ∷ rest) e =
+    let both = and_parts (nat_le low i.0) (rises_from (i.0 + 1) rest) e in
+    let more : rises_from (suc i.0) rest ≡ true = subst (λ (n : ℕ). rises_from n rest ≡ true) (add-one i.0) both.1 in
+    (le-of-test low i.0 both.0, rise_of (suc i.0) rest more)
+
+first_of : {A : Type 0} (insns : List (ℕ × A)) → starts_at_zero insns ≡ true → FirstAtZero insns
+first_of [] e = tt
+first_of (i ∷ rest) e = eq-of-test i.0 0 e
 
 -- instructions at rising places from 0 on have these forms
 pub record Reads (insns : List (ℕ × Op)) (forms : List (ℕ × Form)) : Type 0 where
@@ -88,5 +111,7 @@ first_too : (insns : List (ℕ × Op)) (forms : List (ℕ × Form)) → forms_of
 first_too [] forms e r = subst FirstAtZero (some_of _ _ e) tt
 first_too (i ∷ insns) forms e r = let s = split i insns forms e in subst FirstAtZero (sym s.whole) r
 
-pub reads_of : (insns : List (ℕ × Op)) (forms : List (ℕ × Form)) → forms_of insns ≡ Some forms → AreRising insns → Reads insns forms
-reads_of insns forms e r = record { forms_are = e; first = first_too insns forms e r.first; rise = rise_too 0 insns forms e r.rise }
+pub reads_of : (insns : List (ℕ × Op)) (forms : List (ℕ × Form)) → forms_of insns ≡ Some forms → IsTrue (is_placed insns) → Reads insns forms
+reads_of insns forms e placed =
+    let both = and_parts (starts_at_zero insns) (rises_from 0 insns) placed in
+    record { forms_are = e; first = first_too insns forms e (first_of insns both.0); rise = rise_too 0 insns forms e (rise_of 0 insns both.1) }

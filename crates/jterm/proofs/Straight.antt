@@ -10,7 +10,8 @@ use Rattle.jterm.specs.declared.form.Form.{Form}
 use Rattle.jterm.specs.declared.form.Form.TheVariants.{Iconst, Iload, Istore, Iadd, Ireturn}
 use Rattle.class_world.specs.World.{World}
 use Rattle.class_program.specs.declared.program.Method.{Method}
-use Rattle.jterm.specs.Machine.{Program, Outcome, Going, Returned, Stuck, form_at, perform, going, returned, top_int, normal_step, step}
+use Rattle.class_program.specs.Programs.{Program}
+use Rattle.jterm.specs.Machine.{Outcome, Going, Returned, Stuck, form_at, perform, going, returned, top_int, normal_step, step}
 use Rattle.jvm_values.specs.declared.typing.PlaceType.{PlaceType}
 use Rattle.jvm_values.specs.declared.typing.PlaceType.TheVariants as holding
 use Rattle.jterm.specs.Typing.{IsWithin, AreWithin, Types, LeadsTo, IsTyped, IsTyping, types_after, places_after, ireturn_types, top_int_place}

@@ -7,6 +7,7 @@ use Rattle.class_read.specs.FirstFault.{class_in}
 use Rattle.class_read.specs.declared.fault.ClassFault.{ClassFault}
 use Rattle.class_world.specs.World.{World, world_of}
 use Rattle.class_world.specs.Linking.{link_fault}
+use Rattle.class_program.specs.Programs.{Program}
 use Rattle.class_program.specs.Reached.{close_of}
 use Rattle.class_world.specs.declared.world.MethodRef.{MethodRef}
 use Rattle.class_world.specs.declared.fault.LinkFault.{LinkFault}
@@ -22,7 +23,6 @@ use Rattle.jterm.specs.declared.verdict.Fault.{Fault}
 use Rattle.jterm.specs.declared.verdict.Fault.TheVariants as faults
 use Rattle.jterm.specs.Description.{IsLine}
 use Rattle.jterm.specs.FirstPath.{IsFirstPath}
-use Rattle.jterm.specs.Machine.{Program}
 use Rattle.jterm.specs.Headline.{AllSpell, NameClasses, NameWorld, IsEntry, NameEntry, NameProgram}
 
 -- the request's number is in its range, and there are as many files as its command has file words

@@ -5,10 +5,10 @@ use Rattle.jvm_values.specs.declared.types.Slot.{Slot}
 use Rattle.jvm_values.specs.declared.types.Slot.TheVariants.{Num}
 use Rattle.class_world.specs.World.{World}
 use Rattle.class_program.specs.declared.program.Method.{Method}
+use Rattle.class_program.specs.Programs.{Program}
 use Rattle.jterm.specs.declared.form.Form.{Form}
 use Rattle.jterm.specs.declared.form.Form.TheVariants.{Ireturn}
 use Rattle.jterm.specs.Forms.{forms_of}
-use Rattle.jterm.specs.Machine.{Program}
 use Rattle.jterm.specs.Typing.{HasTyping}
 
 -- ireturn stands at the end, and nowhere else

@@ -1,5 +1,5 @@
 -- The instructions that the machine's table has so far.
-use Rattle.std.specs.Prelude.{◌≡◌, ℕ, suc, ◌≤◌, List, [], ◌∷◌, pos, negsuc, Option, Some, None, option_and_then}
+use Rattle.std.specs.Prelude.{ℕ, List, [], ◌∷◌, pos, negsuc, Option, Some, None, option_and_then}
 use Rattle.std.specs.Option.{option_map}
 use Rattle.code_decode.specs.declared.insn.Insn.{Insn}
 use Rattle.code_decode.specs.declared.insn.Insn.TheVariants as insns
@@ -41,17 +41,3 @@ form_of _ = None
 abbrev pub forms_of : List (ℕ × Op) → Option (List (ℕ × Form))
 forms_of [] = Some []
 forms_of (i ∷ insns) = option_and_then (λ form. option_map (λ forms. (i.0, form) ∷ forms) (forms_of insns)) (form_of i.1)
-
--- the places rise, from `low` on
-abbrev pub RiseFrom : {A : Type 0} → ℕ → List (ℕ × A) → Type 0
-RiseFrom low [] = Unit {0}
-RiseFrom low (i ∷ rest) = (low ≤ i.0) × RiseFrom (suc i.0) rest
-
-abbrev pub FirstAtZero : {A : Type 0} → List (ℕ × A) → Type 0
-FirstAtZero [] = Unit {0}
-FirstAtZero (i ∷ rest) = i.0 ≡ 0
-
--- the places rise, and the first is 0
-pub record AreRising (insns : List (ℕ × Op)) : Type 0 where
-  pub first : FirstAtZero insns
-  pub rise : RiseFrom 0 insns

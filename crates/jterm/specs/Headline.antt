@@ -1,5 +1,5 @@
 -- What the headline says of the bytes of a description and of class files.
-use Rattle.std.specs.Prelude.{◌≡◌, ℕ, ◌-◌, List, [], ◌∷◌, ◌++◌, length, map, All, replicate, slice_get, Option, Some, None, Ok, FitsSigned, ℤ, IsTrue}
+use Rattle.std.specs.Prelude.{◌≡◌, ℕ, ◌-◌, List, [], ◌∷◌, ◌++◌, length, map, All, replicate, slice_get, Option, Some, None, FitsSigned, ℤ, IsTrue}
 use Rattle.std.specs.Int.{w32}
 use Rattle.jvm_values.specs.declared.heap.Value.TheVariants.{Int}
 use Rattle.jvm_values.specs.States.{MachineFrame, MachineState}
@@ -12,11 +12,11 @@ use Rattle.class_read.specs.Rules.{Spells}
 use Rattle.class_world.specs.World.{World, world_of}
 use Rattle.class_world.specs.Linking.{link_fault}
 use Rattle.class_world.specs.Members.{find_method}
-use Rattle.class_program.specs.Reached.{close_of}
 use Rattle.class_world.specs.declared.world.MethodRef.{MethodRef}
 use Rattle.class_program.specs.declared.program.Method.{Method}
+use Rattle.class_program.specs.Programs.{Program, IsClosed}
 use Rattle.jterm.specs.declared.line.Line.{Line}
-use Rattle.jterm.specs.Machine.{Program, Ends, IsNeverStuck}
+use Rattle.jterm.specs.Machine.{Ends, IsNeverStuck}
 use Rattle.jterm.specs.Description.{IsLine, int_descriptor}
 
 -- ---- what class files and a description name
@@ -54,11 +54,12 @@ pub record NameEntry (files : List (List ℕ)) (desc : List ℕ) (world : World)
   pub linked : NameWorld files desc world line
   pub is_entry : IsEntry world line entry
 
--- and this program: the entry method is closed, which gives the methods that it reaches, itself first
+-- and this program: the entry method is closed, which gives the methods that it reaches, itself first; no static field is
+-- among what they name
 pub record NameProgram (files : List (List ℕ)) (desc : List ℕ) (line : Line) (program : Program) : Type 0 where
-  pub entry : MethodRef
-  pub entered : NameEntry files desc program.world line entry
-  pub closed : close_of program.world entry ≡ Ok program.methods
+  pub entered : NameEntry files desc program.world line program.entry
+  pub closed : IsClosed program
+  pub statics : program.statics ≡ []
 
 -- ---- the states that a line fits
 

@@ -13,28 +13,10 @@ use Rattle.jvm_values.specs.declared.state.Mode.{Mode}
 use Rattle.jterm.specs.declared.form.Form.{Form}
 use Rattle.jterm.specs.declared.form.Form.TheVariants.{Iconst, Iload, Istore, Iadd, Ireturn}
 use Rattle.class_program.specs.declared.op.Op.{Op}
-use Rattle.class_world.specs.World.{World}
-use Rattle.class_program.specs.declared.program.Method.{Method}
+use Rattle.class_program.specs.Instructions.{instruction_at}
+use Rattle.class_program.specs.Programs.{Program}
 use Rattle.jterm.specs.Forms.{form_of}
 use Rattle.jterm.specs.Options.{◌>>=◌}
-
--- the classes, and the methods that a run can come to, the entry method first
-pub record Program : Type 0 where
-  pub world : World
-  pub methods : List Method
-
-abbrev pub program_of : World → List Method → Program
-program_of world methods = record { world = world; methods = methods }
-
--- the place of the first of these instructions; there is none at the code's end
-abbrev pub first_place : {A : Type 0} → List (ℕ × A) → Option ℕ
-first_place [] = None
-first_place (i ∷ rest) = Some i.0
-
--- the instruction at a place, and the place of the next one
-abbrev pub instruction_at : {A : Type 0} → List (ℕ × A) → ℕ → Option (A × Option ℕ)
-instruction_at [] place = None
-instruction_at (i ∷ rest) place = if i.0 == place then Some (i.1, first_place rest) else instruction_at rest place
 
 -- the form at a place, and the place of the next instruction; none where no instruction stands, or one that the table
 -- does not have

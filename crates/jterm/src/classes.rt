@@ -1,11 +1,12 @@
 //! Class files, read in the order of their words, the world that they make, and the program of an entry.
-ghost use Rattle.std.specs.Prelude.{◌≡◌, ◌⊎◌, ◌≤◌, length, map, Some, None, Ok, IfOk, IfErr, MatchOption, IsTrue};
+ghost use Rattle.std.specs.Prelude.{◌≡◌, ◌⊎◌, ◌≤◌, [], length, map, Some, None, IfOk, IfErr, MatchOption, IsTrue};
 ghost use Rattle.class_world.specs.Resolve.{has_body};
 ghost use Rattle.class_read.specs.Rules.{Spells};
 ghost use Rattle.class_world.specs.World.{world_of};
 ghost use Rattle.class_world.specs.Worlds.{classes_of};
 ghost use Rattle.class_world.specs.Linking.{link_fault, CanBeRead};
-ghost use Rattle.class_program.specs.Reached.{close_of};
+ghost use Rattle.class_program.specs.Programs.{IsClosed};
+ghost use Rattle.class_program.specs.Views.{program_of};
 ghost use Rattle.std.specs.List.{AllByRecursion};
 ghost use Rattle.jterm.specs.Headline.{AllSpell, IsEntry};
 ghost use Rattle.jterm.specs.Refusals.{class_refusal, RefusesFile, RefusesClasses, RefusesWorld, RefusesProgram};
@@ -87,11 +88,17 @@ pub(crate) fn close<'a>(
     entry: MethodRef,
 ) -> Result<Program<'a>, Refused>
     requires { IsTrue (has_body (classes_of world) entry) }
-    ensures closed { IfOk result (λ program. close_of (classes_of world.entry) entry ≡ Ok program.methods) }
+    ensures world { IfOk result (λ program. classes_of program.world ≡ classes_of world.entry) }
+    ensures entry { IfOk result (λ program. program.entry ≡ entry) }
+    ensures closed { IfOk result (λ program. IsClosed (program_of program)) }
+    ensures statics { IfOk result (λ program. program.statics ≡ []) }
     ensures refused { IfErr result (λ refused. RefusesProgram (classes_of world.entry) entry refused) }
 {
     match Program::close(alloc, world, entry) {
-        Ok(program) => Ok(program),
+        Ok(program) => {
+            program.is_good();
+            Ok(program)
+        }
         Err(LinkFault::Memory) => Err(Refused::Memory),
         Err(fault) => Err(Refused::At {
             place: Place::Link,

@@ -51,7 +51,7 @@ fn decide_classes(alloc: Global, description: &[u8], files: &[Vec<u8>]) -> Resul
         Ok(program) => program,
         Err(refused) => return Err(refused),
     };
-    if !is_first_path(alloc, line.params, program.methods.as_slice())? {
+    if !is_first_path(alloc, line.params, &program)? {
         return Err(not_built(Place::Link));
     }
     yes(alloc)

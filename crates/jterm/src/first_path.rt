@@ -1,16 +1,15 @@
 //! The programs that are decided so far.
 ghost use Rattle.std.specs.Prelude.{◌≡◌, ◌↔◌, ℕ, List, [], ◌∷◌, length, replicate, Some, IsTrue, IfOk};
-ghost use Rattle.std.specs.List.{list_all, AllByRecursion};
+ghost use Rattle.std.specs.List.{list_all};
 ghost use Rattle.jvm_values.specs.declared.types.Kind.TheVariants as kinds;
 ghost use Rattle.jvm_values.specs.declared.types.Slot.TheVariants.{Num};
 ghost use Rattle.class_world.specs.World.{World};
-ghost use Rattle.jterm.specs.Forms.{AreRising};
-ghost use Rattle.jterm.specs.Machine.{program_of};
+ghost use Rattle.class_program.specs.Views.{program_of};
 ghost use Rattle.jterm.specs.FirstPath.{is_int, IsIntMethod, IsStraight, IsFirstPath};
 
 use crate::form::forms_of;
 use crate::typing::has_typing;
-use class_program::Method;
+use class_program::{Method, Program};
 use jvm_values::{Kind, Slot};
 use std::alloc::{AllocError, Global};
 
@@ -59,7 +58,6 @@ fn is_int_method(method: &Method<'_>, params: u8) -> bool
 
 /// Whether the method takes so many ints and is straight, in whatever world.
 fn is_straight(alloc: Global, params: u8, method: &Method<'_>) -> Result<bool, AllocError>
-    requires { AreRising method.now.insns }
     ensures { IfOk result (λ answer. (world : World) → IsTrue answer ↔ IsStraight world params method.now) }
 {
     if !is_int_method(method, params) {
@@ -77,7 +75,7 @@ fn is_straight(alloc: Global, params: u8, method: &Method<'_>) -> Result<bool, A
     )
 }
 
-/// Whether these methods are one straight method that takes so many ints, in whatever world.
+/// Whether the program is one straight method that takes so many ints.
 ///
 /// # Errors
 ///
@@ -85,11 +83,11 @@ fn is_straight(alloc: Global, params: u8, method: &Method<'_>) -> Result<bool, A
 pub(crate) fn is_first_path(
     alloc: Global,
     params: u8,
-    methods: &[Method<'_>],
+    program: &Program<'_>,
 ) -> Result<bool, AllocError>
-    requires { AllByRecursion (λ m. AreRising m.insns) methods.now }
-    ensures { IfOk result (λ answer. (world : World) → IsTrue answer ↔ IsFirstPath params (program_of world methods.now)) }
+    ensures { IfOk result (λ answer. IsTrue answer ↔ IsFirstPath params (program_of program.now)) }
 {
+    let methods = program.methods.as_slice();
     if methods.len() != 1 {
         return Ok(false);
     }

@@ -4,9 +4,8 @@ use Rattle.class_world.specs.Worlds.{classes_of}
 use Rattle.jterm.specs.declared.verdict.Refused.{Refused}
 use Rattle.jterm.specs.Decision.{Answers}
 use Rattle.jterm.specs.Headline.{NameWorld, NameEntry, NameProgram}
-use Rattle.jterm.specs.Machine.{program_of}
+use Rattle.class_program.specs.Views.{program_of}
 use Rattle.jterm.proofs.Files.{spell_length, spell_read}
-use Rattle.jterm.proofs.Closed.{closed_rising}
 use Rattle.jterm.proofs.Deciding.{world_refused, named_world, entry_refused, entry_body, closing_refused, named_program, program_refused, said_yes}
 use Rattle.jterm.proofs.decision.decide_classes.Goals as goal
 
@@ -39,26 +38,23 @@ returns-in-Err-close c =
     let entered : NameEntry _ _ world c.in-Some.line c.in-Some-2.entry = record { linked = linked; is_entry = rw c.in-Some-2.is at c.in_ok-entry.ensures } in
     closing_refused _ _ c.in-Some.line c.in-Some-2.entry world c.in-Err-close.refused entered c.in-Err-close.ensures.refused
 
-pub is_first_path-requires : goal.is_first_path-requires
-is_first_path-requires c = rw c.as_slice.ensures (closed_rising (classes_of c.in-Ok.world) c.in-Some-2.entry c.in-Ok-close.program.methods c.in-Ok-close.ensures.closed)
-
 pub returns-then-not-branch : goal.returns-then-not-branch
 returns-then-not-branch c =
     let world = classes_of c.in-Ok.world in
-    let methods = c.in-Ok-close.program.methods in
+    let program = program_of c.in-Ok-close.program in
     let linked = named_world _ _ _ c.in-Some.line world c.in_ok-classes.ensures.classes c.in-Some.ensures c.in-Ok.ensures.links c.in-Ok.ensures.world in
     let entered : NameEntry _ _ world c.in-Some.line c.in-Some-2.entry = record { linked = linked; is_entry = rw c.in-Some-2.is at c.in_ok-entry.ensures } in
-    let answer = rw c.as_slice.ensures at c.in_ok-is_first_path.ensures in
+    let close = c.in-Ok-close.ensures in
+    let named = named_program _ _ c.in-Some.line c.in-Some-2.entry world program entered close.world close.entry close.closed close.statics in
     subst (λ (r : Refused). Answers c.args.description.now (map (λ file. file.items) c.args.files.now) (Err r)) (sym c.not_built-then-not-branch.ensures)
-    (program_refused _ _ c.in-Some.line (program_of world methods) (named_program _ _ c.in-Some.line c.in-Some-2.entry world methods entered c.in-Ok-close.ensures.closed)
-    (λ p. let t = (answer world).1 p in let f = c.if-not-branch.true in cc))
+    (program_refused _ _ c.in-Some.line program named (λ p. let t = c.in_ok-is_first_path.ensures.1 p in let f = c.if-not-branch.true in cc))
 
 pub returns : goal.returns
 returns c =
     let world = classes_of c.in-Ok.world in
-    let methods = c.in-Ok-close.program.methods in
+    let program = program_of c.in-Ok-close.program in
     let linked = named_world _ _ _ c.in-Some.line world c.in_ok-classes.ensures.classes c.in-Some.ensures c.in-Ok.ensures.links c.in-Ok.ensures.world in
     let entered : NameEntry _ _ world c.in-Some.line c.in-Some-2.entry = record { linked = linked; is_entry = rw c.in-Some-2.is at c.in_ok-entry.ensures } in
-    let answer = rw c.as_slice.ensures at c.in_ok-is_first_path.ensures in
-    said_yes _ _ c.in-Some.line (program_of world methods) c.yes.result (named_program _ _ c.in-Some.line c.in-Some-2.entry world methods entered c.in-Ok-close.ensures.closed)
-    ((answer world).0 c.if-not-branch.false) c.yes.ensures
+    let close = c.in-Ok-close.ensures in
+    let named = named_program _ _ c.in-Some.line c.in-Some-2.entry world program entered close.world close.entry close.closed close.statics in
+    said_yes _ _ c.in-Some.line program c.yes.result named (c.in_ok-is_first_path.ensures.0 c.if-not-branch.false) c.yes.ensures
