@@ -1,0 +1,3 @@
+pub mod Restricting
+pub mod Sound
+pub mod Walks

@@ -1,0 +1,31 @@
+-- The ids that a state's positions reach, and states that lost ids.
+use Rattle.std.specs.Prelude.{◌≡◌, ℕ, true, List, [], ◌∷◌, ◌++◌, Some, slice_get}
+use Rattle.std.specs.List.{flat_map}
+use Rattle.std.specs.Option.{option_and_then}
+use Rattle.jvm_values.specs.Paths.{Steps, Reaches}
+use Rattle.abs_cells.specs.AbstractStates.{AbstractState}
+use Rattle.abs_cells.specs.Sound.{given_ids, ids_of_frame}
+use Rattle.abs_cells.specs.Cells.{ids_in, cell_at, HasCell, AreEqual, Share}
+
+-- a step goes from a cell to an id that it names, the length of an array of references too
+abbrev pub named_steps : AbstractState → Steps
+named_steps state a i = option_and_then (λ cell. slice_get (ids_in cell) i) (cell_at state a)
+
+-- the ids at a state's positions, and the thrown one
+abbrev pub positions : AbstractState → List ℕ
+positions state = flat_map ids_of_frame state.frames ++ given_ids (state.throwing ∷ [])
+
+-- an id stands at a position, or cells lead to it from there
+pub record IsReached (state : AbstractState) (id : ℕ) : Type 0 where
+  pub place : ℕ
+  pub start : ℕ
+  pub stands : slice_get (positions state) place ≡ Some start
+  pub reaches : Reaches (named_steps state) start id
+
+-- one state has the frames and the thrown id of another, and of its cells some, and between these all pairs
+pub record IsRestricted (whole part : AbstractState) : Type 0 where
+  pub frames : part.frames ≡ whole.frames
+  pub throwing : part.throwing ≡ whole.throwing
+  pub cells : (id : ℕ) → HasCell (λ _. true) part id → cell_at part id ≡ cell_at whole id
+  pub eq : (a b : ℕ) → HasCell (λ _. true) part a → HasCell (λ _. true) part b → AreEqual whole a b → AreEqual part a b
+  pub share : (a b : ℕ) → HasCell (λ _. true) part a → HasCell (λ _. true) part b → Share whole a b → Share part a b
