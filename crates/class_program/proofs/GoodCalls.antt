@@ -402,12 +402,12 @@ module _ (p : Program) (typed : AllOf (IsTyped p.world) p.methods) where
   pub virtual_good : is_linked p.world ≡ true → (current : ℕ) (call : Call) → IsNamedCall p.world current calls.Virtual call → list_all (has_method (refs_of p.methods)) (runs p.world (Invokevirtual call)) ≡ true → IsGoodSelecting p (Invokevirtual call) call
   unfolding selection_at
   virtual_good linked current call n h = record {
-      good = n.good;
-      none = n.none;
-      answers = λ class r.
+    good = n.good;
+    none = n.none;
+    answers = λ class r.
         let a = op_answered p.world (refs_of p.methods) (Invokevirtual call) class h r in
         (a.0, a.1, answer_good call class a.0 (λ number q. virtual_answer linked current calls.Virtual call n class number (sym (at class) ∙ a.1 ∙ ap (λ (s : Selected). Some s) q)));
-    }
+  }
     where
       at : (class : ℕ) → selected_in (refs_of p.methods) (option_map_or (λ m. selected_virtual p.world m.name m.desc class) (method_at p.world call.method) Lacks) ≡ selected_in (refs_of p.methods) (selected_virtual p.world n.good.method.name n.good.method.desc class)
       at class = ap (λ (o : Option MethodContent). selected_in (refs_of p.methods) (option_map_or (λ m. selected_virtual p.world m.name m.desc class) o Lacks)) n.good.there
@@ -415,12 +415,12 @@ module _ (p : Program) (typed : AllOf (IsTyped p.world) p.methods) where
   pub interface_good : is_linked p.world ≡ true → (current : ℕ) (call : Call) → IsNamedCall p.world current calls.Interface call → list_all (has_method (refs_of p.methods)) (runs p.world (Invokeinterface call)) ≡ true → IsGoodSelecting p (Invokeinterface call) call
   unfolding selection_at
   interface_good linked current call n h = record {
-      good = n.good;
-      none = n.none;
-      answers = λ class r.
+    good = n.good;
+    none = n.none;
+    answers = λ class r.
         let a = op_answered p.world (refs_of p.methods) (Invokeinterface call) class h r in
         (a.0, a.1, answer_good call class a.0 (λ number q. interface_answer linked current calls.Interface call n class number (sym (at class) ∙ a.1 ∙ ap (λ (s : Selected). Some s) q)));
-    }
+  }
     where
       at : (class : ℕ) → selected_in (refs_of p.methods) (option_map_or (λ m. selected_interface p.world call.class m.name m.desc class) (method_at p.world call.method) Lacks) ≡ selected_in (refs_of p.methods) (selected_interface p.world call.class n.good.method.name n.good.method.desc class)
       at class = ap (λ (o : Option MethodContent). selected_in (refs_of p.methods) (option_map_or (λ m. selected_interface p.world call.class m.name m.desc class) o Lacks)) n.good.there

@@ -73,8 +73,8 @@ all_made world entry methods e =
     let ms = bind_ok (each (λ x. method_of world x.0 x.1) (contents_of world refs)) _ methods e in
     let same : map (method_numbered refs) ms.0 ≡ methods = cc in
     let plain = each_good (λ (x : MethodRef × MethodContent). method_at world x.0 ≡ Some x.1) (λ r. IsMadeOf world refs (method_numbered refs r)) (λ x. method_of world x.0 x.1) (contents_of world refs) ms.0
-      (λ x r at made. record { ref = x.0; content = x.1; there = at; plain = r; made = method_made world x.0 x.1 r made; same = refl })
-      (contents_there world refs) ms.1 in
+    (λ x r at made. record { ref = x.0; content = x.1; there = at; plain = r; made = method_made world x.0 x.1 r made; same = refl })
+    (contents_there world refs) ms.1 in
     subst (λ (xs : List Method). AllOf (IsMadeOf world refs) xs) same (all_map (IsMadeOf world refs) (method_numbered refs) ms.0 plain)
 
 made_class : (world : World) (refs : List MethodRef) (m : Method) (h : IsMadeOf world refs m) → ref_of m ≡ h.ref
@@ -86,13 +86,13 @@ own_types_are world name desc s e = got_faultless name 0 (declared_signature wor
 
 pub typed_of : (world : World) (refs : List MethodRef) (m : Method) → IsMadeOf world refs m → IsTyped world m
 typed_of world refs m h = subst (IsTyped world) h.same (record {
-    content = h.content;
-    there = ap (method_at world) (sym (ap ref_of h.made.whole)) ∙ h.there;
-    types = h.made.types;
-    types_are = own_types_are world (method_name world h.ref.class h.content) h.content.desc h.made.types h.made.types_are;
-    params = sym (ap (λ (r : Method). r.params) h.made.whole) ∙ ap (λ (c : ℕ). with_receiver c h.content.flags h.made.types.params) (ap (λ (r : Method). r.class) h.made.whole);
-    result = sym (ap (λ (r : Method). r.result) h.made.whole);
-  })
+  content = h.content;
+  there = ap (method_at world) (sym (ap ref_of h.made.whole)) ∙ h.there;
+  types = h.made.types;
+  types_are = own_types_are world (method_name world h.ref.class h.content) h.content.desc h.made.types h.made.types_are;
+  params = sym (ap (λ (r : Method). r.params) h.made.whole) ∙ ap (λ (c : ℕ). with_receiver c h.content.flags h.made.types.params) (ap (λ (r : Method). r.class) h.made.whole);
+  result = sym (ap (λ (r : Method). r.result) h.made.whole);
+})
 
 -- ---- the parts of a method
 
@@ -107,9 +107,9 @@ unfolding ops_of op_said
 ops_said world class name code xs ys i o =
     each_good (λ x. AllOf (λ t. stands (starts xs) t ≡ true) (targets x.1)) (λ y. IsSaid world class xs y.1) (op_said world class name) xs ys
     (λ x y t e.
-      let op = bind_ok (op_of world class name x.0 x.1) _ y e in
-      let same : op.0 ≡ y.1 = cc in
-      record { insn = x.1; shape = subst (λ (z : Op). Shape world class x.1 (operand_of x.1) z) same (op_shape world class name x.0 x.1 op.0 op.1); leads = t })
+    let op = bind_ok (op_of world class name x.0 x.1) _ y e in
+    let same : op.0 ≡ y.1 = cc in
+    record { insn = x.1; shape = subst (λ (z : Op). Shape world class x.1 (operand_of x.1) z) same (op_shape world class name x.0 x.1 op.0 op.1); leads = t })
     (targets_stand code.code xs (insns_read name code xs i).0) o
 
 -- an entry of a table whose boundaries are good
@@ -157,9 +157,10 @@ good_insns : (p : Program) (m : Method) (all : List (ℕ × Insn)) (ops : List (
     → AllOf (λ y. IsSaid p.world m.class all y.1) ops → AllOf (λ y. list_all (has_method (refs_of p.methods)) (runs p.world y.1) ≡ true) (insns_numbered (refs_of p.methods) ops) → AllOf (λ y. IsGoodOp p m y.1) (insns_numbered (refs_of p.methods) ops)
 good_insns p m all [] linked bodies typed same said run = tt
 good_insns p m all (y ∷ ys) linked bodies typed same said run =
-    let s = said.0 in
-    (op_good p linked bodies typed m s.insn (operand_of s.insn) y.1 refl s.shape run.0 (all_imply (λ t. stands (starts all) t ≡ true) (λ t. is_place m.insns t ≡ true) (targets s.insn) (λ t q. stands_so m.insns all t same q) s.leads),
-    good_insns p m all ys linked bodies typed same said.1 run.1)
+    let s = said.0 in (
+      op_good p linked bodies typed m s.insn (operand_of s.insn) y.1 refl s.shape run.0 (all_imply (λ t. stands (starts all) t ≡ true) (λ t. is_place m.insns t ≡ true) (targets s.insn) (λ t q. stands_so m.insns all t same q) s.leads),
+      good_insns p m all ys linked bodies typed same said.1 run.1,
+    )
 
 slots_with : (world : World) (class flags : ℕ) (params : List Slot) → class < length world → AllOf (IsSlot (length world)) params → AllOf (IsSlot (length world)) (with_receiver class flags params)
 slots_with world class flags params l h = go (is_static flags)
@@ -228,9 +229,10 @@ good_all p linked bodies typed refs e [] made body run = tt
 good_all p linked bodies typed refs e (m ∷ ms) made body run =
     let h = made.0 in
     let same : method_numbered (refs_of p.methods) h.plain ≡ m = ap (λ (xs : List MethodRef). method_numbered xs h.plain) (sym e) ∙ h.same in
-    let own : ref_of m ≡ h.ref = made_class p.world refs m h in
-    (subst (IsGoodMethod p) same (good_method p linked bodies typed h.ref h.content h.plain h.there h.made (subst (λ (r : MethodRef). has_body p.world r ≡ true) own body.0) (subst (λ (x : Method). AllOf (λ y. list_all (has_method (refs_of p.methods)) (runs p.world y.1) ≡ true) x.insns) (sym same) run.0)),
-    good_all p linked bodies typed refs e ms made.1 body.1 run.1)
+    let own : ref_of m ≡ h.ref = made_class p.world refs m h in (
+      subst (IsGoodMethod p) same (good_method p linked bodies typed h.ref h.content h.plain h.there h.made (subst (λ (r : MethodRef). has_body p.world r ≡ true) own body.0) (subst (λ (x : Method). AllOf (λ y. list_all (has_method (refs_of p.methods)) (runs p.world y.1) ≡ true) x.insns) (sym same) run.0)),
+      good_all p linked bodies typed refs e ms made.1 body.1 run.1,
+    )
 
 pub good_program : (p : Program) → IsClosed p → IsGood p
 good_program p h =
