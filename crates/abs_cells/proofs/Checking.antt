@@ -1,19 +1,16 @@
 -- What the test of well-formed states tells: rising ids, sorts of cells, ids that are used, and pairs.
-use Rattle.std.proofs.Common.{◌≡◌, ◌≢◌, ℕ, zero, suc, ◌+◌, ◌*◌, ◌<◌, ◌≤◌, min, max, Bool, true, false, cond, if◌then◌else◌, not, ◌&&◌, ◌||◌, ◌==◌, eqb, List, [], ◌∷◌, ◌++◌, length, get_or, take, drop, reverse, IsTrue, Some, None, Option, ◌⊎◌, inl, inr, ◌↔◌, refl, sym, ap, subst, ◌∙◌, arith, eq-eqb, drop-cons, add-one, All}
+use Rattle.std.proofs.Common.{◌≡◌, ℕ, zero, suc, ◌<◌, min, max, Bool, true, false, if◌then◌else◌, not, ◌&&◌, ◌||◌, ◌==◌, eqb, List, [], ◌∷◌, ◌++◌, length, get_or, reverse, Some, None, Option, inl, inr, refl, sym, ap, subst, ◌∙◌, arith, eq-eqb, All}
 use Rattle.std.specs.List.{list_any, list_all, flat_map}
-use Rattle.std.proofs.lemmas.Bool.{false≢true, eqb-true, ne_eqb, and_parts, and_from, cases_lt, cases_eq}
-use Rattle.std.specs.Prelude.{slice_get}
-use Rattle.std.proofs.lemmas.List.{take_all, append_assoc, reverse-append}
-use Rattle.std.proofs.lemmas.Option.{slice_get_within, get_or_from_slice_get}
-use Rattle.jvm_values.proofs.Options.{some_is, none_is_not_some}
-use Rattle.std.proofs.lemmas.List.Folds.{list_all-append, list_all_more}
+use Rattle.std.proofs.lemmas.Bool.{false≢true, ne_eqb, and_parts, and_from, cases_eq}
+use Rattle.std.proofs.lemmas.List.{append_assoc, reverse-append}
+use Rattle.std.proofs.lemmas.List.Folds.{list_all-append}
 use Rattle.abs_cells.specs.declared.cells.Cell.{Cell}
 use Rattle.abs_cells.specs.AbstractStates.{AbstractFrame, AbstractState}
-use Rattle.abs_cells.specs.PairLists.{pair_of, is_same, IsFirst, IsRising, has_pair, has}
+use Rattle.abs_cells.specs.PairLists.{pair_of, is_same, IsRising, has_pair, has, AreAmong}
 use Rattle.abs_cells.specs.IdSets.{has_id, joins, are_touched}
-use Rattle.abs_cells.specs.Cells.{is_known, is_reference, ids_in, is_of_sort, cell_in, cell_at, HasCell, AreEqual, Share}
-use Rattle.abs_cells.specs.Sound.{AreIdsRising, given_ids, ids_of_frame, ids_used, AreAmong, may_join, MayAllJoin, IsWellFormed}
-use Rattle.abs_cells.proofs.PairLaws.{same_is, is_same_from, bool_cases, before_is}
+use Rattle.abs_cells.specs.Cells.{is_known, is_reference, ids_in, is_of_sort, cell_in, cell_at, HasCell}
+use Rattle.abs_cells.specs.Sound.{AreIdsRising, given_ids, ids_of_frame, ids_used, may_join, MayAllJoin, IsWellFormed}
+use Rattle.abs_cells.proofs.PairLaws.{same_is, is_same_from, bool_cases}
 
 -- ---- rising ids
 
@@ -124,11 +121,6 @@ not_in_used set state places t e = t ∙ ap (λ (b : Bool). b && list_all (λ c.
 
 -- ---- pairs
 
-pub pair_facts : (xs : List (ℕ × ℕ)) (n : ℕ) (p : ℕ × ℕ) → IsRising xs → Some p ≡ slice_get xs n → (p.0 < p.1) × (p.1 < 2048)
-pair_facts [] n p r e = absurd (none_is_not_some p (sym e))
-pair_facts (x ∷ xs) zero p r e = subst (λ (q : ℕ × ℕ). (q.0 < q.1) × (q.1 < 2048)) (some_is (sym e)) r.0
-pair_facts (x ∷ xs) (suc n) p r e = pair_facts xs n p r.1.1 e
-
 or_right : (s t : Bool) → t ≡ true → (s || t) ≡ true
 or_right true t e = refl
 or_right false t e = e
@@ -137,12 +129,7 @@ or_left : (s t : Bool) → s ≡ true → (s || t) ≡ true
 or_left true t e = refl
 or_left false t e = absurd (false≢true e)
 
-pub is_member : (xs : List (ℕ × ℕ)) (n : ℕ) (p : ℕ × ℕ) → Some p ≡ slice_get xs n → has_pair p xs ≡ true
-is_member [] n p e = absurd (none_is_not_some p (sym e))
-is_member (x ∷ xs) zero p e = or_left (is_same p x) (has_pair p xs) (is_same_from p x (sym (some_is (sym e))))
-is_member (x ∷ xs) (suc n) p e = or_right (is_same p x) (has_pair p xs) (is_member xs n p e)
-
-low_pair : (p : ℕ × ℕ) → p.0 < p.1 → pair_of p.0 p.1 ≡ p
+pub low_pair : (p : ℕ × ℕ) → p.0 < p.1 → pair_of p.0 p.1 ≡ p
 low_pair (a, b) l =
     let left : ℕ → ℕ × ℕ = λ x. (x, max a b) in
     let right : ℕ → ℕ × ℕ = λ y. (a, y) in
@@ -152,45 +139,6 @@ low_pair (a, b) l =
 
 pub has_member : (xs : List (ℕ × ℕ)) (p : ℕ × ℕ) → p.0 < p.1 → has_pair p xs ≡ true → has p.0 p.1 xs ≡ true
 has_member xs p l h = ap (λ (q : ℕ × ℕ). has_pair q xs) (low_pair p l) ∙ h
-
-test_of : (test : ℕ × ℕ → Bool) (q : ℕ × ℕ) (xs : List (ℕ × ℕ)) → has_pair q xs ≡ true → list_all test xs ≡ true → test q ≡ true
-test_of test q [] h k = absurd (false≢true h)
-test_of test q (x ∷ xs) h k =
-    let parts = and_parts (test x) (list_all test xs) k in
-    elim (bool_cases (is_same q x)) [
-      | inl s ↦ ap test (same_is q x s) ∙ parts.0
-      | inr s ↦ test_of test q xs (sym (ap (λ (b : Bool). b || has_pair q xs) s) ∙ h) parts.1
-    ]
-
-pub among : (some others : List (ℕ × ℕ)) → list_all (λ p. has_pair p others) some ≡ true → AreAmong some others
-among some others h a b k = test_of (λ p. has_pair p others) (pair_of a b) some k h
-
-pub not_among : (some others : List (ℕ × ℕ)) (n a b : ℕ) → IsRising some → Some (a, b) ≡ slice_get some n → has a b others ≡ false → AreAmong some others → ⊥
-not_among some others n a b r e f h = false≢true (sym f ∙ h a b (has_member some (a, b) (pair_facts some n (a, b) r e).0 (is_member some n (a, b) e)))
-
-pub among_more : (some others : List (ℕ × ℕ)) (n a b : ℕ) → IsRising some → Some (a, b) ≡ slice_get some n → has a b others ≡ true → list_all (λ p. has_pair p others) (take n some) ≡ true → list_all (λ p. has_pair p others) (take (n + 1) some) ≡ true
-among_more some others n a b r e h k =
-    let l : n < length some = slice_get_within some n (a, b) (sym e) in
-    let here : get_or some n (0, 0) ≡ (a, b) = get_or_from_slice_get some n (a, b) (0, 0) (sym e) in
-    let facts = pair_facts some n (a, b) r e in
-    let good : has_pair (get_or some n (0, 0)) others ≡ true = ap (λ (q : ℕ × ℕ). has_pair q others) (here ∙ sym (low_pair (a, b) facts.0)) ∙ h in
-    list_all_more (λ p. has_pair p others) some n (0, 0) l ∙ and_from (list_all (λ p. has_pair p others) (take n some)) (has_pair (get_or some n (0, 0)) others) k good
-
-key_below : (p : ℕ × ℕ) (xs : List (ℕ × ℕ)) → IsFirst p xs → IsRising xs → (p.0 < p.1) × (p.1 < 2048) → (p.0 * 2048 + p.1) + length xs < 4194304
-key_below p [] f r l = omega (arith, l.0, l.1)
-key_below p (q ∷ xs) f r l =
-    let rest : (q.0 * 2048 + q.1) + length xs < 4194304 = key_below q xs r.1.0 r.1.1 r.0 in
-    elim (before_is p q f) [
-      | inl m ↦ omega (arith, rest, m, l.1)
-      | inr m ↦ omega (arith, rest, m.0, m.1)
-    ]
-
-pub few_pairs : (xs : List (ℕ × ℕ)) → IsRising xs → length xs ≤ 4194304
-few_pairs [] r = omega arith
-few_pairs (p ∷ xs) r = omega (arith, key_below p xs r.1.0 r.1.1 r.0)
-
-pub among_all : (some others : List (ℕ × ℕ)) (n : ℕ) → length some ≤ n → list_all (λ p. has_pair p others) (take n some) ≡ true → AreAmong some others
-among_all some others n l h = among some others (sym (ap (list_all (λ p. has_pair p others)) (take_all n some l)) ∙ h)
 
 none_of : (test : ℕ × ℕ → Bool) (q : ℕ × ℕ) (xs : List (ℕ × ℕ)) → has_pair q xs ≡ true → list_any test xs ≡ false → test q ≡ false
 none_of test q [] h k = absurd (false≢true h)
@@ -318,8 +266,3 @@ joins_all state h x y l s =
 pub not_true : (b : Bool) → not b ≡ true → b ≡ false
 not_true true h = absurd (false≢true h)
 not_true false h = refl
-
-pub is_past : (xs : List (ℕ × ℕ)) (n : ℕ) → None ≡ slice_get xs n → length xs ≤ n
-is_past [] n e = omega arith
-is_past (x ∷ xs) zero e = absurd (none_is_not_some x e)
-is_past (x ∷ xs) (suc n) e = omega (arith, is_past xs n e)

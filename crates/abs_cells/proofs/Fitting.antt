@@ -1,13 +1,12 @@
 -- What fitting gives.
-use Rattle.std.proofs.Common.{◌≡◌, ℕ, suc, ◌<◌, ◌≤◌, List, [], ◌∷◌, length, Some, ◌⊎◌, inl, inr, refl, sym, ap, ◌∙◌, arith}
+use Rattle.std.proofs.Common.{◌≡◌, ℕ, suc, ◌<◌, ◌≤◌, List, [], ◌∷◌, length, inl, inr, refl, sym, ap, ◌∙◌, arith}
 use Rattle.std.specs.List.{AllZip}
 use Rattle.std.proofs.lemmas.Bool.{cases_lt}
 use Rattle.jvm_values.specs.declared.heap.Value.{Value}
-use Rattle.jvm_values.specs.States.{MachineFrame, MachineState}
-use Rattle.abs_cells.specs.AbstractStates.{AbstractFrame, AbstractState}
-use Rattle.abs_cells.specs.Cells.{HasCell, is_known, AreEqual, Share}
-use Rattle.abs_cells.specs.Sound.{IsWellFormed}
-use Rattle.abs_cells.specs.Fits.{Meaning, Fits, FitsFrame, with_statics}
+use Rattle.jvm_values.specs.States.{MachineFrame}
+use Rattle.abs_cells.specs.AbstractStates.{AbstractFrame}
+use Rattle.abs_cells.specs.Cells.{Share}
+use Rattle.abs_cells.specs.Fits.{Meaning, FitsFrame, with_statics}
 use Rattle.abs_cells.proofs.PairLaws.{has_swapped}
 use Rattle.abs_cells.specs.Laws.{FittingFramesAgree, KnownIdsAreApart}
 

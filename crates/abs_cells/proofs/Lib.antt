@@ -1,3 +1,4 @@
+pub mod AmongLaws
 pub mod BitLaws
 pub mod Checking
 pub mod Fitting

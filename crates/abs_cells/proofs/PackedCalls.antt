@@ -1,15 +1,14 @@
 -- What calls on packed pairs leave: a bit is set or cleared, an id gets a slot.
-use Rattle.std.proofs.Common.{◌≡◌, ◌≢◌, ℕ, zero, suc, ◌+◌, ◌*◌, ◌/◌, ◌%◌, ◌-◌, ◌<◌, ◌≤◌, min, max, Bool, true, false, cond, not, ◌&&◌, ◌||◌, ◌==◌, eqb, List, [], ◌∷◌, ◌++◌, length, get_or, set, take, replicate, Option, Some, None, ◌⊎◌, inl, inr, refl, sym, ap, subst, ◌∙◌, arith, eq-eqb, mul_left_comm, mul_comm, mul-suc, add-suc, add-one, Result, Ok, Err, OnErr}
-use Rattle.std.specs.Prelude.{slice_get}
-use Rattle.std.proofs.lemmas.Bool.{false≢true, eqb-true, ne_eqb, and_parts, and_from, cases_lt, cases_eq}
+use Rattle.std.proofs.Common.{◌≡◌, ℕ, zero, suc, ◌+◌, ◌*◌, ◌/◌, ◌%◌, ◌<◌, ◌≤◌, min, max, Bool, false, not, ◌&&◌, ◌||◌, ◌==◌, eqb, List, [], ◌∷◌, ◌++◌, length, get_or, set, take, replicate, Option, Some, None, inl, inr, refl, sym, ap, ◌∙◌, arith, mul_left_comm, mul_comm, mul-suc, add-suc, add-one, Result, Ok, Err, OnErr}
+use Rattle.std.proofs.lemmas.Bool.{ne_eqb, cases_lt, cases_eq}
 use Rattle.std.proofs.lemmas.List.{length-set, take_all}
 use Rattle.jvm_values.proofs.Options.{some_is, none_is_not_some}
-use Rattle.abs_cells.specs.PairLists.{pair_of, is_same, IsRising, has_pair, with_pair, without_pair, added, removed}
+use Rattle.abs_cells.specs.PairLists.{pair_of, is_same, with_pair, without_pair, added, removed}
 use Rattle.std.specs.Int.{bit_at}
 use Rattle.abs_cells.specs.IdSets.{has_bit}
 use Rattle.abs_cells.specs.PackedBits.{pairs_in, slot_of, slots_in, row_start, place_of, hit, hit_slots, ArePacked, IsGrown}
 use Rattle.abs_cells.proofs.PairLaws.{rising_with, rising_without, without_none}
-use Rattle.abs_cells.proofs.PackedLaws.{is_one_list, has_with, has_without, packed_rises, packed_has, packed_has_two, same_pairs, rows_apart, later_row, no_later, set_hits, clear_hits, place_turned, and_off}
+use Rattle.abs_cells.proofs.PackedLaws.{is_one_list, has_with, has_without, packed_rises, packed_has, packed_has_two, same_pairs, rows_apart, later_row, set_hits, clear_hits, place_turned, and_off}
 
 -- ---- where rows begin
 

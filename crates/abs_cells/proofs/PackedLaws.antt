@@ -1,13 +1,11 @@
 -- Pairs as bits: the pairs of which something holds, and what a change of slots and bits leaves of them.
-use Rattle.std.proofs.Common.{◌≡◌, ◌≢◌, ℕ, zero, suc, ◌+◌, ◌*◌, ◌/◌, ◌%◌, ◌-◌, ◌<◌, ◌≤◌, min, max, Bool, true, false, cond, not, ◌&&◌, ◌||◌, ◌==◌, eqb, ltb, List, [], ◌∷◌, ◌++◌, length, get_or, set, Option, Some, None, ◌⊎◌, inl, inr, refl, sym, ap, subst, ◌∙◌, arith, eq-eqb}
-use Rattle.std.specs.Prelude.{slice_get}
-use Rattle.std.proofs.lemmas.Bool.{false≢true, eqb-true, ne_eqb, and_parts, and_from, cases_lt, cases_eq}
-use Rattle.std.proofs.lemmas.Option.{slice_get_within}
+use Rattle.std.proofs.Common.{◌≡◌, ℕ, zero, suc, ◌+◌, ◌*◌, ◌/◌, ◌<◌, ◌≤◌, min, max, Bool, true, false, not, ◌&&◌, ◌||◌, ◌==◌, List, [], ◌∷◌, ◌++◌, length, Option, Some, None, ◌⊎◌, inl, inr, refl, sym, ap, subst, ◌∙◌, arith, eq-eqb}
+use Rattle.std.proofs.lemmas.Bool.{false≢true, ne_eqb, cases_lt, cases_eq}
 use Rattle.jvm_values.proofs.Options.{some_is, none_is_not_some}
-use Rattle.abs_cells.specs.PairLists.{pair_of, is_same, is_before, IsFirst, IsRising, has_pair, with_pair, without_pair, has, added, removed}
-use Rattle.abs_cells.specs.IdSets.{has_bit, has_id}
-use Rattle.abs_cells.specs.PackedBits.{row_from, pairs_from, pairs_in, slot_of, slots_in, row_start, place_of, hit, hit_slots, ArePacked, IsGrown}
-use Rattle.abs_cells.proofs.PairLaws.{Before, before_is, is_before_from, onward, never_both, never_itself, same_is, is_same_from, not_same, bool_cases, or_true, or_rest, behind_first, cond_true, cond_false, standing, rising_with, rising_without}
+use Rattle.abs_cells.specs.PairLists.{pair_of, is_same, is_before, IsFirst, IsRising, has_pair, with_pair, without_pair, has}
+use Rattle.abs_cells.specs.IdSets.{has_bit}
+use Rattle.abs_cells.specs.PackedBits.{row_from, pairs_from, pairs_in, slot_of, row_start, place_of, hit, hit_slots, ArePacked}
+use Rattle.abs_cells.proofs.PairLaws.{Before, is_before_from, never_both, never_itself, same_is, is_same_from, not_same, bool_cases, or_true, or_rest, behind_first, cond_true, cond_false, standing}
 
 -- ---- two rising lists with the same pairs are equal
 

@@ -1,14 +1,14 @@
 -- What packed pairs are asked: the pair at a place, and whether two sets are touched.
-use Rattle.std.proofs.Common.{◌≡◌, ◌≢◌, ℕ, zero, suc, ◌+◌, ◌*◌, ◌/◌, ◌%◌, ◌-◌, ◌<◌, ◌≤◌, min, max, Bool, true, false, cond, not, ◌&&◌, ◌||◌, ◌==◌, eqb, List, [], ◌∷◌, ◌++◌, length, get_or, Option, Some, None, ◌⊎◌, inl, inr, refl, sym, ap, subst, ◌∙◌, arith, w64, bit_and, add-one, ◌^◌, eq-eqb}
+use Rattle.std.proofs.Common.{◌≡◌, ℕ, zero, suc, ◌+◌, ◌*◌, ◌/◌, ◌%◌, ◌-◌, ◌<◌, ◌≤◌, min, max, Bool, true, false, cond, ◌&&◌, ◌||◌, ◌==◌, eqb, List, [], ◌∷◌, ◌++◌, length, get_or, Option, Some, None, ◌⊎◌, inl, inr, refl, sym, ap, subst, ◌∙◌, arith, w64, bit_and, add-one, ◌^◌, eq-eqb}
 use Rattle.std.specs.Prelude.{slice_get}
 use Rattle.std.specs.Int.{bit_at, trailing_zeros}
 use Rattle.std.specs.List.{list_any}
-use Rattle.std.proofs.lemmas.Bool.{false≢true, eqb-true, ne_eqb, and_parts, and_from, cases_lt, cases_eq}
+use Rattle.std.proofs.lemmas.Bool.{false≢true, eqb-true, cases_lt}
 use Rattle.std.proofs.lemmas.Nat.Bits.{bit_at-trailing_zeros, bit_at_and, bit_at-zero, bit_at-lt}
 use Rattle.jvm_values.proofs.Options.{some_is, none_is_not_some}
-use Rattle.abs_cells.specs.PairLists.{pair_of, is_same, IsRising, has_pair, has}
+use Rattle.abs_cells.specs.PairLists.{pair_of, is_same, has_pair, has}
 use Rattle.abs_cells.specs.IdSets.{has_bit, has_id, joins, are_touched}
-use Rattle.abs_cells.specs.PackedBits.{row_from, pairs_from, pairs_in, whole_row, slot_of, row_start, place_of, hit, hit_slots, ArePacked, RowMeets, HasSlot, SideMeets, AreBothSet}
+use Rattle.abs_cells.specs.PackedBits.{row_from, pairs_from, pairs_in, slot_of, row_start, place_of, hit, hit_slots, ArePacked, RowMeets, HasSlot, SideMeets, AreBothSet}
 use Rattle.abs_cells.proofs.PairLaws.{same_is, bool_cases, or_rest}
 use Rattle.abs_cells.proofs.PackedLaws.{packed_rises, packed_has, packed_has_two, place_turned, row_with, row_without, past_slots}
 use Rattle.abs_cells.proofs.Checking.{none_from}

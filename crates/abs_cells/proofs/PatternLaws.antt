@@ -1,5 +1,5 @@
 -- A pattern that is found at one depth is found at each greater one; so an id has one pattern.
-use Rattle.std.proofs.Common.{◌≡◌, ℕ, zero, suc, ◌<◌, ◌≤◌, List, [], ◌∷◌, Option, Some, None, ◌⊎◌, inl, inr, refl, sym, ap, subst, ◌∙◌, arith}
+use Rattle.std.proofs.Common.{◌≡◌, ℕ, zero, suc, ◌≤◌, List, [], ◌∷◌, Option, Some, None, inl, inr, refl, sym, ap, ◌∙◌, arith}
 use Rattle.std.specs.Option.{option_map, option_and_then}
 use Rattle.std.proofs.lemmas.Bool.{cases_lt}
 use Rattle.jvm_values.proofs.Options.{some_is, none_is_not_some}
@@ -7,7 +7,7 @@ use Rattle.abs_cells.specs.declared.cells.Cell.{Cell}
 use Rattle.abs_cells.specs.declared.cells.Cell.TheVariants.{Int, Null, Obj, Nums, Refs, Unk}
 use Rattle.abs_cells.specs.AbstractStates.{AbstractState}
 use Rattle.abs_cells.specs.Cells.{cell_at}
-use Rattle.abs_cells.specs.Patterns.{Pattern, Patterns, with_first, patterns_by, pattern_of_cell, pattern_within, IsPattern}
+use Rattle.abs_cells.specs.Patterns.{Pattern, Patterns, with_first, patterns_by, pattern_of_cell, pattern_within}
 use Rattle.abs_cells.specs.Patterns.Pattern.{node}
 use Rattle.abs_cells.specs.Patterns.Patterns.{more}
 use Rattle.abs_cells.specs.Laws.{PatternsAreOne}

@@ -1,6 +1,5 @@
 -- Calls on pairs one after another: what one more call does.
 use Rattle.std.proofs.Common.{◌≡◌, ℕ, zero, suc, ◌+◌, ◌<◌, ◌≤◌, Bool, List, [], ◌∷◌, ◌++◌, length, get_or, take, drop, Option, Some, None, refl, sym, ap, subst, ◌∙◌, arith, drop-cons, add-one, append_assoc, append-nil}
-use Rattle.std.specs.Prelude.{All}
 use Rattle.std.proofs.lemmas.List.{drop_all}
 use Rattle.abs_cells.specs.declared.replays.PairCall.{PairCall}
 use Rattle.abs_cells.specs.Replays.{pairs_after_one, pairs_after, answer_of, answers_of, with_answer, IsStopped}

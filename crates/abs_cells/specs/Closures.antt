@@ -1,8 +1,8 @@
 -- What known cells lead to, and the four tests that are made over it.
-use Rattle.std.specs.Prelude.{◌≡◌, ◌≢◌, ℕ, Bool, if◌then◌else◌, ◌⊎◌, Option, Some, None, slice_get}
+use Rattle.std.specs.Prelude.{◌≡◌, ◌≢◌, ℕ, if◌then◌else◌, ◌⊎◌, Option, Some, None, slice_get}
 use Rattle.std.specs.Option.{option_and_then}
 use Rattle.jvm_values.specs.declared.shape.Shape.{Shape}
-use Rattle.jvm_values.specs.declared.shape.Shape.TheVariants.{Tree, Dag, Any}
+use Rattle.jvm_values.specs.declared.shape.Shape.TheVariants.{Tree, Any}
 use Rattle.jvm_values.specs.Paths.{Steps, Reaches, IsTreeFrom, IsDagFrom}
 use Rattle.abs_cells.specs.declared.cells.Cell.{Cell}
 use Rattle.abs_cells.specs.AbstractStates.{AbstractState}

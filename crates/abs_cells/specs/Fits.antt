@@ -1,5 +1,5 @@
 -- Which states of the written machine an abstract state describes, by a map from ids to values.
-use Rattle.std.specs.Prelude.{◌≡◌, ◌≢◌, ℕ, Bool, true, List, [], ◌∷◌, ◌++◌, map, length, All, IsTrue, ◌⊎◌, ℤ, pos, Option, Some, None, slice_get}
+use Rattle.std.specs.Prelude.{◌≡◌, ◌≢◌, ℕ, true, List, [], ◌∷◌, ◌++◌, map, length, IsTrue, ◌⊎◌, ℤ, pos, Option, Some, None, slice_get}
 use Rattle.std.specs.List.{AllZip}
 use Rattle.lin_core.specs.Intervals.{IsIn}
 use Rattle.jvm_values.specs.declared.heap.Value.{Value}

@@ -1,13 +1,13 @@
 -- Laws about abstract states.
-use Rattle.std.specs.Prelude.{◌≡◌, ◌≢◌, ℕ, length, Some, ◌⊎◌}
+use Rattle.std.specs.Prelude.{◌≡◌, ◌≢◌, ℕ, length, Some}
 use Rattle.jvm_values.specs.States.{MachineState}
 use Rattle.jvm_values.specs.Heaps.{target}
 use Rattle.jvm_values.specs.TypedHeaps.{WorldTypes}
 use Rattle.abs_cells.specs.AbstractStates.{AbstractState}
-use Rattle.abs_cells.specs.Cells.{HasCell, is_known, AreEqual, Share}
-use Rattle.abs_cells.specs.Sound.{IsWellFormed, IsSound}
+use Rattle.abs_cells.specs.Cells.{HasCell, is_known}
+use Rattle.abs_cells.specs.Sound.{IsWellFormed}
 use Rattle.abs_cells.specs.Fits.{Meaning, Fits}
-use Rattle.abs_cells.specs.Patterns.{Pattern, IsPattern, IsSized}
+use Rattle.abs_cells.specs.Patterns.{Pattern, IsPattern}
 
 -- A state that is fitted has as many frames as the machine's.
 abbrev pub FittingFramesAgree : Type 0

@@ -42,6 +42,10 @@ hit_slots words (Some s) (Some t) = has_bit words (place_of s t)
 abbrev pub hit : List (Option ℕ) → List ℕ → ℕ → ℕ → Bool
 hit slots words a b = hit_slots words (slot_of slots a) (slot_of slots b)
 
+-- an id and each higher one that are a pair by the one are a pair by the other
+abbrev pub IsRowAmong : (ℕ → ℕ → Bool) → (ℕ → ℕ → Bool) → ℕ → Type 0
+IsRowAmong some others a = (b : ℕ) → a < b → some a b ≡ true → others a b ≡ true
+
 -- the pairs of an id with those above it
 abbrev pub whole_row : List (Option ℕ) → List ℕ → ℕ → List (ℕ × ℕ)
 whole_row slots words a = row_from (hit slots words a) a (suc a) (length slots - suc a)

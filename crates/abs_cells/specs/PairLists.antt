@@ -1,5 +1,5 @@
 -- Unordered pairs of numbers as rising lists, the lower number of each pair first.
-use Rattle.std.specs.Prelude.{◌≡◌, ℕ, suc, ◌<◌, ◌==◌, nat_lt, min, max, Bool, true, false, ◌&&◌, ◌||◌, not, if◌then◌else◌, List, [], ◌∷◌}
+use Rattle.std.specs.Prelude.{◌≡◌, ℕ, suc, ◌<◌, ◌==◌, nat_lt, min, max, Bool, true, false, ◌&&◌, ◌||◌, if◌then◌else◌, List, [], ◌∷◌}
 
 -- the pair of two numbers, the lower one first
 abbrev pub pair_of : ℕ → ℕ → ℕ × ℕ
@@ -47,6 +47,10 @@ added a b pairs = with_pair (pair_of a b) pairs
 
 abbrev pub removed : ℕ → ℕ → List (ℕ × ℕ) → List (ℕ × ℕ)
 removed a b pairs = without_pair (pair_of a b) pairs
+
+-- all pairs of the one list are pairs of the other
+abbrev pub AreAmong : List (ℕ × ℕ) → List (ℕ × ℕ) → Type 0
+AreAmong some others = (a b : ℕ) → has a b some ≡ true → has a b others ≡ true
 
 -- how many pairs at the front of a list stand before a pair: its place where the list rises
 abbrev pub place_in : ℕ × ℕ → List (ℕ × ℕ) → ℕ

@@ -1,5 +1,5 @@
 -- Calls on pairs, as operations on the list that these mean.
-use Rattle.std.specs.Prelude.{◌≡◌, ◌≢◌, ℕ, ◌<◌, Bool, List, [], ◌∷◌, ◌++◌, take, Option, Some, None}
+use Rattle.std.specs.Prelude.{◌≡◌, ◌≢◌, ℕ, ◌<◌, Bool, List, [], ◌∷◌, take, Option, Some, None}
 use Rattle.abs_cells.specs.declared.replays.PairCall.{PairCall}
 use Rattle.abs_cells.specs.declared.replays.PairCall.TheVariants.{Add, Remove, Has}
 use Rattle.abs_cells.specs.PairLists.{added, removed, has}

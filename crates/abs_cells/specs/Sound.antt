@@ -1,5 +1,5 @@
 -- Well-formed abstract states, and those that are sound for the types of a world.
-use Rattle.std.specs.Prelude.{◌≡◌, ◌≢◌, ℕ, suc, ◌<◌, ◌≤◌, Bool, true, false, not, ◌&&◌, ◌||◌, List, [], ◌∷◌, ◌++◌, map, All, IsTrue, Option, Some, None}
+use Rattle.std.specs.Prelude.{◌≡◌, ◌≢◌, ℕ, suc, ◌<◌, ◌≤◌, Bool, true, false, not, ◌&&◌, List, [], ◌∷◌, ◌++◌, All, IsTrue, Option, Some, None}
 use Rattle.std.specs.List.{AllZip, flat_map}
 use Rattle.jvm_values.specs.declared.types.Slot.{Slot}
 use Rattle.jvm_values.specs.declared.types.Slot.TheVariants as slots
@@ -9,7 +9,7 @@ use Rattle.abs_cells.specs.declared.cells.Cell.{Cell}
 use Rattle.abs_cells.specs.declared.cells.Cell.TheVariants.{Int, Null, Obj, Nums, Refs, Unk}
 use Rattle.abs_cells.specs.AbstractStates.{AbstractFrame, AbstractState}
 use Rattle.abs_cells.specs.PairLists.{has}
-use Rattle.abs_cells.specs.Cells.{is_known, is_reference, is_int, ids_in, is_of_sort, cell_in, cell_at, HasCell, AreEqual, Share}
+use Rattle.abs_cells.specs.Cells.{is_known, is_reference, is_int, ids_in, is_of_sort, cell_in, HasCell, AreEqual, Share}
 
 -- the ids of cells rise, and are below a number
 abbrev pub AreIdsRising : ℕ → List (ℕ × Cell) → Type 0
@@ -27,10 +27,6 @@ ids_of_frame frame = given_ids frame.locals ++ frame.stack
 -- every id that frames, the thrown object and cells name
 abbrev pub ids_used : AbstractState → List ℕ
 ids_used state = flat_map ids_of_frame state.frames ++ (given_ids (state.throwing ∷ []) ++ flat_map (λ c. ids_in c.1) state.cells)
-
--- all pairs of the one list are pairs of the other
-abbrev pub AreAmong : List (ℕ × ℕ) → List (ℕ × ℕ) → Type 0
-AreAmong some others = (a b : ℕ) → has a b some ≡ true → has a b others ≡ true
 
 -- two ids may be a pair: both are references, and not both are known
 abbrev pub may_join : List (ℕ × Cell) → ℕ → ℕ → Bool

@@ -2,9 +2,10 @@
 ghost use Rattle.std.specs.Prelude.{◌≡◌, ◌≤◌, ◌<◌, ℕ, ◌↔◌, IsTrue, not, ◌++◌, ◌∷◌, []};
 ghost use Rattle.std.specs.List.{list_all, flat_map};
 ghost use Rattle.abs_cells.specs.AbstractStates.{AbstractFrame};
+ghost use Rattle.abs_cells.specs.PairLists.{AreAmong};
 ghost use Rattle.abs_cells.specs.IdSets.{has_id};
 ghost use Rattle.abs_cells.specs.Cells.{cell_in, is_of_sort, sort_test, ids_in};
-ghost use Rattle.abs_cells.specs.Sound.{AreIdsRising, given_ids, ids_of_frame, ids_used, AreAmong, MayAllJoin, IsWellFormed};
+ghost use Rattle.abs_cells.specs.Sound.{AreIdsRising, given_ids, ids_of_frame, ids_used, MayAllJoin, IsWellFormed};
 
 use crate::cells::{Cell, CellSort};
 use crate::ids::Id;
@@ -136,23 +137,6 @@ fn has_used<P: Pairs>(set: &IdSet, state: &AbsState<P>) -> bool
     has_places(set, state) && has_cells(set, state.cells())
 }
 
-/// Whether each pair of the one is a pair of the other.
-fn are_among<P: Pairs>(some: &P, others: &P) -> bool
-    ensures { IsTrue result ↔ AreAmong (P.pairs some.now) (P.pairs others.now) }
-{
-    for n in 0..4_194_304usize {
-        match some.nth(n) {
-            None => return true,
-            Some((a, b)) => {
-                if !others.has(a, b) {
-                    return false;
-                }
-            }
-        }
-    }
-    true
-}
-
 /// Whether pairs join references alone, and no two known ones.
 fn join_well<P: Pairs>(pairs: &P, cells: &[(Id, Cell)]) -> bool
     requires { AreIdsRising 0 cells.now }
@@ -168,7 +152,7 @@ fn pairs_fit<P: Pairs>(state: &AbsState<P>) -> bool
     requires { AreIdsRising 0 state.now.cells }
     ensures { IsTrue result ↔ (AreAmong state.now.eq state.now.share × MayAllJoin state.now.cells state.now.share) }
 {
-    are_among(state.eq(), state.share()) && join_well(state.share(), state.cells())
+    state.eq().are_among(state.share()) && join_well(state.share(), state.cells())
 }
 
 /// Whether a state whose cells rise is well-formed.

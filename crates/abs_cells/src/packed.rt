@@ -1,9 +1,9 @@
 //! Pairs of ids held as packed bits.
 ghost use Rattle.std.specs.Prelude.{◌≡◌, ◌≢◌, ℕ, suc, ◌+◌, ◌*◌, ◌/◌, ◌<◌, ◌≤◌, ◌==◌, ◌||◌, ◌&&◌, not, Bool, true, false, IsTrue, IsFalse, ◌↔◌, length, List, Some, None, slice_get, if◌then◌else◌, IfSome, IfNone, IfOk, IfErr, OnOk, OnErr};
 ghost use Rattle.std.specs.Int.{bit_at};
-ghost use Rattle.abs_cells.specs.PairLists.{added, removed};
+ghost use Rattle.abs_cells.specs.PairLists.{added, removed, AreAmong};
 ghost use Rattle.abs_cells.specs.IdSets.{has_bit, has_id, are_touched};
-ghost use Rattle.abs_cells.specs.PackedBits.{slot_of, slots_in, row_start, place_of, hit, whole_row, pairs_in, ArePacked, IsGrown, RowMeets, SideMeets, HasSlot, AreBothSet};
+ghost use Rattle.abs_cells.specs.PackedBits.{slot_of, slots_in, row_start, place_of, hit, whole_row, pairs_in, ArePacked, IsGrown, RowMeets, SideMeets, HasSlot, AreBothSet, IsRowAmong};
 
 use crate::ids::Id;
 use crate::pairs::Pairs;
@@ -308,6 +308,49 @@ fn some_touches(packed: &Packed, x: &IdSet, y: &IdSet) -> bool
         || side_meets(&packed.words, packed.count, &ys, &xs)
 }
 
+/// Whether two ids are a pair of others, where they are a pair.
+fn is_kept(some: &Packed, others: &Packed, a: Id, b: Id) -> bool
+    requires some { ArePacked some.now.slots.items some.now.count some.now.words.items }
+    requires others { ArePacked others.now.slots.items others.now.count others.now.words.items }
+    ensures { result ≡ (not (hit some.now.slots.items some.now.words.items a b) || hit others.now.slots.items others.now.words.items a b) }
+{
+    !is_hit(some, a, b) || is_hit(others, a, b)
+}
+
+/// Whether each pair of an id with a higher one is a pair of others.
+fn row_among(some: &Packed, others: &Packed, a: Id) -> bool
+    requires some { ArePacked some.now.slots.items some.now.count some.now.words.items }
+    requires others { ArePacked others.now.slots.items others.now.count others.now.words.items }
+    requires low { a < length some.now.slots.items }
+    ensures { IsTrue result ↔ IsRowAmong (hit some.now.slots.items some.now.words.items) (hit others.now.slots.items others.now.words.items) a }
+{
+    if slot_of(&some.slots, a).is_none() {
+        return true;
+    }
+    let end = some.slots.len() as u16;
+    for b in a + 1..end {
+        if !is_kept(some, others, a, b) {
+            return false;
+        }
+    }
+    true
+}
+
+/// Whether each pair is a pair of others.
+fn all_among(some: &Packed, others: &Packed) -> bool
+    requires some { ArePacked some.now.slots.items some.now.count some.now.words.items }
+    requires others { ArePacked others.now.slots.items others.now.count others.now.words.items }
+    ensures { IsTrue result ↔ AreAmong (pairs_in some.now.slots.items some.now.words.items) (pairs_in others.now.slots.items others.now.words.items) }
+{
+    let end = some.slots.len() as u16;
+    for a in 0..end {
+        if !row_among(some, others, a) {
+            return false;
+        }
+    }
+    true
+}
+
 impl Pairs for PackedPairs {
     ghost pairs = { λ s. s };
 
@@ -339,5 +382,9 @@ impl Pairs for PackedPairs {
 
     fn touches(&self, x: &IdSet, y: &IdSet) -> bool {
         some_touches(&self.packed, x, y)
+    }
+
+    fn are_among(&self, others: &Self) -> bool {
+        all_among(&self.packed, &others.packed)
     }
 }

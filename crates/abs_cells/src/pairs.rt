@@ -1,6 +1,6 @@
 //! Sets of unordered pairs of ids.
 ghost use Rattle.std.specs.Prelude.{◌≡◌, ◌≢◌, ◌<◌, ℕ, List, [], OnOk, OnErr, slice_get, IsTrue, ◌↔◌, Some};
-ghost use Rattle.abs_cells.specs.PairLists.{IsRising, added, removed, has, is_before, place_in};
+ghost use Rattle.abs_cells.specs.PairLists.{IsRising, added, removed, has, is_before, place_in, AreAmong};
 ghost use Rattle.abs_cells.specs.IdSets.{joins, are_touched};
 
 use crate::ids::Id;
@@ -48,6 +48,10 @@ pub trait Pairs: Drop {
     fn touches(&self, x: &IdSet, y: &IdSet) -> bool
         ensures value { result ≡ are_touched x.now y.now (pairs self.now) }
         ensures rising { IsRising (pairs self.now) };
+
+    /// Whether each of the pairs is one of others. It takes no memory.
+    fn are_among(&self, others: &Self) -> bool
+        ensures { IsTrue result ↔ AreAmong (pairs self.now) (pairs others.now) };
 }
 
 /// Pairs held as the rising list that they mean.
@@ -112,6 +116,21 @@ fn some_joins(x: &IdSet, y: &IdSet, pairs: &[(Id, Id)]) -> bool
     false
 }
 
+/// Whether each of some rising pairs is one of others, which rise too. Both lists are gone through once.
+fn list_among(some: &[(Id, Id)], others: &[(Id, Id)]) -> bool
+    requires some { IsRising some.now }
+    requires others { IsRising others.now }
+    ensures { IsTrue result ↔ AreAmong some.now others.now }
+{
+    let mut met = 0;
+    for other in others {
+        if stands_at(some, met, *other) {
+            met += 1;
+        }
+    }
+    met == some.len()
+}
+
 impl Pairs for ListPairs {
     ghost pairs = { λ s. s };
 
@@ -149,5 +168,9 @@ impl Pairs for ListPairs {
 
     fn touches(&self, x: &IdSet, y: &IdSet) -> bool {
         some_joins(x, y, &self.pairs)
+    }
+
+    fn are_among(&self, others: &Self) -> bool {
+        list_among(&self.pairs, &others.pairs)
     }
 }

@@ -1,4 +1,4 @@
-use Rattle.std.proofs.Common.{◌≡◌, ℕ, ◌+◌, ◌<◌, ◌≤◌, ◌↔◌, ◌==◌, ◌&&◌, true, false, not, take, drop}
+use Rattle.std.proofs.Common.{◌≡◌, ℕ, ◌==◌, ◌&&◌, take}
 use Rattle.std.specs.List.{list_any}
 use Rattle.abs_cells.specs.IdSets.{has_id}
 use Rattle.abs_cells.specs.Cells.{sort_test}

@@ -1,4 +1,4 @@
-use Rattle.std.proofs.Common.{◌≡◌, ℕ, ◌+◌, ◌<◌, ◌≤◌, ◌↔◌, ◌==◌, ◌&&◌, true, false, not, take, drop}
+use Rattle.std.proofs.Common.{◌≤◌, ◌↔◌, drop}
 use Rattle.abs_cells.specs.Sound.{AreIdsRising}
 use Rattle.abs_cells.proofs.checks.ids_rise.Given as goal
 

@@ -1,7 +1,5 @@
-use Rattle.std.proofs.Common.{◌≡◌, ℕ, ◌∙◌, ap, sym, refl, true, false}
-use Rattle.std.specs.List.{list_all}
+use Rattle.std.proofs.Common.{ℕ, ◌∙◌, ap, sym, true}
 use Rattle.std.proofs.lemmas.Bool.{false≢true}
-use Rattle.abs_cells.specs.IdSets.{has_id}
 use Rattle.abs_cells.specs.Cells.{is_of_sort, cell_in}
 use Rattle.abs_cells.proofs.Checking.{well, uses, joins_all}
 use Rattle.abs_cells.proofs.checks.is_well_named.Goals as goal

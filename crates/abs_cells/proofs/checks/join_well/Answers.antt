@@ -1,4 +1,4 @@
-use Rattle.std.proofs.Common.{◌≡◌, Bool, true, false, not, ◌∙◌, ap, sym, refl}
+use Rattle.std.proofs.Common.{not, ◌∙◌, ap, sym}
 use Rattle.std.proofs.lemmas.Bool.{false≢true}
 use Rattle.abs_cells.proofs.Checking.{AreSets, all_join, untouched, unjoined, not_true}
 use Rattle.abs_cells.proofs.checks.join_well.Goals as goal

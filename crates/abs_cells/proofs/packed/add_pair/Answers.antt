@@ -1,7 +1,7 @@
-use Rattle.std.proofs.Common.{◌≡◌, ℕ, ◌==◌, ◌||◌, Some, sym, ap, ◌∙◌, arith}
+use Rattle.std.proofs.Common.{◌≡◌, ℕ, ◌==◌, ◌||◌, ap, ◌∙◌, arith}
 use Rattle.abs_cells.specs.PairLists.{added}
 use Rattle.abs_cells.specs.IdSets.{has_bit}
-use Rattle.abs_cells.specs.PackedBits.{pairs_in, slot_of, place_of}
+use Rattle.abs_cells.specs.PackedBits.{pairs_in}
 use Rattle.abs_cells.proofs.PackedCalls.{on_err, grown_pairs, grown_twice, slot_low, words_within, set_packed, after_set}
 use Rattle.abs_cells.proofs.packed.add_pair.Goals as goal
 

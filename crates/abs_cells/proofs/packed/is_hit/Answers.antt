@@ -1,4 +1,4 @@
-use Rattle.std.proofs.Common.{◌≡◌, ℕ, List, Option, Some, sym, ap, ◌∙◌}
+use Rattle.std.proofs.Common.{ℕ, List, Option, sym, ap, ◌∙◌}
 use Rattle.abs_cells.specs.PackedBits.{slot_of}
 use Rattle.abs_cells.proofs.PackedCalls.{slot_low}
 use Rattle.abs_cells.proofs.packed.is_hit.Goals as goal

@@ -1,5 +1,5 @@
-use Rattle.std.proofs.Common.{◌≡◌, ◌<◌, ◌≤◌, ◌+◌, ℕ, List, Option, None, Some, set, sym, ap, ◌∙◌, length, arith}
-use Rattle.abs_cells.specs.PackedBits.{slot_of, slots_in, row_start}
+use Rattle.std.proofs.Common.{◌≡◌, ◌≤◌, ◌+◌, ℕ, List, Option, None, Some, set, sym, ap, ◌∙◌, length, arith}
+use Rattle.abs_cells.specs.PackedBits.{slot_of, row_start}
 use Rattle.abs_cells.proofs.PackedCalls.{HasRoom, is_room, id_grown, new_slot}
 use Rattle.abs_cells.proofs.packed.list_id.Goals as goal
 

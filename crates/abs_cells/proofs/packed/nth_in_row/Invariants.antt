@@ -1,7 +1,5 @@
-use Rattle.std.proofs.Common.{◌≡◌, ℕ, suc, ◌+◌, ◌-◌, ◌*◌, ◌<◌, ◌≤◌, true, false, length, Some}
-use Rattle.std.specs.Prelude.{slice_get}
-use Rattle.abs_cells.specs.IdSets.{has_bit, has_id}
-use Rattle.abs_cells.specs.PackedBits.{slot_of, row_start, hit, whole_row, pairs_in, pairs_from, HasSlot, RowMeets}
+use Rattle.std.proofs.Common.{length}
+use Rattle.abs_cells.specs.PackedBits.{hit, whole_row}
 use Rattle.abs_cells.proofs.PackedLooks.{IsInRow}
 use Rattle.abs_cells.proofs.packed.nth_in_row.Given as goal
 

@@ -1,6 +1,6 @@
 use Rattle.std.proofs.Common.{length, arith}
 use Rattle.abs_cells.specs.PackedBits.{hit, pairs_in}
-use Rattle.abs_cells.proofs.PackedLooks.{nth_found, nth_later, nth_ends}
+use Rattle.abs_cells.proofs.PackedLooks.{nth_found, nth_later}
 use Rattle.abs_cells.proofs.packed.nth_pair.Goals as goal
 
 pub returns-in-Ok : goal.returns-in-Ok

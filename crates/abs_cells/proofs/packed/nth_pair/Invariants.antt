@@ -1,8 +1,6 @@
-use Rattle.std.proofs.Common.{◌≡◌, ℕ, suc, ◌+◌, ◌-◌, ◌*◌, ◌<◌, ◌≤◌, true, false, length, Some}
+use Rattle.std.proofs.Common.{◌≡◌, ◌-◌, length}
 use Rattle.std.specs.Prelude.{slice_get}
-use Rattle.abs_cells.specs.IdSets.{has_bit, has_id}
-use Rattle.abs_cells.specs.PackedBits.{slot_of, row_start, hit, whole_row, pairs_in, pairs_from, HasSlot, RowMeets}
-use Rattle.abs_cells.proofs.PackedLooks.{IsInRow}
+use Rattle.abs_cells.specs.PackedBits.{hit, pairs_in, pairs_from}
 use Rattle.abs_cells.proofs.packed.nth_pair.Given as goal
 
 abbrev pub invariant-loop-a : goal.invariant-loop-a

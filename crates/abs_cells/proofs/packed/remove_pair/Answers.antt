@@ -1,4 +1,4 @@
-use Rattle.std.proofs.Common.{◌≡◌, ℕ, List, Option, None, Some, ◌==◌, ◌&&◌, not, sym, ap, ◌∙◌, arith}
+use Rattle.std.proofs.Common.{◌≡◌, ℕ, List, Option, None, ◌==◌, ◌&&◌, not, sym, ap, ◌∙◌, arith}
 use Rattle.abs_cells.specs.IdSets.{has_bit}
 use Rattle.abs_cells.specs.PackedBits.{slot_of}
 use Rattle.abs_cells.proofs.PackedLaws.{no_hit}

@@ -1,4 +1,4 @@
-use Rattle.std.proofs.Common.{refl, arith}
+use Rattle.std.proofs.Common.{arith}
 use Rattle.abs_cells.proofs.PackedLooks.{row_met}
 use Rattle.abs_cells.proofs.packed.row_meets.Goals as goal
 

@@ -1,4 +1,4 @@
-use Rattle.std.proofs.Common.{sym, ap, ◌∙◌, arith}
+use Rattle.std.proofs.Common.{sym, ◌∙◌, arith}
 use Rattle.std.proofs.lemmas.Bool.{false≢true}
 use Rattle.jvm_values.proofs.Options.{none_is_not_some}
 use Rattle.abs_cells.proofs.PackedLooks.{found_same, found_more, slot_in}

@@ -1,4 +1,4 @@
-use Rattle.std.proofs.Common.{◌≡◌, ℕ, List, Option, sym, ap, subst, ◌∙◌}
+use Rattle.std.proofs.Common.{ℕ, List, Option, sym, ap, subst, ◌∙◌}
 use Rattle.abs_cells.specs.IdSets.{are_touched}
 use Rattle.abs_cells.specs.PackedBits.{slot_of, pairs_in, HasSlot, SideMeets}
 use Rattle.abs_cells.proofs.PackedCalls.{slot_low, few_slots}
