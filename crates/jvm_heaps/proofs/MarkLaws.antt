@@ -29,7 +29,7 @@ set_keeps marks b x e = elim (same_or_not x b) [
   | inr d ↦ get_or-set_other marks b x true false d ∙ e
 ]
 
-set_only : (marks : List Bool) (b x : ℕ) → IsMarked (set marks b true) x → IsMarked marks x ⊎ (x ≡ b)
+pub set_only : (marks : List Bool) (b x : ℕ) → IsMarked (set marks b true) x → IsMarked marks x ⊎ (x ≡ b)
 set_only marks b x e = elim (same_or_not x b) [
   | inl s ↦ inr s
   | inr d ↦ inl (sym (get_or-set_other marks b x true false d) ∙ e)

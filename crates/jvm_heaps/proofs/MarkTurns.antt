@@ -27,7 +27,7 @@ pub record IsMarking (heap : Heap) (value : Value) (marks : List Bool) (todo : L
   pub followed : (a i c : ℕ) → IsMarked marks a → heap_steps heap a i ≡ Some c → IsMarked marks c ⊎ IsIn a todo
   pub begun : (a : ℕ) → target value ≡ Some a → IsMarked marks a
 
-none_marked : (n x : ℕ) → IsMarked (replicate n false) x → ⊥
+pub none_marked : (n x : ℕ) → IsMarked (replicate n false) x → ⊥
 none_marked n x e = false≢true (sym (get_or-replicate n x false false (subst (λ (k : ℕ). x < k) (length-replicate n false) (marked_within (replicate n false) x e))) ∙ e)
 
 pub begin : (heap : Heap) (value : Value) → IsInHeap (length heap.objects) value → IsMarking heap value (marks_after value (replicate (length heap.objects) false)) (todo_after value (replicate (length heap.objects) false) [])
@@ -52,10 +52,10 @@ begin heap value l =
       begun = λ a t. marked_one value (replicate n false) a t (subst (λ (k : ℕ). a < k) (sym len) (l a t));
     }
 
-below_heap : (heap : Heap) → IsClosed heap → (a : ℕ) (object : Object) → slice_get heap.objects a ≡ Some object → AreBelow (length heap.objects) (values_of object)
+pub below_heap : (heap : Heap) → IsClosed heap → (a : ℕ) (object : Object) → slice_get heap.objects a ≡ Some object → AreBelow (length heap.objects) (values_of object)
 below_heap heap closed a object e = λ k v f. all_at (IsInHeap (length heap.objects)) (values_of object) k v (all_at (λ (ob : Object). All (IsInHeap (length heap.objects)) (values_of ob)) heap.objects a object closed e) f
 
-step_at : (heap : Heap) (a k c : ℕ) (object : Object) (v : Value) → slice_get heap.objects a ≡ Some object → slice_get (values_of object) k ≡ Some v → target v ≡ Some c → heap_steps heap a k ≡ Some c
+pub step_at : (heap : Heap) (a k c : ℕ) (object : Object) (v : Value) → slice_get heap.objects a ≡ Some object → slice_get (values_of object) k ≡ Some v → target v ≡ Some c → heap_steps heap a k ≡ Some c
 step_at heap a k c object v e f g = ap (λ (x : Option Object). option_and_then target (option_and_then (λ (ob : Object). slice_get (values_of ob) k) x)) e ∙ ap (option_and_then target) f ∙ g
 
 further : (heap : Heap) (value : Value) (a k c : ℕ) → Region heap value a → heap_steps heap a k ≡ Some c → Region heap value c

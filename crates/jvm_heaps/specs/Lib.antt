@@ -1,2 +1,3 @@
+pub mod AcyclicTerms
 pub mod Marks
 pub mod Regions

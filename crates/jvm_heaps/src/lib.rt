@@ -1,7 +1,9 @@
 //! What a value reaches in a heap of the machine: its region, and the shape of that region.
 #![tactic(auto)]
 
+mod laws;
 mod marking;
 mod regions;
 
+pub use laws::acyclic_have_terms;
 pub use regions::region;
