@@ -23,7 +23,7 @@ marked_within marks x e = elim (cases_lt x (length marks)) [
   | inr l ↦ absurd (false≢true (sym (get_or_past marks x false l) ∙ e))
 ]
 
-set_keeps : (marks : List Bool) (b x : ℕ) → IsMarked marks x → IsMarked (set marks b true) x
+pub set_keeps : (marks : List Bool) (b x : ℕ) → IsMarked marks x → IsMarked (set marks b true) x
 set_keeps marks b x e = elim (same_or_not x b) [
   | inl s ↦ subst (λ (y : ℕ). get_or (set marks y true) x false ≡ true) s (get_or-set_same marks x true false (marked_within marks x e))
   | inr d ↦ get_or-set_other marks b x true false d ∙ e

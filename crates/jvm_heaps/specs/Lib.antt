@@ -1,3 +1,4 @@
 pub mod AcyclicTerms
 pub mod Marks
 pub mod Regions
+pub mod Trees

@@ -4,6 +4,8 @@
 mod laws;
 mod marking;
 mod regions;
+mod trees;
 
 pub use laws::acyclic_have_terms;
 pub use regions::region;
+pub use trees::is_tree;
