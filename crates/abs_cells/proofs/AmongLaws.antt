@@ -87,7 +87,7 @@ met_one some others n k d r l e h =
     let b : drop k others ≡ x ∷ drop (suc k) others = drop-cons others k d l in
     let both = both_first x (drop (suc n) some) (drop (suc k) others) (subst IsRising a (rising_drop n some r)) in
     let at : AreAllIn (x ∷ drop (suc n) some) (x ∷ drop (suc k) others) ↔ AreAllIn some others =
-        subst (λ (ys : List (ℕ × ℕ)). AreAllIn (x ∷ drop (suc n) some) ys ↔ AreAllIn some others) b (subst (λ (xs : List (ℕ × ℕ)). AreAllIn xs (drop k others) ↔ AreAllIn some others) a h) in
+    subst (λ (ys : List (ℕ × ℕ)). AreAllIn (x ∷ drop (suc n) some) ys ↔ AreAllIn some others) b (subst (λ (xs : List (ℕ × ℕ)). AreAllIn xs (drop k others) ↔ AreAllIn some others) a h) in
     subst (λ (i : ℕ). IsLeft some others i (k + 1)) (sym (add-one n)) (subst (λ (i : ℕ). IsLeft some others (suc n) i) (sym (add-one k)) (λ m. at.0 (both.1 m), λ w. both.0 (at.1 w)))
 
 pub passed_one : (some others : List (ℕ × ℕ)) (n k : ℕ) (d : ℕ × ℕ) → IsRising some → IsRising others → k < length others → (slice_get some n ≡ Some (get_or others k d) → ⊥) → IsLeft some others n k → IsLeft some others n (k + 1)
@@ -109,8 +109,7 @@ passed_one some others n k d r q l m h = subst (λ (i : ℕ). IsLeft some others
     )
     go (x ∷ xs) e =
         let apart : x ≡ y → ⊥ = λ s. m (first_of_drop n some ∙ ap (λ (zs : List (ℕ × ℕ)). slice_get zs 0) e ∙ ap Some s) in
-        let both = other_first x y xs (drop (suc k) others) (subst IsRising e (rising_drop n some r)) (subst IsRising b (rising_drop k others q)) apart in
-        (
+        let both = other_first x y xs (drop (suc k) others) (subst IsRising e (rising_drop n some r)) (subst IsRising b (rising_drop k others q)) apart in (
           λ w. at.0 (subst (λ (zs : List (ℕ × ℕ)). AreAllIn zs (y ∷ drop (suc k) others)) (sym e) (both.1 (subst (λ (zs : List (ℕ × ℕ)). AreAllIn zs (drop (suc k) others)) e w))),
           λ w. subst (λ (zs : List (ℕ × ℕ)). AreAllIn zs (drop (suc k) others)) (sym e) (both.0 (subst (λ (zs : List (ℕ × ℕ)). AreAllIn zs (y ∷ drop (suc k) others)) e (at.1 w))),
         )
