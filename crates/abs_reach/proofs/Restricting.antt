@@ -1,11 +1,10 @@
 -- States that lost ids.
-use Rattle.std.proofs.Common.{◌≡◌, ℕ, true, Option, Some, refl, sym, ap, subst, ◌∙◌}
+use Rattle.std.proofs.Common.{ℕ, true, Option, refl, sym, subst, ◌∙◌}
 use Rattle.std.specs.List.{AllZip}
 use Rattle.abs_cells.specs.declared.cells.Cell.{Cell}
 use Rattle.abs_cells.specs.AbstractStates.{AbstractFrame, AbstractState}
-use Rattle.abs_cells.specs.Cells.{cell_at, HasCell}
-use Rattle.abs_cells.specs.Fits.{FitsFrame, FitsMode, Fits, with_statics}
-use Rattle.abs_reach.specs.Reached.{IsRestricted}
+use Rattle.abs_cells.specs.Cells.{HasCell}
+use Rattle.abs_cells.specs.Fits.{FitsFrame, FitsMode, with_statics}
 use Rattle.abs_reach.specs.Laws.{RestrictedStatesFit}
 use Rattle.std.specs.Prelude.{List, Bool}
 

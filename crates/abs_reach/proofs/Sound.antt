@@ -1,25 +1,25 @@
 -- The tests over known cells are sound for the regions of a heap.
-use Rattle.std.proofs.Common.{◌≡◌, ◌≢◌, ℕ, Bool, true, false, List, [], ◌∷◌, ◌++◌, Option, Some, None, ◌⊎◌, inl, inr, refl, sym, ap, subst, ◌∙◌, arith}
+use Rattle.std.proofs.Common.{◌≡◌, ◌≢◌, ℕ, true, List, [], ◌∷◌, ◌++◌, Some, ◌⊎◌, inl, inr, refl, sym, ap, subst, ◌∙◌}
 use Rattle.std.proofs.lemmas.Bool.{cases_eq, false≢true}
-use Rattle.std.proofs.lemmas.List.{append_assoc, append-nil, append_cancel_left}
+use Rattle.std.proofs.lemmas.List.{append-nil, append_cancel_left}
 use Rattle.jvm_values.specs.declared.shape.Shape.{Shape}
 use Rattle.jvm_values.specs.declared.shape.Shape.TheVariants.{Tree, Dag, Any}
-use Rattle.jvm_values.specs.Paths.{follow, Reaches, IsTreeFrom, IsDagFrom}
+use Rattle.jvm_values.specs.Paths.{follow}
 use Rattle.jvm_values.specs.Heaps.{target, heap_steps, Region, IsTree, IsDag, HasShape}
 use Rattle.jvm_values.specs.States.{MachineState}
 use Rattle.jvm_values.specs.TypedHeaps.{WorldTypes}
-use Rattle.jvm_values.proofs.Options.{some_is, none_is_not_some}
-use Rattle.jvm_values.proofs.PathLaws.{joined, rest_of}
+use Rattle.jvm_values.proofs.Options.{some_is}
+use Rattle.jvm_values.proofs.PathLaws.{joined}
 use Rattle.abs_cells.specs.declared.cells.Cell.{Cell}
 use Rattle.abs_cells.specs.declared.cells.Cell.TheVariants as cells
 use Rattle.abs_cells.specs.AbstractStates.{AbstractState}
-use Rattle.abs_cells.specs.Cells.{is_known, is_hazy, is_reference, shape_of, cell_at, HasCell, Share}
-use Rattle.abs_cells.specs.Closures.{counted_steps, KnownFrom, MayMeet, MayBeIn, SharesThere, IsFiniteId, IsTreeId}
+use Rattle.abs_cells.specs.Cells.{is_known, is_hazy, shape_of, HasCell, Share}
+use Rattle.abs_cells.specs.Closures.{counted_steps, KnownFrom, MayMeet, MayBeIn, IsFiniteId, IsTreeId}
 use Rattle.abs_cells.specs.Sound.{IsWellFormed}
 use Rattle.abs_cells.specs.Fits.{Meaning, Fits}
 use Rattle.abs_cells.proofs.Fitting.{known_apart}
 use Rattle.abs_cells.proofs.PairLaws.{has_swapped}
-use Rattle.abs_reach.specs.Ways.{GoesByIds, GoesThrough, Way}
+use Rattle.abs_reach.specs.Ways.{GoesThrough, Way}
 use Rattle.abs_reach.specs.Laws.{ClosuresAreWays, MeetingRegionsMayMeet, KnownIdsInsideMayBeIn, FiniteIdsHaveNoCycles, TreeIdsHaveTrees}
 use Rattle.abs_reach.proofs.Walks.{way, path_back, counted_reaches, known_is_reference, hazy_is_reference, some_cell, not_one}
 

@@ -1,5 +1,5 @@
 -- Paths of a heap along the ids of a state that describes it.
-use Rattle.std.proofs.Common.{◌≡◌, ◌≢◌, ℕ, zero, suc, ◌+◌, ◌<◌, ◌≤◌, Bool, true, false, cond, not, ◌&&◌, ◌||◌, List, [], ◌∷◌, ◌++◌, map, length, All, Option, Some, None, ◌⊎◌, inl, inr, refl, sym, ap, subst, ◌∙◌, arith}
+use Rattle.std.proofs.Common.{◌≡◌, ℕ, zero, suc, ◌+◌, Bool, true, false, cond, ◌||◌, List, [], ◌∷◌, ◌++◌, map, length, All, Option, Some, None, ◌⊎◌, inl, inr, refl, sym, ap, subst, ◌∙◌, arith}
 use Rattle.std.specs.Prelude.{slice_get, nat_eq, if◌then◌else◌, ℤ}
 use Rattle.std.specs.Option.{option_and_then, option_map}
 use Rattle.std.specs.List.{flat_map}
@@ -10,9 +10,8 @@ use Rattle.jvm_values.specs.declared.heap.Value.{Value}
 use Rattle.jvm_values.specs.declared.heap.Value.TheVariants as values
 use Rattle.jvm_values.specs.declared.heap.Object.{Object}
 use Rattle.jvm_values.specs.declared.heap.Object.TheVariants as objects
-use Rattle.jvm_values.specs.declared.heap.Heap.{Heap}
-use Rattle.jvm_values.specs.Paths.{Steps, follow, Reaches}
-use Rattle.jvm_values.specs.Heaps.{target, values_of, value_at, heap_steps, Region}
+use Rattle.jvm_values.specs.Paths.{follow}
+use Rattle.jvm_values.specs.Heaps.{target, values_of, heap_steps}
 use Rattle.jvm_values.specs.States.{MachineState}
 use Rattle.jvm_values.specs.TypedHeaps.{WorldTypes}
 use Rattle.jvm_values.proofs.Options.{given, some_is, none_is_not_some}
@@ -24,7 +23,7 @@ use Rattle.abs_cells.specs.Closures.{cell_steps, counted, counted_steps, KnownFr
 use Rattle.abs_cells.specs.Sound.{given_ids, ids_of_frame, IsWellFormed}
 use Rattle.abs_cells.specs.Fits.{Meaning, Describes, IsObject, Fits}
 use Rattle.abs_cells.proofs.PairLaws.{bool_cases}
-use Rattle.abs_reach.specs.Ways.{GoesByIds, GoesThrough, Way}
+use Rattle.abs_reach.specs.Ways.{Way}
 
 -- ---- the ids that cells name have cells
 
