@@ -1,86 +1,80 @@
 //! Tests of what a check of a proof asks.
 ghost use Rattle.std.specs.Prelude.{◌≡◌, ◌≤◌, ◌<◌, ◌^◌, All, IsTrue, length, unsigned_abs};
 ghost use Rattle.lin_core.specs.Rows.{RiseFrom};
-ghost use Rattle.lin_core.specs.Weights.{AreRows, AreWeights, IsRow, total_size};
+ghost use Rattle.lin_core.specs.Weights.{AreRows, AreWeights, IsRow, IsWeight, total_size};
 ghost use Rattle.descent.specs.Conditions.{AreFew, AreForms, AreMultiples, AreRules, AreSlots, AreSteps, IsForm, IsListed, IsRanked, IsRule, IsSlot, IsStep};
 
 use descent::{CutForm, PathRule, ProofStep, RankRule, RankStep, SlotForm, WRow};
 
-/// Whether the first numbers rise from `low` on and are below `end`.
-fn rise_from(terms: &[(u32, i64)], low: usize, end: usize) -> bool
-    ensures { IsTrue result → RiseFrom low end terms.now }
+/// Whether the first numbers rise and are below `end`.
+fn rise(terms: &[(u32, i64)], end: u32) -> bool
+    ensures { IsTrue result → RiseFrom 0 end terms.now }
 {
-    match terms.split_first() {
-        None => true,
-        Some((term, rest)) => {
-            let variable = term.0 as usize;
-            low <= variable && variable < end && rise_from(rest, variable + 1, end)
+    let mut low = 0;
+    for (variable, _) in terms {
+        if *variable < low || *variable >= end {
+            return false;
         }
+        low = *variable + 1;
     }
+    true
 }
 
-/// Whether the ids rise from `low` on.
-fn ids_rise_from(terms: &[(u16, i64)], low: usize) -> bool
-    ensures { IsTrue result → RiseFrom low 65536 terms.now }
+/// Whether the ids rise.
+fn ids_rise(terms: &[(u16, i64)]) -> bool
+    ensures { IsTrue result → RiseFrom 0 65536 terms.now }
 {
-    match terms.split_first() {
-        None => true,
-        Some((term, rest)) => {
-            let id = usize::from(term.0);
-            low <= id && ids_rise_from(rest, id + 1)
+    let mut low = 0;
+    for (id, _) in terms {
+        if u32::from(*id) < low {
+            return false;
         }
+        low = u32::from(*id) + 1;
     }
+    true
 }
 
-/// Whether the sizes of the second numbers add up to at most `room`.
-fn adds_up_to(terms: &[(u32, i64)], room: u64) -> bool
-    ensures { IsTrue result → total_size terms.now ≤ room }
+/// Whether the sizes of the second numbers add up to at most 2^40.
+fn are_light(terms: &[(u32, i64)]) -> bool
+    ensures { IsTrue result → total_size terms.now ≤ 2 ^ 40 }
 {
-    match terms.split_first() {
-        None => true,
-        Some((term, rest)) => {
-            let size = term.1.unsigned_abs();
-            size <= room && adds_up_to(rest, room - size)
+    let mut room: u64 = 1 << 40;
+    for (_, multiple) in terms {
+        let size = multiple.unsigned_abs();
+        if size > room {
+            return false;
         }
+        room -= size;
     }
+    true
 }
 
 fn is_row(row: &WRow, vars: u32) -> bool
     ensures { IsTrue result → IsRow vars row.now }
 {
-    rise_from(row.terms.as_slice(), 0, vars as usize)
+    rise(row.terms.as_slice(), vars)
         && row.constant.unsigned_abs() <= 1 << 40
-        && adds_up_to(row.weights.as_slice(), 1 << 40)
+        && are_light(row.weights.as_slice())
 }
 
 fn are_rows(rows: &[WRow], vars: u32) -> bool
     ensures { IsTrue result → AreRows vars rows.now }
 {
-    for row in rows {
-        if !is_row(row, vars) {
-            return false;
-        }
-    }
-    true
+    rows.iter().all(|row| is_row(row, vars))
 }
 
 fn is_slot(slot: &SlotForm, vars: u32) -> bool
     ensures { IsTrue result → IsSlot vars slot.now }
 {
-    rise_from(slot.terms.as_slice(), 0, vars as usize)
+    rise(slot.terms.as_slice(), vars)
         && slot.constant.unsigned_abs() <= 1 << 40
-        && adds_up_to(slot.weights.as_slice(), 1 << 40)
+        && are_light(slot.weights.as_slice())
 }
 
 fn are_slots(slots: &[SlotForm], vars: u32) -> bool
     ensures { IsTrue result → AreSlots vars slots.now }
 {
-    for slot in slots {
-        if !is_slot(slot, vars) {
-            return false;
-        }
-    }
-    true
+    slots.iter().all(|slot| is_slot(slot, vars))
 }
 
 fn is_rule(rule: &PathRule) -> bool
@@ -95,29 +89,25 @@ fn is_rule(rule: &PathRule) -> bool
 pub fn are_rules(rules: &[PathRule]) -> bool
     ensures { IsTrue result → AreRules rules.now }
 {
-    for rule in rules {
-        if !is_rule(rule) {
-            return false;
-        }
-    }
-    true
+    rules.iter().all(|rule| is_rule(rule))
+}
+
+fn is_small(term: &(u16, i64)) -> bool
+    ensures { IsTrue result → unsigned_abs term.now.1 ≤ 2 ^ 31 }
+{
+    term.1.unsigned_abs() <= 1 << 31
 }
 
 fn are_small(terms: &[(u16, i64)]) -> bool
-    ensures { IsTrue result → All (λ entry. unsigned_abs entry.1 ≤ 2 ^ 31) terms.now }
+    ensures { IsTrue result → All (λ term. unsigned_abs term.1 ≤ 2 ^ 31) terms.now }
 {
-    for term in terms {
-        if term.1.unsigned_abs() > 1 << 31 {
-            return false;
-        }
-    }
-    true
+    terms.iter().all(|term| is_small(term))
 }
 
 fn are_multiples(terms: &[(u16, i64)]) -> bool
     ensures { IsTrue result → AreMultiples terms.now }
 {
-    ids_rise_from(terms, 0) && are_small(terms)
+    ids_rise(terms) && are_small(terms)
 }
 
 fn is_form(form: &CutForm) -> bool
@@ -132,23 +122,19 @@ fn is_form(form: &CutForm) -> bool
 pub fn are_forms(forms: &[CutForm]) -> bool
     ensures { IsTrue result → AreForms forms.now }
 {
-    for form in forms {
-        if !is_form(form) {
-            return false;
-        }
-    }
-    true
+    forms.iter().all(|form| is_form(form))
+}
+
+fn is_weight(weight: &(u32, i64)) -> bool
+    ensures { IsTrue result → IsWeight weight.now }
+{
+    0 <= weight.1 && weight.1 <= 65535
 }
 
 fn are_weights(weights: &[(u32, i64)]) -> bool
     ensures { IsTrue result → AreWeights weights.now }
 {
-    for weight in weights {
-        if weight.1 < 0 || weight.1 > 65535 {
-            return false;
-        }
-    }
-    true
+    weights.iter().all(|weight| is_weight(weight))
 }
 
 /// Whether there are few enough multipliers.
@@ -174,12 +160,7 @@ fn is_listed(listed: &RankRule) -> bool
 fn are_listed(listed: &[RankRule]) -> bool
     ensures { IsTrue result → All IsListed listed.now }
 {
-    for one in listed {
-        if !is_listed(one) {
-            return false;
-        }
-    }
-    true
+    listed.iter().all(|one| is_listed(one))
 }
 
 fn is_ranked(step: &RankStep) -> bool
@@ -209,10 +190,5 @@ fn is_step(step: &ProofStep) -> bool
 pub fn are_steps(steps: &[ProofStep]) -> bool
     ensures { IsTrue result → AreSteps steps.now }
 {
-    for step in steps {
-        if !is_step(step) {
-            return false;
-        }
-    }
-    true
+    steps.iter().all(|step| is_step(step))
 }
