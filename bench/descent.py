@@ -1,5 +1,5 @@
 #!/usr/bin/env python3
-"""Times the check of proofs.
+"""Times the check of proofs and the classes of rules.
 
 usage: descent.py [PROGRAM]
 
@@ -9,7 +9,9 @@ check takes. The rules have 200 rows each and go from one cut to itself, or from
 - `ranks`: 48 rank steps, each of which lists all rules that are left and takes 10 of them away, one that takes all others away, and
   an empty one;
 - `split`: a split of rules into as many parts, which no step takes;
-- `steps`: rank steps without rules, and an empty one.
+- `steps`: rank steps without rules, and an empty one;
+- `ring`: the classes of rules without rows (`components`), each of which leads to the next cut and the last to the first;
+- `chain`: the same without the last rule's way back, so that each rule is a class of its own.
 """
 import json
 from common import print_times
@@ -41,12 +43,23 @@ def steps(count):
     return [], [rank([], [], n + 1) for n in range(count)] + [['empty']]
 
 
+def classes(name, count):
+    ends = [[n, n + 1] for n in range(count - 1)] + [[count - 1, 0 if name == 'ring' else count]]
+    wanted = [list(range(count))] if name == 'ring' else [[n] for n in range(count)]
+    ends, wanted = (json.dumps(part, separators=(',', ':')) for part in (ends, wanted))
+    return ['components', ends], lambda answer: answer.decode() == wanted + '\n'
+
+
 def cases():
     for name, make, counts in (('ranks', ranks, (1024, 2048, 4096)), ('split', split, (1024, 2048, 4096)), ('steps', steps, (2500, 5000, 10000))):
         for count in counts:
             fields = [json.dumps(part, separators=(',', ':')) for part in make(count)]
             for table in ('read', 'proof'):
                 yield [name, count, table], [table] + fields, lambda answer: answer == b'OK\n'
+    for name in ('ring', 'chain'):
+        for count in (1024, 2048, 4096):
+            fields, is_right = classes(name, count)
+            yield [name, count, 'components'], fields, is_right
 
 
 if __name__ == '__main__':

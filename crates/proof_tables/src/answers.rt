@@ -87,8 +87,11 @@ fn walked(alloc: Global, number: &Value) -> Result<String> {
     let Ok(count) = View::root(number).int(alloc, 0, 1 << 20) else {
         bail!("a number is wanted");
     };
+    let count = u32::try_from(count)
+        .ok()
+        .context("the number is too large")?;
     let mut steps = Seq::new(alloc);
-    for n in 0..count as u32 {
+    for n in 0..count {
         let step = RankStep {
             size: false,
             weights: Seq::new(alloc),

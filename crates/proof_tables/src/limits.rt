@@ -77,7 +77,8 @@ fn are_slots(slots: &[SlotForm], vars: u32) -> bool
     slots.iter().all(|slot| is_slot(slot, vars))
 }
 
-fn is_rule(rule: &PathRule) -> bool
+/// Whether the rows and slots of the rule are within the limits.
+pub fn is_rule(rule: &PathRule) -> bool
     ensures { IsTrue result → IsRule rule.now }
 {
     are_rows(rule.rows.as_slice(), rule.vars)

@@ -1,6 +1,6 @@
 //! Calls of both orders on a rule.
 use crate::answers::fault_text;
-use crate::limits::{are_few, are_forms, are_rules};
+use crate::limits::{are_few, are_forms, is_rule};
 use crate::proofs::forms;
 use crate::reading::{item, pairs};
 use crate::rules::rules;
@@ -17,15 +17,12 @@ pub fn shown(alloc: Global, rule: &Value, parts: &Value) -> Result<String> {
     let parts = View::root(parts);
     let forms = forms(alloc, &item(alloc, &parts, 0)?)?;
     let multipliers = pairs(alloc, &parts, 1)?;
-    if !are_rules(rules.as_slice())
-        || !are_forms(forms.as_slice())
-        || !are_few(multipliers.as_slice())
-    {
-        bail!("a number is past its limit");
-    }
     let Some(rule) = rules.first() else {
         bail!("a rule is wanted");
     };
+    if !is_rule(rule) || !are_forms(forms.as_slice()) || !are_few(multipliers.as_slice()) {
+        bail!("a number is past its limit");
+    }
     let multipliers = multipliers.as_slice();
     let mut scratch = Scratch::new(alloc, rule.vars)?;
     let ints = LinearOrder {
