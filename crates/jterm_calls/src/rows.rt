@@ -105,6 +105,75 @@ fn a_string_on_the_stack_is_named_with_its_place(rt: HostRuntime) -> Result<(), 
 }
 
 #[test]
+fn a_static_field_that_no_instruction_names_changes_nothing(rt: HostRuntime) -> Result<(), Fail> {
+    let listing =
+        b"class A\nfield total I static\nmethod f ()I static stack 1 locals 0\nbipush 7\nireturn\nend\n";
+    let outcome = proved(rt.alloc(), listing, &[], 100)?;
+    assert_eq!(rt; outcome.status, 0);
+    assert_eq!(rt; outcome.out.bytes(), b"YES\n".as_slice());
+    Ok(())
+}
+
+#[test]
+fn a_loop_is_not_built_yet(rt: HostRuntime) -> Result<(), Fail> {
+    let listing = b"class A\nmethod f ()I static stack 1 locals 0\nagain: goto again\nend\n";
+    let outcome = proved(rt.alloc(), listing, &[], 100)?;
+    assert_eq!(rt; outcome.status, 3);
+    assert_eq!(rt; outcome.err.bytes(), b"jterm: link: NotBuilt\n".as_slice());
+    Ok(())
+}
+
+#[test]
+fn a_class_file_is_refused_before_its_description(rt: HostRuntime) -> Result<(), Fail> {
+    let mut held = Vec::new(rt.alloc());
+    held.push(file(rt.alloc(), "d", b"no line")?)?;
+    held.push(file(rt.alloc(), "a", b"no class file")?)?;
+    let outcome = call(rt.alloc(), &["prove", "d", "a"], held, &[], 100)?;
+    assert_eq!(rt; outcome.status, 3);
+    assert_eq!(rt;
+        outcome.err.bytes(),
+        b"jterm: class 0: BadMagic\n".as_slice()
+    );
+    Ok(())
+}
+
+#[test]
+fn a_faulty_line_of_a_listing_is_named(rt: HostRuntime) -> Result<(), Fail> {
+    let outcome = assembled(rt.alloc(), b"class A\nfield total\n")?;
+    assert_eq!(rt; outcome.status, 3);
+    assert_eq!(rt; outcome.out.bytes(), b"".as_slice());
+    assert_eq!(rt;
+        outcome.err.bytes(),
+        b"jterm: listing: Syntax line=2\n".as_slice()
+    );
+    Ok(())
+}
+
+#[test]
+fn a_file_that_is_not_there_is_named(rt: HostRuntime) -> Result<(), Fail> {
+    let mut held = Vec::new(rt.alloc());
+    held.push(file(rt.alloc(), "d", LINE)?)?;
+    let outcome = call(rt.alloc(), &["prove", "d", "a"], held, &[], 100)?;
+    assert_eq!(rt; outcome.status, 5);
+    assert_eq!(rt; outcome.err.bytes(), b"jterm: read a: Missing\n".as_slice());
+    Ok(())
+}
+
+#[test]
+fn a_file_past_its_limit_is_named(rt: HostRuntime) -> Result<(), Fail> {
+    let mut held = Vec::new(rt.alloc());
+    let listing = vec![in rt.alloc(); b' '; 1_048_577]?;
+    held.push((String::from_str(rt.alloc(), "a.listing")?, listing))?;
+    let outcome = call(rt.alloc(), &["asm", "a.listing"], held, &[], 100)?;
+    assert_eq!(rt; outcome.status, 5);
+    assert_eq!(rt;
+        outcome.err.bytes(),
+        b"jterm: read a.listing: TooLong\n".as_slice()
+    );
+    Ok(())
+}
+
+#[test]
 fn a_limit_of_no_nodes_is_no_command(rt: HostRuntime) -> Result<(), Fail> {
     let words = ["prove", "--nodes", "0", "d", "a"];
     let outcome = call(rt.alloc(), &words, Vec::new(rt.alloc()), &[], 100)?;
