@@ -45,3 +45,10 @@ pub changed : {X : Type 0} (xs : List X) (room : ℕ) (old : List X × ℕ) (cou
     → with_room (reverse (set xs (count - 1 - k) x)) room ≡ with_room (set old.0 k x) old.1
 changed xs room old count k x n o below =
     rw (n, ← o) (ap (λ ys. with_room ys room) (reverse-set xs k x (omega (arith, length-reverse xs, ap (λ p. length p.0) o))))
+
+-- the item at a depth, as it was
+pub under : {X : Type 0} (xs : List X) (old : List X × ℕ) (room count place k : ℕ) (x : X) → count ≡ length xs → place ≡ count - 1 - k → with_room (reverse xs) room ≡ old → k < length old.0
+    → x ≡ get_or xs place x → x ≡ get_or old.0 k x
+under xs old room count place k x n p o below e =
+    let l : length (reverse xs) ≡ length old.0 = ap (λ q. length q.0) o in
+    e ∙ ap (λ i. get_or xs i x) (p ∙ ap (λ m. m - 1 - k) n) ∙ sym (get_or-reverse xs k x (omega (arith, length-reverse xs, l))) ∙ ap (λ q. get_or q.0 k x) o

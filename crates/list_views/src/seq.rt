@@ -120,7 +120,8 @@ impl<T> Seq<T> {
     /// A loan of the item at `index`.
     pub fn at_mut(&mut self, index: usize) -> &mut T
         requires { index < length self.old }
-        ensures* { sem 𝓛 (Lends (the_row T.row) T.row self.entry result (slice_set self.old index)) }
+        ensures item { result.now ≡ slice_index_or self.old index result.now }
+        ensures* lends { sem 𝓛 (Lends (the_row T.row) T.row self.entry result (slice_set self.old index)) }
     {
         &mut self.items[index]
     }

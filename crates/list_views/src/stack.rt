@@ -76,7 +76,8 @@ impl<T> Stack<T> {
     /// A loan of the item under `depth` others; the top is at 0. The room stays.
     pub fn at_mut(&mut self, depth: usize) -> &mut T
         requires { depth < length self.old.0 }
-        ensures* { sem 𝓛 (Lends (the_row T.row) T.row self.entry result (λ item. (slice_set self.old.0 depth item, self.old.1))) }
+        ensures item { result.now ≡ slice_index_or self.old.0 depth result.now }
+        ensures* lends { sem 𝓛 (Lends (the_row T.row) T.row self.entry result (λ item. (slice_set self.old.0 depth item, self.old.1))) }
     {
         let place = self.items.len() - 1 - depth;
         &mut self.items[place]
