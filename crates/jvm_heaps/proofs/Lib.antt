@@ -1,3 +1,5 @@
+pub mod DagPaths
+pub mod DagTurns
 pub mod InLists
 pub mod MarkLaws
 pub mod MarkTurns

@@ -1,5 +1,5 @@
 -- Marking from a value: what holds before each turn, and that it comes to the end with exactly the region marked.
-use Rattle.std.proofs.Common.{◌≡◌, ℕ, zero, suc, ◌+◌, ◌<◌, Bool, true, false, List, [], ◌∷◌, ◌++◌, length, get_or, replicate, Option, Some, None, ◌⊎◌, inl, inr, refl, sym, ap, subst, ◌∙◌, arith, length-append, drop, drop-cons, add-one, ◌≤◌}
+use Rattle.std.proofs.Common.{◌≡◌, ℕ, ◌+◌, ◌<◌, Bool, false, List, [], ◌∷◌, ◌++◌, length, get_or, replicate, Option, Some, ◌⊎◌, inl, inr, refl, sym, ap, subst, ◌∙◌, arith, length-append, drop, drop-cons, add-one, ◌≤◌}
 use Rattle.std.specs.Prelude.{All, slice_get, ◌↔◌}
 use Rattle.std.specs.Option.{option_and_then}
 use Rattle.std.proofs.Math.ListN.{length-replicate}
@@ -9,13 +9,13 @@ use Rattle.std.proofs.lemmas.Option.{slice_get_read}
 use Rattle.jvm_values.specs.declared.heap.Value.{Value}
 use Rattle.jvm_values.specs.declared.heap.Object.{Object}
 use Rattle.jvm_values.specs.declared.heap.Heap.{Heap}
-use Rattle.jvm_values.specs.Paths.{follow, Reaches}
+use Rattle.jvm_values.specs.Paths.{follow}
 use Rattle.jvm_values.specs.Heaps.{target, values_of, value_at, heap_steps, Region, IsInHeap, IsClosed}
-use Rattle.jvm_values.proofs.Options.{given, some_is, none_is_not_some}
+use Rattle.jvm_values.proofs.Options.{given, some_is}
 use Rattle.jvm_values.proofs.PathLaws.{here, joined}
 use Rattle.jvm_heaps.specs.Marks.{IsMarked, marks_after, todo_after, all_marks, all_todo}
 use Rattle.jvm_heaps.proofs.InLists.{IsIn, In-left, In-last, In-push, all_at}
-use Rattle.jvm_heaps.proofs.MarkLaws.{IsNamed, AreBelow, open_count, marked_within, only_one, new_one, only_todo_one, marked_one, length_one, length_all, keep_all, marked_all, only_all, keep_todo_all, new_all, only_todo_all, work_all}
+use Rattle.jvm_heaps.proofs.MarkLaws.{AreBelow, open_count, marked_within, only_one, new_one, only_todo_one, marked_one, length_one, length_all, keep_all, marked_all, only_all, keep_todo_all, new_all, only_todo_all, work_all}
 
 pub record IsMarking (heap : Heap) (value : Value) (marks : List Bool) (todo : List ℕ) : Type 0 where
   pub size : length marks ≡ length heap.objects

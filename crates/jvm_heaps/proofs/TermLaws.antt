@@ -25,16 +25,16 @@ use Rattle.jvm_heaps.proofs.MarkTurns.{below_heap, step_at, none_marked}
 
 -- ---- paths of at least one step
 
-record ComesTo (steps : Steps) (a b : ℕ) : Type 0 where
+pub record ComesTo (steps : Steps) (a b : ℕ) : Type 0 where
   pub first : ℕ
   pub next : ℕ
   pub leads : steps a first ≡ Some next
   pub rest : Reaches steps next b
 
-one_step : (steps : Steps) (a i b : ℕ) → steps a i ≡ Some b → ComesTo steps a b
+pub one_step : (steps : Steps) (a i b : ℕ) → steps a i ≡ Some b → ComesTo steps a b
 one_step steps a i b e = record { first = i; next = b; leads = e; rest = here steps b b refl }
 
-step_more : (steps : Steps) (a b i c : ℕ) → ComesTo steps a b → steps b i ≡ Some c → ComesTo steps a c
+pub step_more : (steps : Steps) (a b i c : ℕ) → ComesTo steps a b → steps b i ≡ Some c → ComesTo steps a c
 step_more steps a b i c h e = record {
   first = h.first;
   next = h.next;
@@ -45,7 +45,7 @@ step_more steps a b i c h e = record {
 cons_is_not_nil : (i : ℕ) (path : List ℕ) → i ∷ path ≡ [] → ⊥
 cons_is_not_nil i path e = cc
 
-no_return : (steps : Steps) (a : ℕ) → IsDagFrom steps a → ComesTo steps a a → ⊥
+pub no_return : (steps : Steps) (a : ℕ) → IsDagFrom steps a → ComesTo steps a a → ⊥
 no_return steps a dag h = cons_is_not_nil h.first h.rest.path (dag [] a refl (h.first ∷ h.rest.path) (ap (option_and_then (follow steps h.rest.path)) h.leads ∙ h.rest.leads))
 
 dag_after : (steps : Steps) (a i c : ℕ) → IsDagFrom steps a → steps a i ≡ Some c → IsDagFrom steps c
@@ -57,7 +57,7 @@ mark_if : (m : Bool) (n k : ℕ) → (m ≡ true → ⊥) → n + cond m 0 1 ≡
 mark_if true n k unmarked e = absurd (unmarked refl)
 mark_if false n k unmarked e = omega (arith, e)
 
-fewer_open : (marks : List Bool) (a : ℕ) → a < length marks → (IsMarked marks a → ⊥) → open_count (set marks a true) < open_count marks
+pub fewer_open : (marks : List Bool) (a : ℕ) → a < length marks → (IsMarked marks a → ⊥) → open_count (set marks a true) < open_count marks
 fewer_open marks a l unmarked = mark_if (get_or marks a false) (open_count (set marks a true)) (open_count marks) unmarked (omega (arith, sum_by-set (λ (y : Bool). cond y 0 1) marks a true false l))
 
 -- ---- terms of what is given

@@ -1,6 +1,6 @@
 -- Paths by their last steps: where each place is entered by at most one step, and the start by none, one path leads to
 -- each place.
-use Rattle.std.proofs.Common.{◌≡◌, ℕ, zero, suc, ◌+◌, ◌<◌, ◌≤◌, List, [], ◌∷◌, ◌++◌, length, Some, ◌⊎◌, inl, inr, refl, sym, ap, ◌∙◌, arith, length-append}
+use Rattle.std.proofs.Common.{◌≡◌, ℕ, zero, suc, ◌<◌, ◌≤◌, List, [], ◌∷◌, ◌++◌, length, Some, ◌⊎◌, inl, inr, refl, sym, ap, ◌∙◌, arith, length-append}
 use Rattle.jvm_values.specs.Paths.{Steps, follow, Reaches, IsTreeFrom}
 use Rattle.jvm_values.proofs.Options.{given}
 use Rattle.jvm_values.proofs.PathLaws.{follow-append}

@@ -1,5 +1,5 @@
 -- Regions as rising lists of numbers.
-use Rattle.std.specs.Prelude.{◌≡◌, ℕ, suc, ◌≤◌, ◌↔◌, Bool, true, false, List, [], ◌∷◌, Contains}
+use Rattle.std.specs.Prelude.{ℕ, suc, ◌≤◌, ◌↔◌, Bool, true, false, List, [], ◌∷◌, Contains}
 use Rattle.jvm_values.specs.declared.heap.Value.{Value}
 use Rattle.jvm_values.specs.declared.heap.Heap.{Heap}
 use Rattle.jvm_values.specs.Heaps.{Region}

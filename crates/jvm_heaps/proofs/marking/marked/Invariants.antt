@@ -1,4 +1,4 @@
-use Rattle.std.proofs.Common.{ℕ, ◌+◌, length}
+use Rattle.std.proofs.Common.{◌+◌, length}
 use Rattle.jvm_heaps.proofs.MarkLaws.{open_count}
 use Rattle.jvm_heaps.proofs.MarkTurns.{IsMarking}
 use Rattle.jvm_heaps.proofs.marking.marked.Given as goal
