@@ -2,10 +2,11 @@
 use Rattle.std.specs.Prelude.{◌≡◌, ℕ, ◌<◌, ◌==◌, Bool, true, false, not, ◌&&◌, ◌||◌, if◌then◌else◌, List, [], ◌∷◌, Option, Some, None}
 use Rattle.jvm_values.specs.declared.types.Ty.{Ty}
 use Rattle.jvm_values.specs.declared.shape.Shape.{Shape}
+use Rattle.jvm_values.specs.declared.shape.Shape.TheVariants.{Tree, Dag, Any}
 use Rattle.jvm_values.specs.Subtyping.{class_type, array_of, array_of_numbers}
 use Rattle.abs_cells.specs.declared.cells.Cell.{Cell}
 use Rattle.abs_cells.specs.declared.cells.CellSort.{CellSort}
-use Rattle.abs_cells.specs.declared.cells.CellSort.TheVariants.{Any, Reference, Known}
+use Rattle.abs_cells.specs.declared.cells.CellSort.TheVariants as sorts
 use Rattle.abs_cells.specs.declared.cells.Cell.TheVariants.{Int, Null, Obj, Nums, Refs, Unk}
 use Rattle.abs_cells.specs.AbstractStates.{AbstractState}
 use Rattle.abs_cells.specs.PairLists.{has}
@@ -39,12 +40,6 @@ is_int (Obj class ids) = false
 is_int (Nums kind len) = false
 is_int (Refs element len shape) = false
 is_int (Unk bound nullable shape) = false
-
--- the cells of a sort
-abbrev pub sort_test : CellSort → Cell → Bool
-sort_test Any cell = true
-sort_test Reference cell = is_reference cell
-sort_test Known cell = is_known cell
 
 -- the ids that a known cell names: an instance's fields, an array's length
 abbrev pub ids_of : Cell → List ℕ
@@ -81,6 +76,28 @@ shape_of (Obj class ids) = None
 shape_of (Nums kind len) = None
 shape_of (Refs element len shape) = Some shape
 shape_of (Unk bound nullable shape) = Some shape
+
+-- a region of a hazy cell may have a cycle, and may be no tree
+abbrev pub may_have_cycle : Option Shape → Bool
+may_have_cycle None = false
+may_have_cycle (Some Tree) = false
+may_have_cycle (Some Dag) = false
+may_have_cycle (Some Any) = true
+
+abbrev pub may_be_no_tree : Option Shape → Bool
+may_be_no_tree None = false
+may_be_no_tree (Some Tree) = false
+may_be_no_tree (Some Dag) = true
+may_be_no_tree (Some Any) = true
+
+-- the cells of a sort
+abbrev pub sort_test : CellSort → Cell → Bool
+sort_test sorts.Any cell = true
+sort_test sorts.Reference cell = is_reference cell
+sort_test sorts.Known cell = is_known cell
+sort_test sorts.Hazy cell = is_hazy cell
+sort_test sorts.MayCycle cell = may_have_cycle (shape_of cell)
+sort_test sorts.MayBeNoTree cell = may_be_no_tree (shape_of cell)
 
 -- one of two types is below the other
 abbrev pub is_comparable : (Ty → Ty → Bool) → Ty → Ty → Bool

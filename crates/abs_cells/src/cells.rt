@@ -1,6 +1,6 @@
 //! Cells: what an abstract state knows of the value of an id.
 ghost use Rattle.std.specs.Prelude.{◌≡◌};
-ghost use Rattle.abs_cells.specs.Cells.{is_known, is_hazy, is_reference, is_int, sort_test};
+ghost use Rattle.abs_cells.specs.Cells.{is_known, is_hazy, is_reference, is_int, shape_of, sort_test};
 
 use crate::ids::{Id, Ids};
 use jvm_values::{Kind, Shape, Ty};
@@ -36,6 +36,12 @@ pub enum CellSort {
     Reference,
     /// The cells whose object's class or kind is known exactly.
     Known,
+    /// The cells of whose object the type and the shape of its region are known.
+    Hazy,
+    /// The hazy cells whose region may have a cycle.
+    MayCycle,
+    /// The hazy cells whose region may be no tree.
+    MayBeNoTree,
 }
 
 impl Cell {
@@ -60,6 +66,17 @@ impl Cell {
         self.is_known() || self.is_hazy()
     }
 
+    /// The shape of the region of a hazy cell's object.
+    pub fn shape(&self) -> Option<Shape>
+        ensures { result ≡ shape_of self.now }
+    {
+        match self {
+            Cell::Refs(_, _, shape) => Some(*shape),
+            Cell::Unk(_, _, shape) => Some(*shape),
+            Cell::Int(_) | Cell::Null | Cell::Obj(_, _) | Cell::Nums(_, _) => None,
+        }
+    }
+
     /// Whether this is the cell of an int.
     pub fn is_int(&self) -> bool
         ensures { result ≡ is_int self.now }
@@ -75,6 +92,9 @@ impl Cell {
             CellSort::Any => true,
             CellSort::Reference => self.is_reference(),
             CellSort::Known => self.is_known(),
+            CellSort::Hazy => self.is_hazy(),
+            CellSort::MayCycle => matches!(self.shape(), Some(Shape::Any)),
+            CellSort::MayBeNoTree => matches!(self.shape(), Some(Shape::Dag | Shape::Any)),
         }
     }
 }

@@ -27,8 +27,8 @@ fn ids_rise(cells: &[(Id, Cell)]) -> bool
     true
 }
 
-/// The ids whose cells are of a sort.
-fn ids_of_sort(cells: &[(Id, Cell)], sort: CellSort) -> IdSet
+/// The ids whose cells are of a sort. It takes no memory.
+pub fn ids_of_sort(cells: &[(Id, Cell)], sort: CellSort) -> IdSet
     requires { AreIdsRising 0 cells.now }
     ensures { (n : ℕ) → has_id result n ≡ is_of_sort (sort_test sort) (cell_in cells.now n) }
 {

@@ -15,7 +15,7 @@ mod sets;
 mod states;
 
 pub use cells::{Cell, CellSort};
-pub use checks::well_formed;
+pub use checks::{ids_of_sort, well_formed};
 pub use ids::{Id, Ids};
 pub use laws::{fitting_frames_agree, known_ids_are_apart, patterns_are_one};
 pub use packed::PackedPairs;

@@ -384,6 +384,16 @@ impl Pairs for PackedPairs {
         some_touches(&self.packed, x, y)
     }
 
+    fn copied(&self, alloc: Global) -> Result<Self, AllocError> {
+        Ok(PackedPairs {
+            packed: Packed {
+                slots: Vec::from_slice(alloc, &self.packed.slots)?,
+                count: self.packed.count,
+                words: Vec::from_slice(alloc, &self.packed.words)?,
+            },
+        })
+    }
+
     fn are_among(&self, others: &Self) -> bool {
         all_among(&self.packed, &others.packed)
     }

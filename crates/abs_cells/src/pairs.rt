@@ -1,5 +1,5 @@
 //! Sets of unordered pairs of ids.
-ghost use Rattle.std.specs.Prelude.{◌≡◌, ◌≢◌, ◌<◌, ℕ, List, [], OnOk, OnErr, slice_get, IsTrue, ◌↔◌, Some};
+ghost use Rattle.std.specs.Prelude.{◌≡◌, ◌≢◌, ◌<◌, ℕ, List, [], IfOk, OnOk, OnErr, slice_get, IsTrue, ◌↔◌, Some};
 ghost use Rattle.abs_cells.specs.PairLists.{IsRising, added, removed, has, is_before, place_in, AreAmong};
 ghost use Rattle.abs_cells.specs.IdSets.{joins, are_touched};
 
@@ -48,6 +48,14 @@ pub trait Pairs: Drop {
     fn touches(&self, x: &IdSet, y: &IdSet) -> bool
         ensures value { result ≡ are_touched x.now y.now (pairs self.now) }
         ensures rising { IsRising (pairs self.now) };
+
+    /// The same pairs once more.
+    ///
+    /// # Errors
+    ///
+    /// Want of memory.
+    fn copied(&self, alloc: Global) -> Result<Self, AllocError>
+        ensures { IfOk result (λ copy. pairs copy ≡ pairs self.now) };
 
     /// Whether each of the pairs is one of others. It takes no memory.
     fn are_among(&self, others: &Self) -> bool
@@ -168,6 +176,12 @@ impl Pairs for ListPairs {
 
     fn touches(&self, x: &IdSet, y: &IdSet) -> bool {
         some_joins(x, y, &self.pairs)
+    }
+
+    fn copied(&self, alloc: Global) -> Result<Self, AllocError> {
+        Ok(ListPairs {
+            pairs: Vec::from_slice(alloc, &self.pairs)?,
+        })
     }
 
     fn are_among(&self, others: &Self) -> bool {
