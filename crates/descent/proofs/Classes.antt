@@ -1,14 +1,13 @@
 -- Rules that are put into classes one after another.
 use Rattle.std.proofs.Common.{◌≡◌, ◌⊎◌, inl, inr, ℕ, zero, suc, ◌+◌, ◌-◌, ◌<◌, ◌≤◌, Bool, true, false, cond, eqb, List, [], ◌∷◌, ◌++◌, length, get_or, Option, Some, None, Result, Ok, Err, IfOk, subst, ap, arith, refl, ◌∙◌, sym, add-one, length-append}
 use Rattle.std.proofs.lemmas.List.{get_or_at, get_or_append_left}
-use Rattle.std.specs.Prelude.{◌||◌, ◌&&◌, not, slice_get, IsTrue, OnOk, nat_lt, take, drop}
-use Rattle.std.proofs.lemmas.Bool.{both_ways, false≢true, true≢false, eqb-true, eq-eqb, or_left, or_right, or_cases, cases_eq, and_parts, ne_eqb, cases_lt, lt-ltb}
+use Rattle.std.specs.Prelude.{◌||◌, ◌&&◌, not, slice_get, OnOk, nat_lt}
+use Rattle.std.proofs.lemmas.Bool.{both_ways, false≢true, true≢false, eqb-true, eq-eqb, or_left, or_right, or_cases, cases_eq, and_parts, cases_lt, lt-ltb}
 use Rattle.std.proofs.lemmas.Bool.Decides.{nat_tests}
 use Rattle.descent.specs.declared.rules.PathRule.{PathRule}
 use Rattle.descent.specs.Components.{IsWay, Reaches, AreClasses}
 use Rattle.descent.specs.Inserting.{tells, IsRow, IsTable, head_of, placed_at, insert_into, insert_all, first_at, joins, put_at}
-use Rattle.descent.specs.Splits.{has, stands_in, stands_once, place_from, place_in, is_followed}
-use Rattle.descent.proofs.Moving.{or_rest}
+use Rattle.descent.specs.Splits.{has, stands_in, stands_once, place_from, is_followed}
 use Rattle.descent.proofs.Parted.{IsPlaced, placed}
 
 -- ways that are joined

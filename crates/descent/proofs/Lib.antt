@@ -3,6 +3,7 @@ pub mod Checked
 pub mod Classes
 pub mod Moving
 pub mod Parted
+pub mod Passed
 pub mod Placing
 pub mod Ranked
 pub mod Spread

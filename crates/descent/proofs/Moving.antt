@@ -1,5 +1,5 @@
 -- Chains that go on from the rules of a set.
-use Rattle.std.proofs.Common.{◌≡◌, ℕ, suc, Bool, true, false, cond, eqb, List, [], ◌∷◌, subst, refl, sym}
+use Rattle.std.proofs.Common.{◌≡◌, ℕ, Bool, true, false, cond, eqb, List, [], ◌∷◌, subst, refl, sym}
 use Rattle.std.specs.Prelude.{◌||◌, filter}
 use Rattle.std.proofs.lemmas.Bool.{both_ways, false≢true, true≢false, eqb-true, or_left, or_right}
 use mathlib.Core.WellFounded.{Acc}

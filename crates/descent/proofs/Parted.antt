@@ -1,15 +1,15 @@
 -- A split: no rule is followed by one of a lower part.
 use Rattle.std.proofs.Common.{◌≡◌, ◌⊎◌, inl, inr, ℕ, zero, suc, ◌+◌, ◌<◌, ◌≤◌, Bool, true, false, cond, eqb, List, [], ◌∷◌, ◌++◌, length, Option, Some, None, subst, ap, arith, refl, ◌∙◌, sym}
-use Rattle.std.specs.Prelude.{◌||◌, ◌&&◌, not, nat_lt, slice_get, is_none, filter, find}
+use Rattle.std.specs.Prelude.{◌&&◌, not, nat_lt, slice_get, is_none, filter, find}
 use Rattle.std.specs.List.{concat, filter_map}
-use Rattle.std.proofs.lemmas.Bool.{both_ways, false≢true, true≢false, eqb-true, eq-eqb, or_left, or_right, or_cases, cases_eq, not-false, ltb-false, and_cases}
+use Rattle.std.proofs.lemmas.Bool.{both_ways, false≢true, true≢false, eqb-true, eq-eqb, or_left, or_right, or_cases, cases_eq, not-false, ltb-false}
 use Rattle.std.proofs.lemmas.Option.{none-some, slice_get_within, slice_get-get_or}
 use mathlib.Core.WellFounded.{Acc}
 use Rattle.descent.specs.declared.faults.DescentFault.{DescentFault}
 use Rattle.descent.specs.declared.rules.PathRule.{PathRule}
-use Rattle.descent.specs.Chains.{Turn, IsTurn, Follows}
+use Rattle.descent.specs.Chains.{Turn, Follows}
 use Rattle.descent.specs.Splits.{has, stands_in, stands_once, place_from, place_in, is_misplaced, least, uncovered, meet_at, is_followed, is_below, lower_one, back_fault, back_edge, is_lone, loops_in, loops_at, first_loop, loop_fault, edge_fault, cover_fault, split_fault}
-use Rattle.descent.specs.Steps.{part_left, parts_left, same_option}
+use Rattle.descent.specs.Steps.{parts_left, same_option}
 use Rattle.descent.proofs.Moving.{Moves, EndsAt, Ends, outside, or_rest, has_filter}
 use Rattle.descent.proofs.Ranked.{edge_none}
 

@@ -1,20 +1,20 @@
 -- Marking comes to the end with exactly the rules marked that are reached.
-use Rattle.std.proofs.Common.{◌≡◌, ◌⊎◌, inl, inr, ℕ, zero, suc, ◌+◌, ◌<◌, ◌≤◌, Bool, true, false, cond, eqb, List, [], ◌∷◌, ◌++◌, length, get_or, set, sum_by, replicate, Option, Some, None, subst, ap, arith, refl, ◌∙◌, sym, length-append, add-one}
-use Rattle.std.specs.Prelude.{◌||◌, ◌&&◌, not, slice_get, IsTrue}
+use Rattle.std.proofs.Common.{◌≡◌, ◌⊎◌, inl, inr, ℕ, zero, suc, ◌+◌, ◌<◌, Bool, true, false, cond, eqb, List, [], ◌∷◌, ◌++◌, length, get_or, set, replicate, Option, Some, None, subst, ap, arith, refl, ◌∙◌, sym, length-append}
+use Rattle.std.specs.Prelude.{◌&&◌, not, nat_lt, slice_get}
 use Rattle.std.proofs.Math.ListN.{length-set}
-use Rattle.std.proofs.lemmas.Bool.{both_ways, false≢true, true≢false, eqb-true, eq-eqb, or_left, or_right, or_cases, cases_eq, and_parts, cases_lt}
-use Rattle.std.proofs.lemmas.List.{get_or-set_same, get_or-set_other, get_or_past, get_or-replicate, length-replicate}
+use Rattle.std.proofs.lemmas.Bool.{false≢true, true≢false, eqb-true, eq-eqb, or_left, or_right, or_cases, cases_eq, cases_lt, ltb-true, lt-ltb}
+use Rattle.std.proofs.lemmas.List.{get_or-set_same, get_or-set_other, get_or_past, length-replicate}
 use Rattle.std.proofs.lemmas.List.Sums.{sum_by-set}
-use Rattle.std.proofs.lemmas.Option.{slice_get_within, slice_get-get_or}
+use Rattle.std.proofs.lemmas.Option.{slice_get_within}
 use Rattle.descent.specs.declared.rules.PathRule.{PathRule}
 use Rattle.descent.specs.Components.{IsWay, Reaches}
 use Rattle.descent.specs.Inserting.{IsRow}
 use Rattle.descent.specs.Splits.{has, meet_at, is_followed}
-use Rattle.descent.specs.Spreading.{Front, noted, front_after, spread, open_count}
+use Rattle.descent.specs.Spreading.{first_from, all_from, next_of, is_at, group_at, groups_of, Noted, Front, noted, spread, open_count}
 use Rattle.descent.proofs.Classes.{reach_both, reach_self, reach_next, has_end, end_has_old, end_has}
 
 -- a mark that is set
-set_keeps : (marks : List Bool) (b x : ℕ) → get_or marks x false ≡ true → get_or (set marks b true) x false ≡ true
+pub set_keeps : (marks : List Bool) (b x : ℕ) → get_or marks x false ≡ true → get_or (set marks b true) x false ≡ true
 set_keeps marks b x e = elim (cases_eq x b) as (λ o. get_or (set marks b true) x false ≡ true) [
   | inl s ↦
       let l : b < length marks = elim (cases_lt b (length marks)) as (λ o. b < length marks) [
@@ -25,331 +25,421 @@ set_keeps marks b x e = elim (cases_eq x b) as (λ o. get_or (set marks b true) 
   | inr d ↦ get_or-set_other marks b x true false d ∙ e
 ]
 
--- a cut that is come to from the rule
-pub record IsComeTo (rules : List PathRule) (rule cut : ℕ) : Type 0 where
-  pub last : ℕ
+set_sound : (marks : List Bool) (b x : ℕ) → get_or (set marks b true) x false ≡ true → (get_or marks x false ≡ true) ⊎ (b ≡ x)
+set_sound marks b x e = elim (cases_eq x b) as (λ o. (get_or marks x false ≡ true) ⊎ (b ≡ x)) [
+  | inl s ↦ inr (sym s)
+  | inr d ↦ inl (sym (get_or-set_other marks b x true false d) ∙ e)
+]
+
+-- the first of the rules that start at a cut
+record IsFirst (cut n first : ℕ) (rules : List PathRule) : Type 0 where
+  pub index : ℕ
   pub taken : PathRule
-  pub is : slice_get rules last ≡ Some taken
-  pub at : taken.to ≡ cut
-  pub reached : Reaches rules rule last
+  pub at : first ≡ n + index
+  pub is : slice_get rules index ≡ Some taken
+  pub starts : taken.from ≡ cut
 
-abbrev pub Covered : List PathRule → List Bool → ℕ → Type 0
-Covered rules marks cut = (q : ℕ) (a : PathRule) → slice_get rules q ≡ Some a → a.from ≡ cut → get_or marks q false ≡ true
+some_number : (a b : ℕ) → ◌≡◌ {A = Option ℕ} (Some a) (Some b) → a ≡ b
+some_number a b e = cc
 
--- what holds while the rules are looked at from a cut; rules before n have been looked at
-pub record IsSpreading (rules : List PathRule) (rule cut n : ℕ) (front : Front) : Type 0 where
-  pub count : length front.marks ≡ length rules
-  pub start : get_or front.marks rule false ≡ true
-  pub sound : (q : ℕ) → get_or front.marks q false ≡ true → Reaches rules rule q
-  pub noted_is : (q : ℕ) (a : PathRule) → get_or front.marks q false ≡ true → slice_get rules q ≡ Some a → has front.known a.to ≡ true
-  pub come : (c : ℕ) → has front.known c ≡ true → IsComeTo rules rule c
-  pub unfinished : (c : ℕ) → has front.known c ≡ true → ((has front.todo c ≡ true) ⊎ Covered rules front.marks c) ⊎ (c ≡ cut)
-  pub before : (q : ℕ) (a : PathRule) → q < n → slice_get rules q ≡ Some a → a.from ≡ cut → get_or front.marks q false ≡ true
-  pub own : IsComeTo rules rule cut
+first_cases : (here : Bool) (cut n first : ℕ) (rule : PathRule) (rest : List PathRule) → eqb rule.from cut ≡ here → cond here (Some n) (first_from cut (suc n) rest) ≡ Some first → (first_from cut (suc n) rest ≡ Some first → IsFirst cut (suc n) first rest) → IsFirst cut n first (rule ∷ rest)
+first_cases true cut n first rule rest h e more =
+    let same = some_number n first e in
+    record { index = 0; taken = rule; at = omega (arith, same); is = refl; starts = eqb-true rule.from cut h }
+first_cases false cut n first rule rest h e more =
+    let m = more e in
+    record { index = suc m.index; taken = m.taken; at = omega (arith, m.at); is = m.is; starts = m.starts }
 
--- what holds between cuts
-pub record IsClosing (rules : List PathRule) (rule : ℕ) (front : Front) : Type 0 where
-  pub count : length front.marks ≡ length rules
-  pub start : get_or front.marks rule false ≡ true
-  pub sound : (q : ℕ) → get_or front.marks q false ≡ true → Reaches rules rule q
-  pub noted_is : (q : ℕ) (a : PathRule) → get_or front.marks q false ≡ true → slice_get rules q ≡ Some a → has front.known a.to ≡ true
-  pub come : (c : ℕ) → has front.known c ≡ true → IsComeTo rules rule c
-  pub unfinished : (c : ℕ) → has front.known c ≡ true → (has front.todo c ≡ true) ⊎ Covered rules front.marks c
+first_is : (cut n first : ℕ) (rules : List PathRule) → first_from cut n rules ≡ Some first → IsFirst cut n first rules
+first_is cut n first [] e = absurd (cc)
+first_is cut n first (rule ∷ rest) e = first_cases (eqb rule.from cut) cut n first rule rest refl e (λ h. first_is cut (suc n) first rest h)
 
-reach_more : (rules : List PathRule) (rule n : ℕ) (r : PathRule) → IsComeTo rules rule r.from → slice_get rules n ≡ Some r → Reaches rules rule n
-reach_more rules rule n r come is =
-    let follows : is_followed rules come.last n ≡ true = ap (λ (o : Option PathRule). meet_at o (slice_get rules n)) come.is ∙ ap (meet_at (Some come.taken)) is ∙ eq-eqb come.taken.to r.from come.at in
-    reach_both rules rule come.last n come.reached (reach_next rules come.last n follows)
+found_cases : (here : Bool) (cut n : ℕ) (rest : List PathRule) → (here ≡ false → (first : ℕ) × (first_from cut (suc n) rest ≡ Some first)) → (first : ℕ) × (cond here (Some n) (first_from cut (suc n) rest) ≡ Some first)
+found_cases true cut n rest more = (n, refl)
+found_cases false cut n rest more = more refl
 
-same_rule : (rules : List PathRule) (n : ℕ) (a b : PathRule) → slice_get rules n ≡ Some a → slice_get rules n ≡ Some b → a ≡ b
-same_rule rules n a b e f = some_same a b (sym e ∙ f)
+one_rule : (a b : PathRule) → ◌≡◌ {A = Option PathRule} (Some a) (Some b) → a ≡ b
+one_rule a b e = cc
+
+first_found : (cut n q : ℕ) (rules : List PathRule) (rule : PathRule) → slice_get rules q ≡ Some rule → rule.from ≡ cut → (first : ℕ) × (first_from cut n rules ≡ Some first)
+first_found cut n q [] rule is at = absurd (cc)
+first_found cut n zero (r ∷ rest) rule is at =
+    let here : eqb r.from cut ≡ true = eq-eqb r.from cut (ap (λ (x : PathRule). x.from) (one_rule r rule is) ∙ at) in
+    found_cases (eqb r.from cut) cut n rest (λ f. absurd (true≢false (sym here ∙ f)))
+first_found cut n (suc q) (r ∷ rest) rule is at = found_cases (eqb r.from cut) cut n rest (λ f. first_found cut (suc n) q rest rule is at)
+
+-- all rules that start at a cut
+record IsFrom (cut n q : ℕ) (rules : List PathRule) : Type 0 where
+  pub index : ℕ
+  pub taken : PathRule
+  pub at : q ≡ n + index
+  pub is : slice_get rules index ≡ Some taken
+  pub starts : taken.from ≡ cut
+
+from_later : (cut n q : ℕ) (rule : PathRule) (rest : List PathRule) → IsFrom cut (suc n) q rest → IsFrom cut n q (rule ∷ rest)
+from_later cut n q rule rest m = record { index = suc m.index; taken = m.taken; at = omega (arith, m.at); is = m.is; starts = m.starts }
+
+from_cases : (here : Bool) (cut n q : ℕ) (rule : PathRule) (rest : List PathRule) → eqb rule.from cut ≡ here → has (cond here (n ∷ all_from cut (suc n) rest) (all_from cut (suc n) rest)) q ≡ true → (has (all_from cut (suc n) rest) q ≡ true → IsFrom cut (suc n) q rest) → IsFrom cut n q (rule ∷ rest)
+from_cases true cut n q rule rest h e more = elim (or_cases (eqb n q) (has (all_from cut (suc n) rest) q) e) as (λ o. IsFrom cut n q (rule ∷ rest)) [
+  | inl s ↦ let same = eqb-true n q s in record { index = 0; taken = rule; at = omega (arith, same); is = refl; starts = eqb-true rule.from cut h }
+  | inr r ↦ from_later cut n q rule rest (more r)
+]
+from_cases false cut n q rule rest h e more = from_later cut n q rule rest (more e)
+
+from_is : (cut n q : ℕ) (rules : List PathRule) → has (all_from cut n rules) q ≡ true → IsFrom cut n q rules
+from_is cut n q [] e = absurd (false≢true e)
+from_is cut n q (rule ∷ rest) e = from_cases (eqb rule.from cut) cut n q rule rest refl e (λ h. from_is cut (suc n) q rest h)
+
+from_here : (here : Bool) (cut n q : ℕ) (rest : List PathRule) → here ≡ true → n ≡ q → has (cond here (n ∷ all_from cut (suc n) rest) (all_from cut (suc n) rest)) q ≡ true
+from_here true cut n q rest h e = or_left (eqb n q) (has (all_from cut (suc n) rest) q) (eq-eqb n q e)
+from_here false cut n q rest h e = absurd (false≢true h)
+
+from_there : (here : Bool) (cut n q : ℕ) (rest : List PathRule) → has (all_from cut (suc n) rest) q ≡ true → has (cond here (n ∷ all_from cut (suc n) rest) (all_from cut (suc n) rest)) q ≡ true
+from_there true cut n q rest h = or_right (eqb n q) (has (all_from cut (suc n) rest) q) h
+from_there false cut n q rest h = h
+
+from_all : (cut n k q : ℕ) (rules : List PathRule) (rule : PathRule) → slice_get rules k ≡ Some rule → rule.from ≡ cut → q ≡ n + k → has (all_from cut n rules) q ≡ true
+from_all cut n k q [] rule is at e = absurd (cc)
+from_all cut n zero q (r ∷ rest) rule is at e = from_here (eqb r.from cut) cut n q rest (eq-eqb r.from cut (ap (λ (x : PathRule). x.from) (one_rule r rule is) ∙ at)) (omega (arith, e))
+from_all cut n (suc k) q (r ∷ rest) rule is at e = from_there (eqb r.from cut) cut n q rest (from_all cut (suc n) k q rest rule is at (omega (arith, e)))
+
+-- the index of groups
+next_at : (rules list : List PathRule) (p : ℕ) (rule : PathRule) → slice_get list p ≡ Some rule → get_or (next_of rules list) p None ≡ first_from rule.to 0 rules
+next_at rules [] p rule is = absurd (cc)
+next_at rules (r ∷ rest) zero rule is = ap (λ (x : PathRule). first_from x.to 0 rules) (one_rule r rule is)
+next_at rules (r ∷ rest) (suc p) rule is = next_at rules rest p rule is
+
+next_past : (rules list : List PathRule) (p : ℕ) → slice_get list p ≡ None → get_or (next_of rules list) p None ≡ None
+next_past rules [] p is = refl
+next_past rules (r ∷ rest) zero is = absurd (cc)
+next_past rules (r ∷ rest) (suc p) is = next_past rules rest p is
+
+group_in : (rules list : List PathRule) (n g : ℕ) (rule : PathRule) → slice_get list g ≡ Some rule → get_or (groups_of rules n list) g [] ≡ group_at rules (n + g) rule
+group_in rules [] n g rule is = absurd (cc)
+group_in rules (r ∷ rest) n zero rule is = ap (λ (x : PathRule). group_at rules n x) (one_rule r rule is) ∙ ap (λ (k : ℕ). group_at rules k rule) (plus_zero n)
   where
-    some_same : (x y : PathRule) → ◌≡◌ {A = Option PathRule} (Some x) (Some y) → x ≡ y
-    some_same x y h = cc
-
--- rule n has been looked at, and is marked
-skip_rule : (rules : List PathRule) (rule cut n : ℕ) (r : PathRule) (front : Front) → slice_get rules n ≡ Some r → (r.from ≡ cut → get_or front.marks n false ≡ true) → IsSpreading rules rule cut n front → IsSpreading rules rule cut (suc n) front
-skip_rule rules rule cut n r front is marked h = record {
-  count = h.count;
-  start = h.start;
-  sound = h.sound;
-  noted_is = h.noted_is;
-  come = h.come;
-  unfinished = h.unfinished;
-  own = h.own;
-  before = λ q a lt e f. elim (cases_eq q n) as (λ o. get_or front.marks q false ≡ true) [
-    | inl s ↦
-        let same = same_rule rules n a r (ap (slice_get rules) (sym s) ∙ e) is in
-        subst (λ (x : ℕ). get_or front.marks x false ≡ true) (sym s) (marked (subst (λ (x : PathRule). x.from ≡ cut) same f))
-    | inr d ↦ h.before q a (below q n lt d) e f
-  ];
-}
+    plus_zero : (a : ℕ) → a ≡ a + 0
+    plus_zero a = omega arith
+group_in rules (r ∷ rest) n (suc g) rule is = group_in rules rest (suc n) g rule is ∙ ap (λ (k : ℕ). group_at rules k rule) (shift n g)
   where
-    below : (a b : ℕ) → a < suc b → (a ≡ b → ⊥) → a < b
-    below a b k d = omega (arith, k, d)
-
--- rule n is marked, and the cut at which it ends is known
-mark_rule : (rules : List PathRule) (rule cut n : ℕ) (r : PathRule) (front now : Front) → slice_get rules n ≡ Some r → r.from ≡ cut → now.marks ≡ set front.marks n true → ((c : ℕ) → has front.known c ≡ true → has now.known c ≡ true) → ((c : ℕ) → has front.todo c ≡ true → has now.todo c ≡ true) → has now.known r.to ≡ true → ((c : ℕ) → has now.known c ≡ true → (has front.known c ≡ true) ⊎ ((r.to ≡ c) × (has now.todo c ≡ true))) → IsSpreading rules rule cut n front → IsSpreading rules rule cut (suc n) now
-mark_rule rules rule cut n r front now is from marks known todo noted' new h = record {
-  count = ap length marks ∙ length-set front.marks n true ∙ h.count;
-  start = kept rule h.start;
-  sound = λ q e. elim (cases_eq q n) as (λ o. Reaches rules rule q) [
-    | inl s ↦ subst (λ (x : ℕ). Reaches rules rule x) (sym s) reached
-    | inr d ↦ h.sound q (old q d e)
-  ];
-  noted_is = λ q a e at. elim (cases_eq q n) as (λ o. has now.known a.to ≡ true) [
-    | inl s ↦ subst (λ (x : PathRule). has now.known x.to ≡ true) (sym (same_rule rules n a r (ap (slice_get rules) (sym s) ∙ at) is)) noted'
-    | inr d ↦ known a.to (h.noted_is q a (old q d e) at)
-  ];
-  come = λ c e. elim (new c e) as (λ o. IsComeTo rules rule c) [
-    | inl was ↦ h.come c was
-    | inr now' ↦ record { last = n; taken = r; is = is; at = now'.0; reached = reached }
-  ];
-  unfinished = λ c e. elim (new c e) as (λ o. ((has now.todo c ≡ true) ⊎ Covered rules now.marks c) ⊎ (c ≡ cut)) [
-    | inl was ↦ elim (h.unfinished c was) as (λ o. ((has now.todo c ≡ true) ⊎ Covered rules now.marks c) ⊎ (c ≡ cut)) [
-      | inl first ↦ elim first as (λ o. ((has now.todo c ≡ true) ⊎ Covered rules now.marks c) ⊎ (c ≡ cut)) [
-        | inl t ↦ inl (inl (todo c t))
-        | inr cover ↦ inl (inr (λ q a at f. kept q (cover q a at f)))
-      ]
-      | inr s ↦ inr s
-    ]
-    | inr now' ↦ inl (inl now'.1)
-  ];
-  before = λ q a lt e f. elim (cases_eq q n) as (λ o. get_or now.marks q false ≡ true) [
-    | inl s ↦ subst (λ (x : ℕ). get_or now.marks x false ≡ true) (sym s) here
-    | inr d ↦ kept q (h.before q a (below q n lt d) e f)
-  ];
-  own = h.own;
-}
-  where
-    below : (a b : ℕ) → a < suc b → (a ≡ b → ⊥) → a < b
-    below a b k d = omega (arith, k, d)
-
-    kept : (q : ℕ) → get_or front.marks q false ≡ true → get_or now.marks q false ≡ true
-    kept q e = subst (λ (m : List Bool). get_or m q false ≡ true) (sym marks) (set_keeps front.marks n q e)
-
-    old : (q : ℕ) → (q ≡ n → ⊥) → get_or now.marks q false ≡ true → get_or front.marks q false ≡ true
-    old q d e = sym (get_or-set_other front.marks n q true false d) ∙ subst (λ (m : List Bool). get_or m q false ≡ true) marks e
-
-    low : n < length front.marks
-    low = let l = slice_get_within rules n r is in omega (arith, l, h.count)
-
-    here : get_or now.marks n false ≡ true
-    here = subst (λ (m : List Bool). get_or m n false ≡ true) (sym marks) (get_or-set_same front.marks n true false low)
-
-    reached : Reaches rules rule n
-    reached = reach_more rules rule n r (subst (λ (c : ℕ). IsComeTo rules rule c) (sym from) h.own) is
-
-mark_noted : (rules : List PathRule) (rule cut n : ℕ) (r : PathRule) (front : Front) (there : Bool) → has front.known r.to ≡ there → slice_get rules n ≡ Some r → r.from ≡ cut → IsSpreading rules rule cut n front → IsSpreading rules rule cut (suc n) (cond {A = Front} there (record { marks = set front.marks n true; known = front.known; todo = front.todo }) (record { marks = set front.marks n true; known = front.known ++ r.to ∷ []; todo = front.todo ++ r.to ∷ [] }))
-mark_noted rules rule cut n r front true e is from h = mark_rule rules rule cut n r front (record { marks = set front.marks n true; known = front.known; todo = front.todo }) is from refl (λ c k. k) (λ c k. k) e (λ c k. inl k) h
-mark_noted rules rule cut n r front false e is from h = mark_rule rules rule cut n r front (record { marks = set front.marks n true; known = front.known ++ r.to ∷ []; todo = front.todo ++ r.to ∷ [] }) is from refl (λ c k. end_has_old front.known r.to c k) (λ c k. end_has_old front.todo r.to c k) (end_has front.known r.to) (λ c k. elim (has_end front.known r.to c k) as (λ o. (has front.known c ≡ true) ⊎ ((r.to ≡ c) × (has (front.todo ++ r.to ∷ []) c ≡ true))) [
-  | inl was ↦ inl was
-  | inr s ↦ inr (s, subst (λ (x : ℕ). has (front.todo ++ r.to ∷ []) x ≡ true) s (end_has front.todo r.to))
-]) h
-
-front_cases : (rules : List PathRule) (rule cut n : ℕ) (r : PathRule) (front : Front) (here marked : Bool) → eqb r.from cut ≡ here → get_or front.marks n false ≡ marked → slice_get rules n ≡ Some r → IsSpreading rules rule cut n front → IsSpreading rules rule cut (suc n) (cond (here && not marked) (noted r.to (set front.marks n true) front.known front.todo) front)
-front_cases rules rule cut n r front false marked e m is h = skip_rule rules rule cut n r front is (λ f. absurd (false≢true (sym e ∙ eq-eqb r.from cut f))) h
-front_cases rules rule cut n r front true true e m is h = skip_rule rules rule cut n r front is (λ f. m) h
-front_cases rules rule cut n r front true false e m is h = mark_noted rules rule cut n r front (has front.known r.to) refl is (eqb-true r.from cut e) h
-
--- `rest` are the rules from n on
-abbrev pub IsRest : List PathRule → ℕ → List PathRule → Type 0
-IsRest rules n rest = (k : ℕ) → slice_get rest k ≡ slice_get rules (n + k)
-
-rest_more : (rules : List PathRule) (n : ℕ) (r : PathRule) (rest : List PathRule) → IsRest rules n (r ∷ rest) → IsRest rules (suc n) rest
-rest_more rules n r rest h k = h (suc k) ∙ ap (slice_get rules) (shift n k)
-  where
-    shift : (a b : ℕ) → a + suc b ≡ suc a + b
+    shift : (a b : ℕ) → suc a + b ≡ a + suc b
     shift a b = omega arith
 
-spread_is : (rules : List PathRule) (rule cut n : ℕ) (rest : List PathRule) (front : Front) → IsRest rules n rest → n + length rest ≡ length rules → IsSpreading rules rule cut n front → IsSpreading rules rule cut (length rules) (spread cut n rest front)
-spread_is rules rule cut n [] front at count h = subst (λ (k : ℕ). IsSpreading rules rule cut k front) (omega (arith, count)) h
-spread_is rules rule cut n (r ∷ rest) front at count h =
-    let first : n + 0 ≡ n = omega arith in
-    let is : slice_get rules n ≡ Some r = ap (slice_get rules) (sym first) ∙ sym (at 0) in
-    spread_is rules rule cut (suc n) rest (front_after cut n r front) (rest_more rules n r rest at) (omega (arith, count)) (front_cases rules rule cut n r front (eqb r.from cut) (get_or front.marks n false) refl refl is h)
+group_first : (rules : List PathRule) (first : ℕ) (rule : PathRule) → first_from rule.from 0 rules ≡ Some first → group_at rules first rule ≡ all_from rule.from 0 rules
+group_first rules first rule e = subst (λ (o : Option ℕ). cond (is_at first o) (all_from rule.from 0 rules) [] ≡ all_from rule.from 0 rules) (sym e) (subst (λ (b : Bool). cond b (all_from rule.from 0 rules) [] ≡ all_from rule.from 0 rules) (sym (eq-eqb first first refl)) refl)
 
--- a cut is taken from the list, and gone on from
-pub closing_more : (rules : List PathRule) (rule cut : ℕ) (marks : List Bool) (known todo less : List ℕ) → todo ≡ less ++ cut ∷ [] → (has known cut ≡ true) → IsClosing rules rule (record { marks = marks; known = known; todo = todo }) → IsClosing rules rule (spread cut 0 rules (record { marks = marks; known = known; todo = less }))
-closing_more rules rule cut marks known todo less e in' h =
-    let begun : IsSpreading rules rule cut 0 (record { marks = marks; known = known; todo = less }) = record {
-      count = h.count;
-      start = h.start;
-      sound = h.sound;
-      noted_is = h.noted_is;
-      come = h.come;
-      unfinished = λ c k. elim (h.unfinished c k) as (λ o. ((has less c ≡ true) ⊎ Covered rules marks c) ⊎ (c ≡ cut)) [
-        | inl t ↦ elim (has_end less cut c (subst (λ (l : List ℕ). has l c ≡ true) e t)) as (λ o. ((has less c ≡ true) ⊎ Covered rules marks c) ⊎ (c ≡ cut)) [
-          | inl was ↦ inl (inl was)
-          | inr s ↦ inr (sym s)
-        ]
-        | inr cover ↦ inl (inr cover)
-      ];
-      before = λ q a lt is f. absurd (omega (arith, lt));
-      own = h.come cut in';
-    } in
-    finished rules rule cut (spread cut 0 rules (record { marks = marks; known = known; todo = less })) (spread_is rules rule cut 0 rules (record { marks = marks; known = known; todo = less }) (λ k. ap (slice_get rules) (zero_first k)) (omega arith) begun)
+-- a rule's group holds exactly the rules that follow it
+pub record IsIndex (rules : List PathRule) (next : List (Option ℕ)) (groups : List (List ℕ)) : Type 0 where
+  pub sound : (p g q : ℕ) → get_or next p None ≡ Some g → has (get_or groups g []) q ≡ true → is_followed rules p q ≡ true
+  pub complete : (p q : ℕ) → is_followed rules p q ≡ true → (g : ℕ) × (get_or next p None ≡ Some g) × (has (get_or groups g []) q ≡ true)
+  pub low : (p g : ℕ) → get_or next p None ≡ Some g → g < length rules
+  pub inside : (p g q : ℕ) → get_or next p None ≡ Some g → has (get_or groups g []) q ≡ true → q < length rules
+
+-- the group of a rule's end
+record IsGroup (rules : List PathRule) (next : List (Option ℕ)) (groups : List (List ℕ)) (p g : ℕ) : Type 0 where
+  pub rule : PathRule
+  pub is : slice_get rules p ≡ Some rule
+  pub low : g < length rules
+  pub group : get_or groups g [] ≡ all_from rule.to 0 rules
+
+group_cases : (rules : List PathRule) (p g : ℕ) (found : Option PathRule) → slice_get rules p ≡ found → get_or (next_of rules rules) p None ≡ Some g → IsGroup rules (next_of rules rules) (groups_of rules 0 rules) p g
+group_cases rules p g None is e = absurd (none_some (sym (next_past rules rules p is) ∙ e))
   where
-    zero_first : (k : ℕ) → k ≡ 0 + k
-    zero_first k = omega arith
+    none_some : ◌≡◌ {A = Option ℕ} None (Some g) → ⊥
+    none_some h = absurd (cc)
+group_cases rules p g (Some rule) is e =
+    let first : first_from rule.to 0 rules ≡ Some g = sym (next_at rules rules p rule is) ∙ e in
+    let f = first_is rule.to 0 g rules first in
+    let index : f.index ≡ g = omega (arith, f.at) in
+    let at : slice_get rules g ≡ Some f.taken = ap (slice_get rules) (sym index) ∙ f.is in
+    record {
+      rule = rule;
+      is = is;
+      low = slice_get_within rules g f.taken at;
+      group = group_in rules rules 0 g f.taken at ∙ ap (λ (k : ℕ). group_at rules k f.taken) (zero_plus g) ∙ group_first rules g f.taken (ap (λ (c : ℕ). first_from c 0 rules) f.starts ∙ first) ∙ ap (λ (c : ℕ). all_from c 0 rules) f.starts;
+    }
+  where
+    zero_plus : (a : ℕ) → 0 + a ≡ a
+    zero_plus a = omega arith
 
-    finished : (rules : List PathRule) (rule cut : ℕ) (front : Front) → IsSpreading rules rule cut (length rules) front → IsClosing rules rule front
-    finished rules rule cut front s = record {
-      count = s.count;
-      start = s.start;
-      sound = s.sound;
-      noted_is = s.noted_is;
-      come = s.come;
-      unfinished = λ c k. elim (s.unfinished c k) as (λ o. (has front.todo c ≡ true) ⊎ Covered rules front.marks c) [
-        | inl first ↦ first
-        | inr here ↦ inr (λ q a is f. s.before q a (slice_get_within rules q a is) is (f ∙ here))
+group_is : (rules : List PathRule) (p g : ℕ) → get_or (next_of rules rules) p None ≡ Some g → IsGroup rules (next_of rules rules) (groups_of rules 0 rules) p g
+group_is rules p g e = group_cases rules p g (slice_get rules p) refl e
+
+followed_by : (rules : List PathRule) (p q : ℕ) (rule other : PathRule) → slice_get rules p ≡ Some rule → slice_get rules q ≡ Some other → other.from ≡ rule.to → is_followed rules p q ≡ true
+followed_by rules p q rule other is at e = ap (λ (o : Option PathRule). meet_at o (slice_get rules q)) is ∙ ap (meet_at (Some rule)) at ∙ eq-eqb rule.to other.from (sym e)
+
+complete_cases : (rules : List PathRule) (p q : ℕ) (one other : Option PathRule) → slice_get rules p ≡ one → slice_get rules q ≡ other → meet_at one other ≡ true → (g : ℕ) × (get_or (next_of rules rules) p None ≡ Some g) × (has (get_or (groups_of rules 0 rules) g []) q ≡ true)
+complete_cases rules p q None other is at m = absurd (false≢true m)
+complete_cases rules p q (Some a) None is at m = absurd (false≢true m)
+complete_cases rules p q (Some a) (Some b) is at m =
+    let same : b.from ≡ a.to = sym (eqb-true a.to b.from m) in
+    let f = first_found a.to 0 q rules b at same in
+    let e : get_or (next_of rules rules) p None ≡ Some f.0 = next_at rules rules p a is ∙ f.1 in
+    let g = group_is rules p f.0 e in
+    let rule : g.rule ≡ a = one_rule g.rule a (sym g.is ∙ is) in
+    (f.0, e, ap (λ (l : List ℕ). has l q) (g.group ∙ ap (λ (r : PathRule). all_from r.to 0 rules) rule) ∙ from_all a.to 0 q q rules b at same (omega arith))
+
+pub index_is : (rules : List PathRule) → IsIndex rules (next_of rules rules) (groups_of rules 0 rules)
+index_is rules = record {
+  sound = λ p g q e h.
+      let i = group_is rules p g e in
+      let f = from_is i.rule.to 0 q rules (sym (ap (λ (l : List ℕ). has l q) i.group) ∙ h) in
+      let index : f.index ≡ q = omega (arith, f.at) in
+      followed_by rules p q i.rule f.taken i.is (ap (slice_get rules) (sym index) ∙ f.is) f.starts;
+  complete = λ p q h. complete_cases rules p q (slice_get rules p) (slice_get rules q) refl refl h;
+  low = λ p g e. (group_is rules p g e).low;
+  inside = λ p g q e h.
+      let i = group_is rules p g e in
+      let f = from_is i.rule.to 0 q rules (sym (ap (λ (l : List ℕ). has l q) i.group) ∙ h) in
+      let low = slice_get_within rules f.index f.taken f.is in
+      omega (arith, low, f.at);
+}
+
+-- a group that is noted
+record IsNoted (group : Option ℕ) (old new : Noted) : Type 0 where
+  pub count : length new.0 ≡ length old.0
+  pub kept : (g : ℕ) → get_or old.0 g false ≡ true → get_or new.0 g false ≡ true
+  pub fresh : (g : ℕ) → get_or new.0 g false ≡ true → (get_or old.0 g false ≡ true) ⊎ (has new.1 g ≡ true)
+  pub todo : (g : ℕ) → has old.1 g ≡ true → has new.1 g ≡ true
+  pub more : (g : ℕ) → has new.1 g ≡ true → (has old.1 g ≡ true) ⊎ (group ≡ Some g)
+  pub here : (g : ℕ) → group ≡ Some g → g < length old.0 → get_or new.0 g false ≡ true
+  pub work : open_count new.0 + length new.1 ≡ open_count old.0 + length old.1
+
+same_notes : (group : Option ℕ) (old : Noted) → ((g : ℕ) → group ≡ Some g → g < length old.0 → get_or old.0 g false ≡ true) → IsNoted group old old
+same_notes group old here = record {
+  count = refl;
+  kept = λ g e. e;
+  fresh = λ g e. inl e;
+  todo = λ g e. e;
+  more = λ g e. inl e;
+  here = here;
+  work = refl;
+}
+
+new_notes : (group : ℕ) (old : Noted) → group < length old.0 → get_or old.0 group false ≡ false → IsNoted (Some group) old (set old.0 group true, old.1 ++ group ∷ [])
+new_notes group old low off = record {
+  count = length-set old.0 group true;
+  kept = λ g e. set_keeps old.0 group g e;
+  fresh = λ g e. elim (set_sound old.0 group g e) as (λ o. (get_or old.0 g false ≡ true) ⊎ (has (old.1 ++ group ∷ []) g ≡ true)) [
+    | inl was ↦ inl was
+    | inr s ↦ inr (subst (λ (x : ℕ). has (old.1 ++ group ∷ []) x ≡ true) s (end_has old.1 group))
+  ];
+  todo = λ g e. end_has_old old.1 group g e;
+  more = λ g e. elim (has_end old.1 group g e) as (λ o. (has old.1 g ≡ true) ⊎ (Some group ≡ Some g)) [
+    | inl was ↦ inl was
+    | inr s ↦ inr (ap Some s)
+  ];
+  here = λ g e l. subst (λ (x : ℕ). get_or (set old.0 group true) x false ≡ true) (some_number group g e) (get_or-set_same old.0 group true false low);
+  work =
+      let s = sum_by-set (λ (m : Bool). cond m 0 1) old.0 group true false low in
+      let t = rw off at s in
+      omega (arith, t, length-append old.1 (group ∷ []));
+}
+
+noted_cases : (low seen : Bool) (group : ℕ) (old : Noted) → nat_lt group (length old.0) ≡ low → get_or old.0 group false ≡ seen → IsNoted (Some group) old (cond {A = Noted} (low && not seen) (set old.0 group true, old.1 ++ group ∷ []) old)
+noted_cases false seen group old l s = same_notes (Some group) old (λ g e low. absurd (false≢true (sym l ∙ lt-ltb group (length old.0) (subst (λ (x : ℕ). x < length old.0) (sym (some_number group g e)) low))))
+noted_cases true true group old l s = same_notes (Some group) old (λ g e low. subst (λ (x : ℕ). get_or old.0 x false ≡ true) (some_number group g e) s)
+noted_cases true false group old l s = new_notes group old (ltb-true group (length old.0) l) s
+
+noted_is : (group : Option ℕ) (old : Noted) → IsNoted group old (noted group old)
+noted_is None old = same_notes None old (λ g e low. absurd (none_some g e))
+  where
+    none_some : (g : ℕ) → ◌≡◌ {A = Option ℕ} None (Some g) → ⊥
+    none_some g h = absurd (cc)
+noted_is (Some group) old = noted_cases (nat_lt group (length old.0)) (get_or old.0 group false) group old refl refl
+
+-- a group whose rules are marked
+pub record IsSpread (next : List (Option ℕ)) (group : List ℕ) (old new : Front) : Type 0 where
+  pub count : length new.0 ≡ length old.0
+  pub seen_count : length new.1.0 ≡ length old.1.0
+  pub sound : (q : ℕ) → get_or new.0 q false ≡ true → (get_or old.0 q false ≡ true) ⊎ (has group q ≡ true)
+  pub kept : (q : ℕ) → get_or old.0 q false ≡ true → get_or new.0 q false ≡ true
+  pub all : (q : ℕ) → has group q ≡ true → q < length old.0 → get_or new.0 q false ≡ true
+  pub seen_kept : (g : ℕ) → get_or old.1.0 g false ≡ true → get_or new.1.0 g false ≡ true
+  pub seen_new : (g : ℕ) → get_or new.1.0 g false ≡ true → (get_or old.1.0 g false ≡ true) ⊎ (has new.1.1 g ≡ true)
+  pub todo_kept : (g : ℕ) → has old.1.1 g ≡ true → has new.1.1 g ≡ true
+  pub todo_new : (g : ℕ) → has new.1.1 g ≡ true → (has old.1.1 g ≡ true) ⊎ ((q : ℕ) × (has group q ≡ true) × (get_or next q None ≡ Some g))
+  pub goes : (q g : ℕ) → has group q ≡ true → get_or next q None ≡ Some g → g < length old.1.0 → get_or new.1.0 g false ≡ true
+  pub work : open_count new.1.0 + length new.1.1 ≡ open_count old.1.0 + length old.1.1
+
+spread_more : (next : List (Option ℕ)) (r : ℕ) (rest : List ℕ) (old new : Front) → IsNoted (get_or next r None) old.1 (noted (get_or next r None) old.1) → IsSpread next rest (set old.0 r true, noted (get_or next r None) old.1) new → IsSpread next (r ∷ rest) old new
+spread_more next r rest old new one more = record {
+  count = more.count ∙ length-set old.0 r true;
+  seen_count = more.seen_count ∙ one.count;
+  sound = λ q e. elim (more.sound q e) as (λ o. (get_or old.0 q false ≡ true) ⊎ (has (r ∷ rest) q ≡ true)) [
+    | inl m ↦ elim (set_sound old.0 r q m) as (λ o. (get_or old.0 q false ≡ true) ⊎ (has (r ∷ rest) q ≡ true)) [
+      | inl was ↦ inl was
+      | inr s ↦ inr (or_left (eqb r q) (has rest q) (eq-eqb r q s))
+    ]
+    | inr h ↦ inr (or_right (eqb r q) (has rest q) h)
+  ];
+  kept = λ q e. more.kept q (set_keeps old.0 r q e);
+  all = λ q h low. elim (or_cases (eqb r q) (has rest q) h) as (λ o. get_or new.0 q false ≡ true) [
+    | inl s ↦
+        let same = eqb-true r q s in
+        more.kept q (subst (λ (x : ℕ). get_or (set old.0 r true) x false ≡ true) same (get_or-set_same old.0 r true false (subst (λ (x : ℕ). x < length old.0) (sym same) low)))
+    | inr k ↦ more.all q k (subst (λ (n : ℕ). q < n) (sym (length-set old.0 r true)) low)
+  ];
+  seen_kept = λ g e. more.seen_kept g (one.kept g e);
+  seen_new = λ g e. elim (more.seen_new g e) as (λ o. (get_or old.1.0 g false ≡ true) ⊎ (has new.1.1 g ≡ true)) [
+    | inl m ↦ elim (one.fresh g m) as (λ o. (get_or old.1.0 g false ≡ true) ⊎ (has new.1.1 g ≡ true)) [
+      | inl was ↦ inl was
+      | inr t ↦ inr (more.todo_kept g t)
+    ]
+    | inr t ↦ inr t
+  ];
+  todo_kept = λ g e. more.todo_kept g (one.todo g e);
+  todo_new = λ g e. elim (more.todo_new g e) as (λ o. (has old.1.1 g ≡ true) ⊎ ((q : ℕ) × (has (r ∷ rest) q ≡ true) × (get_or next q None ≡ Some g))) [
+    | inl m ↦ elim (one.more g m) as (λ o. (has old.1.1 g ≡ true) ⊎ ((q : ℕ) × (has (r ∷ rest) q ≡ true) × (get_or next q None ≡ Some g))) [
+      | inl was ↦ inl was
+      | inr s ↦ inr (r, or_left (eqb r r) (has rest r) (eq-eqb r r refl), s)
+    ]
+    | inr w ↦ inr (w.0, or_right (eqb r w.0) (has rest w.0) w.1, w.2)
+  ];
+  goes = λ q g h e low. elim (or_cases (eqb r q) (has rest q) h) as (λ o. get_or new.1.0 g false ≡ true) [
+    | inl s ↦ more.seen_kept g (one.here g (ap (λ (x : ℕ). get_or next x None) (eqb-true r q s) ∙ e) low)
+    | inr k ↦ more.goes q g k e (subst (λ (n : ℕ). g < n) (sym one.count) low)
+  ];
+  work = more.work ∙ one.work;
+}
+
+pub spread_is : (next : List (Option ℕ)) (group : List ℕ) (old : Front) → IsSpread next group old (spread next group old)
+spread_is next [] old = record {
+  count = refl;
+  seen_count = refl;
+  sound = λ q e. inl e;
+  kept = λ q e. e;
+  all = λ q h low. absurd (false≢true h);
+  seen_kept = λ g e. e;
+  seen_new = λ g e. inl e;
+  todo_kept = λ g e. e;
+  todo_new = λ g e. inl e;
+  goes = λ q g h e low. absurd (false≢true h);
+  work = refl;
+}
+spread_is next (r ∷ rest) old = spread_more next r rest old (spread next (r ∷ rest) old) (noted_is (get_or next r None) old.1) (spread_is next rest (set old.0 r true, noted (get_or next r None) old.1))
+
+-- what holds while a rule's row is marked
+pub record IsMarking (rules : List PathRule) (rule : ℕ) (next : List (Option ℕ)) (groups : List (List ℕ)) (front : Front) : Type 0 where
+  pub count : length front.0 ≡ length rules
+  pub seen_count : length front.1.0 ≡ length rules
+  pub start : get_or front.0 rule false ≡ true
+  pub sound : (q : ℕ) → get_or front.0 q false ≡ true → Reaches rules rule q
+  pub come : (g : ℕ) → has front.1.1 g ≡ true → (p : ℕ) × Reaches rules rule p × (get_or next p None ≡ Some g)
+  pub seen : (g : ℕ) → get_or front.1.0 g false ≡ true → (has front.1.1 g ≡ true) ⊎ ((q : ℕ) → has (get_or groups g []) q ≡ true → q < length rules → get_or front.0 q false ≡ true)
+  pub goes : (q g : ℕ) → get_or front.0 q false ≡ true → get_or next q None ≡ Some g → get_or front.1.0 g false ≡ true
+
+-- the rule's own group of one
+unmarked : (n x : ℕ) → get_or (replicate n false) x false ≡ false
+unmarked zero x = refl
+unmarked (suc n) zero = refl
+unmarked (suc n) (suc x) = unmarked n x
+
+not_marked : (n x : ℕ) → get_or (replicate n false) x false ≡ true → ⊥
+not_marked n x e = false≢true (sym (unmarked n x) ∙ e)
+
+only_one : (rule q : ℕ) → has (rule ∷ []) q ≡ true → rule ≡ q
+only_one rule q h = elim (has_end [] rule q h) as (λ o. rule ≡ q) [
+  | inl e ↦ absurd (false≢true e)
+  | inr e ↦ e
+]
+
+first_marking : (rules : List PathRule) (rule : ℕ) (next : List (Option ℕ)) (groups : List (List ℕ)) (front : Front) → rule < length rules → IsIndex rules next groups → IsSpread next (rule ∷ []) (replicate (length rules) false, (replicate (length rules) false, [])) front → IsMarking rules rule next groups front
+first_marking rules rule next groups front low index s =
+    let n : length (replicate (length rules) false) ≡ length rules = length-replicate {A = Bool} (length rules) false in
+    record {
+      count = s.count ∙ n;
+      seen_count = s.seen_count ∙ n;
+      start = s.all rule (end_has [] rule) (omega (arith, low, n));
+      sound = λ q e. elim (s.sound q e) as (λ o. Reaches rules rule q) [
+        | inl was ↦ absurd (not_marked (length rules) q was)
+        | inr h ↦ subst (λ (x : ℕ). Reaches rules rule x) (only_one rule q h) (reach_self rules rule)
+      ];
+      come = λ g e. elim (s.todo_new g e) as (λ o. (p : ℕ) × Reaches rules rule p × (get_or next p None ≡ Some g)) [
+        | inl was ↦ absurd (false≢true was)
+        | inr w ↦ (rule, reach_self rules rule, ap (λ (x : ℕ). get_or next x None) (only_one rule w.0 w.1) ∙ w.2)
+      ];
+      seen = λ g e. elim (s.seen_new g e) as (λ o. (has front.1.1 g ≡ true) ⊎ ((q : ℕ) → has (get_or groups g []) q ≡ true → q < length rules → get_or front.0 q false ≡ true)) [
+        | inl was ↦ absurd (not_marked (length rules) g was)
+        | inr t ↦ inl t
+      ];
+      goes = λ q g e f. elim (s.sound q e) as (λ o. get_or front.1.0 g false ≡ true) [
+        | inl was ↦ absurd (not_marked (length rules) q was)
+        | inr h ↦ s.goes q g h f (let l = index.low q g f in omega (arith, l, n))
       ];
     }
 
--- every cut on the list is known
-pub record IsListed (known todo : List ℕ) : Type 0 where
-  pub all : (c : ℕ) → has todo c ≡ true → has known c ≡ true
-
-listed_noted : (cut : ℕ) (marks : List Bool) (known todo : List ℕ) (there : Bool) → IsListed known todo → IsListed (cond {A = Front} there (record { marks = marks; known = known; todo = todo }) (record { marks = marks; known = known ++ cut ∷ []; todo = todo ++ cut ∷ [] })).known (cond {A = Front} there (record { marks = marks; known = known; todo = todo }) (record { marks = marks; known = known ++ cut ∷ []; todo = todo ++ cut ∷ [] })).todo
-listed_noted cut marks known todo true h = h
-listed_noted cut marks known todo false h = record {
-  all = λ c k. elim (has_end todo cut c k) as (λ o. has (known ++ cut ∷ []) c ≡ true) [
-    | inl was ↦ end_has_old known cut c (h.all c was)
-    | inr s ↦ subst (λ (x : ℕ). has (known ++ cut ∷ []) x ≡ true) s (end_has known cut)
+next_marking : (rules : List PathRule) (rule : ℕ) (next : List (Option ℕ)) (groups : List (List ℕ)) (group : ℕ) (marks seen : List Bool) (todo less : List ℕ) (front : Front) → IsIndex rules next groups → todo ≡ less ++ group ∷ [] → IsMarking rules rule next groups (marks, (seen, todo)) → IsSpread next (get_or groups group []) (marks, (seen, less)) front → IsMarking rules rule next groups front
+next_marking rules rule next groups group marks seen todo less front index e h s = record {
+  count = s.count ∙ h.count;
+  seen_count = s.seen_count ∙ h.seen_count;
+  start = s.kept rule h.start;
+  sound = λ q m. elim (s.sound q m) as (λ o. Reaches rules rule q) [
+    | inl was ↦ h.sound q was
+    | inr k ↦ reach_both rules rule from.0 q from.1 (reach_next rules from.0 q (index.sound from.0 group q from.2 k))
+  ];
+  come = λ g t. elim (s.todo_new g t) as (λ o. (p : ℕ) × Reaches rules rule p × (get_or next p None ≡ Some g)) [
+    | inl was ↦ h.come g (subst (λ (l : List ℕ). has l g ≡ true) (sym e) (end_has_old less group g was))
+    | inr w ↦ (w.0, reach_both rules rule from.0 w.0 from.1 (reach_next rules from.0 w.0 (index.sound from.0 group w.0 from.2 w.1)), w.2)
+  ];
+  seen = λ g m. elim (s.seen_new g m) as (λ o. (has front.1.1 g ≡ true) ⊎ ((q : ℕ) → has (get_or groups g []) q ≡ true → q < length rules → get_or front.0 q false ≡ true)) [
+    | inl was ↦ old_seen g (h.seen g was)
+    | inr t ↦ inl t
+  ];
+  goes = λ q g m f. elim (s.sound q m) as (λ o. get_or front.1.0 g false ≡ true) [
+    | inl was ↦ s.seen_kept g (h.goes q g was f)
+    | inr k ↦ s.goes q g k f (let l = index.low q g f in omega (arith, l, h.seen_count))
   ];
 }
-
-listed_after : (to n : ℕ) (front : Front) (here : Bool) → IsListed front.known front.todo → IsListed (cond here (noted to (set front.marks n true) front.known front.todo) front).known (cond here (noted to (set front.marks n true) front.known front.todo) front).todo
-listed_after to n front true h = listed_noted to (set front.marks n true) front.known front.todo (has front.known to) h
-listed_after to n front false h = h
-
-pub listed_spread : (cut n : ℕ) (rest : List PathRule) (front : Front) → IsListed front.known front.todo → IsListed (spread cut n rest front).known (spread cut n rest front).todo
-listed_spread cut n [] front h = h
-listed_spread cut n (r ∷ rest) front h = listed_spread cut (suc n) rest (front_after cut n r front) (listed_after r.to n front (eqb r.from cut && not (get_or front.marks n false)) h)
-
-pub listed_less : (known todo less : List ℕ) (cut : ℕ) → todo ≡ less ++ cut ∷ [] → IsListed known todo → IsListed known less
-listed_less known todo less cut e h = record { all = λ c k. h.all c (subst (λ (l : List ℕ). has l c ≡ true) (sym e) (end_has_old less cut c k)) }
-
-pub listed_cut : (known todo less : List ℕ) (cut : ℕ) → todo ≡ less ++ cut ∷ [] → IsListed known todo → has known cut ≡ true
-listed_cut known todo less cut e h = h.all cut (subst (λ (l : List ℕ). has l cut ≡ true) (sym e) (end_has less cut))
-
--- less is left to be done
-work_noted : (cut n : ℕ) (marks : List Bool) (known todo : List ℕ) (there : Bool) → n < length marks → get_or marks n false ≡ false → open_count (cond {A = Front} there (record { marks = set marks n true; known = known; todo = todo }) (record { marks = set marks n true; known = known ++ cut ∷ []; todo = todo ++ cut ∷ [] })).marks + length (cond {A = Front} there (record { marks = set marks n true; known = known; todo = todo }) (record { marks = set marks n true; known = known ++ cut ∷ []; todo = todo ++ cut ∷ [] })).todo ≤ open_count marks + length todo
-work_noted cut n marks known todo true low e =
-    let s = sum_by-set (λ (m : Bool). cond m 0 1) marks n true false low in
-    let t = rw e at s in
-    omega (arith, t)
-work_noted cut n marks known todo false low e =
-    let s = sum_by-set (λ (m : Bool). cond m 0 1) marks n true false low in
-    let t = rw e at s in
-    omega (arith, t, length-append todo (cut ∷ []))
-
-work_after : (to n : ℕ) (front : Front) (here marked : Bool) → n < length front.marks → get_or front.marks n false ≡ marked → open_count (cond (here && not marked) (noted to (set front.marks n true) front.known front.todo) front).marks + length (cond (here && not marked) (noted to (set front.marks n true) front.known front.todo) front).todo ≤ open_count front.marks + length front.todo
-work_after to n front false marked low e = omega arith
-work_after to n front true true low e = omega arith
-work_after to n front true false low e = work_noted to n front.marks front.known front.todo (has front.known to) low e
-
-noted_count : (to n : ℕ) (front : Front) (here : Bool) → length (cond here (noted to (set front.marks n true) front.known front.todo) front).marks ≡ length front.marks
-noted_count to n front false = refl
-noted_count to n front true = there (has front.known to)
   where
-    there : (b : Bool) → length (cond {A = Front} b (record { marks = set front.marks n true; known = front.known; todo = front.todo }) (record { marks = set front.marks n true; known = front.known ++ to ∷ []; todo = front.todo ++ to ∷ [] })).marks ≡ length front.marks
-    there true = length-set front.marks n true
-    there false = length-set front.marks n true
+    from : (p : ℕ) × Reaches rules rule p × (get_or next p None ≡ Some group)
+    from = h.come group (subst (λ (l : List ℕ). has l group ≡ true) (sym e) (end_has less group))
 
-pub spread_count : (cut n : ℕ) (rest : List PathRule) (front : Front) → length (spread cut n rest front).marks ≡ length front.marks
-spread_count cut n [] front = refl
-spread_count cut n (r ∷ rest) front = spread_count cut (suc n) rest (front_after cut n r front) ∙ noted_count r.to n front (eqb r.from cut && not (get_or front.marks n false))
-
-pub less_work : (cut n : ℕ) (rest : List PathRule) (front : Front) → n + length rest ≡ length front.marks → open_count (spread cut n rest front).marks + length (spread cut n rest front).todo ≤ open_count front.marks + length front.todo
-less_work cut n [] front e = omega arith
-less_work cut n (r ∷ rest) front e =
-    let after = front_after cut n r front in
-    let count = noted_count r.to n front (eqb r.from cut && not (get_or front.marks n false)) in
-    let more = less_work cut (suc n) rest after (omega (arith, e, count)) in
-    let one = work_after r.to n front (eqb r.from cut) (get_or front.marks n false) (omega (arith, e)) refl in
-    omega (arith, more, one)
-
--- the rule itself is marked first
-pub closing_first : (rules : List PathRule) (rule : ℕ) (taken : PathRule) → slice_get rules rule ≡ Some taken → IsClosing rules rule (record { marks = set (replicate (length rules) false) rule true; known = taken.to ∷ []; todo = taken.to ∷ [] })
-closing_first rules rule taken is = record {
-  count = length-set (replicate (length rules) false) rule true ∙ length-replicate {A = Bool} (length rules) false;
-  start = get_or-set_same (replicate (length rules) false) rule true false low;
-  sound = λ q e. subst (λ (x : ℕ). Reaches rules rule x) (only q e) (reach_self rules rule);
-  noted_is = λ q a e at. subst (λ (x : PathRule). has (taken.to ∷ []) x.to ≡ true) (sym (same_rule rules rule a taken (ap (slice_get rules) (only q e) ∙ at) is)) (end_has [] taken.to);
-  come = λ c e. record { last = rule; taken = taken; is = is; at = one c e; reached = reach_self rules rule };
-  unfinished = λ c e. inl e;
-}
-  where
-    low : rule < length (replicate (length rules) false)
-    low = let l = slice_get_within rules rule taken is in omega (arith, l, length-replicate {A = Bool} (length rules) false)
-
-    one : (c : ℕ) → has (taken.to ∷ []) c ≡ true → taken.to ≡ c
-    one c e = elim (has_end [] taken.to c e) as (λ o. taken.to ≡ c) [
-      | inl f ↦ absurd (false≢true f)
-      | inr f ↦ f
-    ]
-
-    unmarked : (q : ℕ) → get_or (replicate (length rules) false) q false ≡ false
-    unmarked q = elim (cases_lt q (length rules)) as (λ o. get_or (replicate (length rules) false) q false ≡ false) [
-      | inl k ↦ get_or-replicate (length rules) q false false k
-      | inr k ↦ get_or_past (replicate (length rules) false) q false (omega (arith, k, length-replicate {A = Bool} (length rules) false))
-    ]
-
-    only : (q : ℕ) → get_or (set (replicate (length rules) false) rule true) q false ≡ true → rule ≡ q
-    only q e = elim (cases_eq q rule) as (λ o. rule ≡ q) [
-      | inl s ↦ sym s
-      | inr d ↦ absurd (both_ways (get_or (replicate (length rules) false) q false) (unmarked q) (sym (get_or-set_other (replicate (length rules) false) rule q true false d) ∙ e))
+    old_seen : (g : ℕ) → (has todo g ≡ true) ⊎ ((q : ℕ) → has (get_or groups g []) q ≡ true → q < length rules → get_or marks q false ≡ true) → (has front.1.1 g ≡ true) ⊎ ((q : ℕ) → has (get_or groups g []) q ≡ true → q < length rules → get_or front.0 q false ≡ true)
+    old_seen g o = elim o as (λ o. (has front.1.1 g ≡ true) ⊎ ((q : ℕ) → has (get_or groups g []) q ≡ true → q < length rules → get_or front.0 q false ≡ true)) [
+      | inl t ↦ elim (has_end less group g (subst (λ (l : List ℕ). has l g ≡ true) e t)) as (λ o. (has front.1.1 g ≡ true) ⊎ ((q : ℕ) → has (get_or groups g []) q ≡ true → q < length rules → get_or front.0 q false ≡ true)) [
+        | inl was ↦ inl (s.todo_kept g was)
+        | inr same ↦ inr (λ q k low. s.all q (subst (λ (x : ℕ). has (get_or groups x []) q ≡ true) (sym same) k) (omega (arith, low, h.count)))
+      ]
+      | inr all ↦ inr (λ q k low. s.kept q (all q k low))
     ]
 
 -- nothing is left to be done
-on_way : (rules : List PathRule) (rule p q : ℕ) (way : List ℕ) (front : Front) → front.todo ≡ [] → IsClosing rules rule front → get_or front.marks p false ≡ true → IsWay rules p way q → get_or front.marks q false ≡ true
-on_way rules rule p q [] front none h e way = subst (λ (x : ℕ). get_or front.marks x false ≡ true) way e
-on_way rules rule p q (x ∷ rest) front none h e way = on_way rules rule x q rest front none h (next_marked (slice_get rules p) (slice_get rules x) refl refl way.0) way.1
-  where
-    next_marked : (one other : Option PathRule) → slice_get rules p ≡ one → slice_get rules x ≡ other → meet_at one other ≡ true → get_or front.marks x false ≡ true
-    next_marked None other f g m = absurd (false≢true m)
-    next_marked (Some a) None f g m = absurd (false≢true m)
-    next_marked (Some a) (Some b) f g m =
-        let known = h.noted_is p a e f in
-        elim (h.unfinished a.to known) as (λ o. get_or front.marks x false ≡ true) [
-          | inl t ↦ absurd (false≢true (subst (λ (l : List ℕ). has l a.to ≡ true) none t))
-          | inr cover ↦ cover x b g (sym (eqb-true a.to b.from m))
-        ]
+on_way : (rules : List PathRule) (rule p q : ℕ) (way : List ℕ) (next : List (Option ℕ)) (groups : List (List ℕ)) (front : Front) → IsIndex rules next groups → front.1.1 ≡ [] → IsMarking rules rule next groups front → get_or front.0 p false ≡ true → IsWay rules p way q → get_or front.0 q false ≡ true
+on_way rules rule p q [] next groups front index none h e way = subst (λ (x : ℕ). get_or front.0 x false ≡ true) way e
+on_way rules rule p q (x ∷ rest) next groups front index none h e way =
+    let w = index.complete p x way.0 in
+    let low = index.inside p w.0 x w.1 w.2 in
+    on_way rules rule x q rest next groups front index none h (elim (h.seen w.0 (h.goes p w.0 e w.1)) as (λ o. get_or front.0 x false ≡ true) [
+      | inl t ↦ absurd (false≢true (subst (λ (l : List ℕ). has l w.0 ≡ true) none t))
+      | inr all ↦ all x w.2 low
+    ]) way.1
 
-pub closing_last : (rules : List PathRule) (rule : ℕ) (front : Front) → front.todo ≡ [] → IsClosing rules rule front → IsRow rules rule front.marks
-closing_last rules rule front none h = record {
-  count = h.count;
-  sound = h.sound;
-  complete = λ q low r. on_way rules rule rule q r.0 front none h h.start r.1;
-}
+-- as the code has it
+pub marking_first : (rules : List PathRule) (rule : ℕ) (next : List (Option ℕ)) (groups : List (List ℕ)) (group : List ℕ) (marks seen : List Bool) (todo : List ℕ) (front : Front) → rule < length rules → next ≡ next_of rules rules → groups ≡ groups_of rules 0 rules → group ≡ rule ∷ [] → marks ≡ replicate (length rules) false → seen ≡ replicate (length rules) false → todo ≡ [] → front ≡ spread next group (marks, (seen, todo)) → IsMarking rules rule next groups front
+marking_first rules rule next groups group marks seen todo front low n g is m s t e =
+    let index = subst (λ (l : List (Option ℕ)). IsIndex rules l groups) (sym n) (subst (λ (l : List (List ℕ)). IsIndex rules (next_of rules rules) l) (sym g) (index_is rules)) in
+    let none = replicate (length rules) false in
+    let begun : front ≡ spread next (rule ∷ []) (none, (none, [])) = e ∙ ap (λ (l : List ℕ). spread next l (marks, (seen, todo))) is ∙ ap (λ (l : List Bool). spread next (rule ∷ []) (l, (seen, todo))) m ∙ ap (λ (l : List Bool). spread next (rule ∷ []) (none, (l, todo))) s ∙ ap (λ (l : List ℕ). spread next (rule ∷ []) (none, (none, l))) t in
+    first_marking rules rule next groups front low index (subst (λ (f : Front). IsSpread next (rule ∷ []) (none, (none, [])) f) (sym begun) (spread_is next (rule ∷ []) (none, (none, []))))
 
--- what holds while a rule's row is marked
-pub record IsMarking (rules : List PathRule) (rule : ℕ) (marks : List Bool) (known todo : List ℕ) : Type 0 where
-  pub closing : IsClosing rules rule (record { marks = marks; known = known; todo = todo })
-  pub listed : IsListed known todo
+pub marking_more : (rules : List PathRule) (rule group : ℕ) (next : List (Option ℕ)) (groups : List (List ℕ)) (taken : List ℕ) (marks seen : List Bool) (todo less : List ℕ) (front : Front) → next ≡ next_of rules rules → groups ≡ groups_of rules 0 rules → taken ≡ get_or groups group [] → todo ≡ less ++ group ∷ [] → front ≡ spread next taken (marks, (seen, less)) → IsMarking rules rule next groups (marks, (seen, todo)) → IsMarking rules rule next groups front
+marking_more rules rule group next groups taken marks seen todo less front n g is t e h =
+    let index = subst (λ (l : List (Option ℕ)). IsIndex rules l groups) (sym n) (subst (λ (l : List (List ℕ)). IsIndex rules (next_of rules rules) l) (sym g) (index_is rules)) in
+    next_marking rules rule next groups group marks seen todo less front index t h (subst (λ (f : Front). IsSpread next (get_or groups group []) (marks, (seen, less)) f) (sym (e ∙ ap (λ (l : List ℕ). spread next l (marks, (seen, less))) is)) (spread_is next (get_or groups group []) (marks, (seen, less))))
 
-pub marking_first : (rules : List PathRule) (rule : ℕ) (taken : PathRule) (marks : List Bool) (known todo : List ℕ) → slice_get rules rule ≡ Some taken → marks ≡ set (replicate (length rules) false) rule true → known ≡ taken.to ∷ [] → todo ≡ taken.to ∷ [] → IsMarking rules rule marks known todo
-marking_first rules rule taken marks known todo is m k t = rw (m, k, t) (record { closing = closing_first rules rule taken is; listed = record { all = λ c e. e } })
+pub marking_less : (group : ℕ) (next : List (Option ℕ)) (taken : List ℕ) (marks seen : List Bool) (todo less : List ℕ) (front : Front) → todo ≡ less ++ group ∷ [] → front ≡ spread next taken (marks, (seen, less)) → open_count front.1.0 + length front.1.1 < open_count seen + length todo
+marking_less group next taken marks seen todo less front t e =
+    let s = spread_is next taken (marks, (seen, less)) in
+    let now : open_count front.1.0 + length front.1.1 ≡ open_count (spread next taken (marks, (seen, less))).1.0 + length (spread next taken (marks, (seen, less))).1.1 = ap (λ (f : Front). open_count f.1.0 + length f.1.1) e in
+    let long : length todo ≡ length less + 1 = ap length t ∙ length-append less (group ∷ []) in
+    omega (arith, s.work, now, long)
 
-front_parts : (rules : List PathRule) (rule : ℕ) (front : Front) (marks : List Bool) (known todo : List ℕ) → record { marks = marks; known = known; todo = todo } ≡ front → IsClosing rules rule front → IsListed front.known front.todo → IsMarking rules rule marks known todo
-front_parts rules rule front marks known todo e closing listed = record {
-  closing = subst (λ (f : Front). IsClosing rules rule f) (sym e) closing;
-  listed = subst (λ (f : Front). IsListed f.known f.todo) (sym e) listed;
-}
-
-pub marking_more : (rules : List PathRule) (rule cut : ℕ) (marks next : List Bool) (known known' todo less todo' : List ℕ) → IsMarking rules rule marks known todo → todo ≡ less ++ cut ∷ [] → record { marks = next; known = known'; todo = todo' } ≡ spread cut 0 rules (record { marks = marks; known = known; todo = less }) → IsMarking rules rule next known' todo'
-marking_more rules rule cut marks next known known' todo less todo' h e front =
-    let begun : Front = record { marks = marks; known = known; todo = less } in
-    front_parts rules rule (spread cut 0 rules begun) next known' todo' front (closing_more rules rule cut marks known todo less e (listed_cut known todo less cut e h.listed) h.closing) (listed_spread cut 0 rules begun (listed_less known todo less cut e h.listed))
-
-pub marking_less : (rules : List PathRule) (rule cut : ℕ) (marks next : List Bool) (known known' todo less todo' : List ℕ) → IsMarking rules rule marks known todo → todo ≡ less ++ cut ∷ [] → record { marks = next; known = known'; todo = todo' } ≡ spread cut 0 rules (record { marks = marks; known = known; todo = less }) → open_count next + length todo' < open_count marks + length todo
-marking_less rules rule cut marks next known known' todo less todo' h e front =
-    let begun : Front = record { marks = marks; known = known; todo = less } in
-    let work = less_work cut 0 rules begun (omega (arith, h.closing.count)) in
-    let now : open_count next + length todo' ≡ open_count (spread cut 0 rules begun).marks + length (spread cut 0 rules begun).todo = ap (λ (f : Front). open_count f.marks + length f.todo) front in
-    let long : length todo ≡ length less + 1 = ap length e ∙ length-append less (cut ∷ []) in
-    omega (arith, work, now, long)
-
-pub marking_last : (rules : List PathRule) (rule : ℕ) (marks row : List Bool) (known todo : List ℕ) → IsMarking rules rule marks known todo → todo ≡ [] → row ≡ marks → IsRow rules rule row
-marking_last rules rule marks row known todo h e r = subst (λ (m : List Bool). IsRow rules rule m) (sym r) (closing_last rules rule (record { marks = marks; known = known; todo = todo }) e h.closing)
+pub marking_last : (rules : List PathRule) (rule : ℕ) (next : List (Option ℕ)) (groups : List (List ℕ)) (marks seen row : List Bool) (todo : List ℕ) → next ≡ next_of rules rules → groups ≡ groups_of rules 0 rules → todo ≡ [] → row ≡ marks → IsMarking rules rule next groups (marks, (seen, todo)) → IsRow rules rule row
+marking_last rules rule next groups marks seen row todo n g t r h =
+    let index = subst (λ (l : List (Option ℕ)). IsIndex rules l groups) (sym n) (subst (λ (l : List (List ℕ)). IsIndex rules (next_of rules rules) l) (sym g) (index_is rules)) in
+    subst (λ (m : List Bool). IsRow rules rule m) (sym r) (record {
+      count = h.count;
+      sound = h.sound;
+      complete = λ q low w. on_way rules rule rule q w.0 next groups (marks, (seen, todo)) index t h h.start w.1;
+    })

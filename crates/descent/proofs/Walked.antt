@@ -1,32 +1,29 @@
 -- The walk over the steps of a closed proof.
-use Rattle.std.proofs.Common.{◌≡◌, ℕ, zero, suc, ◌+◌, ◌<◌, ◌≤◌, Bool, true, false, cond, eqb, List, [], ◌∷◌, length, ℤ, pos, negsuc, ◌+ℤ◌, ◌≤ℤ◌, Option, Some, None, subst, ap, arith, refl, ◌∙◌, sym, ◌⊎◌, inl, inr}
-use Rattle.std.specs.Prelude.{◌||◌, ◌&&◌, not, nat_lt, slice_get, slice_set, replicate, filter}
+use Rattle.std.proofs.Common.{◌≡◌, ℕ, zero, suc, ◌+◌, ◌<◌, ◌≤◌, Bool, true, false, cond, eqb, List, [], ◌∷◌, length, ℤ, pos, negsuc, ◌+ℤ◌, ◌≤ℤ◌, Option, Some, None, subst, ap, arith, refl, ◌∙◌, sym, inl, inr}
+use Rattle.std.specs.Prelude.{◌&&◌, not, nat_lt, slice_get, slice_set}
 use Rattle.std.specs.List.{All}
-use Rattle.std.proofs.lemmas.Bool.{both_ways, false≢true, true≢false, eqb-true, eq-eqb, or_left, or_right, cases_eq, and_parts, ltb-true, not_from_false}
+use Rattle.std.proofs.lemmas.Bool.{false≢true, eqb-true, eq-eqb, or_left, or_right, cases_eq, ltb-true}
 use Rattle.std.proofs.lemmas.Int.{ints}
 use Rattle.std.proofs.lemmas.List.{length-replicate}
-use Rattle.std.proofs.lemmas.Option.{none-some, slice_get_within, slice_get-get_or}
+use Rattle.std.proofs.lemmas.Option.{slice_get_within}
 use mathlib.Core.WellFounded.{Acc}
-use Rattle.lin_core.specs.Rows.{value_of_target}
 use Rattle.lin_core.specs.Weights.{unweighed, AreWeights}
 use Rattle.descent.specs.declared.faults.DescentFault.{DescentFault}
-use Rattle.descent.specs.declared.faults.DescentFault.TheVariants.{NotCovered, NotStrict, BadStep}
+use Rattle.descent.specs.declared.faults.DescentFault.TheVariants.{NotCovered, NotStrict}
 use Rattle.descent.specs.declared.faults.StepFault.{StepFault}
-use Rattle.descent.specs.declared.faults.StepFault.TheVariants.{At}
-use Rattle.descent.specs.declared.proof.Proof.{Proof}
 use Rattle.descent.specs.declared.proof.ProofStep.{ProofStep}
 use Rattle.descent.specs.declared.proof.ProofStep.TheVariants.{Empty, Split, Rank, Dead}
 use Rattle.descent.specs.declared.proof.RankStep.{RankStep}
 use Rattle.descent.specs.declared.rules.PathRule.{PathRule}
 use Rattle.descent.specs.Chains.{Turn, IsTurn, Follows, ChainsEnd, NoInfiniteChain}
-use Rattle.descent.specs.Conditions.{AreRules, AreSteps, IsRule, IsStep, IsRanked}
+use Rattle.descent.specs.Conditions.{AreRules, AreSteps, IsStep, IsRanked}
 use Rattle.descent.specs.Laws.{ranking_laws, start_value, end_value, no_weights}
-use Rattle.descent.specs.Rankings.{Ranking, weak_fault, strict_fault, bounded_fault, takes_start, takes_end, minus_one, dead_fault}
+use Rattle.descent.specs.Rankings.{weak_fault, strict_fault, bounded_fault, takes_start, takes_end, minus_one, dead_fault}
 use Rattle.descent.specs.Shown.{need_holds}
 use Rattle.descent.specs.Splits.{has}
-use Rattle.descent.specs.Steps.{numbers_from, ranking_of, ranking_fault, weak_ones, without, dead_at, empty_fault, step_fault, leaves, Given, is_free, give, set_of, go_on, try_step, first_fault_from, given_first, proof_fault, Closed}
-use Rattle.descent.specs.Valuations.{Valuation, Meets, numbers_under}
-use Rattle.descent.proofs.Moving.{Moves, EndsAt, Ends, outside, fewer, or_rest, has_filter}
+use Rattle.descent.specs.Steps.{numbers_from, ranking_of, ranking_fault, weak_ones, without, dead_at, empty_fault, step_fault, leaves, Given, is_free, give, set_of, go_on, try_step, first_fault_from, given_first, proof_fault}
+use Rattle.descent.specs.Valuations.{Meets}
+use Rattle.descent.proofs.Moving.{EndsAt, Ends, outside, fewer, has_filter}
 use Rattle.descent.proofs.Parted.{AllEnd, parted_end}
 use Rattle.descent.proofs.Ranked.{IsRanking, ranked_at, ranked_end, rule_fits}
 

@@ -4,7 +4,7 @@ use Rattle.std.specs.List.{All}
 use Rattle.descent.specs.declared.faults.StepFault.{StepFault}
 use Rattle.descent.specs.declared.faults.StepFault.TheVariants.{At, Memory}
 use Rattle.descent.specs.declared.rules.PathRule.{PathRule}
-use Rattle.descent.specs.Steps.{Given, give, part_left}
+use Rattle.descent.specs.Steps.{Given, give}
 
 -- one set more is given or not, whatever comes after it
 abbrev pub Gives : ℕ → Option (ℕ × List ℕ) → Bool → Given → Given → Type 0

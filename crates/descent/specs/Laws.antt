@@ -1,10 +1,9 @@
 -- The orders of this crate keep the laws of orders.
-use Rattle.std.proofs.Common.{◌≡◌, ℕ, suc, [], ◌∷◌, eqb, length, Bool, true, false, cond, List, ℤ, pos, negsuc, ◌+ℤ◌, ◌-ℤ◌, ◌*ℤ◌, ◌≤ℤ◌, Option, Some, None, subst, ap, arith, refl, ◌∙◌, sym}
-use Rattle.std.specs.Prelude.{◌&&◌, get_or}
+use Rattle.std.proofs.Common.{◌≡◌, ℕ, suc, [], ◌∷◌, eqb, Bool, true, false, cond, List, ℤ, pos, negsuc, ◌+ℤ◌, ◌-ℤ◌, ◌*ℤ◌, ◌≤ℤ◌, Option, Some, None, subst, ap, arith, refl, ◌∙◌, sym}
+use Rattle.std.specs.Prelude.{◌&&◌}
 use Rattle.std.proofs.lemmas.Int.{ints}
 use Rattle.lin_core.specs.Rows.{value_of_terms, value_of_target}
 use Rattle.lin_core.specs.Weights.{weight_in, AreWeights}
-use Rattle.lin_core.proofs.Signs.{mul-zero_ℤ}
 use Rattle.descent.specs.declared.faults.DescentFault.{DescentFault}
 use Rattle.descent.specs.declared.faults.DescentFault.TheVariants.{NotWeak, NotStrict, NotBounded}
 use Rattle.descent.specs.declared.proof.CutForm.{CutForm}

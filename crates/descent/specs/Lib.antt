@@ -4,6 +4,7 @@ pub mod Conditions
 pub mod Handing
 pub mod Inserting
 pub mod Lines
+pub mod Marking
 pub mod Orders
 pub mod Placed
 pub mod Rankings

@@ -1,16 +1,15 @@
 -- What a test for a target means.
-use Rattle.std.proofs.Common.{◌≡◌, ◌↔◌, ℕ, zero, suc, ◌+◌, ◌≤◌, ◌<◌, ◌^◌, Bool, true, false, cond, eqb, List, [], ◌∷◌, ◌++◌, length, get_or, ℤ, pos, negsuc, ◌+ℤ◌, ◌-ℤ◌, ◌*ℤ◌, ◌≤ℤ◌, Option, Some, None, subst, ap, arith, refl, ◌∙◌, sym}
-use Rattle.std.specs.Prelude.{slice_get, is_some, ◌&&◌, int_le, nat_lt}
+use Rattle.std.proofs.Common.{◌≡◌, ℕ, zero, suc, ◌≤◌, ◌<◌, Bool, true, false, cond, eqb, List, [], ◌∷◌, ◌++◌, ℤ, pos, ◌+ℤ◌, ◌*ℤ◌, ◌≤ℤ◌, Option, Some, None, subst, arith, refl, ◌∙◌, sym}
+use Rattle.std.specs.Prelude.{slice_get, ◌&&◌, int_le, nat_lt}
 use Rattle.lin_core.specs.declared.faults.LinFault.{LinFault}
 use Rattle.std.proofs.lemmas.Int.{ints}
 use Rattle.std.proofs.lemmas.Bool.{eqb-true}
 use Rattle.std.proofs.lemmas.Bool.Decides.{nat_tests}
 use Rattle.std.proofs.lemmas.Option.{get_or_from_slice_get, slice_get_within}
 use Rattle.lin_core.specs.declared.rows.Target.{Target}
-use Rattle.lin_core.specs.Combination.{number_of, sum_of, summed_coefficient, summed_constant, first_fault, IsSumOf, Shown, AllAllowed}
-use Rattle.lin_core.specs.Rows.{Row, coefficient_of, RiseFrom, Rise, AllRise, AllHold, value_of_terms, value_of_target}
-use Rattle.lin_core.specs.Sums.{Sum, variables, coefficient_in, Leaves}
-use Rattle.lin_core.specs.Weights.{weight_in, rows_under, AreRows}
+use Rattle.lin_core.specs.Combination.{number_of, summed_coefficient, summed_constant, first_fault}
+use Rattle.lin_core.specs.Rows.{Row, coefficient_of, RiseFrom, Rise, AllRise, value_of_target}
+use Rattle.lin_core.specs.Weights.{rows_under}
 use Rattle.lin_core.proofs.Admitted.{all_allowed}
 use Rattle.lin_core.proofs.Matching.{shown_target_holds}
 use Rattle.lin_core.proofs.Signs.{mul-zero_ℤ}

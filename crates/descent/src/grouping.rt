@@ -1,65 +1,12 @@
 //! The classes of rules that reach each other.
 ghost use Rattle.std.specs.Prelude.{◌≡◌, ◌<◌, ◌≤◌, true, false, [], length, IfOk, OnOk};
 ghost use Rattle.descent.specs.Components.{AreClasses};
-ghost use Rattle.descent.specs.Inserting.{tells, head_of, first_at, joins, put_at, insert_into, insert_all, IsRow, IsTable};
-ghost use Rattle.descent.specs.Spreading.{Front, spread};
+ghost use Rattle.descent.specs.Inserting.{tells, head_of, first_at, joins, put_at, insert_into, insert_all};
 
+use crate::reaching::table;
 use crate::rules::PathRule;
-use crate::sets::has;
 use list_views::Seq;
 use std::alloc::{AllocError, Global};
-
-/// Marks the rules that start at a cut, and notes the cuts at which they end.
-fn go_on_from(
-    rules: &[PathRule],
-    cut: u32,
-    marks: &mut Vec<bool>,
-    known: &mut Seq<u32>,
-    todo: &mut Seq<u32>,
-) -> Result<(), AllocError>
-    requires { length marks.old.items ≡ length rules.now }
-    ensures { OnOk result (record { marks = marks.new.items; known = known.new; todo = todo.new } ≡ spread cut 0 rules.now (record { marks = marks.old.items; known = known.old; todo = todo.old })) }
-{
-    for (n, rule) in rules.iter().enumerate() {
-        if rule.from == cut && !marks[n] {
-            marks[n] = true;
-            if !has(known.as_slice(), rule.to) {
-                known.push(rule.to)?;
-                todo.push(rule.to)?;
-            }
-        }
-    }
-    Ok(())
-}
-
-/// A mark for each rule that a rule reaches.
-fn row(alloc: Global, rules: &[PathRule], rule: usize) -> Result<Seq<bool>, AllocError>
-    requires { rule < length rules.now }
-    ensures { IfOk result (λ row. IsRow rules.now rule row) }
-{
-    let mut marks = vec![in alloc; false; rules.len()]?;
-    marks[rule] = true;
-    let end = rules[rule].to;
-    let mut known = Seq::new(alloc);
-    let mut todo = Seq::new(alloc);
-    known.push(end)?;
-    todo.push(end)?;
-    while let Some(cut) = todo.pop() {
-        go_on_from(rules, cut, &mut marks, &mut known, &mut todo)?;
-    }
-    Ok(Seq::from_vec(marks))
-}
-
-/// For each rule a mark for each rule that it reaches.
-fn table(alloc: Global, rules: &[PathRule]) -> Result<Seq<Seq<bool>>, AllocError>
-    ensures { IfOk result (λ table. IsTable rules.now table) }
-{
-    let mut table = Seq::new(alloc);
-    for rule in 0..rules.len() {
-        table.push(row(alloc, rules, rule)?)?;
-    }
-    Ok(table)
-}
 
 /// Whether one rule reaches another.
 fn tells(table: &[Seq<bool>], rule: u32, other: u32) -> bool
@@ -164,7 +111,7 @@ fn put_all(alloc: Global, table: &[Seq<bool>]) -> Result<Seq<Seq<u32>>, AllocErr
 }
 
 /// The classes of rules that reach each other, in an order in which no rule is followed by one of an earlier class; in a class
-/// the rules rise. It costs, for each rule, as many steps as there are rules for each cut that it reaches.
+/// the rules rise. It costs as many steps as there are pairs of rules.
 ///
 /// # Errors
 ///

@@ -5,6 +5,7 @@ ghost use Rattle.descent.specs.Placed.{lesser, placed_of, lower_among, back_amon
 ghost use Rattle.descent.specs.Splits.{is_misplaced, least, uncovered, is_below, is_lone, loops_at, edge_fault, loop_fault, split_fault};
 
 use crate::faults::DescentFault;
+use crate::passing::passes;
 use crate::rules::PathRule;
 use crate::sets::{has, is_followed, place_in, placed, stands_in};
 use list_views::Seq;
@@ -172,8 +173,8 @@ fn order_fault(
     }
 }
 
-/// The first fault of a split of the set into parts with these steps. It costs as many steps as the set and the parts have
-/// pairs of rules.
+/// The first fault of a split of the set into parts with these steps. Where one walk over the parts shows that the split
+/// holds, it costs no more than that walk; else it costs as many steps as the set and the parts have pairs of rules.
 ///
 /// # Errors
 ///
@@ -187,6 +188,9 @@ pub(crate) fn split_fault(
 ) -> Result<Option<DescentFault>, AllocError>
     ensures { IfOk result (λ fault. fault ≡ split_fault rules.now set.now parts.now steps.now) }
 {
+    if passes(alloc, rules, set, parts, steps)? {
+        return Ok(None);
+    }
     if let Some(rule) = uncovered(set, parts) {
         return Ok(Some(DescentFault::NotCovered { rule }));
     }

@@ -119,8 +119,15 @@ fn rank_fault<O: Order>(
     }
 }
 
-/// That a rank step holds for its set, else its first fault.
-fn ranking_fault(
+/// That a rank step holds for a set of rules, which is a rising list of their numbers; else its first fault. The scratch is for at
+/// least the variables of each rule. It costs as many steps as the set, the multipliers and the slots of the rules have
+/// entries.
+///
+/// # Errors
+///
+/// [`DescentFault::NotCovered`] with the least rule that is in the set and not listed or the other way round; else, for the
+/// least rule that isn't as it is listed, the fault that [`Order`]'s calls give. What is left in the scratch says nothing.
+pub fn check_rank_step(
     rules: &[PathRule],
     set: &[u32],
     step: &RankStep,
@@ -204,7 +211,9 @@ pub(crate) fn step_fault(
         ProofStep::Split { parts, steps } => {
             split_fault(alloc, rules, set, parts.as_slice(), steps.as_slice())
         }
-        ProofStep::Rank { step, rest: _ } => Ok(fault_of(ranking_fault(rules, set, step, scratch))),
+        ProofStep::Rank { step, rest: _ } => Ok(fault_of(check_rank_step(
+            rules, set, step, scratch,
+        ))),
         ProofStep::Dead {
             rule,
             multipliers,

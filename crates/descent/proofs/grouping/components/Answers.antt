@@ -1,6 +1,4 @@
-use Rattle.std.proofs.Common.{◌∙◌, ap, sym, subst, [], length}
 use Rattle.descent.specs.Components.{AreClasses}
-use Rattle.descent.specs.Inserting.{insert_all}
 use Rattle.descent.proofs.Classes.{if_ok_then, table_classes}
 use Rattle.descent.proofs.grouping.components.Goals as goal
 

@@ -1,6 +1,5 @@
-use Rattle.std.proofs.Common.{◌≡◌, ◌^◌, ap, arith, sym, subst, List, ℕ, ℤ}
+use Rattle.std.proofs.Common.{◌^◌, ap}
 use Rattle.descent.specs.Rankings.{Ranking}
-use Rattle.descent.specs.Conditions.{AreMultiples}
 use Rattle.descent.proofs.Adding.{ints_fit, sizes_fit, two_lines}
 use Rattle.descent.proofs.needs.Ranks.add_line.Goals as goal
 

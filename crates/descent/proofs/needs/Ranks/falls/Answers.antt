@@ -1,6 +1,6 @@
-use Rattle.std.proofs.Common.{◌≡◌, ◌∙◌, ap, sym, true, false}
+use Rattle.std.proofs.Common.{◌∙◌, ap, sym}
 use Rattle.descent.specs.Laws.{under_fall}
-use Rattle.descent.specs.Rankings.{Ranking, weigh_of, fall_of, takes_start, takes_end}
+use Rattle.descent.specs.Rankings.{Ranking, weigh_of, fall_of}
 use Rattle.descent.proofs.Adding.{need_told, shown_done, missing_done}
 use Rattle.descent.proofs.needs.Ranks.falls.Goals as goal
 

@@ -1,4 +1,4 @@
-use Rattle.std.proofs.Common.{◌≡◌, ◌∙◌, ◌^◌, FitsSigned, to_z, of_z, to_z-of_z, rules, ap, arith, sym, subst, List, ℕ, ℤ}
+use Rattle.std.proofs.Common.{◌≡◌, ◌∙◌, ◌^◌, FitsSigned, to_z, of_z, to_z-of_z, rules}
 use Rattle.std.specs.Int.{w64, w128}
 use Rattle.descent.specs.Rankings.{base_of, form_at}
 use Rattle.descent.proofs.Adding.{slots_wider, start_left}

@@ -1,4 +1,4 @@
-use Rattle.std.proofs.Common.{◌≡◌, ◌∙◌, ap, sym, true, false}
+use Rattle.std.proofs.Common.{◌∙◌, ap, sym}
 use Rattle.descent.specs.Laws.{under_start}
 use Rattle.descent.specs.Rankings.{Ranking, weigh_of, start_of}
 use Rattle.descent.proofs.Adding.{need_told, shown_done, missing_done}

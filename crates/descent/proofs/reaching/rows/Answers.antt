@@ -1,6 +1,6 @@
 use Rattle.std.proofs.Common.{arith}
 use Rattle.descent.proofs.Classes.{tabled_first, tabled_more, tabled_last}
-use Rattle.descent.proofs.grouping.table.Goals as goal
+use Rattle.descent.proofs.reaching.rows.Goals as goal
 
 pub loop-rule-init : goal.loop-rule-init
 loop-rule-init c = tabled_first c.args.rules.now _ c.new-table.ensures
