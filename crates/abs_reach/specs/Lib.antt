@@ -1,3 +1,4 @@
+pub mod Instances
 pub mod Laws
 pub mod Reached
 pub mod Ways

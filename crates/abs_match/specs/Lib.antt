@@ -1,0 +1,2 @@
+pub mod Laws
+pub use Rattle.abs_reach.specs.Instances

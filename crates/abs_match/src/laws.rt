@@ -1,0 +1,7 @@
+//! Laws about matches, for the proofs of other crates. They run nothing.
+ghost use Rattle.abs_match.specs.Laws.{MatchesCarryFitting};
+
+/// Whatever fits a well-formed state fits each state of which it is an instance, each id there having its image's value.
+pub fn matches_carry_fitting()
+    ensures { MatchesCarryFitting }
+{}
