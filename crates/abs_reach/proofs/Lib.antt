@@ -1,3 +1,9 @@
+pub mod Answering
+pub mod Beginning
+pub mod Finding
 pub mod Restricting
+pub mod Room
+pub mod Searching
 pub mod Sound
+pub mod Walked
 pub mod Walks

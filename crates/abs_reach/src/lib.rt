@@ -1,12 +1,21 @@
 //! What ids can reach: the closures over known cells, and what they tell of the regions of a heap.
 //!
-//! The tests themselves are relations over abstract states (`abs_cells`). The laws here say that they are sound for every
-//! state of the machine that an abstract state describes.
+//! The tests are relations over abstract states (`abs_cells`), and each call here answers one exactly. The laws say that
+//! they are sound for every state of the machine that an abstract state describes.
 #![tactic(auto)]
 
+mod find;
 mod laws;
+mod marks;
+mod meeting;
+mod shapes;
+mod walk;
 
+pub use find::{cell_of, has_cell};
 pub use laws::{
     closures_are_ways, finite_ids_have_no_cycles, known_ids_inside_may_be_in,
     meeting_regions_may_meet, restricted_states_fit, tree_ids_have_trees,
 };
+pub use marks::{Marks, known_from, known_from_all};
+pub use meeting::{may_be_in, may_meet};
+pub use shapes::{is_finite, is_tree};

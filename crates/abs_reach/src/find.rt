@@ -1,0 +1,95 @@
+//! The cell of an id, and where a step from it leads.
+ghost use Rattle.std.specs.Prelude.{◌≡◌, ℕ, ◌+◌, ◌^◌, ◌<◌, length, true, IsTrue, ◌↔◌, None, Some, IfSome, MatchOption, slice_get, slice_index_or};
+ghost use Rattle.abs_cells.specs.Cells.{cell_in, ids_of, is_of_sort, HasCell};
+ghost use Rattle.abs_cells.specs.Sound.{AreIdsRising, IsWellFormed};
+ghost use Rattle.abs_reach.specs.Steps.{steps_in};
+
+use abs_cells::{AbsState, Cell, Id, Pairs};
+
+/// The place of an id among cells that rise.
+fn place_of(cells: &[(Id, Cell)], id: Id) -> Option<usize>
+    requires { AreIdsRising 0 cells.now }
+    ensures { MatchOption result (cell_in cells.now id ≡ None) (λ k. (k < length cells.now) × ((d : ℕ × Cell) → cell_in cells.now id ≡ Some (slice_index_or cells.now k d).1)) }
+{
+    let mut low = 0;
+    let mut high = cells.len();
+    while low < high {
+        let middle = low + (high - low) / 2;
+        let found = cells[middle].0;
+        if found == id {
+            return Some(middle);
+        }
+        if found < id {
+            low = middle + 1;
+        } else {
+            high = middle;
+        }
+    }
+    None
+}
+
+/// The cell of an id among cells that rise, if it has one. It takes as many steps as the count of cells has digits.
+pub fn cell_of(cells: &[(Id, Cell)], id: Id) -> Option<&Cell>
+    requires { AreIdsRising 0 cells.now }
+    ensures { MatchOption result (cell_in cells.now id ≡ None) (λ cell. cell_in cells.now id ≡ Some cell.now) }
+{
+    match place_of(cells, id) {
+        Some(place) => Some(&cells[place].1),
+        None => None,
+    }
+}
+
+/// Whether an id has one of some cells.
+fn is_there(cells: &[(Id, Cell)], id: Id) -> bool
+    requires { AreIdsRising 0 cells.now }
+    ensures { result ≡ is_of_sort (λ _. true) (cell_in cells.now id) }
+{
+    match cell_of(cells, id) {
+        Some(_cell) => true,
+        None => false,
+    }
+}
+
+/// Whether an id has a cell.
+pub fn has_cell<P: Pairs>(state: &AbsState<P>, id: Id) -> bool
+    requires { IsWellFormed state.now }
+    ensures { IsTrue result ↔ HasCell (λ _. true) state.now id }
+{
+    is_there(state.cells(), id)
+}
+
+/// The id at a place of a list.
+fn item_at(ids: &[Id], place: usize) -> Option<Id>
+    ensures item { result ≡ slice_get ids.now place }
+    ensures next { IfSome result (λ _. place + 1 < 2 ^ 64) }
+{
+    if place < ids.len() {
+        Some(ids[place])
+    } else {
+        None
+    }
+}
+
+/// The id at a place of those that a known cell names.
+fn named(cell: &Cell, place: usize) -> Option<Id>
+    ensures item { result ≡ slice_get (ids_of cell.now) place }
+    ensures next { IfSome result (λ _. place + 1 < 2 ^ 64) }
+{
+    match cell {
+        Cell::Obj(_, ids) => item_at(ids.as_slice(), place),
+        Cell::Nums(_, len) => item_at(&[*len], place),
+        Cell::Int(_) | Cell::Null | Cell::Refs(_, _, _) | Cell::Unk(_, _, _) => None,
+    }
+}
+
+/// The id to which a step leads from an id, if it leads anywhere.
+pub(crate) fn step(cells: &[(Id, Cell)], id: Id, place: usize) -> Option<Id>
+    requires { AreIdsRising 0 cells.now }
+    ensures leads { result ≡ steps_in cells.now id place }
+    ensures next { IfSome result (λ _. place + 1 < 2 ^ 64) }
+{
+    match cell_of(cells, id) {
+        Some(cell) => named(cell, place),
+        None => None,
+    }
+}
