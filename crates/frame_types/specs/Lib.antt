@@ -1,0 +1,5 @@
+pub mod Places
+pub mod Tables
+pub mod Joins
+pub mod Growth
+pub mod GrowthLaws
