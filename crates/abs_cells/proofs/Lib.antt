@@ -2,6 +2,7 @@ pub mod AmongLaws
 pub mod BitLaws
 pub mod Checking
 pub mod Fitting
+pub mod KeepLaws
 pub mod PackedCalls
 pub mod PackedLaws
 pub mod PackedLooks

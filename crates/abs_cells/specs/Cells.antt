@@ -1,5 +1,5 @@
 -- What cells are, their types, and which of them may describe one object.
-use Rattle.std.specs.Prelude.{◌≡◌, ℕ, ◌<◌, ◌==◌, Bool, true, false, not, ◌&&◌, ◌||◌, if◌then◌else◌, List, [], ◌∷◌, Option, Some, None}
+use Rattle.std.specs.Prelude.{◌≡◌, ◌⊎◌, ℕ, ◌<◌, ◌==◌, Bool, true, false, not, ◌&&◌, ◌||◌, if◌then◌else◌, List, [], ◌∷◌, Option, Some, None}
 use Rattle.jvm_values.specs.declared.types.Ty.{Ty}
 use Rattle.jvm_values.specs.declared.shape.Shape.{Shape}
 use Rattle.jvm_values.specs.declared.shape.Shape.TheVariants.{Tree, Dag, Any}
@@ -140,7 +140,8 @@ AreEqual state a b = has a b state.eq ≡ true
 abbrev pub Share : AbstractState → ℕ → ℕ → Type 0
 Share state a b = has a b state.share ≡ true
 
--- the least number that no id has
-pub record IsFresh (state : AbstractState) (n : ℕ) : Type 0 where
-  pub free : cell_at state n ≡ None
-  pub least : (m : ℕ) → m < n → HasCell (λ _. true) state m
+-- the least number that neither of two states has as an id: a parent and its child. Of one state alone both are the same
+pub record IsFresh (parent child : AbstractState) (n : ℕ) : Type 0 where
+  pub free_before : cell_at parent n ≡ None
+  pub free : cell_at child n ≡ None
+  pub least : (m : ℕ) → m < n → HasCell (λ _. true) parent m ⊎ HasCell (λ _. true) child m

@@ -1,5 +1,5 @@
 -- Sets of ids, as tests, and the pairs that two of them touch.
-use Rattle.std.specs.Prelude.{ℕ, ◌==◌, ◌/◌, ◌%◌, Bool, ◌&&◌, ◌||◌, List, slice_index}
+use Rattle.std.specs.Prelude.{ℕ, ◌==◌, filter, ◌/◌, ◌%◌, Bool, ◌&&◌, ◌||◌, List, slice_index}
 use Rattle.std.specs.List.{list_any}
 use Rattle.std.specs.Int.{bit_at}
 
@@ -18,3 +18,7 @@ joins x y p = (has_id x p.0 && has_id y p.1) || (has_id x p.1 && has_id y p.0)
 -- some pair does that
 abbrev pub are_touched : List ℕ → List ℕ → List (ℕ × ℕ) → Bool
 are_touched x y pairs = list_any (joins x y) pairs
+
+-- the pairs whose ids are both in a set
+abbrev pub kept : List ℕ → List (ℕ × ℕ) → List (ℕ × ℕ)
+kept set pairs = filter (λ p. has_id set p.0 && has_id set p.1) pairs

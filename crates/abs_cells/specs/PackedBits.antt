@@ -2,6 +2,7 @@
 use Rattle.std.specs.Prelude.{◌≡◌, ℕ, zero, suc, ◌+◌, ◌-◌, ◌*◌, ◌/◌, ◌<◌, ◌≤◌, min, max, Bool, true, false, if◌then◌else◌, List, [], ◌∷◌, ◌++◌, length, Option, Some, None, slice_get}
 use Rattle.std.specs.Option.{option_and_then}
 use Rattle.std.specs.Int.{bit_at}
+use Rattle.abs_cells.specs.PairLists.{has_pair}
 use Rattle.abs_cells.specs.IdSets.{has_bit, has_id}
 
 -- the pairs of `a` with those of the `count` numbers from `b` on that pass a test
@@ -97,3 +98,13 @@ pub record AreBothSet (a b : ℕ) : Type 0 where
   pub low : bit < 64
   pub left : bit_at a bit ≡ 1
   pub right : bit_at b bit ≡ 1
+
+-- the pairs of `a` with numbers below `b` went, and no others
+pub record IsCleared (old now : List (ℕ × ℕ)) (a b : ℕ) : Type 0 where
+  pub gone : (p : ℕ × ℕ) → p.0 < p.1 → has_pair p now ≡ true → (has_pair p old ≡ true) × ((p.0 ≡ a → b ≤ p.1) × (p.1 ≡ a → b ≤ p.0))
+  pub kept : (p : ℕ × ℕ) → p.0 < p.1 → has_pair p old ≡ true → (p.0 ≡ a → b ≤ p.1) → (p.1 ≡ a → b ≤ p.0) → has_pair p now ≡ true
+
+-- the pairs went that have an id below `a` which is not in the set, and no others
+pub record IsKeptTo (ids : List ℕ) (old now : List (ℕ × ℕ)) (a : ℕ) : Type 0 where
+  pub gone : (p : ℕ × ℕ) → p.0 < p.1 → has_pair p now ≡ true → (has_pair p old ≡ true) × ((p.0 < a → has_id ids p.0 ≡ true) × (p.1 < a → has_id ids p.1 ≡ true))
+  pub kept : (p : ℕ × ℕ) → p.0 < p.1 → has_pair p old ≡ true → (p.0 < a → has_id ids p.0 ≡ true) → (p.1 < a → has_id ids p.1 ≡ true) → has_pair p now ≡ true

@@ -1,9 +1,9 @@
 //! Pairs of ids held as packed bits.
-ghost use Rattle.std.specs.Prelude.{◌≡◌, ◌≢◌, ℕ, suc, ◌+◌, ◌*◌, ◌/◌, ◌<◌, ◌≤◌, ◌==◌, ◌||◌, ◌&&◌, not, Bool, true, false, IsTrue, IsFalse, ◌↔◌, length, List, Some, None, slice_get, if◌then◌else◌, IfSome, IfNone, IfOk, IfErr, OnOk, OnErr};
+ghost use Rattle.std.specs.Prelude.{◌≡◌, ◌≢◌, ℕ, suc, ◌+◌, ◌*◌, ◌/◌, ◌<◌, ◌≤◌, ◌==◌, ◌||◌, ◌&&◌, ◌⊎◌, not, Bool, true, false, IsTrue, IsFalse, ◌↔◌, length, List, Some, None, slice_get, if◌then◌else◌, IfSome, IfNone, IfOk, IfErr, OnOk, OnErr};
 ghost use Rattle.std.specs.Int.{bit_at};
 ghost use Rattle.abs_cells.specs.PairLists.{added, removed, AreAmong};
-ghost use Rattle.abs_cells.specs.IdSets.{has_bit, has_id, are_touched};
-ghost use Rattle.abs_cells.specs.PackedBits.{slot_of, slots_in, row_start, place_of, hit, whole_row, pairs_in, ArePacked, IsGrown, RowMeets, SideMeets, HasSlot, AreBothSet, IsRowAmong};
+ghost use Rattle.abs_cells.specs.IdSets.{has_bit, has_id, are_touched, kept};
+ghost use Rattle.abs_cells.specs.PackedBits.{slot_of, slots_in, row_start, place_of, hit, whole_row, pairs_in, ArePacked, IsGrown, RowMeets, SideMeets, HasSlot, AreBothSet, IsRowAmong, IsCleared};
 
 use crate::ids::Id;
 use crate::pairs::Pairs;
@@ -297,6 +297,40 @@ fn remove_pair(packed: &mut Packed, a: Id, b: Id)
     }
 }
 
+/// Takes all pairs of an id away.
+fn clear_row(packed: &mut Packed, a: Id)
+    requires { ArePacked packed.old.slots.items packed.old.count packed.old.words.items }
+    ensures packed { ArePacked packed.new.slots.items packed.new.count packed.new.words.items }
+    ensures pairs { IsCleared (pairs_in packed.old.slots.items packed.old.words.items) (pairs_in packed.new.slots.items packed.new.words.items) a 2048 }
+{
+    for b in 0..2048u16 {
+        if b != a {
+            remove_pair(packed, a, b);
+        }
+    }
+}
+
+/// Whether the pairs of an id are to go: it is not in the set, and may have some.
+fn is_lost(packed: &Packed, ids: &IdSet, a: Id) -> bool
+    ensures yes { IsTrue result → has_id ids.now a ≡ false }
+    ensures no { result ≡ false → (has_id ids.now a ≡ true) ⊎ (slot_of packed.now.slots.items a ≡ None) }
+{
+    !ids.has(a) && slot_of(&packed.slots, a).is_some()
+}
+
+/// Keeps the pairs whose ids are both in a set.
+fn keep_pairs(packed: &mut Packed, ids: &IdSet)
+    requires { ArePacked packed.old.slots.items packed.old.count packed.old.words.items }
+    ensures packed { ArePacked packed.new.slots.items packed.new.count packed.new.words.items }
+    ensures pairs { pairs_in packed.new.slots.items packed.new.words.items ≡ kept ids.now (pairs_in packed.old.slots.items packed.old.words.items) }
+{
+    for a in 0..2048u16 {
+        if is_lost(packed, ids, a) {
+            clear_row(packed, a);
+        }
+    }
+}
+
 /// Whether some pair has one id in `x` and the other one in `y`.
 fn some_touches(packed: &Packed, x: &IdSet, y: &IdSet) -> bool
     requires { ArePacked packed.now.slots.items packed.now.count packed.now.words.items }
@@ -382,6 +416,10 @@ impl Pairs for PackedPairs {
 
     fn touches(&self, x: &IdSet, y: &IdSet) -> bool {
         some_touches(&self.packed, x, y)
+    }
+
+    fn keep(&mut self, ids: &IdSet) {
+        keep_pairs(&mut self.packed, ids);
     }
 
     fn copied(&self, alloc: Global) -> Result<Self, AllocError> {

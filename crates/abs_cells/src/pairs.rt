@@ -1,7 +1,7 @@
 //! Sets of unordered pairs of ids.
 ghost use Rattle.std.specs.Prelude.{◌≡◌, ◌≢◌, ◌<◌, ℕ, List, [], IfOk, OnOk, OnErr, slice_get, IsTrue, ◌↔◌, Some};
 ghost use Rattle.abs_cells.specs.PairLists.{IsRising, added, removed, has, is_before, place_in, AreAmong};
-ghost use Rattle.abs_cells.specs.IdSets.{joins, are_touched};
+ghost use Rattle.abs_cells.specs.IdSets.{joins, are_touched, kept};
 
 use crate::ids::Id;
 use crate::sets::IdSet;
@@ -48,6 +48,10 @@ pub trait Pairs: Drop {
     fn touches(&self, x: &IdSet, y: &IdSet) -> bool
         ensures value { result ≡ are_touched x.now y.now (pairs self.now) }
         ensures rising { IsRising (pairs self.now) };
+
+    /// Keeps the pairs whose ids are both in a set. It takes no memory.
+    fn keep(&mut self, ids: &IdSet)
+        ensures { pairs self.new ≡ kept ids.now (pairs self.old) };
 
     /// The same pairs once more.
     ///
@@ -139,6 +143,13 @@ fn list_among(some: &[(Id, Id)], others: &[(Id, Id)]) -> bool
     met == some.len()
 }
 
+/// Keeps the pairs whose ids are both in a set.
+fn keep_listed(pairs: &mut Vec<(Id, Id)>, ids: &IdSet)
+    ensures { pairs.new.items ≡ kept ids.now pairs.old.items }
+{
+    pairs.retain(|pair| ids.has(pair.0) && ids.has(pair.1));
+}
+
 impl Pairs for ListPairs {
     ghost pairs = { λ s. s };
 
@@ -176,6 +187,10 @@ impl Pairs for ListPairs {
 
     fn touches(&self, x: &IdSet, y: &IdSet) -> bool {
         some_joins(x, y, &self.pairs)
+    }
+
+    fn keep(&mut self, ids: &IdSet) {
+        keep_listed(&mut self.pairs, ids);
     }
 
     fn copied(&self, alloc: Global) -> Result<Self, AllocError> {

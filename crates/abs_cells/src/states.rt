@@ -1,9 +1,11 @@
 //! Frames and states whose places hold ids.
-ghost use Rattle.std.specs.Prelude.{◌≡◌, List, ℕ, reverse};
+ghost use Rattle.std.specs.Prelude.{◌≡◌, List, ℕ, reverse, filter};
+ghost use Rattle.abs_cells.specs.IdSets.{has_id, kept};
 
 use crate::cells::Cell;
 use crate::ids::Id;
 use crate::pairs::Pairs;
+use crate::sets::IdSet;
 use list_views::Seq;
 use std::marker::Model;
 
@@ -145,4 +147,30 @@ impl<P: Pairs> AbsState<P> {
     {
         &self.share
     }
+
+    /// The state without the cells of ids that are not in a set, and without their pairs. Frames and the thrown id stay as
+    /// they are. It takes no memory.
+    pub fn kept(self, ids: &IdSet) -> AbsState<P>
+        ensures { result ≡ record { frames = self.frames; throwing = self.throwing; cells = filter (λ c. has_id ids.now c.0) self.cells; eq = kept ids.now self.eq; share = kept ids.now self.share } }
+    {
+        let AbsState {
+            frames,
+            throwing,
+            cells,
+            mut eq,
+            mut share,
+        } = self;
+        eq.keep(ids);
+        share.keep(ids);
+        AbsState::new(frames, throwing, kept_cells(cells, ids), eq, share)
+    }
+}
+
+/// The cells whose ids are in a set.
+fn kept_cells(cells: Seq<(Id, Cell)>, ids: &IdSet) -> Seq<(Id, Cell)>
+    ensures { result ≡ filter (λ c. has_id ids.now c.0) cells }
+{
+    let mut items = cells.into_vec();
+    items.retain(|item| ids.has(item.0));
+    Seq::from_vec(items)
 }

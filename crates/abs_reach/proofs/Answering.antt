@@ -17,6 +17,7 @@ use Rattle.abs_cells.specs.Closures.{cell_steps, counted_steps, KnownFrom, MayMe
 use Rattle.abs_cells.specs.Sound.{AreIdsRising, IsWellFormed}
 use Rattle.abs_cells.proofs.PairLaws.{has_swapped, same_is, is_same_from}
 use Rattle.abs_cells.proofs.Checking.{low_pair, is_here, sort_is, has_cell_from, has_cell_to}
+use Rattle.abs_reach.specs.declared.find.Names.TheVariants.{Known, All}
 use Rattle.abs_reach.specs.Steps.{steps_in, counted_steps_in, AreNamedThere, IsIn, IsReachedInside}
 use Rattle.abs_reach.specs.Known.{IsKnownFromSome}
 use Rattle.abs_reach.proofs.Walks.{named_has_cell, counted_is_known}
@@ -32,33 +33,41 @@ names_in (cells.Nums kind len) i c e = e
 names_in (cells.Refs element len shape) i c e = absurd (none_is_not_some c e)
 names_in (cells.Unk bound nullable shape) i c e = e
 
-named_there : (state : AbstractState) → IsWellFormed state → AreNamedThere state.cells
+named_there : (state : AbstractState) → IsWellFormed state → AreNamedThere Known state.cells
 named_there state good a i c e =
     let cell = given (λ (cell : Cell). slice_get (ids_of cell) i) (cell_in state.cells a) c e in
     has_cell_to (λ _. true) state c (named_has_cell state good a i c cell.0 cell.1.0 (names_in cell.0 i c cell.1.1))
+
+pub all_named_there : (state : AbstractState) → IsWellFormed state → AreNamedThere All state.cells
+all_named_there state good a i c e =
+    let cell = given (λ (cell : Cell). slice_get (ids_in cell) i) (cell_in state.cells a) c e in
+    has_cell_to (λ _. true) state c (named_has_cell state good a i c cell.0 cell.1.0 cell.1.1)
 
 module _ (state : AbstractState) (good : IsWellFormed state) (list : List (ℕ × Cell)) (is : list ≡ state.cells) where
   pub rising_of : AreIdsRising 0 list
   rising_of = subst (λ (cs : List (ℕ × Cell)). AreIdsRising 0 cs) (sym is) good.rising
 
-  pub named_of : AreNamedThere list
-  named_of = subst (λ (cs : List (ℕ × Cell)). AreNamedThere cs) (sym is) (named_there state good)
+  pub named_of : AreNamedThere Known list
+  named_of = subst (λ (cs : List (ℕ × Cell)). AreNamedThere Known cs) (sym is) (named_there state good)
+
+  pub all_named_of : AreNamedThere All list
+  all_named_of = subst (λ (cs : List (ℕ × Cell)). AreNamedThere All cs) (sym is) (all_named_there state good)
 
   pub there_of : (x : ℕ) → HasCell (λ _. true) state x → is_of_sort (λ _. true) (cell_in list x) ≡ true
   there_of x h = subst (λ (cs : List (ℕ × Cell)). is_of_sort (λ _. true) (cell_in cs x) ≡ true) (sym is) (has_cell_to (λ _. true) state x h)
 
-pub met_of : (state : AbstractState) (list : List (ℕ × Cell)) (x id : ℕ) (b : Bool) → list ≡ state.cells → (b ≡ true) ↔ Reaches (steps_in list) x id → (b ≡ true) ↔ KnownFrom state x id
-met_of state list x id b e h = subst (λ (cs : List (ℕ × Cell)). (b ≡ true) ↔ Reaches (steps_in cs) x id) e h
+pub met_of : (state : AbstractState) (list : List (ℕ × Cell)) (x id : ℕ) (b : Bool) → list ≡ state.cells → (b ≡ true) ↔ Reaches (steps_in Known list) x id → (b ≡ true) ↔ KnownFrom state x id
+met_of state list x id b e h = subst (λ (cs : List (ℕ × Cell)). (b ≡ true) ↔ Reaches (steps_in Known cs) x id) e h
 
-pub cyclic_of : (state : AbstractState) (list : List (ℕ × Cell)) (x : ℕ) (b : Bool) → list ≡ state.cells → (b ≡ false) ↔ IsDagFrom (steps_in list) x → (b ≡ false) ↔ IsDagFrom (cell_steps state) x
-cyclic_of state list x b e h = subst (λ (cs : List (ℕ × Cell)). (b ≡ false) ↔ IsDagFrom (steps_in cs) x) e h
+pub cyclic_of : (state : AbstractState) (list : List (ℕ × Cell)) (x : ℕ) (b : Bool) → list ≡ state.cells → (b ≡ false) ↔ IsDagFrom (steps_in Known list) x → (b ≡ false) ↔ IsDagFrom (cell_steps state) x
+cyclic_of state list x b e h = subst (λ (cs : List (ℕ × Cell)). (b ≡ false) ↔ IsDagFrom (steps_in Known cs) x) e h
 
-pub twice_of : (state : AbstractState) (list : List (ℕ × Cell)) (x : ℕ) (b : Bool) → list ≡ state.cells → (b ≡ false) ↔ IsTreeFrom (counted_steps_in list) x → (b ≡ false) ↔ IsTreeFrom (counted_steps state) x
-twice_of state list x b e h = subst (λ (cs : List (ℕ × Cell)). (b ≡ false) ↔ IsTreeFrom (counted_steps_in cs) x) e h
+pub twice_of : (state : AbstractState) (list : List (ℕ × Cell)) (x : ℕ) (b : Bool) → list ≡ state.cells → (b ≡ false) ↔ IsTreeFrom (counted_steps_in Known list) x → (b ≡ false) ↔ IsTreeFrom (counted_steps state) x
+twice_of state list x b e h = subst (λ (cs : List (ℕ × Cell)). (b ≡ false) ↔ IsTreeFrom (counted_steps_in Known cs) x) e h
 
-pub some_of : (state : AbstractState) (list : List (ℕ × Cell)) (set : List ℕ) (id : ℕ) (b : Bool) → list ≡ state.cells → (b ≡ true) ↔ IsReachedInside list set id → (b ≡ true) ↔ IsKnownFromSome state set id
+pub some_of : (state : AbstractState) (list : List (ℕ × Cell)) (set : List ℕ) (id : ℕ) (b : Bool) → list ≡ state.cells → (b ≡ true) ↔ IsReachedInside Known list set id → (b ≡ true) ↔ IsKnownFromSome state set id
 some_of state list set id b e h =
-    let k = subst (λ (cs : List (ℕ × Cell)). (b ≡ true) ↔ IsReachedInside cs set id) e h in (
+    let k = subst (λ (cs : List (ℕ × Cell)). (b ≡ true) ↔ IsReachedInside Known cs set id) e h in (
       λ t. let r = k.0 t in record { x = r.from; is_in = r.starts; there = has_cell_from (λ _. true) state r.from r.there; from_x = r.reaches },
       λ r. k.1 (record { from = r.x; starts = r.is_in; there = has_cell_to (λ _. true) state r.x r.there; reaches = r.from_x }),
     )
@@ -268,7 +277,7 @@ module _ (state : AbstractState) (good : IsWellFormed state) where
     dag_of d p b h [] k = refl
     dag_of d p b h (i ∷ q) k =
         let step = given (follow (cell_steps state) q) (cell_steps state b i) b k in
-        d p b (counted_path state.cells p x b i step.0 h step.1.0) (i ∷ q) (counted_path state.cells (i ∷ q) b b i step.0 k step.1.0)
+        d p b (counted_path Known state.cells p x b i step.0 h step.1.0) (i ∷ q) (counted_path Known state.cells (i ∷ q) b b i step.0 k step.1.0)
 
     pub has_cycle : (cyclic : Bool) → (cyclic ≡ false) ↔ IsDagFrom (cell_steps state) x → cyclic ≡ true → IsFiniteId state x → ⊥
     has_cycle cyclic c e f = false≢true (sym (c.1 (dag_of f.acyclic)) ∙ e)

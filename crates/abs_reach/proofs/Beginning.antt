@@ -8,6 +8,7 @@ use Rattle.abs_cells.specs.declared.cells.Cell.{Cell}
 use Rattle.abs_cells.specs.IdSets.{has_id}
 use Rattle.abs_cells.specs.Cells.{is_of_sort, cell_in}
 use Rattle.abs_cells.specs.Sound.{AreIdsRising}
+use Rattle.abs_reach.specs.declared.find.Names.{Names}
 use Rattle.abs_reach.specs.declared.walk.Found.{Found}
 use Rattle.abs_reach.specs.Steps.{steps_in, IsIn, IsReachedFrom, IsReachedInside}
 use Rattle.abs_reach.specs.Turns.{IsWith, one, IsBegun}
@@ -61,8 +62,8 @@ reached_one steps none met start id e w = (
   λ r. record { from = start; starts = put_here met none start w; reaches = r },
 )
 
-pub reached_inside : (cells : List (ℕ × Cell)) (starts met : List ℕ) (id : ℕ) → ((n : ℕ) → has_id met n ≡ (has_id starts n && is_of_sort (λ _. true) (cell_in cells n))) → IsReachedFrom (steps_in cells) met id ↔ IsReachedInside cells starts id
-reached_inside cells starts met id e = (
+pub reached_inside : (names : Names) (cells : List (ℕ × Cell)) (starts met : List ℕ) (id : ℕ) → ((n : ℕ) → has_id met n ≡ (has_id starts n && is_of_sort (λ _. true) (cell_in cells n))) → IsReachedFrom (steps_in names cells) met id ↔ IsReachedInside names cells starts id
+reached_inside names cells starts met id e = (
   λ r.
       let p = and_parts (has_id starts r.from) (is_of_sort (λ _. true) (cell_in cells r.from)) (sym (e r.from) ∙ r.starts) in
       record { from = r.from; starts = p.0; there = p.1; reaches = r.reaches },

@@ -1,5 +1,7 @@
 pub mod Answering
+pub mod AnsweringSets
 pub mod Beginning
+pub mod Dropped
 pub mod Finding
 pub mod Restricting
 pub mod Room

@@ -8,9 +8,10 @@ use Rattle.jvm_values.proofs.Options.{given, some_is, none_is_not_some}
 use Rattle.jvm_values.specs.Paths.{follow}
 use Rattle.abs_cells.specs.declared.cells.Cell.{Cell}
 use Rattle.abs_cells.specs.IdSets.{has_id}
-use Rattle.abs_cells.specs.Cells.{ids_of, is_of_sort, cell_in}
+use Rattle.abs_cells.specs.Cells.{is_of_sort, cell_in}
 use Rattle.abs_cells.specs.Sound.{AreIdsRising}
-use Rattle.abs_reach.specs.Steps.{steps_in, AreNamedThere, IsIn}
+use Rattle.abs_reach.specs.Steps.{names_by, steps_in, AreNamedThere, IsIn}
+use Rattle.abs_reach.specs.declared.find.Names.{Names}
 use Rattle.abs_reach.specs.Turns.{still, one, IsWith}
 use Rattle.abs_reach.proofs.Searching.{put_here, put_keeps}
 
@@ -84,36 +85,37 @@ the_cell (Some cell) e = (cell, refl)
 pub has_cell_low : (cells : List (ℕ × Cell)) (id : ℕ) → AreIdsRising 0 cells → is_of_sort (λ _. true) (cell_in cells id) ≡ true → id < 2048
 has_cell_low cells id r e = let c = the_cell (cell_in cells id) e in id_low 0 cells id c.0 r c.1
 
--- ids that are reached have cells
-pub reached_there : (cells : List (ℕ × Cell)) → AreNamedThere cells → (path : List ℕ) (x y : ℕ) → is_of_sort (λ _. true) (cell_in cells x) ≡ true → follow (steps_in cells) path x ≡ Some y → is_of_sort (λ _. true) (cell_in cells y) ≡ true
-reached_there cells named [] x y h e = subst (λ (z : ℕ). is_of_sort (λ _. true) (cell_in cells z) ≡ true) (some_is e) h
-reached_there cells named (i ∷ path) x y h e =
-    let p = given (follow (steps_in cells) path) (steps_in cells x i) y e in
-    reached_there cells named path p.0 y (named x i p.0 p.1.0) p.1.1
+module _ (names : Names) where
+  -- ids that are reached have cells
+  pub reached_there : (cells : List (ℕ × Cell)) → AreNamedThere names cells → (path : List ℕ) (x y : ℕ) → is_of_sort (λ _. true) (cell_in cells x) ≡ true → follow (steps_in names cells) path x ≡ Some y → is_of_sort (λ _. true) (cell_in cells y) ≡ true
+  reached_there cells named [] x y h e = subst (λ (z : ℕ). is_of_sort (λ _. true) (cell_in cells z) ≡ true) (some_is e) h
+  reached_there cells named (i ∷ path) x y h e =
+      let p = given (follow (steps_in names cells) path) (steps_in names cells x i) y e in
+      reached_there cells named path p.0 y (named x i p.0 p.1.0) p.1.1
 
--- ---- steps that were not gone
+  -- ---- steps that were not gone
 
-abbrev pub names_of : Option Cell → List ℕ
-names_of None = []
-names_of (Some cell) = ids_of cell
+  abbrev pub names_of : Option Cell → List ℕ
+  names_of None = []
+  names_of (Some cell) = names_by names cell
 
-abbrev pub ahead : List (ℕ × Cell) → List (ℕ × ℕ) → ℕ
-ahead cells [] = 0
-ahead cells (e ∷ trail) = (length (names_of (cell_in cells e.0)) - e.1 + 1) + ahead cells trail
+  abbrev pub ahead : List (ℕ × Cell) → List (ℕ × ℕ) → ℕ
+  ahead cells [] = 0
+  ahead cells (e ∷ trail) = (length (names_of (cell_in cells e.0)) - e.1 + 1) + ahead cells trail
 
-abbrev pub work : Cell → ℕ
-work cell = length (ids_of cell) + 2
+  abbrev pub work : Cell → ℕ
+  work cell = length (names_by names cell) + 2
 
-pub step_within : (o : Option Cell) (i c : ℕ) → option_and_then (λ cell. slice_get (ids_of cell) i) o ≡ Some c → i < length (names_of o)
-step_within None i c e = absurd (none_is_not_some c e)
-step_within (Some cell) i c e = slice_get_within (ids_of cell) i c e
+  pub step_within : (o : Option Cell) (i c : ℕ) → option_and_then (λ cell. slice_get (names_by names cell) i) o ≡ Some c → i < length (names_of o)
+  step_within None i c e = absurd (none_is_not_some c e)
+  step_within (Some cell) i c e = slice_get_within (names_by names cell) i c e
 
-get_past : (xs : List ℕ) (i j : ℕ) → slice_get xs i ≡ None → i ≤ j → slice_get xs j ≡ None
-get_past [] i j e l = refl
-get_past (x ∷ xs) zero j e l = absurd (none_is_not_some x (sym e))
-get_past (x ∷ xs) (suc i) zero e l = absurd (omega (arith, l))
-get_past (x ∷ xs) (suc i) (suc j) e l = get_past xs i j e (omega (arith, l))
+  get_past : (xs : List ℕ) (i j : ℕ) → slice_get xs i ≡ None → i ≤ j → slice_get xs j ≡ None
+  get_past [] i j e l = refl
+  get_past (x ∷ xs) zero j e l = absurd (none_is_not_some x (sym e))
+  get_past (x ∷ xs) (suc i) zero e l = absurd (omega (arith, l))
+  get_past (x ∷ xs) (suc i) (suc j) e l = get_past xs i j e (omega (arith, l))
 
-pub no_step_past : (o : Option Cell) (i j : ℕ) → option_and_then (λ cell. slice_get (ids_of cell) i) o ≡ None → i ≤ j → option_and_then (λ cell. slice_get (ids_of cell) j) o ≡ None
-no_step_past None i j e l = refl
-no_step_past (Some cell) i j e l = get_past (ids_of cell) i j e l
+  pub no_step_past : (o : Option Cell) (i j : ℕ) → option_and_then (λ cell. slice_get (names_by names cell) i) o ≡ None → i ≤ j → option_and_then (λ cell. slice_get (names_by names cell) j) o ≡ None
+  no_step_past None i j e l = refl
+  no_step_past (Some cell) i j e l = get_past (names_by names cell) i j e l

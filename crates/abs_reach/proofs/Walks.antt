@@ -27,13 +27,13 @@ use Rattle.abs_reach.specs.Ways.{Way}
 
 -- ---- the ids that cells name have cells
 
-all_at : (P : ℕ → Type 0) (xs : List ℕ) (i id : ℕ) → All P xs → slice_get xs i ≡ Some id → P id
+pub all_at : (P : ℕ → Type 0) (xs : List ℕ) (i id : ℕ) → All P xs → slice_get xs i ≡ Some id → P id
 all_at P xs i id h e = subst P (get_or_from_slice_get xs i id id e) (h i id (slice_get_within xs i id e))
 
-all_behind : (P : ℕ → Type 0) (xs ys : List ℕ) → All P (xs ++ ys) → All P ys
+pub all_behind : (P : ℕ → Type 0) (xs ys : List ℕ) → All P (xs ++ ys) → All P ys
 all_behind P xs ys h = λ k d l. subst P (get_or-append-add xs ys k d) (h (length xs + k) d (omega (arith, l, length-append xs ys)))
 
-all_front : (P : ℕ → Type 0) (xs ys : List ℕ) → All P (xs ++ ys) → All P xs
+pub all_front : (P : ℕ → Type 0) (xs ys : List ℕ) → All P (xs ++ ys) → All P xs
 all_front P xs ys h = λ k d l. subst P (get_or_append_left xs ys d k l) (h k d (omega (arith, l, length-append xs ys)))
 
 all_of_cell : (P : ℕ → Type 0) (cells : List (ℕ × Cell)) (id : ℕ) (cell : Cell) → All P (flat_map (λ c. ids_in c.1) cells) → cell_in cells id ≡ Some cell → All P (ids_in cell)

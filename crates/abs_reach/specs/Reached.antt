@@ -1,5 +1,5 @@
 -- The ids that a state's positions reach, and states that lost ids.
-use Rattle.std.specs.Prelude.{◌≡◌, ℕ, true, List, [], ◌∷◌, ◌++◌, Some, slice_get}
+use Rattle.std.specs.Prelude.{◌≡◌, ℕ, true, List, [], ◌∷◌, ◌++◌, Some, slice_get, ◌↔◌}
 use Rattle.std.specs.List.{flat_map}
 use Rattle.std.specs.Option.{option_and_then}
 use Rattle.jvm_values.specs.Paths.{Steps, Reaches}
@@ -29,3 +29,12 @@ pub record IsRestricted (whole part : AbstractState) : Type 0 where
   pub cells : (id : ℕ) → HasCell (λ _. true) part id → cell_at part id ≡ cell_at whole id
   pub eq : (a b : ℕ) → HasCell (λ _. true) part a → HasCell (λ _. true) part b → AreEqual whole a b → AreEqual part a b
   pub share : (a b : ℕ) → HasCell (λ _. true) part a → HasCell (λ _. true) part b → Share whole a b → Share part a b
+
+-- one state is what another one is without the ids that its positions don't reach
+pub record IsDropped (whole part : AbstractState) : Type 0 where
+  pub frames : part.frames ≡ whole.frames
+  pub throwing : part.throwing ≡ whole.throwing
+  pub kept : (id : ℕ) → IsReached whole id → cell_at part id ≡ cell_at whole id
+  pub gone : (id : ℕ) → HasCell (λ _. true) part id → IsReached whole id
+  pub eq : (a b : ℕ) → AreEqual part a b ↔ (AreEqual whole a b × (IsReached whole a × IsReached whole b))
+  pub share : (a b : ℕ) → Share part a b ↔ (Share whole a b × (IsReached whole a × IsReached whole b))

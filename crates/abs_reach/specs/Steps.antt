@@ -4,23 +4,30 @@ use Rattle.std.specs.Option.{option_and_then}
 use Rattle.jvm_values.specs.Paths.{Steps, Reaches}
 use Rattle.abs_cells.specs.declared.cells.Cell.{Cell}
 use Rattle.abs_cells.specs.IdSets.{has_id}
-use Rattle.abs_cells.specs.Cells.{is_reference, ids_of, is_of_sort, cell_in}
+use Rattle.abs_cells.specs.Cells.{is_reference, ids_of, ids_in, is_of_sort, cell_in}
+use Rattle.abs_reach.specs.declared.find.Names.{Names}
+use Rattle.abs_reach.specs.declared.find.Names.TheVariants.{Known, All}
 
--- a step goes from a known cell to an id that it names
-abbrev pub steps_in : List (ℕ × Cell) → Steps
-steps_in cells a i = option_and_then (λ cell. slice_get (ids_of cell) i) (cell_in cells a)
+-- the ids of a cell to which a walk goes on: those of known cells, or the lengths of arrays of references too
+abbrev pub names_by : Names → Cell → List ℕ
+names_by Known cell = ids_of cell
+names_by All cell = ids_in cell
+
+-- a step goes from a cell to one of these
+abbrev pub steps_in : Names → List (ℕ × Cell) → Steps
+steps_in names cells a i = option_and_then (λ cell. slice_get (names_by names cell) i) (cell_in cells a)
 
 -- an id of a reference, if its cell is not `Null`
 abbrev pub counted_in : List (ℕ × Cell) → ℕ → Option ℕ
 counted_in cells id = option_and_then (λ cell. if is_reference cell then Some id else None) (cell_in cells id)
 
 -- the steps to such ids alone
-abbrev pub counted_steps_in : List (ℕ × Cell) → Steps
-counted_steps_in cells a i = option_and_then (counted_in cells) (steps_in cells a i)
+abbrev pub counted_steps_in : Names → List (ℕ × Cell) → Steps
+counted_steps_in names cells a i = option_and_then (counted_in cells) (steps_in names cells a i)
 
 -- each id to which a step leads has a cell
-abbrev pub AreNamedThere : List (ℕ × Cell) → Type 0
-AreNamedThere cells = (a i c : ℕ) → steps_in cells a i ≡ Some c → is_of_sort (λ _. true) (cell_in cells c) ≡ true
+abbrev pub AreNamedThere : Names → List (ℕ × Cell) → Type 0
+AreNamedThere names cells = (a i c : ℕ) → steps_in names cells a i ≡ Some c → is_of_sort (λ _. true) (cell_in cells c) ≡ true
 
 -- a number is in a set
 abbrev pub IsIn : List ℕ → ℕ → Type 0
@@ -33,8 +40,8 @@ pub record IsReachedFrom (steps : Steps) (start : List ℕ) (b : ℕ) : Type 0 w
   pub reaches : Reaches steps from b
 
 -- the same from one that has a cell
-pub record IsReachedInside (cells : List (ℕ × Cell)) (start : List ℕ) (b : ℕ) : Type 0 where
+pub record IsReachedInside (names : Names) (cells : List (ℕ × Cell)) (start : List ℕ) (b : ℕ) : Type 0 where
   pub from : ℕ
   pub starts : IsIn start from
   pub there : is_of_sort (λ _. true) (cell_in cells from) ≡ true
-  pub reaches : Reaches (steps_in cells) from b
+  pub reaches : Reaches (steps_in names cells) from b

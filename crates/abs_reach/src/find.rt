@@ -1,10 +1,19 @@
 //! The cell of an id, and where a step from it leads.
 ghost use Rattle.std.specs.Prelude.{◌≡◌, ℕ, ◌+◌, ◌^◌, ◌<◌, length, true, IsTrue, ◌↔◌, None, Some, IfSome, MatchOption, slice_get, slice_index_or};
-ghost use Rattle.abs_cells.specs.Cells.{cell_in, ids_of, is_of_sort, HasCell};
+ghost use Rattle.abs_cells.specs.Cells.{cell_in, ids_of, ids_in, is_of_sort, HasCell};
 ghost use Rattle.abs_cells.specs.Sound.{AreIdsRising, IsWellFormed};
-ghost use Rattle.abs_reach.specs.Steps.{steps_in};
+ghost use Rattle.abs_reach.specs.Steps.{names_by, steps_in};
 
 use abs_cells::{AbsState, Cell, Id, Pairs};
+
+/// To which ids of cells a walk goes on.
+#[derive(Clone, Copy)]
+pub(crate) enum Names {
+    /// Those that known cells name.
+    Known,
+    /// Those that cells name, the lengths of arrays of references too.
+    All,
+}
 
 /// The place of an id among cells that rise.
 fn place_of(cells: &[(Id, Cell)], id: Id) -> Option<usize>
@@ -71,7 +80,7 @@ fn item_at(ids: &[Id], place: usize) -> Option<Id>
 }
 
 /// The id at a place of those that a known cell names.
-fn named(cell: &Cell, place: usize) -> Option<Id>
+fn known_name(cell: &Cell, place: usize) -> Option<Id>
     ensures item { result ≡ slice_get (ids_of cell.now) place }
     ensures next { IfSome result (λ _. place + 1 < 2 ^ 64) }
 {
@@ -82,14 +91,38 @@ fn named(cell: &Cell, place: usize) -> Option<Id>
     }
 }
 
+/// The id at a place of those that a cell names.
+fn any_name(cell: &Cell, place: usize) -> Option<Id>
+    ensures item { result ≡ slice_get (ids_in cell.now) place }
+    ensures next { IfSome result (λ _. place + 1 < 2 ^ 64) }
+{
+    match cell {
+        Cell::Obj(_, ids) => item_at(ids.as_slice(), place),
+        Cell::Nums(_, len) => item_at(&[*len], place),
+        Cell::Refs(_, len, _) => item_at(&[*len], place),
+        Cell::Int(_) | Cell::Null | Cell::Unk(_, _, _) => None,
+    }
+}
+
+/// The id at a place of those of a cell to which a walk goes on.
+fn named(cell: &Cell, names: Names, place: usize) -> Option<Id>
+    ensures item { result ≡ slice_get (names_by names cell.now) place }
+    ensures next { IfSome result (λ _. place + 1 < 2 ^ 64) }
+{
+    match names {
+        Names::Known => known_name(cell, place),
+        Names::All => any_name(cell, place),
+    }
+}
+
 /// The id to which a step leads from an id, if it leads anywhere.
-pub(crate) fn step(cells: &[(Id, Cell)], id: Id, place: usize) -> Option<Id>
+pub(crate) fn step(cells: &[(Id, Cell)], names: Names, id: Id, place: usize) -> Option<Id>
     requires { AreIdsRising 0 cells.now }
-    ensures leads { result ≡ steps_in cells.now id place }
+    ensures leads { result ≡ steps_in names cells.now id place }
     ensures next { IfSome result (λ _. place + 1 < 2 ^ 64) }
 {
     match cell_of(cells, id) {
-        Some(cell) => named(cell, place),
+        Some(cell) => named(cell, names, place),
         None => None,
     }
 }

@@ -4,13 +4,16 @@
 //! they are sound for every state of the machine that an abstract state describes.
 #![tactic(auto)]
 
+mod dropping;
 mod find;
 mod laws;
 mod marks;
 mod meeting;
+mod sets;
 mod shapes;
 mod walk;
 
+pub use dropping::drop_unreached;
 pub use find::{cell_of, has_cell};
 pub use laws::{
     closures_are_ways, finite_ids_have_no_cycles, known_ids_inside_may_be_in,
@@ -18,4 +21,5 @@ pub use laws::{
 };
 pub use marks::{Marks, known_from, known_from_all};
 pub use meeting::{may_be_in, may_meet};
+pub use sets::{may_be_in_some, may_meet_some, some_may_be_in};
 pub use shapes::{is_finite, is_tree};

@@ -6,7 +6,10 @@ ghost use Rattle.abs_cells.specs.Cells.{HasCell};
 ghost use Rattle.abs_cells.specs.Closures.{cell_steps, counted_steps, KnownFrom};
 ghost use Rattle.abs_cells.specs.Sound.{IsWellFormed};
 ghost use Rattle.abs_reach.specs.Known.{IsKnownFromSome};
+ghost use Rattle.abs_reach.specs.Steps.{IsReachedInside};
+ghost use Rattle.abs_reach.specs.declared.find.Names.TheVariants.{All};
 
+use crate::find::Names;
 use crate::walk::{Found, Trail, walk, walk_all};
 use abs_cells::{AbsState, Id, IdSet, Pairs};
 use list_views::Stack;
@@ -69,7 +72,23 @@ impl Marks {
         ensures cyclic { (result.cyclic ≡ false) ↔ IsDagFrom (cell_steps state.now) start }
         ensures twice { (result.twice ≡ false) ↔ IsTreeFrom (counted_steps state.now) start }
     {
-        walk(state.cells(), start, &mut self.trail)
+        walk(state.cells(), Names::Known, start, &mut self.trail)
+    }
+
+    /// The walk along all that cells name, from the ids of a set that have a cell.
+    pub(crate) fn walk_names<P: Pairs>(&mut self, state: &AbsState<P>, starts: &IdSet) -> Found
+        requires { IsWellFormed state.now }
+        ensures { (id : ℕ) → (has_id result.met id ≡ true) ↔ IsReachedInside All state.now.cells starts.now id }
+    {
+        walk_all(state.cells(), Names::All, starts, &mut self.trail)
+    }
+
+    /// The walk along known cells from the ids of a set that have a cell.
+    pub(crate) fn walk_all<P: Pairs>(&mut self, state: &AbsState<P>, starts: &IdSet) -> Found
+        requires { IsWellFormed state.now }
+        ensures { (id : ℕ) → (has_id result.met id ≡ true) ↔ IsKnownFromSome state.now starts.now id }
+    {
+        walk_all(state.cells(), Names::Known, starts, &mut self.trail)
     }
 }
 
@@ -89,6 +108,6 @@ pub fn known_from_all<P: Pairs>(state: &AbsState<P>, starts: &IdSet, marks: &mut
     requires { IsWellFormed state.now }
     ensures { (id : ℕ) → (has_id marks.new id ≡ true) ↔ IsKnownFromSome state.now starts.now id }
 {
-    let found = walk_all(state.cells(), starts, &mut marks.trail);
+    let found = marks.walk_all(state, starts);
     marks.ids = found.met;
 }

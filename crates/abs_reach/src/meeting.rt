@@ -23,7 +23,7 @@ pub(crate) fn have_one(cells: &[(Id, Cell)], sort: CellSort, first: &IdSet, seco
 }
 
 /// The set of one id.
-fn only(id: Id) -> IdSet
+pub(crate) fn only(id: Id) -> IdSet
     requires { id < 2048 }
     ensures { (n : ℕ) → has_id result n ≡ (n == id) }
 {
@@ -33,7 +33,7 @@ fn only(id: Id) -> IdSet
 }
 
 /// The hazy ids of a set.
-fn hazy_among(cells: &[(Id, Cell)], set: &IdSet) -> IdSet
+pub(crate) fn hazy_among(cells: &[(Id, Cell)], set: &IdSet) -> IdSet
     requires { AreIdsRising 0 cells.now }
     ensures { (n : ℕ) → has_id result n ≡ (has_id set.now n && is_of_sort is_hazy (cell_in cells.now n)) }
 {

@@ -7,7 +7,7 @@ ghost use Rattle.abs_cells.specs.Sound.{AreIdsRising};
 ghost use Rattle.abs_reach.specs.Steps.{steps_in, counted_steps_in, AreNamedThere, IsReachedFrom, IsReachedInside};
 ghost use Rattle.abs_reach.specs.Turns.{IsWith, IsBegun, Leaves, Meets, Enters};
 
-use crate::find::{cell_of, step};
+use crate::find::{Names, cell_of, step};
 use abs_cells::{Cell, Id, IdSet};
 use list_views::Stack;
 
@@ -63,18 +63,25 @@ fn meet(found: &mut Found, id: Id, counts: bool)
 }
 
 /// Goes on from the id that was taken off the trail, by the step at a place.
-fn turn(cells: &[(Id, Cell)], found: &mut Found, trail: &mut Trail, id: Id, place: usize)
+fn turn(
+    cells: &[(Id, Cell)],
+    names: Names,
+    found: &mut Found,
+    trail: &mut Trail,
+    id: Id,
+    place: usize,
+)
     requires rising { AreIdsRising 0 cells.now }
     requires low { id < 2048 }
-    requires there { AreNamedThere cells.now }
+    requires there { AreNamedThere names cells.now }
     requires room { length trail.old.0 < trail.old.1 }
-    requires more { (c : ℕ) → steps_in cells.now id place ≡ Some c → has_id found.old.met c ≡ false → length trail.old.0 + 1 < trail.old.1 }
-    ensures leaves { steps_in cells.now id place ≡ None → Leaves found.old found.new id × (trail.new.0 ≡ trail.old.0) }
-    ensures meets { (c : ℕ) → steps_in cells.now id place ≡ Some c → has_id found.old.met c ≡ true → Meets found.old found.new c (is_of_sort is_reference (cell_in cells.now c)) × (trail.new.0 ≡ (id, place + 1) ∷ trail.old.0) }
-    ensures enters { (c : ℕ) → steps_in cells.now id place ≡ Some c → has_id found.old.met c ≡ false → Enters found.old found.new c × (trail.new.0 ≡ (c, 0) ∷ (id, place + 1) ∷ trail.old.0) }
+    requires more { (c : ℕ) → steps_in names cells.now id place ≡ Some c → has_id found.old.met c ≡ false → length trail.old.0 + 1 < trail.old.1 }
+    ensures leaves { steps_in names cells.now id place ≡ None → Leaves found.old found.new id × (trail.new.0 ≡ trail.old.0) }
+    ensures meets { (c : ℕ) → steps_in names cells.now id place ≡ Some c → has_id found.old.met c ≡ true → Meets found.old found.new c (is_of_sort is_reference (cell_in cells.now c)) × (trail.new.0 ≡ (id, place + 1) ∷ trail.old.0) }
+    ensures enters { (c : ℕ) → steps_in names cells.now id place ≡ Some c → has_id found.old.met c ≡ false → Enters found.old found.new c × (trail.new.0 ≡ (c, 0) ∷ (id, place + 1) ∷ trail.old.0) }
     ensures room { trail.old.1 ≤ trail.new.1 }
 {
-    match step(cells, id, place) {
+    match step(cells, names, id, place) {
         None => found.left.put(id),
         Some(next) => {
             put_on(trail, id, place + 1);
@@ -105,18 +112,18 @@ fn begin_at(cells: &[(Id, Cell)], found: &mut Found, trail: &mut Trail, id: Id)
 }
 
 /// Goes along all steps from the ids on the trail.
-fn run(cells: &[(Id, Cell)], found: &mut Found, trail: &mut Trail)
+fn run(cells: &[(Id, Cell)], names: Names, found: &mut Found, trail: &mut Trail)
     requires rising { AreIdsRising 0 cells.now }
-    requires there { AreNamedThere cells.now }
+    requires there { AreNamedThere names cells.now }
     requires room { 2048 ≤ trail.old.1 }
     requires begun { IsBegun cells.now found.old trail.old.0 }
-    ensures met { (id : ℕ) → (has_id found.new.met id ≡ true) ↔ IsReachedFrom (steps_in cells.now) found.old.met id }
-    ensures cyclic { (x : ℕ) → trail.old.0 ≡ (x, 0) ∷ [] → (found.new.cyclic ≡ false) ↔ IsDagFrom (steps_in cells.now) x }
-    ensures twice { (x : ℕ) → trail.old.0 ≡ (x, 0) ∷ [] → (found.new.twice ≡ false) ↔ IsTreeFrom (counted_steps_in cells.now) x }
+    ensures met { (id : ℕ) → (has_id found.new.met id ≡ true) ↔ IsReachedFrom (steps_in names cells.now) found.old.met id }
+    ensures cyclic { (x : ℕ) → trail.old.0 ≡ (x, 0) ∷ [] → (found.new.cyclic ≡ false) ↔ IsDagFrom (steps_in names cells.now) x }
+    ensures twice { (x : ℕ) → trail.old.0 ≡ (x, 0) ∷ [] → (found.new.twice ≡ false) ↔ IsTreeFrom (counted_steps_in names cells.now) x }
     ensures room { 2048 ≤ trail.new.1 }
 {
     while let Some((id, place)) = trail.pop() {
-        turn(cells, found, trail, id, place);
+        turn(cells, names, found, trail, id, place);
     }
 }
 
@@ -136,20 +143,20 @@ fn nothing_found() -> Found
 }
 
 /// The walk from an id along all steps: the ids that it comes to are those that steps lead to.
-pub(crate) fn walk(cells: &[(Id, Cell)], start: Id, trail: &mut Trail) -> Found
+pub(crate) fn walk(cells: &[(Id, Cell)], names: Names, start: Id, trail: &mut Trail) -> Found
     requires rising { AreIdsRising 0 cells.now }
-    requires there { AreNamedThere cells.now }
+    requires there { AreNamedThere names cells.now }
     requires start { is_of_sort (λ _. true) (cell_in cells.now start) ≡ true }
     requires room { 2048 ≤ trail.old.1 }
-    ensures met { (id : ℕ) → (has_id result.met id ≡ true) ↔ Reaches (steps_in cells.now) start id }
-    ensures cyclic { (result.cyclic ≡ false) ↔ IsDagFrom (steps_in cells.now) start }
-    ensures twice { (result.twice ≡ false) ↔ IsTreeFrom (counted_steps_in cells.now) start }
+    ensures met { (id : ℕ) → (has_id result.met id ≡ true) ↔ Reaches (steps_in names cells.now) start id }
+    ensures cyclic { (result.cyclic ≡ false) ↔ IsDagFrom (steps_in names cells.now) start }
+    ensures twice { (result.twice ≡ false) ↔ IsTreeFrom (counted_steps_in names cells.now) start }
     ensures room { 2048 ≤ trail.new.1 }
 {
     let mut found = nothing_found();
     trail.clear();
     begin_at(cells, &mut found, trail, start);
-    run(cells, &mut found, trail);
+    run(cells, names, &mut found, trail);
     found
 }
 
@@ -172,15 +179,20 @@ fn begin_at_all(cells: &[(Id, Cell)], starts: &IdSet, trail: &mut Trail) -> Foun
 }
 
 /// The walk from all ids of a set that have a cell.
-pub(crate) fn walk_all(cells: &[(Id, Cell)], starts: &IdSet, trail: &mut Trail) -> Found
+pub(crate) fn walk_all(
+    cells: &[(Id, Cell)],
+    names: Names,
+    starts: &IdSet,
+    trail: &mut Trail,
+) -> Found
     requires rising { AreIdsRising 0 cells.now }
-    requires there { AreNamedThere cells.now }
+    requires there { AreNamedThere names cells.now }
     requires room { 2048 ≤ trail.old.1 }
-    ensures met { (id : ℕ) → (has_id result.met id ≡ true) ↔ IsReachedInside cells.now starts.now id }
+    ensures met { (id : ℕ) → (has_id result.met id ≡ true) ↔ IsReachedInside names cells.now starts.now id }
     ensures room { 2048 ≤ trail.new.1 }
 {
     trail.clear();
     let mut found = begin_at_all(cells, starts, trail);
-    run(cells, &mut found, trail);
+    run(cells, names, &mut found, trail);
     found
 }

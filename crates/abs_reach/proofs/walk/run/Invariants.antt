@@ -6,10 +6,10 @@ use Rattle.abs_reach.proofs.walk.run.Given as goal
 
 abbrev pub invariant-loop-id : goal.invariant-loop-id
 invariant-loop-id l = record {
-  walk : WalksFrom l.cells l.initial.found.met l.initial.trail.0 l.found l.trail.0;
+  walk : WalksFrom l.names l.cells l.initial.found.met l.initial.trail.0 l.found l.trail.0;
   room : length l.trail.0 + still one l.cells l.found.met ≤ length l.cells;
   space : 2048 ≤ l.trail.1;
 }
 
 abbrev pub decreases-loop-id : goal.decreases-loop-id
-decreases-loop-id l = still work l.cells l.found.met + ahead l.cells l.trail.0
+decreases-loop-id l = still (work l.names) l.cells l.found.met + ahead l.names l.cells l.trail.0

@@ -11,5 +11,5 @@ begin_at-requires-clause-begun c = begun_none c.args.cells.now c.nothing_found-f
 
 pub returns-clause-met : goal.returns-clause-met
 returns-clause-met c id =
-    let one = reached_one (steps_in c.args.cells.now) c.nothing_found-found.result.met c.begin_at.new.found.met c.args.start id c.nothing_found-found.ensures.met c.begin_at.ensures.met in
+    let one = reached_one (steps_in c.args.names c.args.cells.now) c.nothing_found-found.result.met c.begin_at.new.found.met c.args.start id c.nothing_found-found.ensures.met c.begin_at.ensures.met in
     (λ h. one.0 ((c.run.ensures.met id).0 h), λ r. (c.run.ensures.met id).1 (one.1 r))
