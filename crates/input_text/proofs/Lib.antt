@@ -1,0 +1,4 @@
+pub mod Clean
+pub mod Items
+pub mod Numbers
+pub mod ValueCases

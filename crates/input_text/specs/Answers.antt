@@ -1,0 +1,37 @@
+-- What a reader of a JSON text answers: what the text says, or the first fault, or want of memory.
+use Rattle.std.specs.Prelude.{◌≡◌, ℕ, List, Result, Ok, Err}
+use Rattle.serde_json.specs.Data.{Data}
+use Rattle.json_view.specs.Answers.{Reads}
+use Rattle.json_view.specs.Located.{Located, root_of}
+use Rattle.json_view.specs.declared.fault.JsonFault.{JsonFault}
+use Rattle.json_view.specs.declared.fault.JsonFault.TheVariants as json
+use Rattle.input_text.specs.declared.fault.DescFault.{DescFault}
+use Rattle.input_text.specs.declared.fault.DescFault.TheVariants.{Json, Memory}
+
+-- what a value with its place says, or the first fault
+abbrev pub Reader : Type 0 → Type 0
+Reader A = Located → Result A JsonFault
+
+-- the answer is what is said; want of memory may stand in its place
+abbrev pub Says : {A : Type 0} → Result A JsonFault → Result A JsonFault → Type 0
+Says (Ok value) said = said ≡ Ok value
+Says (Err json.Memory) said = Unit {0}
+Says (Err fault) said = said ≡ Err fault
+
+-- a fault of JSON as a fault of descriptions
+abbrev pub described : JsonFault → DescFault
+described json.Memory = Memory
+described fault = Json fault
+
+-- `serde_json` reads a value of the bytes, of which the reader says this
+abbrev pub SaysOf : {A : Type 0} → Reader A → List ℕ → Result A JsonFault → Type 0
+SaysOf reader bytes said = (value : Data) × (Reads bytes value × (reader (root_of value) ≡ said))
+
+-- The answer for a whole text: `serde_json` reads a value of it of which the reader says the answer; or it reads none.
+abbrev pub AnswersText : {A : Type 0} → Reader A → List ℕ → Result A DescFault → Type 0
+AnswersText reader bytes (Ok text) = SaysOf reader bytes (Ok text)
+AnswersText reader bytes (Err (Json json.NotJson)) = (value : Data) → ¬ Reads bytes value
+AnswersText reader bytes (Err (Json json.Memory)) = ⊥
+AnswersText reader bytes (Err (Json fault)) = SaysOf reader bytes (Err fault)
+AnswersText reader bytes (Err Memory) = Unit {0}
+AnswersText reader bytes (Err fault) = ⊥

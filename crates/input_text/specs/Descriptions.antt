@@ -1,0 +1,42 @@
+-- The descriptions that JSON values say.
+--
+-- The field `form` is read first. Then the names of the fields are tested, and then the fields are read in the order in
+-- which they are listed here; in every object inside, the names come first too. A text of form 2 has static fields too.
+use Rattle.std.specs.Prelude.{ℕ, ℤ, pos, Bool, List, [], codes, if◌then◌else◌, Ok}
+use Rattle.std.specs.Ordering.{int_eq}
+use Rattle.json_view.specs.Reading.{only_of, int_of}
+use Rattle.input_text.specs.Answers.{Reader}
+use Rattle.input_text.specs.Fields.{◌>>=◌, field, list_of, entry_of}
+use Rattle.input_text.specs.Inputs.{input_of, pair_of}
+use Rattle.input_text.specs.declared.texts.EntryName.{EntryName}
+use Rattle.input_text.specs.declared.texts.InputText.{InputText}
+use Rattle.input_text.specs.declared.texts.DescText.{DescText}
+
+abbrev pub is_first_form : ℤ → Bool
+is_first_form form = int_eq form (pos 1)
+
+abbrev pub desc_names : ℤ → List ℕ
+desc_names form = if is_first_form form then codes "form class method desc params same share" else codes "form class method desc params same share statics"
+
+-- a text of form 1 says nothing of static fields
+unfoldable pub static_inputs : ℤ → Reader (List InputText)
+static_inputs form here = if is_first_form form then Ok [] else field (codes "statics") (list_of input_of) here
+
+-- the fields behind the parameters
+unfoldable pub desc_end : ℤ → EntryName → List InputText → Reader DescText
+desc_end form entry params here = do
+  same ← field (codes "same") (list_of pair_of) here
+  share ← field (codes "share") (list_of pair_of) here
+  statics ← static_inputs form here
+  Ok (record { entry = entry; params = params; same = same; share = share; statics = statics })
+
+-- the fields behind `form`
+unfoldable pub desc_fields : ℤ → Reader DescText
+desc_fields form here = do
+  only ← only_of (desc_names form) here
+  entry ← entry_of here
+  params ← field (codes "params") (list_of input_of) here
+  desc_end form entry params here
+
+unfoldable pub description_of : Reader DescText
+description_of here = field (codes "form") (int_of (pos 1) (pos 2)) here >>= λ form. desc_fields form here

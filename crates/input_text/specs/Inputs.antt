@@ -1,0 +1,66 @@
+-- Inputs of descriptions: an object with a field `lo` is an int, and every other value is read as a reference. And pairs
+-- of inputs.
+use Rattle.std.specs.Prelude.{ℕ, ◌==◌, Option, Some, None, codes, if◌then◌else◌, List, Result, Ok, Err}
+use Rattle.std.specs.Str.{bytes_eq}
+use Rattle.json_view.specs.Located.{Located}
+use Rattle.json_view.specs.Reading.{only_of, has_field, items_of, item_of, text_of, flag_of}
+use Rattle.json_view.specs.declared.fault.JsonFault.{JsonFault}
+use Rattle.json_view.specs.declared.fault.JsonFault.TheVariants.{WrongKind}
+use Rattle.jvm_values.specs.declared.shape.Shape.{Shape}
+use Rattle.jvm_values.specs.declared.shape.Shape.TheVariants.{Tree, Dag, Any}
+use Rattle.input_text.specs.Answers.{Reader}
+use Rattle.input_text.specs.Fields.{◌>>=◌, field, an_int, a_number}
+use Rattle.input_text.specs.declared.texts.InputText.{InputText}
+use Rattle.input_text.specs.declared.texts.InputText.TheVariants.{Int, Ref}
+
+unfoldable pub int_input : Reader InputText
+int_input here = do
+  only ← only_of (codes "lo hi") here
+  lo ← field (codes "lo") an_int here
+  hi ← field (codes "hi") an_int here
+  Ok (Int lo hi)
+
+-- the shape of a word; another word is of the wrong kind
+abbrev pub shape_named : List ℕ → List ℕ → Result Shape JsonFault
+shape_named place word =
+    if bytes_eq word (codes "tree") then Ok Tree
+    else if bytes_eq word (codes "dag") then Ok Dag
+    else if bytes_eq word (codes "any") then Ok Any
+    else Err (WrongKind place)
+
+unfoldable pub shape_of : Reader Shape
+shape_of here = text_of here >>= shape_named here.place
+
+unfoldable pub ref_fields : Reader InputText
+ref_fields here = do
+  ty ← field (codes "type") text_of here
+  null ← field (codes "null") flag_of here
+  shape ← field (codes "shape") shape_of here
+  Ok (Ref ty null shape)
+
+abbrev pub ref_names : List ℕ
+ref_names = codes "type null shape"
+
+unfoldable pub ref_input : Reader InputText
+ref_input here = only_of ref_names here >>= λ _. ref_fields here
+
+unfoldable pub input_of : Reader InputText
+input_of here = if has_field (codes "lo") here then int_input here else ref_input here
+
+-- the number of an input that is item n of a list
+abbrev pub number_in : List ℕ → Option Located → Result ℕ JsonFault
+number_in place (Some there) = a_number there
+number_in place None = Err (WrongKind place)
+
+unfoldable pub nth_number : ℕ → Reader ℕ
+nth_number n here = number_in here.place (item_of n here)
+
+unfoldable pub both_numbers : Reader (ℕ × ℕ)
+both_numbers here = do
+  first ← nth_number 0 here
+  second ← nth_number 1 here
+  Ok (first, second)
+
+-- two numbers of inputs; a list of another length is of the wrong kind
+unfoldable pub pair_of : Reader (ℕ × ℕ)
+pair_of here = items_of here >>= λ count. if count == 2 then both_numbers here else Err (WrongKind here.place)
