@@ -3,7 +3,7 @@
 
 usage: class_world.py [PROGRAM]
 
-PROGRAM is the built `vector_tables`: it reads the classes, links them, closes the entry and prints the reached methods.
+PROGRAM is the built `link_tables`: it reads the classes, links them, closes the entry and prints the reached methods.
 The time of an empty input is taken off. The shapes:
 
 chain     so many classes in one chain, each of which overrides the method that the entry calls
@@ -86,7 +86,7 @@ def link_case(shape, count):
     """A shape of that size, with the answer's number of reached methods."""
     name, files, reached = shape(count)
     words = [shape.__name__, count, sum(len(data) for data in files)]
-    fields = ['link-50', name, 'f', '()V'] + [data.hex() for data in files]
+    fields = ['link-52', name, 'f', '()V'] + [data.hex() for data in files]
     return words, fields, lambda answer: answer.startswith(b'OK ') and answer.count(b' ') == reached
 
 
@@ -97,4 +97,4 @@ def cases():
 
 
 if __name__ == '__main__':
-    print_times(__doc__, ['shape', 'size', 'bytes'], cases())
+    print_times(__doc__, ['shape', 'size', 'bytes'], cases(), 'link_tables')

@@ -59,7 +59,7 @@ def print_row(words):
     print(''.join('%-11s' % word for word in words).rstrip(), flush=True)
 
 
-def print_times(usage, heading, cases, name='vector_tables', memory=False):
+def print_times(usage, heading, cases, name, memory=False):
     """A line for each case: its words, and the milliseconds of processor time that it takes beyond an empty input; with `memory`
     the most memory too that the program had at once, the input included.
 

@@ -10,6 +10,7 @@ use Rattle.class_read.specs.Content.{ClassContent, MethodContent}
 use Rattle.class_program.specs.declared.op.Op.{Op}
 use Rattle.class_program.specs.declared.op.Op.TheVariants.{Plain, Constant, Getstatic, Putstatic, Getfield, Putfield, Invokevirtual, Invokespecial, Invokestatic, Invokeinterface, New, Anewarray, Checkcast, Instanceof}
 use Rattle.class_program.specs.declared.program.Method.{Method}
+use Rattle.class_program.specs.declared.program.StaticField.{StaticField}
 use Rattle.class_program.specs.declared.selected.Selected.{Selected}
 use Rattle.class_program.specs.declared.selected.Selected.TheVariants as answers
 use Rattle.class_world.specs.declared.world.MethodRef.{MethodRef}
@@ -128,36 +129,36 @@ each_has world p (r ∷ rs) methods e h = go (each_has world p rs) (method_at wo
 
 -- ---- a call's number in it changes nothing that it runs
 
-runs_numbered : (world : World) (refs : List MethodRef) (op : Op) → runs world (op_numbered refs op) ≡ runs world op
+runs_numbered : (world : World) (refs : List MethodRef) (statics : List StaticField) (op : Op) → runs world (op_numbered refs statics op) ≡ runs world op
 unfolding runs
-runs_numbered world refs (Plain insn) = refl
-runs_numbered world refs (Constant value) = refl
-runs_numbered world refs (Getstatic place) = refl
-runs_numbered world refs (Putstatic place) = refl
-runs_numbered world refs (Getfield used) = refl
-runs_numbered world refs (Putfield used) = refl
-runs_numbered world refs (Invokevirtual call) = refl
-runs_numbered world refs (Invokespecial call) = refl
-runs_numbered world refs (Invokestatic call) = refl
-runs_numbered world refs (Invokeinterface call) = refl
-runs_numbered world refs (New t) = refl
-runs_numbered world refs (Anewarray t) = refl
-runs_numbered world refs (Checkcast t) = refl
-runs_numbered world refs (Instanceof t) = refl
+runs_numbered world refs statics (Plain insn) = refl
+runs_numbered world refs statics (Constant value) = refl
+runs_numbered world refs statics (Getstatic used) = refl
+runs_numbered world refs statics (Putstatic used) = refl
+runs_numbered world refs statics (Getfield used) = refl
+runs_numbered world refs statics (Putfield used) = refl
+runs_numbered world refs statics (Invokevirtual call) = refl
+runs_numbered world refs statics (Invokespecial call) = refl
+runs_numbered world refs statics (Invokestatic call) = refl
+runs_numbered world refs statics (Invokeinterface call) = refl
+runs_numbered world refs statics (New t) = refl
+runs_numbered world refs statics (Anewarray t) = refl
+runs_numbered world refs statics (Checkcast t) = refl
+runs_numbered world refs statics (Instanceof t) = refl
 
-insns_run : (world : World) (refs : List MethodRef) (insns : List (ℕ × Op)) → flat_map (λ x. runs world x.1) (insns_numbered refs insns) ≡ flat_map (λ x. runs world x.1) insns
-insns_run world refs [] = refl
-insns_run world refs (x ∷ xs) = ap (λ ys. ys ++ flat_map (λ y. runs world y.1) (insns_numbered refs xs)) (runs_numbered world refs x.1) ∙ ap (λ ys. runs world x.1 ++ ys) (insns_run world refs xs)
+insns_run : (world : World) (refs : List MethodRef) (statics : List StaticField) (insns : List (ℕ × Op)) → flat_map (λ x. runs world x.1) (insns_numbered refs statics insns) ≡ flat_map (λ x. runs world x.1) insns
+insns_run world refs statics [] = refl
+insns_run world refs statics (x ∷ xs) = ap (λ ys. ys ++ flat_map (λ y. runs world y.1) (insns_numbered refs statics xs)) (runs_numbered world refs statics x.1) ∙ ap (λ ys. runs world x.1 ++ ys) (insns_run world refs statics xs)
 
-method_runs : (world : World) (refs : List MethodRef) (m : Method) → runs_in world (method_numbered refs m) ≡ runs_in world m
+method_runs : (world : World) (refs : List MethodRef) (statics : List StaticField) (m : Method) → runs_in world (method_numbered refs statics m) ≡ runs_in world m
 unfolding runs_in
-method_runs world refs m = insns_run world refs m.insns
+method_runs world refs statics m = insns_run world refs statics m.insns
 
-pub numbered_closed : (world : World) (refs : List MethodRef) (methods : List Method) → is_closed world refs methods ≡ true → is_closed world refs (map (method_numbered refs) methods) ≡ true
-numbered_closed world refs [] e = refl
-numbered_closed world refs (m ∷ ms) e =
+pub numbered_closed : (world : World) (refs : List MethodRef) (statics : List StaticField) (methods : List Method) → is_closed world refs methods ≡ true → is_closed world refs (map (method_numbered refs statics) methods) ≡ true
+numbered_closed world refs statics [] e = refl
+numbered_closed world refs statics (m ∷ ms) e =
     let r = and_parts (has_runs world refs m) (is_closed world refs ms) e in
-    and_from _ _ (ap (list_all (has_method refs)) (method_runs world refs m) ∙ r.0) (numbered_closed world refs ms r.1)
+    and_from _ _ (ap (list_all (has_method refs)) (method_runs world refs statics m) ∙ r.0) (numbered_closed world refs statics ms r.1)
 
 -- the list that is made of what its methods run has all of it
 pub made_closed : (world : World) (entry : MethodRef) (refs : List MethodRef) (methods : List Method) → refs ≡ with_new (entry ∷ []) (flat_map (runs_from world) refs) → methods_of world refs ≡ Ok methods → is_closed world refs methods ≡ true
@@ -336,8 +337,8 @@ op_answered world refs (Invokeinterface call) class h r = go (method_at world ca
     go (Some m) k = interface_answered world refs call.class m class k r
 op_answered world refs (Plain insn) class h r = absurd (false≢true r)
 op_answered world refs (Constant value) class h r = absurd (false≢true r)
-op_answered world refs (Getstatic place) class h r = absurd (false≢true r)
-op_answered world refs (Putstatic place) class h r = absurd (false≢true r)
+op_answered world refs (Getstatic used) class h r = absurd (false≢true r)
+op_answered world refs (Putstatic used) class h r = absurd (false≢true r)
 op_answered world refs (Getfield used) class h r = absurd (false≢true r)
 op_answered world refs (Putfield used) class h r = absurd (false≢true r)
 op_answered world refs (Invokespecial call) class h r = absurd (false≢true r)
@@ -361,8 +362,8 @@ receives_within world (Invokevirtual call) class r = made_within world class (an
 receives_within world (Invokeinterface call) class r = made_within world class r
 receives_within world (Plain insn) class r = absurd (false≢true r)
 receives_within world (Constant value) class r = absurd (false≢true r)
-receives_within world (Getstatic place) class r = absurd (false≢true r)
-receives_within world (Putstatic place) class r = absurd (false≢true r)
+receives_within world (Getstatic used) class r = absurd (false≢true r)
+receives_within world (Putstatic used) class r = absurd (false≢true r)
 receives_within world (Getfield used) class r = absurd (false≢true r)
 receives_within world (Putfield used) class r = absurd (false≢true r)
 receives_within world (Invokespecial call) class r = absurd (false≢true r)
@@ -399,5 +400,5 @@ reach_closed world entry refs methods h e =
 pub never_none : (o r : Option Selected) (s : Selected) → r ≡ o → r ≡ None → (x : Selected) × (o ≡ Some x) → o ≡ Some s
 never_none o r s e f h = let w = h.1 in cc
 
-pub closed_from : (world : World) (refs : List MethodRef) (methods numbered : List Method) → numbered ≡ map (method_numbered refs) methods → is_closed world refs methods ≡ true → is_closed world refs numbered ≡ true
-closed_from world refs methods numbered e h = ap (is_closed world refs) e ∙ numbered_closed world refs methods h
+pub closed_from : (world : World) (refs : List MethodRef) (statics : List StaticField) (methods numbered : List Method) → numbered ≡ map (method_numbered refs statics) methods → is_closed world refs methods ≡ true → is_closed world refs numbered ≡ true
+closed_from world refs statics methods numbered e h = ap (is_closed world refs) e ∙ numbered_closed world refs statics methods h

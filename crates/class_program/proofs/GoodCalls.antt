@@ -5,6 +5,7 @@ use Rattle.std.specs.List.{list_any, list_all, position_or_len}
 use Rattle.std.specs.Option.{option_map, option_map_or, option_to_list, option_or}
 use Rattle.std.specs.Str.{bytes_eq}
 use Rattle.std.proofs.lemmas.Bool.{false≢true, and_parts, ltb-true}
+use Rattle.std.proofs.lemmas.Slice.Eq.{bytes_eq-Decides}
 use Rattle.class_read.specs.Content.{MethodContent}
 use Rattle.jvm_values.specs.declared.types.Slot.{Slot}
 use Rattle.jvm_values.specs.declared.types.Ty.{Ty}
@@ -116,38 +117,58 @@ start_above world linked current class ref e = go (super_of world current) refl 
     go None q f = inl f
     go (Some super) q f = by (list_any (λ c. eqb c class) (line_of world super)) super q f
 
--- what look-up for a call finds
-abbrev IsSought : World → ℕ → ℕ → List ℕ → MethodRef → Type 0
-IsSought world current class desc ref = (m : MethodContent) × (method_at world ref ≡ Some m) × (m.desc ≡ desc) × IsAbove world current class ref
+-- a constructor that `invokespecial` finds is one of the named class
+abbrev pub IsOwn : CallForm → List ℕ → ℕ → MethodRef → Type 0
+IsOwn calls.Special name class ref = bytes_eq name constructor_name ≡ true → ref.class ≡ class
+IsOwn form name class ref = Unit {0}
 
-special_found : (world : World) → is_linked world ≡ true → (current class : ℕ) (name desc : List ℕ) (ref : MethodRef) → special_sought world current class name desc ≡ Some ref → IsSought world current class desc ref
+-- what look-up for a call finds
+record IsSought (world : World) (current : ℕ) (form : CallForm) (class : ℕ) (name desc : List ℕ) (ref : MethodRef) : Type 0 where
+  pub method : MethodContent
+  pub there : method_at world ref ≡ Some method
+  pub name_is : method.name ≡ name
+  pub desc_is : method.desc ≡ desc
+  pub above : IsAbove world current class ref
+  pub own : IsOwn form name class ref
+
+special_found : (world : World) → is_linked world ≡ true → (current class : ℕ) (name desc : List ℕ) (ref : MethodRef) → special_sought world current class name desc ≡ Some ref → IsSought world current calls.Special class name desc ref
 unfolding special_sought
-special_found world linked current class name desc ref e = go (bytes_eq name constructor_name) e
+special_found world linked current class name desc ref e = go (bytes_eq name constructor_name) refl e
   where
-    made : (o : Option ℕ) → declared_method world class constructor_name desc ≡ o → option_map (λ i. record { class = class; index = i }) o ≡ Some ref → IsSought world current class desc ref
-    made None q f = cc
-    made (Some i) q f =
+    Sought : MethodRef → Type 0
+    Sought r = IsSought world current calls.Special class name desc r
+
+    made : bytes_eq name constructor_name ≡ true → (o : Option ℕ) → declared_method world class constructor_name desc ≡ o → option_map (λ i. record { class = class; index = i }) o ≡ Some ref → Sought ref
+    made n None q f = cc
+    made n (Some i) q f =
         let same : method_ref (class, i) ≡ ref = cc in
         let there = declared_named world class constructor_name desc i q in
-        subst (IsSought world current class desc) same (there.0, there.1, there.3, inl (itself world linked class class refl))
+        subst Sought same (record { method = there.0; there = there.1; name_is = there.2 ∙ sym ((bytes_eq-Decides name constructor_name).0 n); desc_is = there.3; above = inl (itself world linked class class refl); own = λ _. refl })
 
-    go : (b : Bool) → cond b (constructor_of world class desc) (resolve_method world (special_start world current class) name desc) ≡ Some ref → IsSought world current class desc ref
-    go true f = made (declared_method world class constructor_name desc) refl f
-    go false f =
+    go : (b : Bool) → bytes_eq name constructor_name ≡ b → cond b (constructor_of world class desc) (resolve_method world (special_start world current class) name desc) ≡ Some ref → Sought ref
+    go true n f = made n (declared_method world class constructor_name desc) refl f
+    go false n f =
         let there = resolved_there world (special_start world current class) name desc ref f in
-        (there.0, there.1, there.3, start_above world linked current class ref (method_below world linked (special_start world current class) name desc ref f))
+        record {
+          method = there.0;
+          there = there.1;
+          name_is = there.2;
+          desc_is = there.3;
+          above = start_above world linked current class ref (method_below world linked (special_start world current class) name desc ref f);
+          own = λ c. absurd (false≢true (sym n ∙ c));
+        }
 
-plain_found : (world : World) → is_linked world ≡ true → (current class : ℕ) (name desc : List ℕ) (ref : MethodRef) → resolve_method world class name desc ≡ Some ref → IsSought world current class desc ref
-plain_found world linked current class name desc ref e =
+plain_found : (world : World) → is_linked world ≡ true → (current : ℕ) (form : CallForm) (class : ℕ) (name desc : List ℕ) (ref : MethodRef) → IsOwn form name class ref → resolve_method world class name desc ≡ Some ref → IsSought world current form class name desc ref
+plain_found world linked current form class name desc ref own e =
     let there = resolved_there world class name desc ref e in
-    (there.0, there.1, there.3, inl (method_below world linked class name desc ref e))
+    record { method = there.0; there = there.1; name_is = there.2; desc_is = there.3; above = inl (method_below world linked class name desc ref e); own = own }
 
-sought_found : (world : World) → is_linked world ≡ true → (current : ℕ) (form : CallForm) (class : ℕ) (name desc : List ℕ) (ref : MethodRef) → method_sought world current form class name desc ≡ Some ref → IsSought world current class desc ref
+sought_found : (world : World) → is_linked world ≡ true → (current : ℕ) (form : CallForm) (class : ℕ) (name desc : List ℕ) (ref : MethodRef) → method_sought world current form class name desc ≡ Some ref → IsSought world current form class name desc ref
 unfolding method_sought
 sought_found world linked current calls.Special class name desc ref e = special_found world linked current class name desc ref e
-sought_found world linked current calls.Virtual class name desc ref e = plain_found world linked current class name desc ref e
-sought_found world linked current calls.Static class name desc ref e = plain_found world linked current class name desc ref e
-sought_found world linked current calls.Interface class name desc ref e = plain_found world linked current class name desc ref e
+sought_found world linked current calls.Virtual class name desc ref e = plain_found world linked current calls.Virtual class name desc ref tt e
+sought_found world linked current calls.Static class name desc ref e = plain_found world linked current calls.Static class name desc ref tt e
+sought_found world linked current calls.Interface class name desc ref e = plain_found world linked current calls.Interface class name desc ref tt e
 
 -- what is known of a call before its method has a number
 pub record IsNamedCall (world : World) (current : ℕ) (form : CallForm) (call : Call) : Type 0 where
@@ -156,6 +177,15 @@ pub record IsNamedCall (world : World) (current : ℕ) (form : CallForm) (call :
   pub means : signature_of world good.method.desc ≡ Ok (record { params = call.params; result = call.result })
   pub fit : method_fit world form call.method.class good.method ≡ Ok tt
   pub above : IsAbove world current call.class call.method
+  pub class_fits : is_fit_class world form call.class ≡ true
+  pub own : IsOwn form good.method.name call.class call.method
+
+same_method_at : (a b : MethodContent) (o : Option MethodContent) → o ≡ Some a → o ≡ Some b → a ≡ b
+same_method_at a b o p q = cc
+
+not_is : (b : Bool) → not b ≡ true → b ≡ false
+not_is true e = absurd (false≢true e)
+not_is false e = refl
 
 call_named : (world : World) → is_linked world ≡ true → (current : ℕ) (form : CallForm) (m : Member) (class : ℕ) (s : Signature) (ref : MethodRef) → class < length world → signature_of world m.desc ≡ Ok s → method_called world current form class m.name m.desc ≡ Ok ref → IsNamedCall world current form (record { class = class; method = ref; params = s.params; result = s.result; target = None })
 unfolding method_called found_fit
@@ -165,20 +195,24 @@ call_named world linked current form m class s ref l means e =
     let method = got (wanted (method_at world found.0)) _ ref found.2 in
     let fit = got (method_fit world form found.0.class method.0) _ ref method.2 in
     let same : found.0 ≡ ref = cc in
-    by found.0 same method.0 (got_wanted (method_at world found.0) method.0 method.1) fit.1 (sought_found world linked current form class m.name m.desc found.0 (got_wanted (method_sought world current form class m.name m.desc) found.0 found.1))
+    let fits = and_parts (may_call form m.name) (is_fit_class world form class) (got_required (may_call form m.name && is_fit_class world form class) may.0 may.1) in
+    by found.0 same method.0 (got_wanted (method_at world found.0) method.0 method.1) fit.1 fits.1 (sought_found world linked current form class m.name m.desc found.0 (got_wanted (method_sought world current form class m.name m.desc) found.0 found.1))
   where
-    by : (r : MethodRef) → r ≡ ref → (method : MethodContent) → method_at world r ≡ Some method → method_fit world form r.class method ≡ Ok tt → IsSought world current class m.desc r → IsNamedCall world current form (record { class = class; method = ref; params = s.params; result = s.result; target = None })
-    by r same method at fit sought =
-        let content : sought.0 ≡ method = cc in
-        let desc : m.desc ≡ method.desc = sym sought.2 ∙ ap (λ (x : MethodContent). x.desc) content in
+    by : (r : MethodRef) → r ≡ ref → (method : MethodContent) → method_at world r ≡ Some method → method_fit world form r.class method ≡ Ok tt → is_fit_class world form class ≡ true → IsSought world current form class m.name m.desc r → IsNamedCall world current form (record { class = class; method = ref; params = s.params; result = s.result; target = None })
+    by r same method at fit fits sought =
+        let content : sought.method ≡ method = same_method_at sought.method method (method_at world r) sought.there at in
+        let desc : m.desc ≡ method.desc = sym sought.desc_is ∙ ap (λ (x : MethodContent). x.desc) content in
+        let name : m.name ≡ method.name = sym sought.name_is ∙ ap (λ (x : MethodContent). x.name) content in
         let signature = (named_signature world m.desc s means).3 in
-        let above : IsAbove world current class ref = subst (IsAbove world current class) same sought.3 in
+        let above : IsAbove world current class ref = subst (IsAbove world current class) same sought.above in
         record {
           good = record { class = l; method = method; there = subst (λ (x : MethodRef). method_at world x ≡ Some method) same at; params = signature.params; result = signature.result };
           none = refl;
           means = ap (signature_of world) (sym desc) ∙ means;
           fit = subst (λ (x : MethodRef). method_fit world form x.class method ≡ Ok tt) same fit;
           above = above;
+          class_fits = fits;
+          own = subst (λ (n : List ℕ). IsOwn form n class ref) name (subst (IsOwn form m.name class) same sought.own);
         }
 
 pub called : (world : World) → is_linked world ≡ true → (current : ℕ) (form : CallForm) (m : Member) (call : Call) → call_of world current form m ≡ Ok call → IsNamedCall world current form call
@@ -302,6 +336,7 @@ module _ (p : Program) (typed : AllOf (IsTyped p.world) p.methods) where
       let good : IsGoodCall p.world (numbered (refs_of p.methods) call) = record { class = n.good.class; method = n.good.method; there = n.good.there; params = n.good.params; result = n.good.result } in
       record {
         good = good;
+        class = not_is (is_interface_class p.world call.class) n.class_fits;
         number = number;
         target = target;
         takes = takes_at p.world p.methods typed call.method n.good.method (numbered (refs_of p.methods) call) number [] n.good.there n.means (without call.method.class n.good.method.flags call.params fit.0) target;
@@ -340,7 +375,7 @@ module _ (p : Program) (typed : AllOf (IsTyped p.world) p.methods) where
   unfolding runs method_fit
   special_good b current call n h =
       let good : IsGoodCall p.world (numbered (refs_of p.methods) call) = record { class = n.good.class; method = n.good.method; there = n.good.there; params = n.good.params; result = n.good.result } in
-      record { good = good; above = n.above; runs = by (is_abstract n.good.method.flags) refl }
+      record { good = good; class = not_is (is_interface_class p.world call.class) n.class_fits; constructor = n.own; above = n.above; runs = by (is_abstract n.good.method.flags) refl }
     where
       refs : List MethodRef
       refs = refs_of p.methods
@@ -403,6 +438,7 @@ module _ (p : Program) (typed : AllOf (IsTyped p.world) p.methods) where
   unfolding selection_at
   virtual_good linked current call n h = record {
     good = n.good;
+    class = not_is (is_interface_class p.world call.class) n.class_fits;
     none = n.none;
     answers = λ class r.
         let a = op_answered p.world (refs_of p.methods) (Invokevirtual call) class h r in
@@ -416,6 +452,7 @@ module _ (p : Program) (typed : AllOf (IsTyped p.world) p.methods) where
   unfolding selection_at
   interface_good linked current call n h = record {
     good = n.good;
+    class = n.class_fits;
     none = n.none;
     answers = λ class r.
         let a = op_answered p.world (refs_of p.methods) (Invokeinterface call) class h r in

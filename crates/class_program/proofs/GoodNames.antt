@@ -10,7 +10,8 @@ use Rattle.jvm_values.specs.declared.types.Slot.{Slot}
 use Rattle.jvm_values.specs.declared.types.Ty.{Ty}
 use Rattle.jvm_values.specs.Subtyping.{class_type, IsReference, IsSlot}
 use Rattle.class_world.specs.World.{World, is_interface_class}
-use Rattle.class_world.specs.Linking.{is_linked}
+use Rattle.class_world.specs.BuiltIns.{IsWorld}
+use Rattle.class_program.proofs.FieldClasses.{named_no_interface}
 use Rattle.class_world.specs.Types.{is_class_below}
 use Rattle.class_world.specs.Fields.{fields_of, can_be_made}
 use Rattle.class_world.specs.Descriptors.{slot_of}
@@ -32,18 +33,18 @@ use Rattle.class_world.proofs.Found.{field_below, itself}
 -- ---- fields
 
 -- what a field's look-up found, before it is asked for its kind
-found_good : (world : World) → is_linked world ≡ true → (class : ℕ) (name desc : List ℕ) (found : ℕ × ℕ) (used : FieldUse) → class < length world
+found_good : (world : World) → IsWorld world → (class : ℕ) (name desc : List ℕ) (found : ℕ × ℕ) (used : FieldUse) → class < length world
     → ((c : ℕ) → c < length world → (place : ℕ) (slot : Slot) → slice_get (fields_of world c) place ≡ Some slot → IsSlot (length world) slot)
     → resolve_field world class name desc ≡ Some found → field_found world class desc found ≡ Ok used → IsGoodField world used
 unfolding field_found
-found_good world linked class name desc found used l slots r e = go (is_none (slot_of world desc)) e
+found_good world known class name desc found used l slots r e = go (is_none (slot_of world desc)) e
   where
     placed : (o : Option (ℕ × Slot)) → field_place world found.0 found.1 ≡ o → is_interface_class world found.0 ≡ false → wanted (option_map (field_use class) o) ≡ Ok used → IsGoodField world used
     placed None q i f = cc
     placed (Some x) q i f =
         let same : field_use class x ≡ used = cc in
-        let right : (c : ℕ) → c < length world → is_class_below world c class ≡ true → slice_get (fields_of world c) x.0 ≡ Some x.1 = field_below world linked class found.0 found.1 x.0 name desc x.1 r i q in
-        subst (IsGoodField world) same (record { class = l; slot = slots class l x.0 x.1 (right class l (itself world linked class class refl)); right = right })
+        let right : (c : ℕ) → c < length world → is_class_below world c class ≡ true → slice_get (fields_of world c) x.0 ≡ Some x.1 = field_below world known.linked class found.0 found.1 x.0 name desc x.1 r i q in
+        subst (IsGoodField world) same (record { class = l; no_interface = named_no_interface world known class name desc found x r i q; slot = slots class l x.0 x.1 (right class l (itself world known.linked class class refl)); right = right })
 
     kind : (b : Bool) → is_interface_class world found.0 ≡ b → (required (not b) >>= λ _. wanted (option_map (field_use class) (field_place world found.0 found.1))) ≡ Ok used → IsGoodField world used
     kind true q f = cc
@@ -53,16 +54,16 @@ found_good world linked class name desc found used l slots r e = go (is_none (sl
     go true f = cc
     go false f = kind (is_interface_class world found.0) refl f
 
-pub field_good : (world : World) → is_linked world ≡ true → (m : Member) (used : FieldUse)
+pub field_good : (world : World) → IsWorld world → (m : Member) (used : FieldUse)
     → ((c : ℕ) → c < length world → (place : ℕ) (slot : Slot) → slice_get (fields_of world c) place ≡ Some slot → IsSlot (length world) slot)
     → field_of world m ≡ Ok used → IsGoodField world used
 unfolding field_of
-field_good world linked m used slots e =
+field_good world known m used slots e =
     let t = got (type_named world m.class) _ used e in
     let class = got (class_number t.0) _ used t.2 in
     let found = got (wanted (resolve_field world class.0 m.name m.desc)) _ used class.2 in
     let named = numbered_class (length world) t.0 class.0 (named_type world m.class t.0 t.1) class.1 in
-    found_good world linked class.0 m.name m.desc found.0 used named.1 slots (got_wanted (resolve_field world class.0 m.name m.desc) found.0 found.1) found.2
+    found_good world known class.0 m.name m.desc found.0 used named.1 slots (got_wanted (resolve_field world class.0 m.name m.desc) found.0 found.1) found.2
 
 -- ---- classes
 

@@ -1,6 +1,6 @@
 -- Every instruction of a method of a closed program is good.
 use Rattle.std.proofs.Common.{◌≡◌, ℕ, zero, suc, ◌<◌, ◌≤◌, Bool, true, false, not, cond, List, [], ◌∷◌, length, get_or, Option, Some, None, Ok, Err, refl, sym, ap, subst, arith, ◌∙◌}
-use Rattle.std.specs.Prelude.{Result, ℤ, slice_get, is_none, IsTrue, All}
+use Rattle.std.specs.Prelude.{Result, ℤ, slice_get, is_none, IfSome, IsTrue, All}
 use Rattle.std.specs.List.{list_all}
 use Rattle.std.specs.Option.{option_map, is_some}
 use Rattle.std.proofs.lemmas.Option.{slice_get_within}
@@ -11,7 +11,7 @@ use Rattle.jvm_values.specs.declared.types.Ty.{Ty}
 use Rattle.jvm_values.specs.declared.types.Kind.{Kind}
 use Rattle.jvm_values.specs.Subtyping.{IsReference, IsSlot, class_type}
 use Rattle.class_world.specs.World.{World}
-use Rattle.class_world.specs.Linking.{is_linked}
+use Rattle.class_world.specs.BuiltIns.{IsWorld}
 use Rattle.class_world.specs.Fields.{fields_of}
 use Rattle.class_world.specs.Resolve.{has_body}
 use Rattle.class_world.specs.SlotLaws.{fields_are}
@@ -21,17 +21,22 @@ use Rattle.class_program.specs.declared.operand.FieldForm.{FieldForm}
 use Rattle.class_program.specs.declared.operand.FieldForm.TheVariants as fields
 use Rattle.class_program.specs.declared.operand.ClassForm.{ClassForm}
 use Rattle.class_program.specs.declared.operand.ClassForm.TheVariants as classes
+use Rattle.class_program.specs.declared.operand.StaticForm.{StaticForm}
+use Rattle.class_program.specs.declared.operand.StaticForm.TheVariants as statics
 use Rattle.class_program.specs.declared.operand.CallForm.{CallForm}
 use Rattle.class_program.specs.declared.operand.CallForm.TheVariants as calls
 use Rattle.class_program.specs.declared.op.Op.{Op}
 use Rattle.class_program.specs.declared.op.Op.TheVariants.{Plain, Constant, Getfield, Putfield, Invokevirtual, Invokespecial, Invokestatic, Invokeinterface, New, Anewarray, Checkcast, Instanceof}
 use Rattle.class_program.specs.declared.op.Call.{Call}
 use Rattle.class_program.specs.declared.op.FieldUse.{FieldUse}
+use Rattle.class_program.specs.declared.op.StaticUse.{StaticUse}
 use Rattle.class_program.specs.declared.program.Method.{Method}
 use Rattle.class_program.specs.Operands.{operand_of}
 use Rattle.class_program.specs.Refusals.{◌>>=◌}
-use Rattle.class_program.specs.Ops.{class_op, class_number, new_of, field_op, call_op}
+use Rattle.class_program.specs.Ops.{class_op, class_number, new_of, field_op, static_op, call_op}
 use Rattle.class_program.specs.Runs.{runs}
+use Rattle.class_program.specs.Statics.{has_field, field_named, fields_named, statics_of}
+use Rattle.class_program.proofs.GoodStatics.{IsDeclaredField, field_declared, static_found}
 use Rattle.class_program.specs.Reached.{has_method, op_numbered}
 use Rattle.class_program.specs.Programs.{Program, refs_of}
 use Rattle.jvm_values.specs.Kinds.{kind_of_code}
@@ -67,18 +72,22 @@ slots_good world c l place slot e =
     at (x ∷ xs) zero s q = cc
     at (x ∷ xs) (suc i) s q = at xs i s q
 
-module _ (p : Program) (linked : is_linked p.world ≡ true) (bodies : list_all (has_body p.world) (refs_of p.methods) ≡ true) (typed : AllOf (IsTyped p.world) p.methods) (m : Method) where
-  abbrev pub Runs : Op → Type 0
-  Runs op = list_all (has_method (refs_of p.methods)) (runs p.world (op_numbered (refs_of p.methods) op)) ≡ true
+-- what an instruction runs is among the methods, and the static field that it names among those that they name
+abbrev pub IsInside : Program → Op → Type 0
+IsInside p op = (list_all (has_method (refs_of p.methods)) (runs p.world op) ≡ true) × IfSome (field_named op) (λ f. has_field (fields_named p.methods) f ≡ true)
+
+module _ (p : Program) (known : IsWorld p.world) (bodies : list_all (has_body p.world) (refs_of p.methods) ≡ true) (typed : AllOf (IsTyped p.world) p.methods) (kept : p.statics ≡ statics_of p.world (fields_named p.methods)) (m : Method) where
+  abbrev pub Inside : Op → Type 0
+  Inside op = IsInside p (op_numbered (refs_of p.methods) p.statics op)
 
   abbrev pub Good : Op → Type 0
-  Good op = IsGoodOp p m (op_numbered (refs_of p.methods) op)
+  Good op = IsGoodOp p m (op_numbered (refs_of p.methods) p.statics op)
 
-  call_ops : (form : CallForm) (call : Call) → IsNamedCall p.world m.class form call → Runs (call_op form call) → Good (call_op form call)
-  call_ops calls.Virtual call n h = record { named = virtual_good p typed linked m.class call n h; leads = tt }
-  call_ops calls.Special call n h = record { named = special_good p typed bodies m.class call n h; leads = tt }
-  call_ops calls.Static call n h = record { named = static_good p typed m.class call n h; leads = tt }
-  call_ops calls.Interface call n h = record { named = interface_good p typed linked m.class call n h; leads = tt }
+  call_ops : (form : CallForm) (call : Call) → IsNamedCall p.world m.class form call → Inside (call_op form call) → Good (call_op form call)
+  call_ops calls.Virtual call n h = record { named = virtual_good p typed known.linked m.class call n h.0; leads = tt }
+  call_ops calls.Special call n h = record { named = special_good p typed bodies m.class call n h.0; leads = tt }
+  call_ops calls.Static call n h = record { named = static_good p typed m.class call n h.0; leads = tt }
+  call_ops calls.Interface call n h = record { named = interface_good p typed known.linked m.class call n h.0; leads = tt }
 
   class_ops : (form : ClassForm) (t : Ty) (op : Op) → IsReference (length p.world) t → class_op p.world form t ≡ Ok op → Good op
   unfolding class_op
@@ -96,13 +105,17 @@ module _ (p : Program) (linked : is_linked p.world ≡ true) (bodies : list_all 
   field_ops fields.Getfield used h = record { named = h; leads = tt }
   field_ops fields.Putfield used h = record { named = h; leads = tt }
 
+  static_ops : (form : StaticForm) (used : StaticUse) → IsDeclaredField p.world used.field → Inside (static_op form used) → Good (static_op form used)
+  static_ops statics.Getstatic used d h = record { named = static_found p kept used d h.1; leads = tt }
+  static_ops statics.Putstatic used d h = record { named = static_found p kept used d h.1; leads = tt }
+
   -- an instruction whose names are resolved, with its call's number
-  pub op_good : (insn : Insn) (operand : Operand) (op : Op) → operand_of insn ≡ operand → Shape p.world m.class insn operand op → Runs op → AllOf (λ t. is_place m.insns t ≡ true) (targets insn) → Good op
+  pub op_good : (insn : Insn) (operand : Operand) (op : Op) → operand_of insn ≡ operand → Shape p.world m.class insn operand op → Inside op → AllOf (λ t. is_place m.insns t ≡ true) (targets insn) → Good op
   op_good insn operands.Nothing op e s h t = subst Good (sym s) (record { named = plain_good insn operands.Nothing e tt; leads = t })
   op_good insn (operands.Numbers code) op e s h t = subst Good (sym s.0) (record { named = plain_good insn (operands.Numbers code) e (array_kind code s.1); leads = t })
   op_good insn (operands.Constant entry) op e s h t = subst Good (sym s.1) (record { named = tt; leads = tt })
-  op_good insn operands.StaticField op e s h t = absurd s
-  op_good insn (operands.Field form entry) op e s h t = subst Good (sym s.3) (field_ops form s.1 (field_good p.world linked s.0 s.1 (slots_good p.world) s.2))
+  op_good insn (operands.Static form entry) op e s h t = subst Good (sym s.3) (static_ops form s.1 (field_declared p.world s.0 s.1 s.2) (subst Inside s.3 h))
+  op_good insn (operands.Field form entry) op e s h t = subst Good (sym s.3) (field_ops form s.1 (field_good p.world known s.0 s.1 (slots_good p.world) s.2))
   op_good insn (operands.Class form entry) op e s h t = class_ops form s.0 op s.1 s.2
   op_good insn (operands.Call form entry) op e s h t =
-      subst Good (sym s.3) (call_ops form s.1 (called p.world linked m.class form s.0 s.1 s.2) (subst Runs s.3 h))
+      subst Good (sym s.3) (call_ops form s.1 (called p.world known.linked m.class form s.0 s.1 s.2) (subst Inside s.3 h))

@@ -18,6 +18,7 @@ use Rattle.class_world.specs.declared.fault.LinkFault.TheVariants.{MissingClass}
 use Rattle.class_world.specs.declared.world.MethodRef.{MethodRef}
 use Rattle.class_world.specs.World.{World, class_of}
 use Rattle.class_world.specs.Linked.{class_of_within}
+use Rattle.class_program.specs.declared.program.StaticField.{StaticField}
 use Rattle.class_program.specs.declared.op.Op.{Op}
 use Rattle.class_program.specs.declared.program.CatchRange.{CatchRange}
 use Rattle.class_program.specs.Said.{Said, each}
@@ -55,9 +56,9 @@ ops_places world class name (x ∷ xs) ys e =
     let same : y.0 ∷ zs.0 ≡ ys = cc in
     sym (ap (λ (us : List (ℕ × Op)). places us) same) ∙ sym (ap (λ (v : ℕ × Op). v.0 ∷ places zs.0) place) ∙ ap (λ us. x.0 ∷ us) (ops_places world class name xs zs.0 zs.1)
 
-pub numbered_places : (refs : List MethodRef) (xs : List (ℕ × Op)) → places (insns_numbered refs xs) ≡ places xs
-numbered_places refs [] = refl
-numbered_places refs (x ∷ xs) = ap (λ us. x.0 ∷ us) (numbered_places refs xs)
+pub numbered_places : (refs : List MethodRef) (statics : List StaticField) (xs : List (ℕ × Op)) → places (insns_numbered refs statics xs) ≡ places xs
+numbered_places refs statics [] = refl
+numbered_places refs statics (x ∷ xs) = ap (λ us. x.0 ∷ us) (numbered_places refs statics xs)
 
 -- what stands among places that are the same
 pub stands_so : (insns : List (ℕ × Op)) (xs : List (ℕ × Insn)) (t : ℕ) → places insns ≡ places xs → stands (starts xs) t ≡ true → is_place insns t ≡ true

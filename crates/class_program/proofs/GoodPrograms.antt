@@ -13,24 +13,28 @@ use Rattle.jvm_values.specs.declared.types.Slot.{Slot}
 use Rattle.jvm_values.specs.Subtyping.{IsSlot}
 use Rattle.class_world.specs.declared.fault.MethodName.{MethodName}
 use Rattle.class_world.specs.declared.world.MethodRef.{MethodRef}
-use Rattle.class_world.specs.World.{World, is_static, is_abstract}
-use Rattle.class_world.specs.Linking.{is_linked}
+use Rattle.class_world.specs.World.{World, is_static, is_native, is_abstract}
+use Rattle.class_world.specs.BuiltIns.{IsWorld}
 use Rattle.class_world.specs.Descriptors.{class_slot}
 use Rattle.class_world.specs.Resolve.{method_at, has_body}
 use Rattle.class_program.specs.declared.op.Op.{Op}
 use Rattle.class_program.specs.declared.program.CatchRange.{CatchRange}
 use Rattle.class_program.specs.declared.program.Method.{Method}
+use Rattle.class_program.specs.declared.program.StaticField.{StaticField}
 use Rattle.class_program.specs.declared.signature.Signature.{Signature}
 use Rattle.class_program.specs.Operands.{operand_of}
 use Rattle.class_program.specs.Said.{Said, ◌>>=◌, each}
 use Rattle.class_program.specs.Signatures.{declared_signature}
 use Rattle.class_program.specs.Ops.{op_of, pool_of}
-use Rattle.class_program.specs.Methods.{method_name, own_types, insns_of, op_said, ops_of, catch_of, range_of, table_of, with_receiver, method_of}
+use Rattle.class_program.specs.Methods.{method_name, code_of, own_types, insns_of, op_said, ops_of, catch_of, range_of, table_of, with_receiver, method_of}
 use Rattle.class_program.specs.Runs.{runs}
+use Rattle.class_world.specs.declared.fault.LinkFault.TheVariants.{Native}
+use Rattle.class_program.specs.Statics.{has_field, field_named, fields_named, statics_of, statics_named}
+use Rattle.class_program.proofs.StaticLists.{numbered_names, statics_are}
 use Rattle.class_program.specs.Reached.{has_method, is_closed, with_new, runs_from, reached_within, method_count, reached, contents_of, methods_of, op_numbered, insns_numbered, method_numbered, close_of}
 use Rattle.class_program.specs.Instructions.{is_placed}
 use Rattle.class_program.specs.Programs.{Program, IsClosed, ref_of, refs_of}
-use Rattle.class_program.specs.Good.{AllOf, is_place, IsEnd, IsGoodOp, IsGoodRange, IsDeclared, IsGoodMethod, IsGood}
+use Rattle.class_program.specs.Good.{AllOf, is_place, IsEnd, IsGoodOp, IsGoodRange, IsDeclared, IsDeclaredStatic, IsGoodMethod, IsGood}
 use Rattle.class_program.proofs.Got.{got_faultless, some_same, all_imply, all_map, all_both, each_good}
 use Rattle.class_program.proofs.Rising.{bind_ok, insns_read, ops_placed, numbered_placed}
 use Rattle.class_program.proofs.Reaching.{Begins, with_new_begins}
@@ -41,18 +45,19 @@ use Rattle.class_program.proofs.GoodTypes.{IsGoodSignature, own_signature}
 use Rattle.class_program.proofs.GoodShapes.{Shape, op_shape}
 use Rattle.class_program.proofs.GoodPlaces.{places, ops_places, numbered_places, stands_so, targets_stand, code_below, IsBounded, table_bounded, catch_within}
 use Rattle.class_program.proofs.GoodCalls.{IsTyped}
-use Rattle.class_program.proofs.GoodOps.{op_good}
+use Rattle.class_program.proofs.GoodOps.{IsInside, op_good}
+use Rattle.class_program.proofs.GoodStatics.{names_named, statics_declared}
 
 -- ---- each method is what closing says of its declaration
 
 -- a method with its calls' numbers, and the same without them
-pub record IsMadeOf (world : World) (refs : List MethodRef) (m : Method) : Type 0 where
+pub record IsMadeOf (world : World) (refs : List MethodRef) (statics : List StaticField) (m : Method) : Type 0 where
   pub ref : MethodRef
   pub content : MethodContent
   pub there : method_at world ref ≡ Some content
   pub plain : Method
   pub made : IsMade world ref content plain
-  pub same : method_numbered refs plain ≡ m
+  pub same : method_numbered refs statics plain ≡ m
 
 abbrev AreThere : World → List (MethodRef × MethodContent) → Type 0
 AreThere world xs = AllOf (λ (x : MethodRef × MethodContent). method_at world x.0 ≡ Some x.1) xs
@@ -66,26 +71,36 @@ contents_there world (r ∷ rs) = go (method_at world r) refl (contents_there wo
     go None q rest = rest
     go (Some m) q rest = (q, rest)
 
-all_made : (world : World) (entry : MethodRef) (methods : List Method) → close_of world entry ≡ Ok methods → AllOf (IsMadeOf world (reached world entry)) methods
+record AreMade (world : World) (refs : List MethodRef) (methods : List Method) : Type 0 where
+  pub statics : List StaticField
+  pub statics_are : statics ≡ statics_of world (fields_named methods)
+  pub made : AllOf (IsMadeOf world refs statics) methods
+
+all_made : (world : World) (entry : MethodRef) (methods : List Method) → close_of world entry ≡ Ok methods → AreMade world (reached world entry) methods
 unfolding close_of methods_of
 all_made world entry methods e =
     let refs = reached world entry in
     let ms = bind_ok (each (λ x. method_of world x.0 x.1) (contents_of world refs)) _ methods e in
-    let same : map (method_numbered refs) ms.0 ≡ methods = cc in
-    let plain = each_good (λ (x : MethodRef × MethodContent). method_at world x.0 ≡ Some x.1) (λ r. IsMadeOf world refs (method_numbered refs r)) (λ x. method_of world x.0 x.1) (contents_of world refs) ms.0
+    let found = bind_ok (statics_named world ms.0) _ methods ms.2 in
+    let same : map (method_numbered refs found.0) ms.0 ≡ methods = cc in
+    let plain = each_good (λ (x : MethodRef × MethodContent). method_at world x.0 ≡ Some x.1) (λ r. IsMadeOf world refs found.0 (method_numbered refs found.0 r)) (λ x. method_of world x.0 x.1) (contents_of world refs) ms.0
     (λ x r at made. record { ref = x.0; content = x.1; there = at; plain = r; made = method_made world x.0 x.1 r made; same = refl })
     (contents_there world refs) ms.1 in
-    subst (λ (xs : List Method). AllOf (IsMadeOf world refs) xs) same (all_map (IsMadeOf world refs) (method_numbered refs) ms.0 plain)
+    record {
+      statics = found.0;
+      statics_are = statics_are world ms.0 found.0 found.1 ∙ ap (statics_of world) (sym (sym (ap fields_named same) ∙ numbered_names refs found.0 ms.0));
+      made = subst (λ (xs : List Method). AllOf (IsMadeOf world refs found.0) xs) same (all_map (IsMadeOf world refs found.0) (method_numbered refs found.0) ms.0 plain);
+    }
 
-made_class : (world : World) (refs : List MethodRef) (m : Method) (h : IsMadeOf world refs m) → ref_of m ≡ h.ref
-made_class world refs m h = sym (ap ref_of h.same) ∙ sym (ap ref_of h.made.whole)
+made_class : (world : World) (refs : List MethodRef) (statics : List StaticField) (m : Method) (h : IsMadeOf world refs statics m) → ref_of m ≡ h.ref
+made_class world refs statics m h = sym (ap ref_of h.same) ∙ sym (ap ref_of h.made.whole)
 
 own_types_are : (world : World) (name : MethodName) (desc : List ℕ) (s : Signature) → own_types world name desc ≡ Ok s → declared_signature world desc ≡ Ok s
 unfolding own_types
 own_types_are world name desc s e = got_faultless name 0 (declared_signature world desc) s e
 
-pub typed_of : (world : World) (refs : List MethodRef) (m : Method) → IsMadeOf world refs m → IsTyped world m
-typed_of world refs m h = subst (IsTyped world) h.same (record {
+pub typed_of : (world : World) (refs : List MethodRef) (statics : List StaticField) (m : Method) → IsMadeOf world refs statics m → IsTyped world m
+typed_of world refs statics m h = subst (IsTyped world) h.same (record {
   content = h.content;
   there = ap (method_at world) (sym (ap ref_of h.made.whole)) ∙ h.there;
   types = h.made.types;
@@ -152,14 +167,22 @@ all_run : (refs : List MethodRef) (world : World) (ms : List Method) → list_al
 all_run refs world [] e = tt
 all_run refs world (m ∷ ms) e = let r = and_parts (list_all (λ y. list_all (has_method refs) (runs world y.1)) m.insns) (list_all (λ x. list_all (λ y. list_all (has_method refs) (runs world y.1)) x.insns) ms) e in (run_there refs world m.insns r.0, all_run refs world ms r.1)
 
--- the same instructions with their calls' numbers
-good_insns : (p : Program) (m : Method) (all : List (ℕ × Insn)) (ops : List (ℕ × Op)) → is_linked p.world ≡ true → list_all (has_body p.world) (refs_of p.methods) ≡ true → AllOf (IsTyped p.world) p.methods → places m.insns ≡ places all
-    → AllOf (λ y. IsSaid p.world m.class all y.1) ops → AllOf (λ y. list_all (has_method (refs_of p.methods)) (runs p.world y.1) ≡ true) (insns_numbered (refs_of p.methods) ops) → AllOf (λ y. IsGoodOp p m y.1) (insns_numbered (refs_of p.methods) ops)
-good_insns p m all [] linked bodies typed same said run = tt
-good_insns p m all (y ∷ ys) linked bodies typed same said run =
+insns_inside : (p : Program) (xs : List (ℕ × Op)) → AllOf (λ y. list_all (has_method (refs_of p.methods)) (runs p.world y.1) ≡ true) xs → AllOf (λ y. IfSome (field_named y.1) (λ f. has_field (fields_named p.methods) f ≡ true)) xs → AllOf (λ y. IsInside p y.1) xs
+insns_inside p [] run named = tt
+insns_inside p (x ∷ xs) run named = ((run.0, named.0), insns_inside p xs run.1 named.1)
+
+all_inside : (p : Program) (ms : List Method) → AllOf (λ m. AllOf (λ y. list_all (has_method (refs_of p.methods)) (runs p.world y.1) ≡ true) m.insns) ms → AllOf (λ m. AllOf (λ y. IfSome (field_named y.1) (λ f. has_field (fields_named p.methods) f ≡ true)) m.insns) ms → AllOf (λ m. AllOf (λ y. IsInside p y.1) m.insns) ms
+all_inside p [] run named = tt
+all_inside p (m ∷ ms) run named = (insns_inside p m.insns run.0 named.0, all_inside p ms run.1 named.1)
+
+-- the same instructions with their calls' numbers and their static fields' places
+good_insns : (p : Program) (m : Method) (all : List (ℕ × Insn)) (ops : List (ℕ × Op)) → IsWorld p.world → list_all (has_body p.world) (refs_of p.methods) ≡ true → AllOf (IsTyped p.world) p.methods → p.statics ≡ statics_of p.world (fields_named p.methods) → places m.insns ≡ places all
+    → AllOf (λ y. IsSaid p.world m.class all y.1) ops → AllOf (λ y. IsInside p y.1) (insns_numbered (refs_of p.methods) p.statics ops) → AllOf (λ y. IsGoodOp p m y.1) (insns_numbered (refs_of p.methods) p.statics ops)
+good_insns p m all [] known bodies typed kept same said run = tt
+good_insns p m all (y ∷ ys) known bodies typed kept same said run =
     let s = said.0 in (
-      op_good p linked bodies typed m s.insn (operand_of s.insn) y.1 refl s.shape run.0 (all_imply (λ t. stands (starts all) t ≡ true) (λ t. is_place m.insns t ≡ true) (targets s.insn) (λ t q. stands_so m.insns all t same q) s.leads),
-      good_insns p m all ys linked bodies typed same said.1 run.1,
+      op_good p known bodies typed kept m s.insn (operand_of s.insn) y.1 refl s.shape run.0 (all_imply (λ t. stands (starts all) t ≡ true) (λ t. is_place m.insns t ≡ true) (targets s.insn) (λ t q. stands_so m.insns all t same q) s.leads),
+      good_insns p m all ys known bodies typed kept same said.1 run.1,
     )
 
 slots_with : (world : World) (class flags : ℕ) (params : List Slot) → class < length world → AllOf (IsSlot (length world)) params → AllOf (IsSlot (length world)) (with_receiver class flags params)
@@ -189,18 +212,28 @@ entry_first world entry = go (method_count world)
     go zero = ([], refl)
     go (suc n) = let b = with_new_begins (entry ∷ []) (flat_map (runs_from world) (reached_within world entry n)) in (b.0, b.1)
 
+-- the code of a method that has one
+code_there : (name : MethodName) (m : MethodContent) (code : CodeContent) → code_of name m ≡ Ok code → m.code ≡ Some code
+unfolding code_of
+code_there name m code e = go (is_native m.flags) m.code e
+  where
+    go : (b : Bool) (o : Option CodeContent) → cond b (Err (Native name)) (option_map_or Ok o (Err (Native name))) ≡ Ok code → o ≡ Some code
+    go true o f = cc
+    go false None f = cc
+    go false (Some c) f = cc
+
 -- a method with its calls' numbers
-good_method : (p : Program) → is_linked p.world ≡ true → list_all (has_body p.world) (refs_of p.methods) ≡ true → AllOf (IsTyped p.world) p.methods → (ref : MethodRef) (content : MethodContent) (r : Method) → method_at p.world ref ≡ Some content → IsMade p.world ref content r → has_body p.world ref ≡ true
-    → AllOf (λ y. list_all (has_method (refs_of p.methods)) (runs p.world y.1) ≡ true) (insns_numbered (refs_of p.methods) r.insns) → IsGoodMethod p (method_numbered (refs_of p.methods) r)
-good_method p linked bodies typed ref content r at made body run =
+good_method : (p : Program) → IsWorld p.world → list_all (has_body p.world) (refs_of p.methods) ≡ true → AllOf (IsTyped p.world) p.methods → p.statics ≡ statics_of p.world (fields_named p.methods) → (ref : MethodRef) (content : MethodContent) (r : Method) → method_at p.world ref ≡ Some content → IsMade p.world ref content r → has_body p.world ref ≡ true
+    → AllOf (λ y. IsInside p y.1) (insns_numbered (refs_of p.methods) p.statics r.insns) → IsGoodMethod p (method_numbered (refs_of p.methods) p.statics r)
+good_method p known bodies typed kept ref content r at made body run =
     let refs = refs_of p.methods in
     let name = method_name p.world ref.class content in
-    let m = method_numbered refs r in
+    let m = method_numbered refs p.statics r in
     let within = at_within p.world ref content at in
     let class : ref.class ≡ m.class = ap (λ (x : Method). x.class) made.whole in
     let ops : made.ops ≡ r.insns = ap (λ (x : Method). x.insns) made.whole in
     let read = insns_read name made.code made.insns made.insns_are in
-    let same : places m.insns ≡ places made.insns = numbered_places refs r.insns ∙ sym (ap (λ (xs : List (ℕ × Op)). places xs) ops) ∙ ops_places p.world ref.class name made.insns made.ops made.ops_are in
+    let same : places m.insns ≡ places made.insns = numbered_places refs p.statics r.insns ∙ sym (ap (λ (xs : List (ℕ × Op)). places xs) ops) ∙ ops_places p.world ref.class name made.insns made.ops made.ops_are in
     let signature = (own_signature p.world content.desc made.types (own_types_are p.world name content.desc made.types made.types_are)).3 in
     let said = subst (λ (c : ℕ). AllOf (λ y. IsSaid p.world c made.insns y.1) made.ops) class (ops_said p.world ref.class name made.code made.insns made.ops made.insns_are made.ops_are) in
     let params : with_receiver ref.class content.flags made.types.params ≡ m.params = ap (λ (x : Method). x.params) made.whole in
@@ -212,36 +245,45 @@ good_method p linked bodies typed ref content r at made body run =
         content = content;
         there = ap (method_at p.world) (sym (ap ref_of made.whole)) ∙ at;
         body = bodied_is p.world ref content at body;
+        code = made.code;
+        code_is = code_there name content made.code made.code_is;
+        max_stack = sym (ap (λ (x : Method). x.max_stack) made.whole);
+        max_locals = sym (ap (λ (x : Method). x.max_locals) made.whole);
+        types = made.types.params;
+        params = sym (ap (λ (x : Method). x.params) made.whole) ∙ ap (λ (c : ℕ). with_receiver c content.flags made.types.params) class;
         name = sym (ap (λ (x : Method). x.name) made.whole);
         desc = sym (ap (λ (x : Method). x.desc) made.whole);
       };
       params = subst (λ (xs : List Slot). AllOf (IsSlot (length p.world)) xs) params (slots_with p.world ref.class content.flags made.types.params within signature.params);
       result = subst (λ (o : Option Slot). IfSome o (IsSlot (length p.world))) result signature.result;
-      placed = numbered_placed refs r.insns ∙ sym (ap (λ (xs : List (ℕ × Op)). is_placed xs) ops) ∙ ops_placed p.world ref.class name made.code made.insns made.ops made.insns_are made.ops_are;
-      insns = good_insns p m made.insns r.insns linked bodies typed same (subst (λ (xs : List (ℕ × Op)). AllOf (λ y. IsSaid p.world m.class made.insns y.1) xs) ops said) run;
+      placed = numbered_placed refs p.statics r.insns ∙ sym (ap (λ (xs : List (ℕ × Op)). is_placed xs) ops) ∙ ops_placed p.world ref.class name made.code made.insns made.ops made.insns_are made.ops_are;
+      insns = good_insns p m made.insns r.insns known bodies typed kept same (subst (λ (xs : List (ℕ × Op)). AllOf (λ y. IsSaid p.world m.class made.insns y.1) xs) ops said) run;
       table = subst (λ (xs : List CatchRange). AllOf (IsGoodRange p.world m) xs) table (good_table p.world (pool_of p.world ref.class) m made.code made.insns made.table same (below_by (length made.code.code) made.insns m.insns same (code_below made.code.code made.insns read.0)) (table_bounded made.code made.insns read.1) made.table_is);
     }
 
 -- ---- the program
 
-good_all : (p : Program) → is_linked p.world ≡ true → list_all (has_body p.world) (refs_of p.methods) ≡ true → AllOf (IsTyped p.world) p.methods → (refs : List MethodRef) → refs ≡ refs_of p.methods → (ms : List Method) → AllOf (IsMadeOf p.world refs) ms → AllOf (λ m. has_body p.world (ref_of m) ≡ true) ms → AllOf (λ m. AllOf (λ y. list_all (has_method (refs_of p.methods)) (runs p.world y.1) ≡ true) m.insns) ms → AllOf (IsGoodMethod p) ms
-good_all p linked bodies typed refs e [] made body run = tt
-good_all p linked bodies typed refs e (m ∷ ms) made body run =
+good_all : (p : Program) → IsWorld p.world → list_all (has_body p.world) (refs_of p.methods) ≡ true → AllOf (IsTyped p.world) p.methods → p.statics ≡ statics_of p.world (fields_named p.methods) → (refs : List MethodRef) → refs ≡ refs_of p.methods → (ms : List Method) → AllOf (IsMadeOf p.world refs p.statics) ms → AllOf (λ m. has_body p.world (ref_of m) ≡ true) ms → AllOf (λ m. AllOf (λ y. IsInside p y.1) m.insns) ms → AllOf (IsGoodMethod p) ms
+good_all p known bodies typed kept refs e [] made body run = tt
+good_all p known bodies typed kept refs e (m ∷ ms) made body run =
     let h = made.0 in
-    let same : method_numbered (refs_of p.methods) h.plain ≡ m = ap (λ (xs : List MethodRef). method_numbered xs h.plain) (sym e) ∙ h.same in
-    let own : ref_of m ≡ h.ref = made_class p.world refs m h in (
-      subst (IsGoodMethod p) same (good_method p linked bodies typed h.ref h.content h.plain h.there h.made (subst (λ (r : MethodRef). has_body p.world r ≡ true) own body.0) (subst (λ (x : Method). AllOf (λ y. list_all (has_method (refs_of p.methods)) (runs p.world y.1) ≡ true) x.insns) (sym same) run.0)),
-      good_all p linked bodies typed refs e ms made.1 body.1 run.1,
+    let same : method_numbered (refs_of p.methods) p.statics h.plain ≡ m = ap (λ (xs : List MethodRef). method_numbered xs p.statics h.plain) (sym e) ∙ h.same in
+    let own : ref_of m ≡ h.ref = made_class p.world refs p.statics m h in (
+      subst (IsGoodMethod p) same (good_method p known bodies typed kept h.ref h.content h.plain h.there h.made (subst (λ (r : MethodRef). has_body p.world r ≡ true) own body.0) (subst (λ (x : Method). AllOf (λ y. IsInside p y.1) x.insns) (sym same) run.0)),
+      good_all p known bodies typed kept refs e ms made.1 body.1 run.1,
     )
 
 pub good_program : (p : Program) → IsClosed p → IsGood p
 good_program p h =
     let refs = reached p.world p.entry in
-    let made = all_made p.world p.entry p.methods h.made in
-    let typed = all_imply (IsMadeOf p.world refs) (IsTyped p.world) p.methods (typed_of p.world refs) made in
+    let all = all_made p.world p.entry p.methods h.made in
+    let made = subst (λ (xs : List StaticField). AllOf (IsMadeOf p.world refs xs) p.methods) (all.statics_are ∙ sym h.statics) all.made in
+    let typed = all_imply (IsMadeOf p.world refs p.statics) (IsTyped p.world) p.methods (typed_of p.world refs p.statics) made in
     record {
       first = first_of p.methods (h.reaches);
-      methods = good_all p h.linked h.bodies typed refs (sym h.reaches) p.methods made (has_bodies p.world p.methods h.bodies) (all_run (refs_of p.methods) p.world p.methods (insns_have p.world (refs_of p.methods) p.methods h.whole));
+      methods = good_all p h.known h.bodies typed h.statics refs (sym h.reaches) p.methods made (has_bodies p.world p.methods h.bodies) (all_inside p p.methods (all_run (refs_of p.methods) p.world p.methods (insns_have p.world (refs_of p.methods) p.methods h.whole)) (names_named p.methods));
+      statics = subst (λ (xs : List StaticField). AllOf (IsDeclaredStatic p.world) xs) (sym h.statics) (statics_declared p.world (fields_named p.methods));
+      few = h.few;
     }
   where
     first_of : (ms : List Method) → refs_of ms ≡ reached p.world p.entry → (m : Method) × (slice_get ms 0 ≡ Some m) × (ref_of m ≡ p.entry)

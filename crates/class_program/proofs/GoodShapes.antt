@@ -20,9 +20,10 @@ use Rattle.class_program.specs.declared.op.Op.{Op}
 use Rattle.class_program.specs.declared.op.Op.TheVariants.{Plain, Constant}
 use Rattle.class_program.specs.declared.op.Call.{Call}
 use Rattle.class_program.specs.declared.op.FieldUse.{FieldUse}
+use Rattle.class_program.specs.declared.op.StaticUse.{StaticUse}
 use Rattle.class_program.specs.Operands.{Member, operand_of}
 use Rattle.class_program.specs.Refusals.{◌>>=◌, wanted}
-use Rattle.class_program.specs.Ops.{is_other_constant, constant_of, type_named, type_operand, class_op, field_of, field_op, member_operand, member_tag, call_of, call_op, numbers_op, field_operand, class_operand, call_operand, op_with, pool_of, op_of}
+use Rattle.class_program.specs.Ops.{is_other_constant, constant_of, type_named, type_operand, class_op, field_of, field_op, static_of, static_op, static_operand, member_operand, member_tag, call_of, call_op, numbers_op, field_operand, class_operand, call_operand, op_with, pool_of, op_of}
 use Rattle.class_program.proofs.Got.{got, got_wanted, got_faultless}
 use Rattle.class_program.proofs.GoodTypes.{named_type}
 
@@ -30,7 +31,7 @@ abbrev pub Shape : World → ℕ → Insn → Operand → Op → Type 0
 Shape world current insn operands.Nothing op = op ≡ Plain insn
 Shape world current insn (operands.Numbers code) op = (op ≡ Plain insn) × (is_none (kind_of_code code) ≡ false)
 Shape world current insn (operands.Constant entry) op = (v : ℤ) × (op ≡ Constant v)
-Shape world current insn operands.StaticField op = ⊥
+Shape world current insn (operands.Static form entry) op = (m : Member) × (used : StaticUse) × (static_of world m ≡ Ok used) × (op ≡ static_op form used)
 Shape world current insn (operands.Field form entry) op = (m : Member) × (used : FieldUse) × (field_of world m ≡ Ok used) × (op ≡ field_op form used)
 Shape world current insn (operands.Class form entry) op = (t : Ty) × IsReference (length world) t × (class_op world form t ≡ Ok op)
 Shape world current insn (operands.Call form entry) op = (m : Member) × (call : Call) × (call_of world current form m ≡ Ok call) × (op ≡ call_op form call)
@@ -53,11 +54,14 @@ numbers_shape insn code op e = go (is_none (kind_of_code code)) refl e
     go false q f = (cc, q)
 
 pub shape_of : (world : World) (current : ℕ) (pool : List PoolEntry) (insn : Insn) (operand : Operand) (op : Op) → op_with world current pool insn operand ≡ Ok op → Shape world current insn operand op
-unfolding op_with field_operand class_operand call_operand type_operand
+unfolding op_with field_operand static_operand class_operand call_operand type_operand
 shape_of world current pool insn operands.Nothing op e = cc
 shape_of world current pool insn (operands.Numbers code) op e = numbers_shape insn code op e
 shape_of world current pool insn (operands.Constant entry) op e = constant_shape pool entry op e
-shape_of world current pool insn operands.StaticField op e = cc
+shape_of world current pool insn (operands.Static form entry) op e =
+    let m = got (member_operand pool 9 entry) _ op e in
+    let used = got (static_of world m.0) _ op m.2 in
+    (m.0, used.0, used.1, cc)
 shape_of world current pool insn (operands.Field form entry) op e =
     let m = got (member_operand pool 9 entry) _ op e in
     let used = got (field_of world m.0) _ op m.2 in

@@ -10,12 +10,17 @@ pub mod Closed
 pub mod Places
 pub mod RisingCodes
 pub mod Rising
+pub mod FewFields
+pub mod StaticLists
 pub mod Made
 pub mod Got
 pub mod GoodTypes
 pub mod GoodShapes
 pub mod GoodPlaces
+pub mod FieldClasses
 pub mod GoodNames
 pub mod GoodCalls
+pub mod GoodStatics
 pub mod GoodOps
 pub mod GoodPrograms
+pub mod GoodInstructions

@@ -14,10 +14,12 @@ use Rattle.class_world.specs.Resolve.{method_at, has_body}
 use Rattle.class_program.specs.declared.op.Op.{Op}
 use Rattle.class_program.specs.declared.program.CatchRange.{CatchRange}
 use Rattle.class_program.specs.declared.program.Method.{Method}
+use Rattle.class_program.specs.declared.program.StaticField.{StaticField}
 use Rattle.class_program.specs.declared.signature.Signature.{Signature}
 use Rattle.class_program.specs.Said.{Said, ◌>>=◌, unless, each}
 use Rattle.class_program.specs.Ops.{op_of, pool_of}
 use Rattle.class_program.specs.Methods.{method_name, static_init, code_of, synchronized, own_types, insns_of, ops_of, table_of, with_receiver, method_of}
+use Rattle.class_program.specs.Statics.{statics_named}
 use Rattle.class_program.specs.Reached.{reached, contents_of, methods_of, method_numbered, close_of}
 use Rattle.class_program.specs.Programs.{ref_of, refs_of}
 use Rattle.class_program.proofs.Rising.{bind_ok, unless_ok}
@@ -111,13 +113,14 @@ reach_numbers world entry refs methods h e =
 
 -- ---- with their calls' numbers
 
-pub numbered_refs : (refs : List MethodRef) (methods : List Method) → refs_of (map (method_numbered refs) methods) ≡ refs_of methods
-numbered_refs refs [] = refl
-numbered_refs refs (m ∷ ms) = ap (λ xs. ref_of m ∷ xs) (numbered_refs refs ms)
+pub numbered_refs : (refs : List MethodRef) (statics : List StaticField) (methods : List Method) → refs_of (map (method_numbered refs statics) methods) ≡ refs_of methods
+numbered_refs refs statics [] = refl
+numbered_refs refs statics (m ∷ ms) = ap (λ xs. ref_of m ∷ xs) (numbered_refs refs statics ms)
 
-pub closed_is : (world : World) (entry : MethodRef) (refs : List MethodRef) (methods numbered : List Method) → refs ≡ reached world entry → methods_of world (reached world entry) ≡ Ok methods → numbered ≡ map (method_numbered refs) methods → close_of world entry ≡ Ok numbered
+pub closed_is : (world : World) (entry : MethodRef) (refs : List MethodRef) (statics : List StaticField) (methods numbered : List Method) → refs ≡ reached world entry → methods_of world (reached world entry) ≡ Ok methods → statics_named world methods ≡ Ok statics → numbered ≡ map (method_numbered refs statics) methods → close_of world entry ≡ Ok numbered
 unfolding close_of
-closed_is world entry refs methods numbered r e n =
-    ap (λ (s : Said (List Method)). s >>= λ ms. Ok (map (method_numbered (reached world entry)) ms)) e
-    ∙ ap (λ (xs : List MethodRef). Ok (map (method_numbered xs) methods)) (sym r)
+closed_is world entry refs statics methods numbered r e f n =
+    ap (λ (s : Said (List Method)). s >>= λ ms. statics_named world ms >>= λ found. Ok (map (method_numbered (reached world entry) found) ms)) e
+    ∙ ap (λ (s : Said (List StaticField)). s >>= λ found. Ok (map (method_numbered (reached world entry) found) methods)) f
+    ∙ ap (λ (xs : List MethodRef). Ok (map (method_numbered xs statics) methods)) (sym r)
     ∙ ap (λ (ms : List Method). Ok ms) (sym n)

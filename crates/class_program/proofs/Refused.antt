@@ -8,7 +8,7 @@ use Rattle.class_world.specs.declared.fault.LinkFault.{LinkFault}
 use Rattle.class_world.specs.declared.fault.LinkFault.TheVariants as faults
 use Rattle.class_world.specs.declared.fault.MethodName.{MethodName}
 use Rattle.class_program.specs.declared.refusal.Refusal.{Refusal}
-use Rattle.class_program.specs.declared.refusal.Refusal.TheVariants.{MissingClass, StaticInit, UnsupportedType, Unresolved, PrivateVirtual, StaticField, Memory}
+use Rattle.class_program.specs.declared.refusal.Refusal.TheVariants.{MissingClass, StaticInit, UnsupportedType, Unresolved, PrivateVirtual, Memory}
 use Rattle.code_decode.specs.declared.insn.Insn.{Insn}
 use Rattle.class_program.specs.declared.op.Op.{Op}
 use Rattle.class_world.specs.World.{World}
@@ -25,7 +25,6 @@ fault_said name pc (StaticInit class) said fault f e = inr (ap (with_fault name 
 fault_said name pc UnsupportedType said fault f e = inr (ap (with_fault name pc) f ∙ ap Err (sym e))
 fault_said name pc Unresolved said fault f e = inr (ap (with_fault name pc) f ∙ ap Err (sym e))
 fault_said name pc PrivateVirtual said fault f e = inr (ap (with_fault name pc) f ∙ ap Err (sym e))
-fault_said name pc StaticField said fault f e = inr (ap (with_fault name pc) f ∙ ap Err (sym e))
 
 -- a refusal that isn't want of memory is what is said
 said_so : {A : Type 0} (refusal : Refusal) (said : Result A Refusal) → Fails refusal said → (refusal ≡ Memory) ⊎ (said ≡ Err refusal)
@@ -35,7 +34,6 @@ said_so (StaticInit name) said f = inr f
 said_so UnsupportedType said f = inr f
 said_so Unresolved said f = inr f
 said_so PrivateVirtual said f = inr f
-said_so StaticField said f = inr f
 
 fails_so : {A : Type 0} (refusal : Refusal) (said : Result A Refusal) → said ≡ Err refusal → Fails refusal said
 fails_so Memory said f = tt
@@ -44,7 +42,6 @@ fails_so (StaticInit name) said f = f
 fails_so UnsupportedType said f = f
 fails_so Unresolved said f = f
 fails_so PrivateVirtual said f = f
-fails_so StaticField said f = f
 
 -- of two refusals the first is want of memory where one is
 memory_left : (b : Refusal) → first_refusal Memory b ≡ Memory
@@ -54,7 +51,6 @@ memory_left (StaticInit name) = refl
 memory_left UnsupportedType = refl
 memory_left Unresolved = refl
 memory_left PrivateVirtual = refl
-memory_left StaticField = refl
 
 memory_right : (a : Refusal) → first_refusal a Memory ≡ Memory
 memory_right Memory = refl
@@ -63,7 +59,6 @@ memory_right (StaticInit name) = refl
 memory_right UnsupportedType = refl
 memory_right Unresolved = refl
 memory_right PrivateVirtual = refl
-memory_right StaticField = refl
 
 -- both answers are what is said of both
 pub together_gives : {A B : Type 0} (a sa : Result A Refusal) (b sb : Result B Refusal)

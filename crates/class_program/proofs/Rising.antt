@@ -13,6 +13,7 @@ use Rattle.class_world.specs.declared.fault.LinkFault.{LinkFault}
 use Rattle.class_world.specs.declared.fault.MethodName.{MethodName}
 use Rattle.class_program.specs.declared.op.Op.{Op}
 use Rattle.class_program.specs.declared.program.Method.{Method}
+use Rattle.class_program.specs.declared.program.StaticField.{StaticField}
 use Rattle.class_world.specs.declared.world.MethodRef.{MethodRef}
 use Rattle.class_world.specs.World.{World}
 use Rattle.class_program.specs.Said.{Said, ◌>>=◌, unless, each}
@@ -84,16 +85,16 @@ ops_placed world class name code xs ys i o =
 
 -- ---- their calls' numbers change no place
 
-numbered_rise : (refs : List MethodRef) (p : ℕ) (xs : List (ℕ × Op)) → rises_from p (insns_numbered refs xs) ≡ rises_from p xs
-numbered_rise refs p [] = refl
-numbered_rise refs p (x ∷ xs) = ap (λ b. leb p x.0 && b) (numbered_rise refs (x.0 + 1) xs)
+numbered_rise : (refs : List MethodRef) (statics : List StaticField) (p : ℕ) (xs : List (ℕ × Op)) → rises_from p (insns_numbered refs statics xs) ≡ rises_from p xs
+numbered_rise refs statics p [] = refl
+numbered_rise refs statics p (x ∷ xs) = ap (λ b. leb p x.0 && b) (numbered_rise refs statics (x.0 + 1) xs)
 
-numbered_first : (refs : List MethodRef) (xs : List (ℕ × Op)) → starts_at_zero (insns_numbered refs xs) ≡ starts_at_zero xs
-numbered_first refs [] = refl
-numbered_first refs (x ∷ xs) = refl
+numbered_first : (refs : List MethodRef) (statics : List StaticField) (xs : List (ℕ × Op)) → starts_at_zero (insns_numbered refs statics xs) ≡ starts_at_zero xs
+numbered_first refs statics [] = refl
+numbered_first refs statics (x ∷ xs) = refl
 
-pub numbered_placed : (refs : List MethodRef) (xs : List (ℕ × Op)) → is_placed (insns_numbered refs xs) ≡ is_placed xs
-numbered_placed refs xs = ap (λ b. b && rises_from 0 (insns_numbered refs xs)) (numbered_first refs xs) ∙ ap (λ b. starts_at_zero xs && b) (numbered_rise refs 0 xs)
+pub numbered_placed : (refs : List MethodRef) (statics : List StaticField) (xs : List (ℕ × Op)) → is_placed (insns_numbered refs statics xs) ≡ is_placed xs
+numbered_placed refs statics xs = ap (λ b. b && rises_from 0 (insns_numbered refs statics xs)) (numbered_first refs statics xs) ∙ ap (λ b. starts_at_zero xs && b) (numbered_rise refs statics 0 xs)
 
-pub items_placed : (refs : List MethodRef) (xs ys : List (ℕ × Op)) → is_placed xs ≡ true → ys ≡ insns_numbered refs xs → is_placed ys ≡ true
-items_placed refs xs ys p e = ap (λ (zs : List (ℕ × Op)). is_placed zs) e ∙ numbered_placed refs xs ∙ p
+pub items_placed : (refs : List MethodRef) (statics : List StaticField) (xs ys : List (ℕ × Op)) → is_placed xs ≡ true → ys ≡ insns_numbered refs statics xs → is_placed ys ≡ true
+items_placed refs statics xs ys p e = ap (λ (zs : List (ℕ × Op)). is_placed zs) e ∙ numbered_placed refs statics xs ∙ p

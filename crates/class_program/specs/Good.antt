@@ -1,32 +1,38 @@
 -- What holds of every closed program: its instructions name what is there, with the types that they say, and lead to
 -- places where instructions stand.
-use Rattle.std.specs.Prelude.{◌≡◌, ◌⊎◌, ◌<◌, ℕ, Bool, List, [], ◌∷◌, ◌++◌, length, slice_get, Option, Some, None, option_and_then, IfSome, IsTrue, false}
+use Rattle.std.specs.Prelude.{◌≡◌, ◌⊎◌, ◌<◌, ◌≤◌, ℕ, Bool, true, List, [], ◌∷◌, ◌++◌, length, slice_get, Option, Some, None, option_and_then, IfSome, IsTrue, false}
+use Rattle.std.specs.Str.{bytes_eq}
 use Rattle.std.specs.Option.{is_some}
 use Rattle.code_decode.specs.declared.insn.Insn.{Insn}
 use Rattle.code_decode.specs.Codes.{targets}
-use Rattle.class_read.specs.Content.{MethodContent}
+use Rattle.class_read.specs.Content.{FieldContent, MethodContent, CodeContent}
 use Rattle.jvm_values.specs.declared.types.Slot.{Slot}
 use Rattle.jvm_values.specs.declared.types.Ty.{Ty}
 use Rattle.jvm_values.specs.Kinds.{kind_of_code}
 use Rattle.jvm_values.specs.Subtyping.{class_type, IsReference, IsSlot}
 use Rattle.class_world.specs.declared.world.MethodRef.{MethodRef}
-use Rattle.class_world.specs.World.{World, is_abstract}
+use Rattle.class_world.specs.World.{World, is_static, is_abstract, is_interface_class}
 use Rattle.class_world.specs.Types.{is_class_below}
 use Rattle.class_world.specs.Fields.{fields_of, can_be_made}
-use Rattle.class_world.specs.Resolve.{method_at}
+use Rattle.class_world.specs.Resolve.{field_at, method_at}
 use Rattle.class_program.specs.declared.operand.Operand.{Operand}
 use Rattle.class_program.specs.declared.operand.Operand.TheVariants.{Nothing, Numbers}
 use Rattle.class_program.specs.declared.op.Op.{Op}
 use Rattle.class_program.specs.declared.op.Op.TheVariants.{Plain, Constant, Getstatic, Putstatic, Getfield, Putfield, Invokevirtual, Invokespecial, Invokestatic, Invokeinterface, New, Anewarray, Checkcast, Instanceof}
 use Rattle.class_program.specs.declared.op.Call.{Call}
 use Rattle.class_program.specs.declared.op.FieldUse.{FieldUse}
+use Rattle.class_program.specs.declared.op.StaticUse.{StaticUse}
 use Rattle.class_program.specs.declared.program.CatchRange.{CatchRange}
 use Rattle.class_program.specs.declared.program.Method.{Method}
+use Rattle.class_program.specs.declared.program.StaticField.{StaticField}
 use Rattle.class_program.specs.declared.selected.Selected.{Selected}
 use Rattle.class_program.specs.declared.selected.Selected.TheVariants as answers
-use Rattle.class_world.specs.Descriptors.{class_slot}
+use Rattle.class_world.specs.Descriptors.{class_slot, slot_of}
 use Rattle.class_program.specs.Operands.{operand_of}
 use Rattle.class_program.specs.Instructions.{instruction_at, is_placed}
+use Rattle.class_program.specs.Ops.{constructor_name}
+use Rattle.class_program.specs.Methods.{with_receiver}
+use Rattle.class_program.specs.Statics.{static_ref}
 use Rattle.class_program.specs.Programs.{Program, ref_of, refs_of}
 use Rattle.class_program.specs.Selected.{selection_at, selected_in, can_receive}
 
@@ -52,8 +58,15 @@ IsEnd insns place = IsTrue (is_place insns place) ⊎ AllOf (λ x. x.0 < place) 
 -- a field's place, and what it holds there, in the objects of every class that can stand where its class is named
 pub record IsGoodField (world : World) (used : FieldUse) : Type 0 where
   pub class : used.class < length world
+  pub no_interface : is_interface_class world used.class ≡ false
   pub slot : IsSlot (length world) used.slot
   pub right : (class : ℕ) → class < length world → IsTrue (is_class_below world class used.class) → slice_get (fields_of world class) used.place ≡ Some used.slot
+
+-- a static field at its place among those of the program
+pub record IsGoodStaticUse (p : Program) (used : StaticUse) : Type 0 where
+  pub field : StaticField
+  pub there : slice_get p.statics used.place ≡ Some field
+  pub same : static_ref field ≡ used.field
 
 -- a class and a method that are there, and types of the world
 pub record IsGoodCall (world : World) (call : Call) : Type 0 where
@@ -70,9 +83,10 @@ pub record Takes (methods : List Method) (receiver : List Slot) (call : Call) (n
   pub params : method.params ≡ receiver ++ call.params
   pub result : method.result ≡ call.result
 
--- `invokestatic` runs a method of the program
+-- `invokestatic` names a class and runs a method of the program
 pub record IsGoodStatic (p : Program) (call : Call) : Type 0 where
   pub good : IsGoodCall p.world call
+  pub class : is_interface_class p.world call.class ≡ false
   pub number : ℕ
   pub target : call.target ≡ Some number
   pub takes : Takes p.methods [] call number
@@ -82,9 +96,12 @@ abbrev pub SpecialRuns : Program → Call → Option ℕ → Bool → Type 0
 SpecialRuns p call None abstract = IsTrue abstract
 SpecialRuns p call (Some number) abstract = (abstract ≡ false) × Takes p.methods (class_slot 0 call.method.class ∷ []) call number
 
--- `invokespecial` from a method of class `current`: the method's class is the named one or above it, or above `current`
+-- `invokespecial` from a method of class `current`, of a class: the method's class is the named one or above it, or above
+-- `current`, and that of a constructor the named one
 pub record IsGoodSpecial (p : Program) (current : ℕ) (call : Call) : Type 0 where
   pub good : IsGoodCall p.world call
+  pub class : is_interface_class p.world call.class ≡ false
+  pub constructor : IsTrue (bytes_eq good.method.name constructor_name) → call.method.class ≡ call.class
   pub above : IsTrue (is_class_below p.world call.class call.method.class) ⊎ IsTrue (is_class_below p.world current call.method.class)
   pub runs : SpecialRuns p call call.target (is_abstract good.method.flags)
 
@@ -94,10 +111,16 @@ IsGoodAnswer p call class (answers.Method number) = (over : ℕ) × IsTrue (is_c
 IsGoodAnswer p call class answers.Abstract = Unit {0}
 IsGoodAnswer p call class answers.NoInterface = Unit {0}
 
+-- `invokeinterface` names an interface, `invokevirtual` a class
+abbrev pub names_interface : Op → Bool
+names_interface (Invokeinterface call) = true
+names_interface _ = false
+
 -- A call that selects its method by the class of the receiver: it has an answer for each class that the receiver can be
 -- of, and no target.
 pub record IsGoodSelecting (p : Program) (op : Op) (call : Call) : Type 0 where
   pub good : IsGoodCall p.world call
+  pub class : is_interface_class p.world call.class ≡ names_interface op
   pub none : call.target ≡ None
   pub answers : (class : ℕ) → IsTrue (can_receive p.world op class) → (answer : Selected) × (option_and_then (selected_in (refs_of p.methods)) (selection_at p.world op class) ≡ Some answer) × IsGoodAnswer p call class answer
 
@@ -118,8 +141,8 @@ IsGoodPlain _ = ⊥
 abbrev pub IsGoodName : Program → ℕ → Op → Type 0
 IsGoodName p current (Plain insn) = IsGoodPlain (operand_of insn)
 IsGoodName p current (Constant value) = Unit {0}
-IsGoodName p current (Getstatic place) = place < length p.statics
-IsGoodName p current (Putstatic place) = place < length p.statics
+IsGoodName p current (Getstatic used) = IsGoodStaticUse p used
+IsGoodName p current (Putstatic used) = IsGoodStaticUse p used
 IsGoodName p current (Getfield used) = IsGoodField p.world used
 IsGoodName p current (Putfield used) = IsGoodField p.world used
 IsGoodName p current (Invokevirtual call) = IsGoodSelecting p (Invokevirtual call) call
@@ -156,6 +179,12 @@ pub record IsDeclared (world : World) (m : Method) : Type 0 where
   pub content : MethodContent
   pub there : method_at world (ref_of m) ≡ Some content
   pub body : is_abstract content.flags ≡ false
+  pub code : CodeContent
+  pub code_is : content.code ≡ Some code
+  pub max_stack : m.max_stack ≡ code.max_stack
+  pub max_locals : m.max_locals ≡ code.max_locals
+  pub types : List Slot
+  pub params : m.params ≡ with_receiver m.class content.flags types
   pub name : m.name ≡ content.name
   pub desc : m.desc ≡ content.desc
 
@@ -168,7 +197,27 @@ pub record IsGoodMethod (p : Program) (m : Method) : Type 0 where
   pub insns : AllOf (λ x. IsGoodOp p m x.1) m.insns
   pub table : AllOf (IsGoodRange p.world m) m.table
 
+-- a static field that a class declares, with what it holds
+pub record IsDeclaredStatic (world : World) (s : StaticField) : Type 0 where
+  pub content : FieldContent
+  pub there : field_at world s.class s.index ≡ Some content
+  pub static : IsTrue (is_static content.flags)
+  pub name : s.name ≡ content.name
+  pub desc : s.desc ≡ content.desc
+  pub slot : slot_of world s.desc ≡ Some s.slot
+  pub right : IsSlot (length world) s.slot
+
+-- the instruction at a place of the method of a number is good, and behind it stands the next one
+pub record IsGoodAt (p : Program) (number pc : ℕ) (op : Op) (next : Option ℕ) : Type 0 where
+  pub method : Method
+  pub there : slice_get p.methods number ≡ Some method
+  pub at : instruction_at method.insns pc ≡ Some (op, next)
+  pub good : IsGoodOp p method op
+  pub next_there : IfSome next (λ place. IsTrue (is_place method.insns place))
+
 pub record IsGood (p : Program) : Type 0 where
   -- the entry is the method of number 0
   pub first : (m : Method) × (slice_get p.methods 0 ≡ Some m) × (ref_of m ≡ p.entry)
   pub methods : AllOf (IsGoodMethod p) p.methods
+  pub statics : AllOf (IsDeclaredStatic p.world) p.statics
+  pub few : length p.statics ≤ 256

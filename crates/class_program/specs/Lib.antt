@@ -6,6 +6,7 @@ pub mod Ops
 pub mod Runs
 pub mod Said
 pub mod Methods
+pub mod Statics
 pub mod Reached
 pub mod Programs
 pub mod Selected

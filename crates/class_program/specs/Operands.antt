@@ -3,17 +3,18 @@ use Rattle.std.specs.Prelude.{ℕ, List}
 use Rattle.code_decode.specs.declared.insn.Insn.{Insn}
 use Rattle.code_decode.specs.declared.insn.Insn.TheVariants.{Ldc, LdcW, Getstatic, Putstatic, Getfield, Putfield, Invokevirtual, Invokespecial, Invokestatic, Invokeinterface, New, Newarray, Anewarray, Checkcast, Instanceof}
 use Rattle.class_program.specs.declared.operand.Operand.{Operand}
-use Rattle.class_program.specs.declared.operand.Operand.TheVariants.{Nothing, Numbers, Constant, StaticField, Field, Class, Call}
+use Rattle.class_program.specs.declared.operand.Operand.TheVariants.{Nothing, Numbers, Constant, Static, Field, Class, Call}
 use Rattle.class_program.specs.declared.operand.ClassForm.TheVariants as classes
 use Rattle.class_program.specs.declared.operand.FieldForm.TheVariants as fields
+use Rattle.class_program.specs.declared.operand.StaticForm.TheVariants as statics
 use Rattle.class_program.specs.declared.operand.CallForm.TheVariants as calls
 
 -- what an instruction takes from the constant pool; every instruction that isn't listed takes nothing
 abbrev pub operand_of : Insn → Operand
 operand_of (Ldc entry) = Constant entry
 operand_of (LdcW entry) = Constant entry
-operand_of (Getstatic entry) = StaticField
-operand_of (Putstatic entry) = StaticField
+operand_of (Getstatic entry) = Static statics.Getstatic entry
+operand_of (Putstatic entry) = Static statics.Putstatic entry
 operand_of (Getfield entry) = Field fields.Getfield entry
 operand_of (Putfield entry) = Field fields.Putfield entry
 operand_of (Invokevirtual entry) = Call calls.Virtual entry

@@ -32,13 +32,16 @@ use Rattle.class_program.specs.declared.operand.ClassForm.{ClassForm}
 use Rattle.class_program.specs.declared.operand.ClassForm.TheVariants as classes
 use Rattle.class_program.specs.declared.operand.FieldForm.{FieldForm}
 use Rattle.class_program.specs.declared.operand.FieldForm.TheVariants as fields
+use Rattle.class_program.specs.declared.operand.StaticForm.{StaticForm}
+use Rattle.class_program.specs.declared.operand.StaticForm.TheVariants as statics
 use Rattle.class_program.specs.declared.operand.CallForm.{CallForm}
 use Rattle.class_program.specs.declared.operand.CallForm.TheVariants as calls
 use Rattle.class_program.specs.declared.op.Op.{Op}
 use Rattle.class_program.specs.declared.signature.Signature.{Signature}
-use Rattle.class_program.specs.declared.op.Op.TheVariants.{Plain, Constant, Getfield, Putfield, Invokevirtual, Invokespecial, Invokestatic, Invokeinterface, New, Anewarray, Checkcast, Instanceof}
+use Rattle.class_program.specs.declared.op.Op.TheVariants.{Plain, Constant, Getstatic, Putstatic, Getfield, Putfield, Invokevirtual, Invokespecial, Invokestatic, Invokeinterface, New, Anewarray, Checkcast, Instanceof}
 use Rattle.class_program.specs.declared.op.Call.{Call}
 use Rattle.class_program.specs.declared.op.FieldUse.{FieldUse}
+use Rattle.class_program.specs.declared.op.StaticUse.{StaticUse}
 use Rattle.class_world.specs.declared.world.MethodRef.{MethodRef}
 use Rattle.class_world.specs.World.{World, class_of, super_of, line_of, is_interface_class, is_static, is_private, is_abstract}
 use Rattle.class_world.specs.Descriptors.{meaning_of, slot_of}
@@ -48,7 +51,7 @@ use Rattle.class_world.specs.Fields.{can_be_made}
 use Rattle.class_world.specs.Members.{declared_method, initialiser_name}
 use Rattle.class_program.specs.Operands.{Member, operand_of}
 use Rattle.class_program.specs.Refusals.{◌>>=◌, wanted, required, together, with_fault}
-use Rattle.class_world.specs.Resolve.{resolve_field, resolve_method, field_place, method_at, first_static_init}
+use Rattle.class_world.specs.Resolve.{resolve_field, is_static_field, resolve_method, field_place, method_at, first_static_init}
 use Rattle.class_program.specs.Signatures.{signature_of}
 
 -- ---- constants (section 6.5, ldc)
@@ -143,6 +146,31 @@ field_of world m = do
 abbrev pub field_op : FieldForm → FieldUse → Op
 field_op fields.Getfield use_ = Getfield use_
 field_op fields.Putfield use_ = Putfield use_
+
+-- ---- static fields (sections 5.4.3.2 and 5.5)
+
+-- The field that look-up finds: its type must be supported and there, and it is static. Its place among the static fields
+-- of the program is put in where those are known.
+unfoldable pub static_kind : World → List ℕ → ℕ × ℕ → Result StaticUse Refusal
+static_kind world desc found =
+    if is_none (slot_of world desc) then Err UnsupportedType
+    else (required (is_static_field world found.0 found.1) >>= λ _. Ok (record { field = record { class = found.0; index = found.1 }; place = 0 }))
+
+-- The class that declares it is initialised, and those above it, whatever kind of field it is.
+unfoldable pub static_found : World → List ℕ → ℕ × ℕ → Result StaticUse Refusal
+static_found world desc found =
+    option_map_or (λ name. Err (refusals.StaticInit name)) (first_static_init world found.0) (static_kind world desc found)
+
+unfoldable pub static_of : World → Member → Result StaticUse Refusal
+static_of world m = do
+  t ← type_named world m.class
+  class ← class_number t
+  found ← wanted (resolve_field world class m.name m.desc)
+  static_found world m.desc found
+
+abbrev pub static_op : StaticForm → StaticUse → Op
+static_op statics.Getstatic used = Getstatic used
+static_op statics.Putstatic used = Putstatic used
 
 -- ---- methods (sections 5.4.3.3 and 5.4.3.4)
 
@@ -251,6 +279,12 @@ field_operand world pool form entry = do
   used ← field_of world m
   Ok (field_op form used)
 
+unfoldable pub static_operand : World → List PoolEntry → StaticForm → ℕ → Result Op Refusal
+static_operand world pool form entry = do
+  m ← member_operand pool 9 entry
+  used ← static_of world m
+  Ok (static_op form used)
+
 unfoldable pub class_operand : World → List PoolEntry → ClassForm → ℕ → Result Op Refusal
 class_operand world pool form entry = type_operand world pool entry >>= class_op world form
 
@@ -260,12 +294,12 @@ call_operand world current pool form entry = do
   call ← call_of world current form m
   Ok (call_op form call)
 
--- the instruction of a class with that pool, by what it takes from the pool; static fields are not supported
+-- the instruction of a class with that pool, by what it takes from the pool
 unfoldable pub op_with : World → ℕ → List PoolEntry → Insn → Operand → Result Op Refusal
 op_with world current pool insn operands.Nothing = Ok (Plain insn)
 op_with world current pool insn (operands.Numbers code) = numbers_op insn code
 op_with world current pool insn (operands.Constant entry) = constant_of pool entry
-op_with world current pool insn operands.StaticField = Err refusals.StaticField
+op_with world current pool insn (operands.Static form entry) = static_operand world pool form entry
 op_with world current pool insn (operands.Field form entry) = field_operand world pool form entry
 op_with world current pool insn (operands.Class form entry) = class_operand world pool form entry
 op_with world current pool insn (operands.Call form entry) = call_operand world current pool form entry

@@ -1,15 +1,16 @@
 -- Programs: a world with the methods that an entry reaches, and the static fields that these name.
-use Rattle.std.specs.Prelude.{◌≡◌, ℕ, List, map, position, slice_get, Option, option_and_then, Ok, IsTrue}
+use Rattle.std.specs.Prelude.{◌≡◌, ◌≤◌, ℕ, List, length, map, position, slice_get, Option, option_and_then, Ok, IsTrue}
 use Rattle.std.specs.List.{list_all}
 use Rattle.std.specs.Option.{option_map}
 use Rattle.class_world.specs.declared.world.MethodRef.{MethodRef}
 use Rattle.class_world.specs.World.{World}
-use Rattle.class_world.specs.Linking.{is_linked}
+use Rattle.class_world.specs.BuiltIns.{IsWorld}
 use Rattle.class_world.specs.Resolve.{has_body}
 use Rattle.class_program.specs.declared.op.Op.{Op}
 use Rattle.class_program.specs.declared.program.Method.{Method}
 use Rattle.class_program.specs.declared.program.StaticField.{StaticField}
 use Rattle.class_program.specs.Instructions.{instruction_at}
+use Rattle.class_program.specs.Statics.{fields_named, statics_of}
 use Rattle.class_program.specs.Reached.{same_method, reached, close_of, is_closed}
 
 pub record Program : Type 0 where
@@ -49,10 +50,12 @@ op_at methods number pc = option_map (λ x. x.0) (insn_at methods number pc)
 -- ---- closed programs
 
 -- The program is what closing gives for its entry in a linked world: its methods have bodies, and are all that their
--- instructions can run.
+-- instructions can run, and its static fields are those that these name.
 pub record IsClosed (p : Program) : Type 0 where
-  pub linked : IsTrue (is_linked p.world)
+  pub known : IsWorld p.world
   pub made : close_of p.world p.entry ≡ Ok p.methods
   pub reaches : refs_of p.methods ≡ reached p.world p.entry
   pub bodies : IsTrue (list_all (has_body p.world) (refs_of p.methods))
+  pub statics : p.statics ≡ statics_of p.world (fields_named p.methods)
+  pub few : length p.statics ≤ 256
   pub whole : IsTrue (is_closed p.world (refs_of p.methods) p.methods)

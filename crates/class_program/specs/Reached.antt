@@ -9,14 +9,16 @@ use Rattle.std.specs.Option.{option_map, option_map_or}
 use Rattle.class_read.specs.Content.{MethodContent}
 use Rattle.class_program.specs.declared.op.Call.{Call}
 use Rattle.class_program.specs.declared.op.Op.{Op}
-use Rattle.class_program.specs.declared.op.Op.TheVariants.{Invokespecial, Invokestatic}
+use Rattle.class_program.specs.declared.op.Op.TheVariants.{Getstatic, Putstatic, Invokespecial, Invokestatic}
 use Rattle.class_program.specs.declared.program.Method.{Method}
+use Rattle.class_program.specs.declared.program.StaticField.{StaticField}
 use Rattle.class_world.specs.declared.world.MethodRef.{MethodRef}
 use Rattle.class_world.specs.World.{World}
 use Rattle.class_program.specs.Said.{Said, ◌>>=◌, each}
 use Rattle.class_world.specs.Resolve.{method_at}
 use Rattle.class_program.specs.Runs.{runs}
 use Rattle.class_program.specs.Methods.{method_of}
+use Rattle.class_program.specs.Statics.{statics_named, placed_use}
 
 -- ---- lists of methods
 
@@ -80,16 +82,19 @@ methods_of world refs = each (λ x. method_of world x.0 x.1) (contents_of world 
 abbrev pub numbered : List MethodRef → Call → Call
 numbered refs call = record { class = call.class; method = call.method; params = call.params; result = call.result; target = position (same_method call.method) refs }
 
-abbrev pub op_numbered : List MethodRef → Op → Op
-op_numbered refs (Invokespecial call) = Invokespecial (numbered refs call)
-op_numbered refs (Invokestatic call) = Invokestatic (numbered refs call)
-op_numbered refs op = op
+-- an instruction with the number of its method, or with the place of its static field
+abbrev pub op_numbered : List MethodRef → List StaticField → Op → Op
+op_numbered refs statics (Getstatic used) = Getstatic (placed_use statics used)
+op_numbered refs statics (Putstatic used) = Putstatic (placed_use statics used)
+op_numbered refs statics (Invokespecial call) = Invokespecial (numbered refs call)
+op_numbered refs statics (Invokestatic call) = Invokestatic (numbered refs call)
+op_numbered refs statics op = op
 
-abbrev pub insns_numbered : List MethodRef → List (ℕ × Op) → List (ℕ × Op)
-insns_numbered refs insns = map (λ x. (x.0, op_numbered refs x.1)) insns
+abbrev pub insns_numbered : List MethodRef → List StaticField → List (ℕ × Op) → List (ℕ × Op)
+insns_numbered refs statics insns = map (λ x. (x.0, op_numbered refs statics x.1)) insns
 
-abbrev pub method_numbered : List MethodRef → Method → Method
-method_numbered refs m = record {
+abbrev pub method_numbered : List MethodRef → List StaticField → Method → Method
+method_numbered refs statics m = record {
   class = m.class;
   index = m.index;
   name = m.name;
@@ -98,16 +103,17 @@ method_numbered refs m = record {
   result = m.result;
   max_stack = m.max_stack;
   max_locals = m.max_locals;
-  insns = insns_numbered refs m.insns;
+  insns = insns_numbered refs statics m.insns;
   table = m.table;
 }
 
--- The methods of the program that an entry makes, in the order in which they are reached, or the first fault, method by
--- method.
+-- The methods of the program that an entry makes, in the order in which they are reached, or the first fault: method by
+-- method, and then that of too many static fields.
 unfoldable pub close_of : World → MethodRef → Said (List Method)
 close_of world entry = do
   methods ← methods_of world (reached world entry)
-  Ok (map (method_numbered (reached world entry)) methods)
+  statics ← statics_named world methods
+  Ok (map (method_numbered (reached world entry) statics) methods)
 
 -- a list of methods has all that a method's instructions can run
 abbrev pub has_runs : World → List MethodRef → Method → Bool

@@ -4,7 +4,7 @@ use Rattle.class_world.specs.declared.fault.MethodName.{MethodName}
 use Rattle.class_world.specs.declared.fault.LinkFault.{LinkFault}
 use Rattle.class_world.specs.declared.fault.LinkFault.TheVariants as faults
 use Rattle.class_program.specs.declared.refusal.Refusal.{Refusal}
-use Rattle.class_program.specs.declared.refusal.Refusal.TheVariants.{MissingClass, StaticInit, UnsupportedType, Unresolved, PrivateVirtual, StaticField, Memory}
+use Rattle.class_program.specs.declared.refusal.Refusal.TheVariants.{MissingClass, StaticInit, UnsupportedType, Unresolved, PrivateVirtual, Memory}
 
 infixl 10 ◌>>=◌
 abbrev pub ◌>>=◌ : {A B : Type 0} → Result A Refusal → (A → Result B Refusal) → Result B Refusal
@@ -30,7 +30,6 @@ rank (StaticInit name) = 6
 rank UnsupportedType = 9
 rank Unresolved = 10
 rank PrivateVirtual = 11
-rank StaticField = 12
 
 -- of two refusals the one with the lower place, and of two with one place the first
 abbrev pub first_refusal : Refusal → Refusal → Refusal
@@ -52,7 +51,6 @@ fault_at method pc (StaticInit name) = faults.StaticInit name
 fault_at method pc UnsupportedType = faults.UnsupportedType method pc
 fault_at method pc Unresolved = faults.Unresolved method pc
 fault_at method pc PrivateVirtual = faults.PrivateVirtual method pc
-fault_at method pc StaticField = faults.StaticField method pc
 fault_at method pc Memory = faults.Memory
 
 abbrev pub with_fault : {A : Type 0} → MethodName → ℕ → Result A Refusal → Result A LinkFault
@@ -68,7 +66,6 @@ Fails (StaticInit name) said = said ≡ Err (StaticInit name)
 Fails UnsupportedType said = said ≡ Err UnsupportedType
 Fails Unresolved said = said ≡ Err Unresolved
 Fails PrivateVirtual said = said ≡ Err PrivateVirtual
-Fails StaticField said = said ≡ Err StaticField
 
 -- what a function answers, seen by `view`, is what a definition says, unless memory ran out
 abbrev pub Gives : {X Y : Type 0} → (X → Y) → Result X Refusal → Result Y Refusal → Type 0

@@ -1,9 +1,9 @@
 -- What a virtual or interface call of a program does once it knows its receiver's class, with the number of the method
 -- that it runs (JVM specification, section 6.5, invokevirtual and invokeinterface).
-use Rattle.std.specs.Prelude.{ℕ, Bool, false, List, position, Option, Some, None, option_and_then}
+use Rattle.std.specs.Prelude.{◌≡◌, ℕ, Bool, false, IsTrue, List, position, Option, Some, None, option_and_then}
 use Rattle.std.specs.Option.{option_map, option_map_or}
 use Rattle.class_program.specs.declared.op.Op.{Op}
-use Rattle.class_program.specs.declared.op.Op.TheVariants.{Invokevirtual, Invokeinterface}
+use Rattle.class_program.specs.declared.op.Op.TheVariants.{Invokevirtual, Invokespecial, Invokestatic, Invokeinterface}
 use Rattle.class_program.specs.declared.selected.Selected.{Selected}
 use Rattle.class_program.specs.declared.selected.Selected.TheVariants as answers
 use Rattle.class_world.specs.declared.world.MethodRef.{MethodRef}
@@ -42,3 +42,10 @@ can_receive world _ class = false
 
 unfoldable pub can_receive_at : Program → ℕ → ℕ → ℕ → Bool
 can_receive_at p number pc class = option_map_or (λ op. can_receive p.world op class) (op_at p.methods number pc) false
+
+-- The instruction can run the method of a number: a call with a target runs that, and one that selects what it selects for a
+-- class that its receiver can be of.
+abbrev pub CanRun : Program → Op → ℕ → Type 0
+CanRun p (Invokestatic call) number = call.target ≡ Some number
+CanRun p (Invokespecial call) number = call.target ≡ Some number
+CanRun p op number = (class : ℕ) × IsTrue (can_receive p.world op class) × (option_and_then (selected_in (refs_of p.methods)) (selection_at p.world op class) ≡ Some (answers.Method number))

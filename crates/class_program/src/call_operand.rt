@@ -31,7 +31,6 @@ fn rank(refusal: &Refusal) -> u8
         Refusal::UnsupportedType => 9,
         Refusal::Unresolved => 10,
         Refusal::PrivateVirtual => 11,
-        Refusal::StaticField => 12,
     }
 }
 

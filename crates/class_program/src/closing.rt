@@ -1,19 +1,21 @@
 //! Closing: the methods that an entry reaches.
 ghost use Rattle.class_world.specs.Resolve.{has_body};
 ghost use Rattle.class_world.specs.Worlds.{classes_of};
-ghost use Rattle.std.specs.Prelude.{◌≡◌, ◌<◌, [], map, length, IfOk, OnOk, IsTrue, flat_map};
+ghost use Rattle.std.specs.Prelude.{◌≡◌, ◌≤◌, map, length, IfOk, OnOk, IsTrue, flat_map};
 ghost use Rattle.std.specs.List.{list_all};
 ghost use Rattle.class_program.specs.Said.{Says};
 ghost use Rattle.class_program.specs.Runs.{runs};
 ghost use Rattle.class_program.specs.Programs.{refs_of};
+ghost use Rattle.class_program.specs.Statics.{fields_named, statics_of};
 ghost use Rattle.class_program.specs.Reached.{with_new, reached, methods_of, numbered, op_numbered, insns_numbered, method_numbered, close_of, is_closed};
 
 use crate::insns::Instructions;
 use crate::method::method_of;
 use crate::op::{Call, Op};
-use crate::program::{Method, Program};
+use crate::program::{Method, Program, StaticField};
 use crate::reached::MethodRefs;
 use crate::runs::runs;
+use crate::statics::{placed_use, statics_named};
 use class_world::{LinkFault, MethodRef, World};
 use list_views::Seq;
 use std::alloc::{AllocError, Global};
@@ -82,49 +84,59 @@ fn numbered(refs: &MethodRefs, call: Call) -> Call
     }
 }
 
-fn op_numbered(refs: &MethodRefs, op: Op) -> Op
-    ensures { result ≡ op_numbered refs.now op }
+/// The instruction with its method's number, or with the place of its static field.
+fn op_numbered(refs: &MethodRefs, statics: &[StaticField<'_>], op: Op) -> Op
+    requires { length statics.now ≤ 256 }
+    ensures { result ≡ op_numbered refs.now statics.now op }
 {
     match op {
+        Op::Getstatic(used) => Op::Getstatic(placed_use(statics, used)),
+        Op::Putstatic(used) => Op::Putstatic(placed_use(statics, used)),
         Op::Invokespecial(call) => Op::Invokespecial(numbered(refs, call)),
         Op::Invokestatic(call) => Op::Invokestatic(numbered(refs, call)),
         other => other,
     }
 }
 
-/// The instructions with the numbers of their calls' methods.
+/// The instructions with the numbers of their calls' methods and the places of their static fields.
 fn items_numbered(
     alloc: Global,
     refs: &MethodRefs,
+    statics: &[StaticField<'_>],
     insns: Seq<(u16, Op)>,
 ) -> Result<Seq<(u16, Op)>, AllocError>
-    ensures { IfOk result (λ r. r ≡ insns_numbered refs.now insns) }
+    requires { length statics.now ≤ 256 }
+    ensures { IfOk result (λ r. r ≡ insns_numbered refs.now statics.now insns) }
 {
     let mut done = Seq::with_capacity(alloc, insns.len())?;
     for (pc, op) in insns.into_vec() {
-        done.push((pc, op_numbered(refs, op)))?;
+        done.push((pc, op_numbered(refs, statics, op)))?;
     }
     Ok(done)
 }
 
-/// The instructions at their places with the numbers of their calls' methods.
+/// The same at their places.
 fn insns_numbered(
     alloc: Global,
     refs: &MethodRefs,
+    statics: &[StaticField<'_>],
     insns: Instructions,
 ) -> Result<Instructions, AllocError>
-    ensures { IfOk result (λ r. r ≡ insns_numbered refs.now insns) }
+    requires { length statics.now ≤ 256 }
+    ensures { IfOk result (λ r. r ≡ insns_numbered refs.now statics.now insns) }
 {
-    let items = items_numbered(alloc, refs, insns.into_seq())?;
+    let items = items_numbered(alloc, refs, statics, insns.into_seq())?;
     Ok(Instructions::new(items))
 }
 
 fn method_numbered<'a>(
     alloc: Global,
     refs: &MethodRefs,
+    statics: &[StaticField<'_>],
     method: Method<'a>,
 ) -> Result<Method<'a>, AllocError>
-    ensures { IfOk result (λ r. r ≡ method_numbered refs.now method.entry) }
+    requires { length statics.now ≤ 256 }
+    ensures { IfOk result (λ r. r ≡ method_numbered refs.now statics.now method.entry) }
 {
     Ok(Method {
         class: method.class,
@@ -135,22 +147,24 @@ fn method_numbered<'a>(
         result: method.result,
         max_stack: method.max_stack,
         max_locals: method.max_locals,
-        insns: insns_numbered(alloc, refs, method.insns)?,
+        insns: insns_numbered(alloc, refs, statics, method.insns)?,
         table: method.table,
     })
 }
 
-/// The methods with the numbers of their calls' methods.
+/// The methods with the numbers of their calls' methods and the places of their static fields.
 fn methods_numbered<'a>(
     alloc: Global,
     refs: &MethodRefs,
+    statics: &[StaticField<'_>],
     methods: Seq<Method<'a>>,
 ) -> Result<Seq<Method<'a>>, AllocError>
-    ensures { IfOk result (λ r. r ≡ map (method_numbered refs.now) methods.entry) }
+    requires { length statics.now ≤ 256 }
+    ensures { IfOk result (λ r. r ≡ map (method_numbered refs.now statics.now) methods.entry) }
 {
     let mut done = Seq::with_capacity(alloc, methods.len())?;
     for method in methods.into_vec() {
-        done.push(method_numbered(alloc, refs, method)?)?;
+        done.push(method_numbered(alloc, refs, statics, method)?)?;
     }
     Ok(done)
 }
@@ -166,7 +180,8 @@ impl<'a> Program<'a> {
     ///
     /// The first rule that the first method in that order breaks of those that break any: of a method, [`LinkFault::StaticInit`]
     /// of its class, [`LinkFault::Native`], [`LinkFault::Synchronized`], a type of its descriptor, [`LinkFault::Code`], an
-    /// instruction by its place, a caught class that is missing. Or want of memory, which also stands for more than
+    /// instruction by its place, a caught class that is missing. After these [`LinkFault::TooManyStatics`], exactly where more
+    /// than 256 static fields are named. Or want of memory, which also stands for more than
     /// 4,294,967,280 methods.
     #[tactic(auto, unfolding(crate::specs::Reached::close_of))]
     pub fn close(
@@ -178,15 +193,16 @@ impl<'a> Program<'a> {
         ensures methods { Says (λ program. program.methods) result (close_of (classes_of world.entry) entry) }
         ensures world { IfOk result (λ program. program.world ≡ world.entry) }
         ensures entry { IfOk result (λ program. program.entry ≡ entry) }
-        ensures statics { IfOk result (λ program. program.statics ≡ []) }
+        ensures statics { IfOk result (λ program. program.statics ≡ statics_of (classes_of world.entry) (fields_named program.methods)) }
     {
         let (refs, methods) = reach(&world, alloc, entry)?;
-        let methods = methods_numbered(alloc, &refs, methods)?;
+        let statics = statics_named(&world, alloc, methods.as_slice())?;
+        let methods = methods_numbered(alloc, &refs, statics.as_slice(), methods)?;
         Ok(Program {
             world,
             entry,
             methods,
-            statics: Seq::new(alloc),
+            statics,
             refs,
         })
     }

@@ -16,6 +16,24 @@ pub struct FieldUse {
     pub slot: Slot,
 }
 
+/// A field by its class's number and its place among the class's fields, from 0.
+#[derive(Clone, Copy, Debug, PartialEq, Eq, Hash)]
+pub struct FieldRef {
+    /// The class's number.
+    pub class: u32,
+    /// The field's place in its class file.
+    pub index: u32,
+}
+
+/// A static field that an instruction names (JVM specification, section 5.4.3.2).
+#[derive(Clone, Copy, Debug, PartialEq, Eq)]
+pub struct StaticUse {
+    /// The field that look-up finds.
+    pub field: FieldRef,
+    /// Its place among the program's static fields.
+    pub place: u32,
+}
+
 /// A method that an instruction names (JVM specification, sections 5.4.3.3 and 5.4.3.4).
 #[derive(Debug, Drop)]
 pub struct Call {
@@ -39,10 +57,10 @@ pub enum Op {
     Plain(Insn),
     /// `ldc` or `ldc_w` of an int.
     Constant(i32),
-    /// `getstatic`, with the field's place among the program's static fields.
-    Getstatic(u32),
-    /// `putstatic`, with the field's place among the program's static fields.
-    Putstatic(u32),
+    /// `getstatic`.
+    Getstatic(StaticUse),
+    /// `putstatic`.
+    Putstatic(StaticUse),
     /// `getfield`.
     Getfield(FieldUse),
     /// `putfield`.

@@ -20,6 +20,13 @@ pub(crate) enum FieldForm {
     Putfield,
 }
 
+/// An instruction that names a static field.
+#[derive(Clone, Copy, Debug, PartialEq, Eq)]
+pub(crate) enum StaticForm {
+    Getstatic,
+    Putstatic,
+}
+
 /// An instruction that names a method.
 #[derive(Clone, Copy, Debug, PartialEq, Eq)]
 pub(crate) enum CallForm {
@@ -39,7 +46,7 @@ pub(crate) enum Operand {
     /// A constant.
     Constant(u16),
     /// A static field.
-    StaticField,
+    Static(StaticForm, u16),
     /// An instance field.
     Field(FieldForm, u16),
     /// A class or an array type.
@@ -55,8 +62,8 @@ pub(crate) fn operand_of(insn: &Insn) -> Operand
     match insn {
         Insn::Ldc(entry) => Operand::Constant(u16::from(*entry)),
         Insn::LdcW(entry) => Operand::Constant(*entry),
-        Insn::Getstatic(_) => Operand::StaticField,
-        Insn::Putstatic(_) => Operand::StaticField,
+        Insn::Getstatic(entry) => Operand::Static(StaticForm::Getstatic, *entry),
+        Insn::Putstatic(entry) => Operand::Static(StaticForm::Putstatic, *entry),
         Insn::Getfield(entry) => Operand::Field(FieldForm::Getfield, *entry),
         Insn::Putfield(entry) => Operand::Field(FieldForm::Putfield, *entry),
         Insn::Invokevirtual(entry) => Operand::Call(CallForm::Virtual, *entry),

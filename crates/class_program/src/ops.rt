@@ -2,7 +2,7 @@
 ghost use Rattle.class_world.specs.Worlds.{classes_of};
 ghost use Rattle.std.specs.Prelude.{◌≡◌, ◌<◌, length, IfOk};
 ghost use Rattle.class_program.specs.Operands.{operand_of};
-ghost use Rattle.class_program.specs.Ops.{is_other_constant, constant_of, numbers_op, field_operand, class_operand, call_operand, op_with, op_of};
+ghost use Rattle.class_program.specs.Ops.{is_other_constant, constant_of, numbers_op, field_operand, static_operand, class_operand, call_operand, op_with, op_of};
 ghost use Rattle.class_program.specs.Refusals.{Gives, fault_at};
 ghost use Rattle.class_program.specs.Said.{Says};
 
@@ -11,8 +11,9 @@ use crate::class_operand::{class_op, type_operand};
 use crate::field_operand::{field_of, field_op};
 use crate::member_operand::member_operand;
 use crate::op::Op;
-use crate::operand::{CallForm, ClassForm, FieldForm, Operand, operand_of};
+use crate::operand::{CallForm, ClassForm, FieldForm, Operand, StaticForm, operand_of};
 use crate::refusal::Refusal;
+use crate::static_operand::{static_of, static_op};
 use class_pool::Pool;
 use class_world::{LinkFault, MethodName, World};
 use code_decode::Insn;
@@ -82,10 +83,6 @@ pub(crate) fn fault_at(
             method: name.copy(alloc)?,
             pc,
         }),
-        Refusal::StaticField => Ok(LinkFault::StaticField {
-            method: name.copy(alloc)?,
-            pc,
-        }),
         Refusal::Memory => Ok(LinkFault::Memory),
     }
 }
@@ -104,6 +101,22 @@ fn field_operand(
     let names = member_operand(pool, 9, entry)?;
     let used = field_of(world, alloc, names)?;
     Ok(field_op(form, used))
+}
+
+/// An instruction that names a static field.
+#[tactic(auto, unfolding(crate::specs::Ops::static_operand))]
+fn static_operand(
+    world: &World<'_>,
+    alloc: Global,
+    pool: &Pool<'_>,
+    form: StaticForm,
+    entry: u16,
+) -> Result<Op, Refusal>
+    ensures { Gives (λ op. op) result (static_operand (classes_of world.now) pool.now form entry) }
+{
+    let names = member_operand(pool, 9, entry)?;
+    let used = static_of(world, alloc, names)?;
+    Ok(static_op(form, used))
 }
 
 /// An instruction that names a class or an array type.
@@ -153,7 +166,7 @@ fn op_with(
         Operand::Nothing => Ok(Op::Plain(insn)),
         Operand::Numbers(code) => numbers_op(insn, code),
         Operand::Constant(entry) => constant_of(pool, entry),
-        Operand::StaticField => Err(Refusal::StaticField),
+        Operand::Static(form, entry) => static_operand(world, alloc, pool, form, entry),
         Operand::Field(form, entry) => field_operand(world, alloc, pool, form, entry),
         Operand::Class(form, entry) => class_operand(world, alloc, pool, form, entry),
         Operand::Call(form, entry) => call_operand(world, alloc, current, pool, form, entry),

@@ -1,8 +1,9 @@
 //! A world with the methods that an entry reaches.
 ghost use Rattle.class_world.specs.Worlds.{classes_of};
-ghost use Rattle.std.specs.Prelude.{◌≡◌, Ok, IsTrue};
+ghost use Rattle.std.specs.Prelude.{◌≡◌, ◌≤◌, Ok, length, IsTrue};
 ghost use Rattle.std.specs.List.{list_all};
 ghost use Rattle.class_world.specs.Resolve.{has_body};
+ghost use Rattle.class_program.specs.Statics.{fields_named, statics_of};
 ghost use Rattle.class_program.specs.Reached.{reached, close_of, is_closed};
 ghost use Rattle.class_program.specs.Programs.{refs_of};
 
@@ -55,6 +56,8 @@ pub struct Method<'a> {
 pub struct StaticField<'a> {
     /// The class that declares it, by its number.
     pub class: u32,
+    /// The field's place in that class's file.
+    pub index: u32,
     /// The field's name.
     pub name: Bytes<'a>,
     /// The field's descriptor.
@@ -72,9 +75,11 @@ pub struct Program<'a> {
     pub entry: MethodRef,
     /// The reached methods in order.
     pub methods: Seq<Method<'a>>,
-    /// The static fields that reached instructions name; none while they are refused.
+    /// The static fields that reached instructions name, each once, by class number and then in file order.
     pub statics: Seq<StaticField<'a>>,
     pub(crate) refs: MethodRefs,
+    ghost found: { statics ≡ statics_of (classes_of world) (fields_named methods) },
+    ghost few: { length statics ≤ 256 },
     ghost made: { close_of (classes_of world) entry ≡ Ok methods },
     ghost numbers: { refs ≡ refs_of methods },
     ghost reaches: { refs ≡ reached (classes_of world) entry },

@@ -18,8 +18,6 @@ pub(crate) enum Refusal {
     Unresolved,
     /// It is an `invokevirtual` of a private method.
     PrivateVirtual,
-    /// It uses a static field.
-    StaticField,
     /// Want of memory.
     Memory,
 }

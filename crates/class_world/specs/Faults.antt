@@ -4,7 +4,7 @@ use Rattle.fault_words.specs.Words.{joined, bytes_field}
 use Rattle.code_decode.specs.Faults.{pc_field, fault_name as code_fault_name, fault_fields as code_fault_fields}
 use Rattle.class_world.specs.declared.fault.MethodName.{MethodName}
 use Rattle.class_world.specs.declared.fault.LinkFault.{LinkFault}
-use Rattle.class_world.specs.declared.fault.LinkFault.TheVariants.{DuplicateClass, MissingClass, CyclicHierarchy, BadSuper, DefaultMethod, StaticInit, Native, Synchronized, UnsupportedType, Unresolved, PrivateVirtual, StaticField, Code, Memory}
+use Rattle.class_world.specs.declared.fault.LinkFault.TheVariants.{DuplicateClass, MissingClass, CyclicHierarchy, BadSuper, DefaultMethod, StaticInit, Native, Synchronized, UnsupportedType, Unresolved, PrivateVirtual, Code, TooManyStatics, Memory}
 
 abbrev pub fault_name : LinkFault → List ℕ
 fault_name (DuplicateClass name) = codes "DuplicateClass"
@@ -18,8 +18,8 @@ fault_name (Synchronized method) = codes "Synchronized"
 fault_name (UnsupportedType method pc) = codes "UnsupportedType"
 fault_name (Unresolved method pc) = codes "Unresolved"
 fault_name (PrivateVirtual method pc) = codes "PrivateVirtual"
-fault_name (StaticField method pc) = codes "StaticField"
 fault_name (Code method fault) = code_fault_name fault
+fault_name TooManyStatics = codes "TooManyStatics"
 fault_name Memory = codes "Memory"
 
 -- the name of a class, as it stands in its file
@@ -42,8 +42,8 @@ fault_fields (Synchronized method) = method_fields method []
 fault_fields (UnsupportedType method pc) = method_fields method (pc_field pc)
 fault_fields (Unresolved method pc) = method_fields method (pc_field pc)
 fault_fields (PrivateVirtual method pc) = method_fields method (pc_field pc)
-fault_fields (StaticField method pc) = method_fields method (pc_field pc)
 fault_fields (Code method fault) = method_fields method (code_fault_fields fault)
+fault_fields TooManyStatics = []
 fault_fields Memory = []
 
 -- the name, and then the fields

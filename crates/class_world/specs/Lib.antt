@@ -7,6 +7,7 @@ pub mod Descriptors
 pub mod Fields
 pub mod Worlds
 pub mod Members
+pub mod WorldTypes
 pub mod WorldLaws
 pub mod Walks
 pub mod Classes

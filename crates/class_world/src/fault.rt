@@ -95,13 +95,6 @@ pub enum LinkFault {
         /// The place of the instruction.
         pc: u16,
     },
-    /// Reached code names a static field.
-    StaticField {
-        /// The method.
-        method: MethodName,
-        /// The place of the instruction.
-        pc: u16,
-    },
     /// The code of a reached method breaks a rule on codes or exception tables.
     Code {
         /// The method.
@@ -109,6 +102,8 @@ pub enum LinkFault {
         /// The rule, with its place in the code.
         fault: CodeFault,
     },
+    /// The reached code names more than 256 static fields.
+    TooManyStatics,
     /// Want of memory.
     Memory,
 }

@@ -56,8 +56,8 @@ impl LinkFault {
             LinkFault::UnsupportedType { .. } => b"UnsupportedType",
             LinkFault::Unresolved { .. } => b"Unresolved",
             LinkFault::PrivateVirtual { .. } => b"PrivateVirtual",
-            LinkFault::StaticField { .. } => b"StaticField",
             LinkFault::Code { fault, .. } => fault.name(),
+            LinkFault::TooManyStatics => b"TooManyStatics",
             LinkFault::Memory => b"Memory",
         }
     }
@@ -82,11 +82,11 @@ impl LinkFault {
             LinkFault::UnsupportedType { method, pc } => place_fields(alloc, method, *pc),
             LinkFault::Unresolved { method, pc } => place_fields(alloc, method, *pc),
             LinkFault::PrivateVirtual { method, pc } => place_fields(alloc, method, *pc),
-            LinkFault::StaticField { method, pc } => place_fields(alloc, method, *pc),
             LinkFault::Code { method, fault } => {
                 let more = fault.fields(alloc)?;
                 method_fields(alloc, method, more.as_slice())
             }
+            LinkFault::TooManyStatics => Ok(Seq::new(alloc)),
             LinkFault::Memory => Ok(Seq::new(alloc)),
         }
     }

@@ -68,10 +68,10 @@ closing_refused desc files line entry world (At places.Listing fault) entered r 
 closing_refused desc files line entry world (At places.Description fault) entered r = absurd r
 closing_refused desc files line entry world Memory entered r = tt
 
-pub named_program : (desc : List ℕ) (files : List (List ℕ)) (line : Line) (entry : MethodRef) (world : World) (program : Program) → NameEntry files desc world line entry → program.world ≡ world → program.entry ≡ entry → IsClosed program → program.statics ≡ [] → NameProgram files desc line program
-named_program desc files line entry world program entered world_is entry_is closed statics =
+pub named_program : (desc : List ℕ) (files : List (List ℕ)) (line : Line) (entry : MethodRef) (world : World) (program : Program) → NameEntry files desc world line entry → program.world ≡ world → program.entry ≡ entry → IsClosed program → NameProgram files desc line program
+named_program desc files line entry world program entered world_is entry_is closed =
     let here : NameEntry files desc program.world line entry = subst (λ (w : World). NameEntry files desc w line entry) (sym world_is) entered in
-    record { entered = subst (NameEntry files desc program.world line) (sym entry_is) here; closed = closed; statics = statics }
+    record { entered = subst (NameEntry files desc program.world line) (sym entry_is) here; closed = closed }
 
 pub program_refused : (desc : List ℕ) (files : List (List ℕ)) (line : Line) (program : Program) → NameProgram files desc line program → (IsFirstPath line.params program → ⊥) → Answers desc files (Err (At places.Link faults.NotBuilt))
 program_refused desc files line program named none = record { line = line; program = program; named = named; not_built = none }

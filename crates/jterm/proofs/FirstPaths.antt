@@ -76,9 +76,9 @@ no_forms world params method e p = let f = p.forms_are in cc
 
 -- ---- programs
 
-pub first_path_answer : (params : ℕ) (program : Program) (method : Method) (answer : Bool) → program.methods ≡ method ∷ [] → ((world : World) → IsTrue answer ↔ IsStraight world params method) → IsTrue answer ↔ IsFirstPath params program
-first_path_answer params program method answer only h = (
-  λ t. record { method = method; only = only; straight = (h program.world).0 t },
+pub first_path_answer : (params : ℕ) (program : Program) (method : Method) (answer : Bool) → program.methods ≡ method ∷ [] → program.statics ≡ [] → ((world : World) → IsTrue answer ↔ IsStraight world params method) → IsTrue answer ↔ IsFirstPath params program
+first_path_answer params program method answer only statics h = (
+  λ t. record { method = method; only = only; straight = (h program.world).0 t; statics = statics },
   λ p. (h program.world).1 (subst (IsStraight program.world params) (same p.method method (sym p.only ∙ only)) p.straight),
 )
   where

@@ -163,6 +163,7 @@ AllEnd-good desc files g =
       line = g.line;
       program = program;
       named = g.named;
+      no_statics = path.statics;
       ends = λ state f. (done state f).ends;
       never_stuck = λ state f. (done state f).never_stuck;
     }

@@ -13,6 +13,7 @@ use Rattle.class_world.specs.Linking.{link_fault}
 use Rattle.class_program.specs.Said.{Said}
 use Rattle.class_program.specs.Programs.{Program}
 use Rattle.class_program.specs.Reached.{close_of}
+use Rattle.class_program.specs.Statics.{fields_named, statics_of}
 use Rattle.class_world.specs.declared.fault.LinkFault.{LinkFault}
 use Rattle.class_program.specs.declared.program.Method.{Method}
 use Rattle.class_world.specs.declared.world.MethodRef.{MethodRef}
@@ -76,12 +77,12 @@ Says = Result Program Refused
 abbrev no_entry : Says
 no_entry = Err (At places.Description faults.NotBuilt)
 
--- a program whose instructions name no static field
-abbrev without_statics : World → MethodRef → List Method → Program
-without_statics world entry methods = record { world = world; entry = entry; methods = methods; statics = [] }
+-- the program of closed methods, with the static fields that they name
+abbrev with_statics : World → MethodRef → List Method → Program
+with_statics world entry methods = record { world = world; entry = entry; methods = methods; statics = statics_of world (fields_named methods) }
 
 abbrev closing_says : World → MethodRef → Said (List Method) → Says
-closing_says world entry (Ok methods) = Ok (without_statics world entry methods)
+closing_says world entry (Ok methods) = Ok (with_statics world entry methods)
 closing_says world entry (Err fault) = Err (At places.Link (faults.Link fault))
 
 abbrev body_says : World → MethodRef → Bool → Says
@@ -160,7 +161,7 @@ said_so world line a b r e d = subst (λ (s : Says). Decides world line s r) (sy
 says_program : (desc : List ℕ) (files : List (List ℕ)) (line : Line) (program : Program) → NameProgram files desc line program → says program.world line ≡ Ok program
 says_program desc files line program named =
     let e = named.entered in
-    let whole : without_statics program.world program.entry program.methods ≡ program = λ i. record { world = program.world; entry = program.entry; methods = program.methods; statics = sym named.statics i } in
+    let whole : with_statics program.world program.entry program.methods ≡ program = λ i. record { world = program.world; entry = program.entry; methods = program.methods; statics = sym named.closed.statics i } in
     says_closing program.world line program.entry (Ok program.methods) e.linked.links e.is_entry named.closed.made
     ∙ ap (λ (p : Program). let s : Says = Ok p in s) whole
 

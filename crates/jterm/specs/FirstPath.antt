@@ -37,8 +37,9 @@ pub record IsStraight (world : World) (params : ℕ) (method : Method) : Type 0 
   pub returns : ReturnsLast forms
   pub typed : HasTyping world method
 
--- a program of one such method
+-- a program of one such method, without static fields
 pub record IsFirstPath (params : ℕ) (program : Program) : Type 0 where
   pub method : Method
   pub only : program.methods ≡ method ∷ []
   pub straight : IsStraight program.world params method
+  pub statics : program.statics ≡ []

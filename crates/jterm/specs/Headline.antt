@@ -54,18 +54,17 @@ pub record NameEntry (files : List (List ℕ)) (desc : List ℕ) (world : World)
   pub linked : NameWorld files desc world line
   pub is_entry : IsEntry world line entry
 
--- and this program: the entry method is closed, which gives the methods that it reaches, itself first; no static field is
--- among what they name
+-- and this program: the entry method is closed, which gives the methods that it reaches, itself first, and the static
+-- fields that these name
 pub record NameProgram (files : List (List ℕ)) (desc : List ℕ) (line : Line) (program : Program) : Type 0 where
   pub entered : NameEntry files desc program.world line program.entry
   pub closed : IsClosed program
-  pub statics : program.statics ≡ []
 
 -- ---- the states that a line fits
 
 -- The state fits the line in the program, whose first method takes the line's ints and nothing else: one frame of that
 -- method at its start, as many locals as it may have, an int in each parameter's local, the other locals unset, an empty
--- stack, and normal mode. The program has no static fields. The heap is any, since none of the forms reads it.
+-- stack, and normal mode. It has no values of static fields. The heap is any, since none of the forms reads it.
 pub record FitsDescription (line : Line) (program : Program) (state : MachineState) : Type 0 where
   pub method : Method
   pub first : slice_get program.methods 0 ≡ Some method
@@ -85,11 +84,12 @@ pub record FitsDescription (line : Line) (program : Program) (state : MachineSta
 
 -- ---- the headline
 
--- The files and the description name a program; every state that the description fits comes to a return, or to a throw that
--- nothing catches, after some number of steps; and no state on the way is stuck.
+-- The files and the description name a program without static fields; every state that the description fits comes to a
+-- return, or to a throw that nothing catches, after some number of steps; and no state on the way is stuck.
 pub record AllEnd (files : List (List ℕ)) (desc : List ℕ) : Type 0 where
   pub line : Line
   pub program : Program
   pub named : NameProgram files desc line program
+  pub no_statics : program.statics ≡ []
   pub ends : (state : MachineState) → FitsDescription line program state → Ends program state
   pub never_stuck : (state : MachineState) → FitsDescription line program state → IsNeverStuck program state

@@ -1,5 +1,5 @@
 //! Class files, read in the order of their words, the world that they make, and the program of an entry.
-ghost use Rattle.std.specs.Prelude.{◌≡◌, ◌⊎◌, ◌≤◌, [], length, map, Some, None, IfOk, IfErr, MatchOption, IsTrue};
+ghost use Rattle.std.specs.Prelude.{◌≡◌, ◌⊎◌, ◌≤◌, length, map, Some, None, IfOk, IfErr, MatchOption, IsTrue};
 ghost use Rattle.class_world.specs.Resolve.{has_body};
 ghost use Rattle.class_read.specs.Rules.{Spells};
 ghost use Rattle.class_world.specs.World.{world_of};
@@ -91,7 +91,6 @@ pub(crate) fn close<'a>(
     ensures world { IfOk result (λ program. classes_of program.world ≡ classes_of world.entry) }
     ensures entry { IfOk result (λ program. program.entry ≡ entry) }
     ensures closed { IfOk result (λ program. IsClosed (program_of program)) }
-    ensures statics { IfOk result (λ program. program.statics ≡ []) }
     ensures refused { IfErr result (λ refused. RefusesProgram (classes_of world.entry) entry refused) }
 {
     match Program::close(alloc, world, entry) {

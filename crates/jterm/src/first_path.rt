@@ -75,7 +75,14 @@ fn is_straight(alloc: Global, params: u8, method: &Method<'_>) -> Result<bool, A
     )
 }
 
-/// Whether the program is one straight method that takes so many ints.
+/// Whether the program has no static fields.
+fn has_no_statics(program: &Program<'_>) -> bool
+    ensures { IsTrue result ↔ (program.now.statics ≡ []) }
+{
+    program.statics.is_empty()
+}
+
+/// Whether the program is one straight method that takes so many ints, and has no static fields.
 ///
 /// # Errors
 ///
@@ -87,6 +94,9 @@ pub(crate) fn is_first_path(
 ) -> Result<bool, AllocError>
     ensures { IfOk result (λ answer. IsTrue answer ↔ IsFirstPath params (program_of program.now)) }
 {
+    if !has_no_statics(program) {
+        return Ok(false);
+    }
     let methods = program.methods.as_slice();
     if methods.len() != 1 {
         return Ok(false);

@@ -115,6 +115,16 @@ fn a_static_field_that_no_instruction_names_changes_nothing(rt: HostRuntime) -> 
 }
 
 #[test]
+fn a_static_field_that_is_read_links_and_is_not_built_yet(rt: HostRuntime) -> Result<(), Fail> {
+    let listing =
+        b"class A\nfield total I static\nmethod f ()I static stack 1 locals 0\ngetstatic A total I\nireturn\nend\n";
+    let outcome = proved(rt.alloc(), listing, &[], 100)?;
+    assert_eq!(rt; outcome.status, 3);
+    assert_eq!(rt; outcome.err.bytes(), b"jterm: link: NotBuilt\n".as_slice());
+    Ok(())
+}
+
+#[test]
 fn a_loop_is_not_built_yet(rt: HostRuntime) -> Result<(), Fail> {
     let listing = b"class A\nmethod f ()I static stack 1 locals 0\nagain: goto again\nend\n";
     let outcome = proved(rt.alloc(), listing, &[], 100)?;

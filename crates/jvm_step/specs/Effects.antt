@@ -33,8 +33,7 @@ use Rattle.jvm_values.specs.Subtyping.{class_type}
 use Rattle.jvm_values.specs.TypedHeaps.{WorldTypes}
 use Rattle.jvm_values.specs.Writes.{with_value}
 use Rattle.class_world.specs.World.{World}
-use Rattle.class_world.specs.Types.{is_sub, erase}
-use Rattle.class_world.specs.Fields.{fields_of, can_be_made}
+pub use Rattle.class_world.specs.WorldTypes.{types_of}
 use Rattle.class_world.specs.Resolve.{method_at}
 use Rattle.class_world.specs.BuiltIns.{throwable, null_pointer_exception, arithmetic_exception, array_index_out_of_bounds_exception, negative_array_size_exception, class_cast_exception, array_store_exception, incompatible_class_change_error, abstract_method_error}
 use Rattle.class_program.specs.Ops.{constructor_name}
@@ -51,10 +50,6 @@ use Rattle.op_forms.specs.declared.form.ItemKind.TheVariants as item_kinds
 use Rattle.op_forms.specs.declared.form.Shuffle.{Shuffle}
 use Rattle.op_forms.specs.Forms.{shuffled}
 use Rattle.jvm_step.specs.Operands.{int_of, reference_of, same_reference, is_null, top, top_int, top_reference, object_at, is_assignable, is_of_type, is_passed, is_null_or_below, is_below, kept, default_of}
-
--- what a world tells of its types
-abbrev pub types_of : World → WorldTypes
-types_of world = record { sub = is_sub world; erase = erase world; classes = length world; fields = fields_of world; can_be_made = can_be_made world }
 
 -- ---- effects
 

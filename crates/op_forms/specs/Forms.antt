@@ -231,8 +231,8 @@ form_of_insn _ = None
 abbrev pub form_of : Op → Option Form
 form_of (ops.Plain insn) = form_of_insn insn
 form_of (ops.Constant value) = Some (Iconst value)
-form_of (ops.Getstatic place) = Some (Getstatic place)
-form_of (ops.Putstatic place) = Some (Putstatic place)
+form_of (ops.Getstatic used) = Some (Getstatic used.place)
+form_of (ops.Putstatic used) = Some (Putstatic used.place)
 form_of (ops.Getfield field) = Some (Getfield field)
 form_of (ops.Putfield field) = Some (Putfield field)
 form_of (ops.Invokevirtual call) = Some (Invokevirtual call)

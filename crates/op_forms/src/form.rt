@@ -296,8 +296,8 @@ pub fn form_of(op: &Op) -> Option<Form<'_>>
     match op {
         Op::Plain(insn) => form_of_insn(insn),
         Op::Constant(value) => Some(Form::Iconst(*value)),
-        Op::Getstatic(place) => Some(Form::Getstatic(*place)),
-        Op::Putstatic(place) => Some(Form::Putstatic(*place)),
+        Op::Getstatic(used) => Some(Form::Getstatic(used.place)),
+        Op::Putstatic(used) => Some(Form::Putstatic(used.place)),
         Op::Getfield(field) => Some(Form::Getfield(*field)),
         Op::Putfield(field) => Some(Form::Putfield(*field)),
         Op::Invokevirtual(call) => Some(Form::Invokevirtual(call)),

@@ -4,4 +4,4 @@ use Rattle.class_program.specs.Reached.{method_numbered}
 use Rattle.class_program.proofs.closing.methods_numbered.Given as goal
 
 abbrev pub invariant-loop-method : goal.invariant-loop-method
-invariant-loop-method l = l.done ≡ map (method_numbered l.refs) l.yielded
+invariant-loop-method l = l.done ≡ map (method_numbered l.refs l.statics) l.yielded

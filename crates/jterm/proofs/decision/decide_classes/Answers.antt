@@ -45,7 +45,7 @@ returns-then-not-branch c =
     let linked = named_world _ _ _ c.in-Some.line world c.in_ok-classes.ensures.classes c.in-Some.ensures c.in-Ok.ensures.links c.in-Ok.ensures.world in
     let entered : NameEntry _ _ world c.in-Some.line c.in-Some-2.entry = record { linked = linked; is_entry = rw c.in-Some-2.is at c.in_ok-entry.ensures } in
     let close = c.in-Ok-close.ensures in
-    let named = named_program _ _ c.in-Some.line c.in-Some-2.entry world program entered close.world close.entry close.closed close.statics in
+    let named = named_program _ _ c.in-Some.line c.in-Some-2.entry world program entered close.world close.entry close.closed in
     subst (λ (r : Refused). Answers c.args.description.now (map (λ file. file.items) c.args.files.now) (Err r)) (sym c.not_built-then-not-branch.ensures)
     (program_refused _ _ c.in-Some.line program named (λ p. let t = c.in_ok-is_first_path.ensures.1 p in let f = c.if-not-branch.true in cc))
 
@@ -56,5 +56,5 @@ returns c =
     let linked = named_world _ _ _ c.in-Some.line world c.in_ok-classes.ensures.classes c.in-Some.ensures c.in-Ok.ensures.links c.in-Ok.ensures.world in
     let entered : NameEntry _ _ world c.in-Some.line c.in-Some-2.entry = record { linked = linked; is_entry = rw c.in-Some-2.is at c.in_ok-entry.ensures } in
     let close = c.in-Ok-close.ensures in
-    let named = named_program _ _ c.in-Some.line c.in-Some-2.entry world program entered close.world close.entry close.closed close.statics in
+    let named = named_program _ _ c.in-Some.line c.in-Some-2.entry world program entered close.world close.entry close.closed in
     said_yes _ _ c.in-Some.line program c.yes.result named (c.in_ok-is_first_path.ensures.0 c.if-not-branch.false) c.yes.ensures

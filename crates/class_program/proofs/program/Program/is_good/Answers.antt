@@ -13,10 +13,12 @@ pub returns : goal.returns
 returns c =
     let p = c.args.self.now in
     let closed : IsClosed (program_of p) = record {
-      linked = p.world.known.linked;
+      known = p.world.known;
       made = p.made;
       reaches = sym p.numbers ∙ p.reaches;
       bodies = subst (λ (refs : List MethodRef). list_all (has_body (classes_of p.world)) refs ≡ true) p.numbers p.bodies;
+      statics = p.found;
+      few = p.few;
       whole = subst (λ (refs : List MethodRef). is_closed (classes_of p.world) refs p.methods ≡ true) p.numbers p.whole;
     } in
     record { closed = closed; good = good_program (program_of p) closed }

@@ -1,17 +1,16 @@
-//! Answers the cases of tables: each line of the input is the name of a table, a tab and the input
+//! Answers the cases of the tables `link-52` and `select`: each line of the input is the name of a table, a tab and the input
 //! fields of a case, divided by tabs. The answer to each comes on a line of its own.
 #![tactic(auto)]
 
-mod case;
 mod entry;
 mod links;
 mod select;
 
 use anyhow::{Result, bail};
-use case::Case;
 use std::alloc::Global;
 use std::io;
 use std::io::{BufRead, BufReader, BufWriter, Write};
+use table_cases::Case;
 
 fn main(rt: HostRuntime) -> Result<()> {
     let mut output = BufWriter::new(rt.alloc(), io::writer(&rt))?;
@@ -27,7 +26,7 @@ fn main(rt: HostRuntime) -> Result<()> {
 fn answer(alloc: Global, line: &str) -> Result<String> {
     let case = Case::read(alloc, line)?;
     match case.table() {
-        "link-50" => links::answer(alloc, &case),
+        "link-52" => links::answer(alloc, &case),
         "select" => select::answer(alloc, &case),
         table => bail!("there is no table {table}"),
     }

@@ -1,10 +1,10 @@
 //! `select`: a reached method's number, the place of a call, a class by its name, and the entry method and class files as
-//! in `link-50`; what the call does on an object of the class.
-use crate::case::Case;
+//! in `link-52`; what the call does on an object of the class.
 use crate::entry::Entry;
 use anyhow::{Context, Result, bail};
 use class_program::{Program, Selected};
 use std::alloc::{AllocError, Global};
+use table_cases::Case;
 
 pub fn answer(alloc: Global, case: &Case<'_>) -> Result<String> {
     let method = case.text(0)?.parse::<u32>()?;

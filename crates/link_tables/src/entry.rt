@@ -2,14 +2,14 @@
 ghost use Rattle.std.specs.Prelude.{◌≡◌, ◌<◌, ◌≤◌, length, IfOk};
 ghost use Rattle.std.specs.List.{AllByRecursion};
 ghost use Rattle.class_world.specs.Linking.{CanBeRead};
-ghost use Rattle.vector_tables.specs.ReadClasses.{AreRead};
+ghost use Rattle.link_tables.specs.ReadClasses.{AreRead};
 
-use crate::case::Case;
 use anyhow::{Context, Result, bail};
 use class_program::Program;
 use class_read::ClassView;
 use class_world::{LinkFault, World};
 use std::alloc::Global;
+use table_cases::Case;
 
 /// The entry method's class, name and descriptor, and the contents of the class files.
 #[derive(Drop)]
