@@ -1,9 +1,9 @@
 -- What a call selects is one of the reached methods.
-use Rattle.std.proofs.Common.{◌≡◌, ◌++◌, ◌||◌, ◌&&◌, ℕ, zero, suc, ◌+◌, ◌<◌, ◌≤◌, Bool, true, false, not, cond, eqb, ltb, List, [], ◌∷◌, length, get_or, Option, Some, None, Ok, Err, sym, refl, ap, ◌∙◌, subst, inl, inr, ◌⊎◌, arith}
+use Rattle.std.proofs.Common.{◌≡◌, ◌++◌, ◌||◌, ◌&&◌, ℕ, zero, suc, ◌+◌, ◌<◌, ◌≤◌, Bool, true, false, not, cond, eqb, List, [], ◌∷◌, length, get_or, Option, Some, None, Ok, Err, sym, refl, ap, ◌∙◌, subst, inl, inr, ◌⊎◌, arith}
 use Rattle.std.specs.Prelude.{flat_map, slice_get, map, position, option_and_then}
 use Rattle.std.specs.List.{list_any, list_all, filter, filter_map, cons_option, range_with_len, position_or_len}
 use Rattle.std.specs.Option.{option_map, option_map_or, option_or}
-use Rattle.std.proofs.lemmas.Bool.{false≢true, and_from, and_parts, or_left, or_right, or_from, lt-ltb, ltb-true, eqb-true, cases_lt}
+use Rattle.std.proofs.lemmas.Bool.{false≢true, and_from, and_parts, or_left, or_right, lt-ltb, cases_lt}
 use Rattle.std.proofs.lemmas.List.Folds.{list_any-append, list_all-append}
 use Rattle.std.proofs.lemmas.Option.{slice_get_within, slice_get_read, slice_get_past}
 use Rattle.class_read.specs.Content.{ClassContent, MethodContent}
@@ -14,8 +14,8 @@ use Rattle.class_program.specs.declared.program.StaticField.{StaticField}
 use Rattle.class_program.specs.declared.selected.Selected.{Selected}
 use Rattle.class_program.specs.declared.selected.Selected.TheVariants as answers
 use Rattle.class_world.specs.declared.world.MethodRef.{MethodRef}
-use Rattle.class_world.specs.World.{World, leads_up, line_of, supers_of, is_above, is_abstract, is_interface}
-use Rattle.class_world.specs.Walks.{IsIn, Walk, Walk-from_leads}
+use Rattle.class_world.specs.World.{World, line_of, is_abstract, is_interface}
+use Rattle.class_world.specs.Walks.{IsIn}
 use Rattle.class_program.specs.Said.{Said, ◌>>=◌, each}
 use Rattle.class_world.specs.Types.{is_class_below}
 use Rattle.class_world.specs.Fields.{can_be_made}
@@ -26,7 +26,6 @@ use Rattle.class_world.specs.Select.Selection.{Runs, Lacks, Unfit}
 use Rattle.class_program.specs.Runs.{with_body, selected_body, selections, call_selections, runs}
 use Rattle.class_program.specs.Methods.{method_of}
 use Rattle.class_program.specs.Reached.{has_runs, is_closed, same_method, has_method, with_one, with_new, runs_in, runs_said, runs_from, contents_of, methods_of, op_numbered, insns_numbered, method_numbered}
-use Rattle.class_world.specs.Linked.{supers_closed}
 use Rattle.class_program.proofs.Room.{same_self}
 use Rattle.class_program.proofs.Reaching.{made_by}
 use Rattle.class_program.proofs.GoingThrough.{IsReaching, all_gone}

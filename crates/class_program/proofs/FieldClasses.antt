@@ -11,7 +11,7 @@ use Rattle.class_world.specs.declared.fault.LinkFault.TheVariants.{BadSuper}
 use Rattle.class_world.specs.World.{World, built_ins, built_in_names, super_of, interfaces_of, is_interface, is_interface_class, line_from, line_of}
 use Rattle.class_world.specs.Fields.{field_slot}
 use Rattle.class_world.specs.Linking.{is_linked, is_bad_superclass, bad_super}
-use Rattle.class_world.specs.Linked.{IsLinked, linked_from}
+use Rattle.class_world.specs.Linked.{linked_from}
 use Rattle.class_world.specs.Walks.{IsIn}
 use Rattle.class_world.specs.Resolve.{found_field, resolve_field, field_at, field_place}
 use Rattle.class_world.specs.BuiltIns.{IsWorld}

@@ -1,48 +1,43 @@
 -- What calls name: methods that are there, and the methods of the program that they run.
-use Rattle.std.proofs.Common.{◌≡◌, ◌++◌, ◌||◌, ◌&&◌, ℕ, zero, suc, ◌+◌, ◌<◌, ◌≤◌, Bool, true, false, not, cond, eqb, ltb, List, [], ◌∷◌, length, Option, Some, None, Ok, Err, refl, sym, ap, subst, inl, inr, ◌⊎◌, arith, ◌∙◌, one-add}
-use Rattle.std.specs.Prelude.{Result, slice_get, map, position, option_and_then, IfSome, IsTrue}
+use Rattle.std.proofs.Common.{◌≡◌, ◌++◌, ◌||◌, ◌&&◌, ℕ, suc, ◌+◌, ◌<◌, Bool, true, false, not, cond, eqb, ltb, List, [], ◌∷◌, length, Option, Some, None, Ok, refl, sym, ap, subst, inl, inr, ◌⊎◌, arith, ◌∙◌, one-add}
+use Rattle.std.specs.Prelude.{slice_get, position, option_and_then, IsTrue}
 use Rattle.std.specs.List.{list_any, list_all, position_or_len}
-use Rattle.std.specs.Option.{option_map, option_map_or, option_to_list, option_or}
+use Rattle.std.specs.Option.{option_map, option_map_or, option_to_list}
 use Rattle.std.specs.Str.{bytes_eq}
 use Rattle.std.proofs.lemmas.Bool.{false≢true, and_parts, ltb-true}
 use Rattle.std.proofs.lemmas.Slice.Eq.{bytes_eq-Decides}
 use Rattle.class_read.specs.Content.{MethodContent}
 use Rattle.jvm_values.specs.declared.types.Slot.{Slot}
-use Rattle.jvm_values.specs.declared.types.Ty.{Ty}
-use Rattle.jvm_values.specs.Subtyping.{IsSlot}
 use Rattle.class_world.specs.declared.world.MethodRef.{MethodRef}
 use Rattle.class_world.specs.World.{World, line_of, super_of, is_static, is_private, is_abstract, is_interface_class}
 use Rattle.class_world.specs.Linking.{is_linked}
 use Rattle.class_world.specs.Types.{is_class_below}
 use Rattle.class_world.specs.Descriptors.{class_slot}
 use Rattle.class_world.specs.Members.{declared_method}
-use Rattle.class_world.specs.Resolve.{first_found, superinterfaces_of, method_ref, resolve_method, method_at, has_body, has_no_body}
+use Rattle.class_world.specs.Resolve.{first_found, superinterfaces_of, method_ref, resolve_method, method_at, has_body}
 use Rattle.class_world.specs.Select.{is_selectable, selectable_method, select, is_abstract_method, selection_of, selected_virtual, selected_interface}
 use Rattle.class_world.specs.Select.Selection.{Runs, Lacks, Unfit}
 use Rattle.class_program.specs.declared.operand.CallForm.{CallForm}
 use Rattle.class_program.specs.declared.operand.CallForm.TheVariants as calls
-use Rattle.class_program.specs.declared.refusal.Refusal.{Refusal}
-use Rattle.class_program.specs.declared.refusal.Refusal.TheVariants as refusals
 use Rattle.class_program.specs.declared.signature.Signature.{Signature}
-use Rattle.class_program.specs.declared.op.Op.{Op}
 use Rattle.class_program.specs.declared.op.Op.TheVariants.{Invokevirtual, Invokespecial, Invokestatic, Invokeinterface}
 use Rattle.class_program.specs.declared.op.Call.{Call}
 use Rattle.class_program.specs.declared.program.Method.{Method}
 use Rattle.class_program.specs.declared.selected.Selected.{Selected}
 use Rattle.class_program.specs.declared.selected.Selected.TheVariants as answers
 use Rattle.class_program.specs.Operands.{Member}
-use Rattle.class_program.specs.Refusals.{◌>>=◌, wanted, required}
+use Rattle.class_program.specs.Refusals.{wanted, required}
 use Rattle.class_program.specs.Signatures.{signature_of, declared_signature}
-use Rattle.class_program.specs.Ops.{type_named, class_number, constructor_name, may_call, is_fit_class, constructor_of, special_start, special_sought, method_sought, is_fit_static, virtual_fit, method_fit, found_fit, method_called, named_parts, call_of}
+use Rattle.class_program.specs.Ops.{type_named, class_number, constructor_name, may_call, is_fit_class, constructor_of, special_start, special_sought, method_sought, is_fit_static, method_fit, found_fit, method_called, named_parts, call_of}
 use Rattle.class_program.specs.Methods.{with_receiver}
 use Rattle.class_program.specs.Runs.{with_body, runs}
 use Rattle.class_program.specs.Reached.{same_method, has_method, numbered}
 use Rattle.class_program.specs.Programs.{Program, ref_of, refs_of}
-use Rattle.class_program.specs.Selected.{selection_at, selected_in, can_receive}
+use Rattle.class_program.specs.Selected.{selection_at, selected_in}
 use Rattle.class_program.specs.Good.{AllOf, IsGoodCall, Takes, IsGoodStatic, SpecialRuns, IsGoodSpecial, IsGoodAnswer, IsGoodSelecting}
 use Rattle.class_program.proofs.Got.{got, got_wanted, got_required, got_both, all_at}
-use Rattle.class_program.proofs.GoodTypes.{named_type, numbered_class, IsGoodSignature, named_signature, one_signature}
-use Rattle.class_program.proofs.Closed.{found_at, position_there, selectable_there, IsAnswered, op_answered}
+use Rattle.class_program.proofs.GoodTypes.{named_type, numbered_class, named_signature, one_signature}
+use Rattle.class_program.proofs.Closed.{found_at, position_there, selectable_there, op_answered}
 use Rattle.class_program.proofs.Room.{same_is}
 use Rattle.class_world.proofs.Found.{further_below, method_below, selected_below, declared_named, itself, super_below}
 

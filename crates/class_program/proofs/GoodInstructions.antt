@@ -1,13 +1,13 @@
 -- The instruction at a place of a closed program is good.
-use Rattle.std.proofs.Common.{◌≡◌, ◌&&◌, ℕ, zero, suc, ◌+◌, ◌<◌, ◌≤◌, Bool, true, false, cond, eqb, leb, List, [], ◌∷◌, Option, Some, None, refl, ap, sym, ◌∙◌, subst, arith}
+use Rattle.std.proofs.Common.{◌≡◌, ℕ, ◌+◌, ◌≤◌, Bool, true, false, cond, eqb, leb, List, [], ◌∷◌, Option, Some, None, refl, ap, ◌∙◌, subst, arith}
 use Rattle.std.specs.Prelude.{slice_get, option_and_then, IfSome}
 use Rattle.std.specs.Option.{is_some}
-use Rattle.std.proofs.lemmas.Bool.{and_parts, leb-true, eqb-true, eq-eqb, ne_eqb}
+use Rattle.std.proofs.lemmas.Bool.{and_parts, leb-true, eq-eqb, ne_eqb}
 use Rattle.class_program.specs.declared.op.Op.{Op}
 use Rattle.class_program.specs.declared.program.Method.{Method}
-use Rattle.class_program.specs.Instructions.{first_place, instruction_at, rises_from, starts_at_zero, is_placed}
+use Rattle.class_program.specs.Instructions.{first_place, instruction_at, rises_from, is_placed}
 use Rattle.class_program.specs.Programs.{Program, insn_at}
-use Rattle.class_program.specs.Good.{AllOf, is_place, IsGoodOp, IsGoodMethod, IsGood, IsGoodAt}
+use Rattle.class_program.specs.Good.{AllOf, IsGoodOp, IsGoodMethod, IsGood, IsGoodAt}
 use Rattle.class_program.proofs.Got.{all_at, some_same}
 use Rattle.class_program.proofs.Places.{placed_rises}
 

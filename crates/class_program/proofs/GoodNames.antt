@@ -1,11 +1,8 @@
 -- What instructions name that take no method: fields, classes and types.
-use Rattle.std.proofs.Common.{◌≡◌, ℕ, ◌<◌, ◌≤◌, Bool, true, false, not, cond, eqb, leb, ltb, List, length, Option, Some, None, Ok, Err, refl, sym, ap, subst, arith, ◌∙◌}
-use Rattle.std.specs.Prelude.{Result, slice_get, is_none, All}
-use Rattle.std.specs.Option.{option_map, option_map_or, is_some}
-use Rattle.std.proofs.lemmas.Bool.{false≢true, ltb-true}
-use Rattle.std.proofs.lemmas.Option.{slice_get_within}
-use Rattle.code_decode.specs.declared.insn.Insn.{Insn}
-use Rattle.code_decode.specs.declared.insn.Insn.TheVariants as insns
+use Rattle.std.proofs.Common.{◌≡◌, ℕ, ◌<◌, Bool, true, false, not, cond, ltb, List, length, Option, Some, None, Ok, Err, refl, subst}
+use Rattle.std.specs.Prelude.{slice_get, is_none}
+use Rattle.std.specs.Option.{option_map, option_map_or}
+use Rattle.std.proofs.lemmas.Bool.{ltb-true}
 use Rattle.jvm_values.specs.declared.types.Slot.{Slot}
 use Rattle.jvm_values.specs.declared.types.Ty.{Ty}
 use Rattle.jvm_values.specs.Subtyping.{class_type, IsReference, IsSlot}
@@ -16,7 +13,6 @@ use Rattle.class_world.specs.Types.{is_class_below}
 use Rattle.class_world.specs.Fields.{fields_of, can_be_made}
 use Rattle.class_world.specs.Descriptors.{slot_of}
 use Rattle.class_world.specs.Resolve.{resolve_field, field_place, first_static_init}
-use Rattle.class_program.specs.declared.refusal.Refusal.{Refusal}
 use Rattle.class_program.specs.declared.refusal.Refusal.TheVariants as refusals
 use Rattle.class_program.specs.declared.op.Op.{Op}
 use Rattle.class_program.specs.declared.op.Op.TheVariants.{New, Anewarray}

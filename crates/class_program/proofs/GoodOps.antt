@@ -1,15 +1,15 @@
 -- Every instruction of a method of a closed program is good.
-use Rattle.std.proofs.Common.{◌≡◌, ℕ, zero, suc, ◌<◌, ◌≤◌, Bool, true, false, not, cond, List, [], ◌∷◌, length, get_or, Option, Some, None, Ok, Err, refl, sym, ap, subst, arith, ◌∙◌}
-use Rattle.std.specs.Prelude.{Result, ℤ, slice_get, is_none, IfSome, IsTrue, All}
+use Rattle.std.proofs.Common.{◌≡◌, ℕ, zero, suc, ◌<◌, true, false, List, [], ◌∷◌, length, get_or, Option, Some, None, Ok, refl, sym, subst}
+use Rattle.std.specs.Prelude.{slice_get, is_none, IfSome}
 use Rattle.std.specs.List.{list_all}
-use Rattle.std.specs.Option.{option_map, is_some}
+use Rattle.std.specs.Option.{is_some}
 use Rattle.std.proofs.lemmas.Option.{slice_get_within}
 use Rattle.code_decode.specs.declared.insn.Insn.{Insn}
 use Rattle.code_decode.specs.Codes.{targets}
 use Rattle.jvm_values.specs.declared.types.Slot.{Slot}
 use Rattle.jvm_values.specs.declared.types.Ty.{Ty}
 use Rattle.jvm_values.specs.declared.types.Kind.{Kind}
-use Rattle.jvm_values.specs.Subtyping.{IsReference, IsSlot, class_type}
+use Rattle.jvm_values.specs.Subtyping.{IsReference, IsSlot}
 use Rattle.class_world.specs.World.{World}
 use Rattle.class_world.specs.BuiltIns.{IsWorld}
 use Rattle.class_world.specs.Fields.{fields_of}
@@ -26,13 +26,12 @@ use Rattle.class_program.specs.declared.operand.StaticForm.TheVariants as static
 use Rattle.class_program.specs.declared.operand.CallForm.{CallForm}
 use Rattle.class_program.specs.declared.operand.CallForm.TheVariants as calls
 use Rattle.class_program.specs.declared.op.Op.{Op}
-use Rattle.class_program.specs.declared.op.Op.TheVariants.{Plain, Constant, Getfield, Putfield, Invokevirtual, Invokespecial, Invokestatic, Invokeinterface, New, Anewarray, Checkcast, Instanceof}
+use Rattle.class_program.specs.declared.op.Op.TheVariants.{Getfield, Checkcast, Instanceof}
 use Rattle.class_program.specs.declared.op.Call.{Call}
 use Rattle.class_program.specs.declared.op.FieldUse.{FieldUse}
 use Rattle.class_program.specs.declared.op.StaticUse.{StaticUse}
 use Rattle.class_program.specs.declared.program.Method.{Method}
 use Rattle.class_program.specs.Operands.{operand_of}
-use Rattle.class_program.specs.Refusals.{◌>>=◌}
 use Rattle.class_program.specs.Ops.{class_op, class_number, new_of, field_op, static_op, call_op}
 use Rattle.class_program.specs.Runs.{runs}
 use Rattle.class_program.specs.Statics.{has_field, field_named, fields_named, statics_of}
@@ -40,9 +39,8 @@ use Rattle.class_program.proofs.GoodStatics.{IsDeclaredField, field_declared, st
 use Rattle.class_program.specs.Reached.{has_method, op_numbered}
 use Rattle.class_program.specs.Programs.{Program, refs_of}
 use Rattle.jvm_values.specs.Kinds.{kind_of_code}
-use Rattle.class_program.specs.Good.{AllOf, is_place, IsGoodPlain, IsGoodName, targets_of, IsGoodOp}
+use Rattle.class_program.specs.Good.{AllOf, is_place, IsGoodPlain, IsGoodName, IsGoodOp}
 use Rattle.class_program.proofs.Got.{got}
-use Rattle.class_program.proofs.GoodTypes.{numbered_class}
 use Rattle.class_program.proofs.GoodShapes.{Shape}
 use Rattle.class_program.proofs.GoodNames.{field_good, new_good, anewarray_good}
 use Rattle.class_program.proofs.GoodCalls.{IsTyped, IsNamedCall, called, static_good, special_good, virtual_good, interface_good}

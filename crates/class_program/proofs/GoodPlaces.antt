@@ -1,9 +1,9 @@
 -- Targets, handlers and the ends of ranges are places of the method's instructions, or its end.
-use Rattle.std.proofs.Common.{◌≡◌, ◌++◌, ℕ, zero, suc, ◌+◌, ◌-◌, ◌≤◌, ◌<◌, Bool, true, false, not, ◌&&◌, ◌||◌, cond, eqb, ltb, List, [], ◌∷◌, length, Option, Some, None, Ok, Err, sym, refl, ap, subst, inl, inr, ◌⊎◌, arith, ◌∙◌}
+use Rattle.std.proofs.Common.{◌≡◌, ℕ, zero, suc, ◌+◌, ◌-◌, ◌<◌, Bool, true, false, not, ◌||◌, cond, eqb, ltb, List, [], ◌∷◌, length, Option, Some, None, Ok, Err, sym, refl, ap, subst, inl, inr, ◌⊎◌, arith, ◌∙◌}
 use Rattle.std.specs.Prelude.{Result, map, IfSome}
 use Rattle.std.specs.List.{list_all, list_any}
 use Rattle.std.specs.Option.{option_map_or, is_some}
-use Rattle.std.proofs.lemmas.Bool.{false≢true, and_parts, ltb-true, eqb-true}
+use Rattle.std.proofs.lemmas.Bool.{and_parts, ltb-true, eqb-true}
 use Rattle.class_pool.specs.declared.entry.PoolEntry.{PoolEntry}
 use Rattle.class_base.specs.declared.handler.Handler.{Handler}
 use Rattle.class_read.specs.Content.{CodeContent}
@@ -20,14 +20,13 @@ use Rattle.class_world.specs.World.{World, class_of}
 use Rattle.class_world.specs.Linked.{class_of_within}
 use Rattle.class_program.specs.declared.program.StaticField.{StaticField}
 use Rattle.class_program.specs.declared.op.Op.{Op}
-use Rattle.class_program.specs.declared.program.CatchRange.{CatchRange}
 use Rattle.class_program.specs.Said.{Said, each}
 use Rattle.class_program.specs.Ops.{op_of}
-use Rattle.class_program.specs.Methods.{table_said, op_said, ops_of, caught, catch_of, range_of, table_of}
+use Rattle.class_program.specs.Methods.{table_said, op_said, ops_of, caught, catch_of}
 use Rattle.class_program.specs.Reached.{insns_numbered}
 use Rattle.class_program.specs.Instructions.{first_place, instruction_at}
-use Rattle.class_program.specs.Good.{AllOf, is_place, IsEnd}
-use Rattle.class_program.proofs.Got.{all_imply, each_good}
+use Rattle.class_program.specs.Good.{AllOf, is_place}
+use Rattle.class_program.proofs.Got.{all_imply}
 use Rattle.class_program.proofs.Rising.{bind_ok}
 use Rattle.class_program.proofs.RisingCodes.{decoded}
 

@@ -1,6 +1,6 @@
 -- Every closed program is good.
-use Rattle.std.proofs.Common.{◌≡◌, ℕ, zero, suc, ◌+◌, ◌<◌, ◌≤◌, Bool, true, false, not, cond, List, [], ◌∷◌, length, Option, Some, None, Ok, Err, refl, sym, ap, subst, inl, inr, ◌⊎◌, arith, ◌∙◌}
-use Rattle.std.specs.Prelude.{Result, map, slice_get, IfSome, IsTrue}
+use Rattle.std.proofs.Common.{◌≡◌, ℕ, zero, suc, ◌<◌, Bool, true, false, not, cond, List, [], ◌∷◌, length, Option, Some, None, Ok, Err, refl, sym, ap, subst, inl, inr, ◌⊎◌, arith, ◌∙◌}
+use Rattle.std.specs.Prelude.{map, slice_get, IfSome}
 use Rattle.std.specs.List.{list_all, filter_map, cons_option, flat_map}
 use Rattle.std.specs.Option.{option_map, option_map_or}
 use Rattle.std.proofs.lemmas.Bool.{and_parts}
@@ -8,7 +8,7 @@ use Rattle.class_base.specs.declared.handler.Handler.{Handler}
 use Rattle.class_pool.specs.declared.entry.PoolEntry.{PoolEntry}
 use Rattle.class_read.specs.Content.{MethodContent, CodeContent}
 use Rattle.code_decode.specs.declared.insn.Insn.{Insn}
-use Rattle.code_decode.specs.Codes.{targets, starts, stands, decode_of}
+use Rattle.code_decode.specs.Codes.{targets, starts, stands}
 use Rattle.jvm_values.specs.declared.types.Slot.{Slot}
 use Rattle.jvm_values.specs.Subtyping.{IsSlot}
 use Rattle.class_world.specs.declared.fault.MethodName.{MethodName}
@@ -23,7 +23,7 @@ use Rattle.class_program.specs.declared.program.Method.{Method}
 use Rattle.class_program.specs.declared.program.StaticField.{StaticField}
 use Rattle.class_program.specs.declared.signature.Signature.{Signature}
 use Rattle.class_program.specs.Operands.{operand_of}
-use Rattle.class_program.specs.Said.{Said, ◌>>=◌, each}
+use Rattle.class_program.specs.Said.{each}
 use Rattle.class_program.specs.Signatures.{declared_signature}
 use Rattle.class_program.specs.Ops.{op_of, pool_of}
 use Rattle.class_program.specs.Methods.{method_name, code_of, own_types, insns_of, op_said, ops_of, catch_of, range_of, table_of, with_receiver, method_of}
@@ -31,17 +31,17 @@ use Rattle.class_program.specs.Runs.{runs}
 use Rattle.class_world.specs.declared.fault.LinkFault.TheVariants.{Native}
 use Rattle.class_program.specs.Statics.{has_field, field_named, fields_named, statics_of, statics_named}
 use Rattle.class_program.proofs.StaticLists.{numbered_names, statics_are}
-use Rattle.class_program.specs.Reached.{has_method, is_closed, with_new, runs_from, reached_within, method_count, reached, contents_of, methods_of, op_numbered, insns_numbered, method_numbered, close_of}
+use Rattle.class_program.specs.Reached.{has_method, runs_from, reached_within, method_count, reached, contents_of, methods_of, insns_numbered, method_numbered, close_of}
 use Rattle.class_program.specs.Instructions.{is_placed}
 use Rattle.class_program.specs.Programs.{Program, IsClosed, ref_of, refs_of}
-use Rattle.class_program.specs.Good.{AllOf, is_place, IsEnd, IsGoodOp, IsGoodRange, IsDeclared, IsDeclaredStatic, IsGoodMethod, IsGood}
-use Rattle.class_program.proofs.Got.{got_faultless, some_same, all_imply, all_map, all_both, each_good}
+use Rattle.class_program.specs.Good.{AllOf, is_place, IsEnd, IsGoodOp, IsGoodRange, IsDeclaredStatic, IsGoodMethod, IsGood}
+use Rattle.class_program.proofs.Got.{got_faultless, all_imply, all_map, each_good}
 use Rattle.class_program.proofs.Rising.{bind_ok, insns_read, ops_placed, numbered_placed}
-use Rattle.class_program.proofs.Reaching.{Begins, with_new_begins}
+use Rattle.class_program.proofs.Reaching.{with_new_begins}
 use Rattle.class_program.proofs.GoingThrough.{at_within}
 use Rattle.class_program.proofs.Closed.{insns_have}
 use Rattle.class_program.proofs.Made.{IsMade, method_made}
-use Rattle.class_program.proofs.GoodTypes.{IsGoodSignature, own_signature}
+use Rattle.class_program.proofs.GoodTypes.{own_signature}
 use Rattle.class_program.proofs.GoodShapes.{Shape, op_shape}
 use Rattle.class_program.proofs.GoodPlaces.{places, ops_places, numbered_places, stands_so, targets_stand, code_below, IsBounded, table_bounded, catch_within}
 use Rattle.class_program.proofs.GoodCalls.{IsTyped}

@@ -1,8 +1,7 @@
 -- What an instruction is whose names could be resolved, by what it takes from the constant pool.
-use Rattle.std.proofs.Common.{◌≡◌, ℕ, ◌<◌, Bool, true, false, cond, eqb, ltb, List, length, Option, Some, None, Ok, Err, refl, sym, ap, subst, ◌∙◌}
-use Rattle.std.specs.Prelude.{Result, ℤ, is_none}
-use Rattle.std.specs.Option.{option_map, option_map_or, is_some}
-use Rattle.std.proofs.lemmas.Bool.{ltb-true, and_parts}
+use Rattle.std.proofs.Common.{◌≡◌, ℕ, Bool, true, false, cond, List, length, Option, Some, None, Ok, Err, refl}
+use Rattle.std.specs.Prelude.{ℤ, is_none}
+use Rattle.std.specs.Option.{option_map_or}
 use Rattle.class_pool.specs.declared.entry.PoolEntry.{PoolEntry}
 use Rattle.class_pool.specs.Text.{class_name_at, integer_at, tag_at}
 use Rattle.code_decode.specs.declared.insn.Insn.{Insn}
@@ -11,11 +10,9 @@ use Rattle.jvm_values.specs.declared.types.Ty.{Ty}
 use Rattle.jvm_values.specs.Subtyping.{IsReference}
 use Rattle.class_world.specs.World.{World}
 use Rattle.class_world.specs.declared.fault.MethodName.{MethodName}
-use Rattle.class_program.specs.declared.refusal.Refusal.{Refusal}
 use Rattle.class_program.specs.declared.refusal.Refusal.TheVariants.{UnsupportedType, Unresolved}
 use Rattle.class_program.specs.declared.operand.Operand.{Operand}
 use Rattle.class_program.specs.declared.operand.Operand.TheVariants as operands
-use Rattle.class_program.specs.declared.operand.ClassForm.{ClassForm}
 use Rattle.class_program.specs.declared.op.Op.{Op}
 use Rattle.class_program.specs.declared.op.Op.TheVariants.{Plain, Constant}
 use Rattle.class_program.specs.declared.op.Call.{Call}
@@ -24,7 +21,7 @@ use Rattle.class_program.specs.declared.op.StaticUse.{StaticUse}
 use Rattle.class_program.specs.Operands.{Member, operand_of}
 use Rattle.class_program.specs.Refusals.{◌>>=◌, wanted}
 use Rattle.class_program.specs.Ops.{is_other_constant, constant_of, type_named, type_operand, class_op, field_of, field_op, static_of, static_op, static_operand, member_operand, member_tag, call_of, call_op, numbers_op, field_operand, class_operand, call_operand, op_with, pool_of, op_of}
-use Rattle.class_program.proofs.Got.{got, got_wanted, got_faultless}
+use Rattle.class_program.proofs.Got.{got, got_faultless}
 use Rattle.class_program.proofs.GoodTypes.{named_type}
 
 abbrev pub Shape : World → ℕ → Insn → Operand → Op → Type 0

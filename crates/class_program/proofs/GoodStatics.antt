@@ -1,6 +1,6 @@
 -- The static fields that instructions name are those of the program.
-use Rattle.std.proofs.Common.{◌≡◌, ◌++◌, ◌||◌, ◌&&◌, ℕ, zero, suc, ◌+◌, ◌<◌, ◌≤◌, Bool, true, false, not, cond, eqb, List, [], ◌∷◌, length, get_or, Option, Some, None, Ok, Err, refl, ap, sym, ◌∙◌, subst, arith, zero-add, one-add}
-use Rattle.std.specs.Prelude.{Result, slice_get, option_and_then, position, is_none, IfSome}
+use Rattle.std.proofs.Common.{◌≡◌, ◌++◌, ◌||◌, ◌&&◌, ℕ, zero, suc, ◌+◌, ◌<◌, Bool, true, false, not, cond, eqb, List, [], ◌∷◌, length, get_or, Option, Some, None, Ok, Err, refl, ap, sym, ◌∙◌, subst, arith, zero-add, one-add}
+use Rattle.std.specs.Prelude.{slice_get, option_and_then, position, is_none, IfSome}
 use Rattle.std.specs.List.{list_any, filter_map, flat_map, cons_option, range_with_len, position_or_len}
 use Rattle.std.specs.Option.{option_map, option_map_or}
 use Rattle.std.specs.Str.{bytes_eq}
@@ -11,13 +11,11 @@ use Rattle.std.proofs.lemmas.Option.{slice_get-get_or, slice_get_within}
 use Rattle.std.proofs.lemmas.Slice.Eq.{bytes_eq-Decides}
 use Rattle.class_read.specs.Content.{ClassContent, FieldContent}
 use Rattle.jvm_values.specs.declared.types.Slot.{Slot}
-use Rattle.jvm_values.specs.declared.types.Ty.{Ty}
 use Rattle.class_world.specs.World.{World, line_of, is_static, is_interface_class}
 use Rattle.class_world.specs.Descriptors.{slot_of}
 use Rattle.class_world.specs.Resolve.{is_field_named, declared_field, field_at, is_static_field, found_field, resolve_field, first_static_init}
 use Rattle.class_world.specs.SlotLaws.{slot_is}
 use Rattle.class_world.proofs.Found.{found_in}
-use Rattle.class_program.specs.declared.refusal.Refusal.{Refusal}
 use Rattle.class_program.specs.declared.refusal.Refusal.TheVariants as refusals
 use Rattle.class_program.specs.declared.op.Op.{Op}
 use Rattle.class_program.specs.declared.op.FieldRef.{FieldRef}
@@ -27,7 +25,7 @@ use Rattle.class_program.specs.declared.program.StaticField.{StaticField}
 use Rattle.class_program.specs.Operands.{Member}
 use Rattle.class_program.specs.Refusals.{◌>>=◌, wanted, required}
 use Rattle.class_program.specs.Ops.{type_named, class_number, static_kind, static_found as static_sought, static_of}
-use Rattle.class_program.specs.Statics.{field_count, same_field, has_field, field_named, fields_in, fields_named, static_ref, static_field, static_at, statics_in, statics_of, is_field, static_place, placed_use}
+use Rattle.class_program.specs.Statics.{field_count, same_field, has_field, field_named, fields_in, fields_named, static_ref, static_field, static_at, statics_in, statics_of, is_field, placed_use}
 use Rattle.class_program.specs.Programs.{Program}
 use Rattle.class_program.specs.Good.{AllOf, IsGoodStaticUse, IsDeclaredStatic}
 use Rattle.class_program.proofs.Got.{got, got_wanted, got_required}

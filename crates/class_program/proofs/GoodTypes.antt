@@ -1,9 +1,9 @@
 -- The types that instructions and descriptors name are of the world.
-use Rattle.std.proofs.Common.{◌≡◌, ◌++◌, ℕ, zero, suc, ◌≤◌, ◌<◌, Bool, true, false, cond, eqb, ltb, List, [], ◌∷◌, length, Option, Some, None, Ok, Err, sym, refl, ap, subst, arith, ◌∙◌}
-use Rattle.std.specs.Prelude.{option_and_then, IfSome, Result}
-use Rattle.std.specs.List.{filter_map, cons_option}
-use Rattle.std.specs.Option.{option_map, option_map_or, option_to_list}
-use Rattle.std.proofs.lemmas.Bool.{ltb-true, eqb-true}
+use Rattle.std.proofs.Common.{◌≡◌, ℕ, zero, suc, ◌≤◌, ◌<◌, Bool, true, false, cond, eqb, List, [], ◌∷◌, length, Option, Some, None, Ok, Err, sym, refl, ap, subst, arith, ◌∙◌}
+use Rattle.std.specs.Prelude.{option_and_then, IfSome}
+use Rattle.std.specs.List.{cons_option}
+use Rattle.std.specs.Option.{option_map, option_map_or}
+use Rattle.std.proofs.lemmas.Bool.{eqb-true}
 use Rattle.class_base.specs.declared.types.FieldType.{FieldType}
 use Rattle.class_base.specs.declared.methods.MethodType.{MethodType}
 use Rattle.class_base.specs.ClassNames.{is_class_name}
@@ -15,17 +15,15 @@ use Rattle.jvm_values.specs.declared.types.Base.{Base}
 use Rattle.jvm_values.specs.declared.types.Base.TheVariants as bases
 use Rattle.jvm_values.specs.declared.types.Ty.{Ty}
 use Rattle.jvm_values.specs.Subtyping.{class_type, IsReference, IsSlot}
-use Rattle.class_pool.specs.declared.entry.PoolEntry.{PoolEntry}
 use Rattle.class_world.specs.World.{World, class_of}
 use Rattle.class_world.specs.declared.meaning.Meaning.{Meaning}
 use Rattle.class_world.specs.declared.meaning.Meaning.TheVariants.{Known, Unsupported, Missing}
 use Rattle.class_world.specs.Descriptors.{meaning_of, known_slot}
 use Rattle.class_world.specs.Linked.{class_of_within}
 use Rattle.class_world.specs.SlotLaws.{type_dims, meaning_is}
-use Rattle.class_program.specs.declared.refusal.Refusal.{Refusal}
 use Rattle.class_program.specs.declared.refusal.Refusal.TheVariants as refusals
 use Rattle.class_program.specs.declared.signature.Signature.{Signature}
-use Rattle.class_program.specs.Refusals.{◌>>=◌, wanted}
+use Rattle.class_program.specs.Refusals.{wanted}
 use Rattle.class_program.specs.Signatures.{types_of, all_there, all_supported, slots_of, returned_slot, signature, signature_of, declared_signature}
 use Rattle.class_program.specs.Ops.{meant_type, array_type, class_named, type_named, base_class, class_number}
 use Rattle.class_program.specs.Good.{AllOf}

@@ -1,10 +1,8 @@
 -- What is known of an answer that was given: of each part that it is made of.
-use Rattle.std.proofs.Common.{◌≡◌, ℕ, zero, suc, ◌<◌, Bool, true, false, List, [], ◌∷◌, ◌++◌, length, Option, Some, None, Ok, Err, refl, ap, sym, ◌∙◌, subst}
+use Rattle.std.proofs.Common.{◌≡◌, ℕ, zero, suc, Bool, true, false, List, [], ◌∷◌, Option, Some, None, Ok, Err, refl, subst}
 use Rattle.std.specs.Prelude.{Result, map, slice_get}
 use Rattle.class_program.specs.declared.refusal.Refusal.{Refusal}
-use Rattle.class_program.specs.declared.refusal.Refusal.TheVariants.{Unresolved}
 use Rattle.class_world.specs.declared.fault.MethodName.{MethodName}
-use Rattle.class_world.specs.declared.fault.LinkFault.{LinkFault}
 use Rattle.class_program.specs.Refusals.{◌>>=◌, wanted, required, together, with_fault}
 use Rattle.class_program.specs.Said.{Said, each}
 use Rattle.class_program.specs.Good.{AllOf}

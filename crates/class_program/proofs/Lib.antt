@@ -4,6 +4,8 @@ pub mod Refused
 pub mod Saying
 pub mod Reaching
 pub mod Room
+pub mod Rows
+pub mod SlotLists
 pub mod Bodies
 pub mod GoingThrough
 pub mod Closed

@@ -1,12 +1,11 @@
 -- What is known of a method that is what closing says of its declaration.
-use Rattle.std.proofs.Common.{◌≡◌, ℕ, Bool, true, false, List, [], ◌∷◌, Option, Some, None, Ok, Err, refl, ap, sym, ◌∙◌, length}
-use Rattle.std.specs.Prelude.{Result, map, slice_get}
+use Rattle.std.proofs.Common.{◌≡◌, ℕ, true, List, [], ◌∷◌, Option, Some, None, Ok, refl, ap, sym, ◌∙◌, length}
+use Rattle.std.specs.Prelude.{map, slice_get}
 use Rattle.std.specs.List.{list_all, cons_option, filter_map}
 use Rattle.std.specs.Option.{option_map}
 use Rattle.std.proofs.lemmas.Bool.{and_parts}
 use Rattle.class_read.specs.Content.{MethodContent, CodeContent}
 use Rattle.code_decode.specs.declared.insn.Insn.{Insn}
-use Rattle.class_world.specs.declared.fault.LinkFault.{LinkFault}
 use Rattle.class_world.specs.declared.fault.MethodName.{MethodName}
 use Rattle.class_world.specs.declared.world.MethodRef.{MethodRef}
 use Rattle.class_world.specs.World.{World}
@@ -17,7 +16,7 @@ use Rattle.class_program.specs.declared.program.Method.{Method}
 use Rattle.class_program.specs.declared.program.StaticField.{StaticField}
 use Rattle.class_program.specs.declared.signature.Signature.{Signature}
 use Rattle.class_program.specs.Said.{Said, ◌>>=◌, unless, each}
-use Rattle.class_program.specs.Ops.{op_of, pool_of}
+use Rattle.class_program.specs.Ops.{pool_of}
 use Rattle.class_program.specs.Methods.{method_name, static_init, code_of, synchronized, own_types, insns_of, ops_of, table_of, with_receiver, method_of}
 use Rattle.class_program.specs.Statics.{statics_named}
 use Rattle.class_program.specs.Reached.{reached, contents_of, methods_of, method_numbered, close_of}

@@ -1,25 +1,21 @@
 -- The instructions of a method stand at rising places from 0 on.
-use Rattle.std.proofs.Common.{◌≡◌, ◌&&◌, ℕ, zero, suc, ◌+◌, ◌≤◌, ◌<◌, Bool, true, false, cond, eqb, leb, ltb, List, [], ◌∷◌, length, get_or, add-one, Option, Some, None, Ok, Err, refl, ap, sym, ◌∙◌, subst, arith}
-use Rattle.std.specs.Prelude.{Result, map, slice_get, option_and_then}
-use Rattle.std.specs.List.{list_all, find}
-use Rattle.std.specs.List.Sorted.{IsNonDecreasingBy, IsPartitionPoint}
-use Rattle.std.proofs.lemmas.Bool.{and_from, and_parts, leb-true, ltb-true, ltb-false, ne_eqb}
-use Rattle.std.proofs.lemmas.List.Sorted.{IsNonDecreasingBy-from_all_adjacent}
+use Rattle.std.proofs.Common.{◌≡◌, ◌&&◌, ℕ, ◌+◌, true, eqb, leb, List, [], ◌∷◌, Option, Some, None, Ok, Err, refl, ap, ◌∙◌, subst}
+use Rattle.std.specs.Prelude.{Result}
+use Rattle.std.proofs.lemmas.Bool.{and_from, and_parts}
 use Rattle.code_decode.specs.declared.fault.CodeFault.{CodeFault}
 use Rattle.code_decode.specs.declared.insn.Insn.{Insn}
 use Rattle.code_decode.specs.Codes.{decode_of}
-use Rattle.class_read.specs.Content.{MethodContent, CodeContent}
+use Rattle.class_read.specs.Content.{CodeContent}
 use Rattle.class_world.specs.declared.fault.LinkFault.{LinkFault}
 use Rattle.class_world.specs.declared.fault.MethodName.{MethodName}
 use Rattle.class_program.specs.declared.op.Op.{Op}
-use Rattle.class_program.specs.declared.program.Method.{Method}
 use Rattle.class_program.specs.declared.program.StaticField.{StaticField}
 use Rattle.class_world.specs.declared.world.MethodRef.{MethodRef}
 use Rattle.class_world.specs.World.{World}
 use Rattle.class_program.specs.Said.{Said, ◌>>=◌, unless, each}
-use Rattle.class_program.specs.Ops.{op_of, pool_of}
-use Rattle.class_program.specs.Methods.{method_name, static_init, code_of, synchronized, own_types, in_method, table_said, insns_of, op_said, ops_of, table_of, method_of}
-use Rattle.class_program.specs.Reached.{contents_of, methods_of, insns_numbered, method_numbered}
+use Rattle.class_program.specs.Ops.{op_of}
+use Rattle.class_program.specs.Methods.{in_method, table_said, insns_of, op_said, ops_of}
+use Rattle.class_program.specs.Reached.{insns_numbered}
 use Rattle.class_program.specs.Instructions.{rises_from, starts_at_zero, is_placed}
 use Rattle.class_program.proofs.RisingCodes.{code_placed}
 

@@ -1,16 +1,13 @@
 -- Lists of static fields: what instructions name, and the static fields of a program.
-use Rattle.std.proofs.Common.{◌≡◌, ◌++◌, ◌||◌, ◌&&◌, ℕ, zero, suc, ◌+◌, ◌<◌, ◌≤◌, Bool, true, false, cond, eqb, ltb, List, [], ◌∷◌, length, drop, drop-cons, get_or, add-one, zero-add, append_assoc, append-nil, Option, Some, None, Ok, Err, refl, ap, sym, ◌∙◌, subst, inl, inr, ◌⊎◌, arith}
-use Rattle.std.specs.Prelude.{map, slice_get, option_and_then}
-use Rattle.std.specs.List.{list_any, filter_map, flat_map, cons_option, range_with_len, position_or_len}
-use Rattle.std.specs.Option.{option_map, option_to_list}
-use Rattle.std.proofs.lemmas.Bool.{and_parts, and_from, eqb-true, eq-eqb, or_left, or_right, false≢true, lt-ltb, le-ltb, ltb-true, ltb-false}
+use Rattle.std.proofs.Common.{◌≡◌, ◌++◌, ◌||◌, ◌&&◌, ℕ, zero, suc, ◌+◌, ◌<◌, ◌≤◌, Bool, true, false, cond, eqb, ltb, List, [], ◌∷◌, length, drop, drop-cons, get_or, add-one, zero-add, append_assoc, append-nil, Option, Some, None, Ok, Err, refl, ap, sym, ◌∙◌, subst, arith}
+use Rattle.std.specs.Prelude.{map, option_and_then}
+use Rattle.std.specs.List.{filter_map, flat_map, cons_option, range_with_len}
+use Rattle.std.specs.Option.{option_to_list}
+use Rattle.std.proofs.lemmas.Bool.{and_parts, eqb-true, or_right, lt-ltb, le-ltb, ltb-false}
 use Rattle.std.proofs.lemmas.List.{drop_all}
 use Rattle.std.proofs.lemmas.List.Folds.{list_any-append}
 use Rattle.std.proofs.lemmas.List.Concat.{flat_map-append}
 use Rattle.std.proofs.lemmas.List.Elements.{filter_map-append}
-use Rattle.std.proofs.lemmas.List.FromFn.{map-range_with_len_more}
-use Rattle.class_read.specs.Content.{FieldContent}
-use Rattle.class_world.specs.declared.fault.LinkFault.{LinkFault}
 use Rattle.class_world.specs.declared.fault.LinkFault.TheVariants.{TooManyStatics}
 use Rattle.class_world.specs.World.{World}
 use Rattle.class_world.specs.Resolve.{field_at, is_static_field}
@@ -21,7 +18,7 @@ use Rattle.class_program.specs.declared.op.FieldRef.{FieldRef}
 use Rattle.class_program.specs.declared.program.Method.{Method}
 use Rattle.class_program.specs.declared.program.StaticField.{StaticField}
 use Rattle.class_program.specs.Reached.{op_numbered, insns_numbered, method_numbered}
-use Rattle.class_program.specs.Statics.{field_count, same_field, has_field, with_field, SameFields, field_named, fields_in, fields_named, static_field, static_at, statics_in, statics_of, few_statics, statics_named, is_field, static_place}
+use Rattle.class_program.specs.Statics.{field_count, same_field, has_field, with_field, SameFields, field_named, fields_in, fields_named, static_field, static_at, statics_in, statics_of, few_statics, statics_named}
 
 -- ---- lists with the same fields
 

@@ -3,14 +3,12 @@
 use Rattle.std.specs.Prelude.{◌≡◌, ◌⊎◌, ◌<◌, ◌≤◌, ℕ, Bool, true, List, [], ◌∷◌, ◌++◌, length, slice_get, Option, Some, None, option_and_then, IfSome, IsTrue, false}
 use Rattle.std.specs.Str.{bytes_eq}
 use Rattle.std.specs.Option.{is_some}
-use Rattle.code_decode.specs.declared.insn.Insn.{Insn}
 use Rattle.code_decode.specs.Codes.{targets}
 use Rattle.class_read.specs.Content.{FieldContent, MethodContent, CodeContent}
 use Rattle.jvm_values.specs.declared.types.Slot.{Slot}
 use Rattle.jvm_values.specs.declared.types.Ty.{Ty}
 use Rattle.jvm_values.specs.Kinds.{kind_of_code}
 use Rattle.jvm_values.specs.Subtyping.{class_type, IsReference, IsSlot}
-use Rattle.class_world.specs.declared.world.MethodRef.{MethodRef}
 use Rattle.class_world.specs.World.{World, is_static, is_abstract, is_interface_class}
 use Rattle.class_world.specs.Types.{is_class_below}
 use Rattle.class_world.specs.Fields.{fields_of, can_be_made}

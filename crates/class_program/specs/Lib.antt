@@ -8,6 +8,7 @@ pub mod Said
 pub mod Methods
 pub mod Statics
 pub mod Reached
+pub mod Rows
 pub mod Programs
 pub mod Selected
 pub mod Good

@@ -2,7 +2,7 @@
 --
 -- JVM specification: section 4.7.3 (codes and exception tables), section 5.4.3 (what names stand for), section 5.5 (which
 -- classes a call initialises). Static initialisers, native and synchronized methods are not supported.
-use Rattle.std.specs.Prelude.{ℕ, ◌==◌, if◌then◌else◌, List, [], ◌∷◌, length, map, slice_get, Option, Some, None, option_map, Result, Ok, Err}
+use Rattle.std.specs.Prelude.{ℕ, ◌==◌, if◌then◌else◌, List, [], ◌∷◌, length, slice_get, Option, Some, None, option_map, Result, Ok, Err}
 use Rattle.std.specs.Option.{option_map_or}
 use Rattle.class_pool.specs.declared.entry.PoolEntry.{PoolEntry}
 use Rattle.class_read.specs.Content.{MethodContent, CodeContent, Handler}

@@ -3,7 +3,7 @@
 -- Each method reaches those that its instructions can run: all of its instructions count, at places too that no run
 -- comes to. A method that breaks a rule reaches nothing, so of the methods that break one the first is the same
 -- whatever the ones behind it would reach.
-use Rattle.std.specs.Prelude.{ℕ, zero, suc, ◌==◌, ◌&&◌, not, Bool, if◌then◌else◌, List, [], ◌∷◌, ◌++◌, length, map, position, Ok, Err}
+use Rattle.std.specs.Prelude.{ℕ, zero, suc, ◌==◌, ◌&&◌, Bool, if◌then◌else◌, List, [], ◌∷◌, ◌++◌, length, map, position, Ok, Err}
 use Rattle.std.specs.List.{list_any, list_all, flat_map, filter_map}
 use Rattle.std.specs.Option.{option_map, option_map_or}
 use Rattle.class_read.specs.Content.{MethodContent}

@@ -1,6 +1,6 @@
 -- The methods that an instruction can run (JVM specification, section 6.5: invokestatic, invokespecial, invokevirtual and
 -- invokeinterface).
-use Rattle.std.specs.Prelude.{ℕ, Bool, true, if◌then◌else◌, List, [], Option, Some, None, option_and_then}
+use Rattle.std.specs.Prelude.{ℕ, if◌then◌else◌, List, [], Option, Some, None, option_and_then}
 use Rattle.std.specs.List.{filter_map}
 use Rattle.std.specs.Option.{option_map_or, option_to_list}
 use Rattle.class_read.specs.Content.{MethodContent}

@@ -15,6 +15,7 @@ use crate::op::{Call, Op};
 use crate::operand::CallForm;
 use crate::refusal::Refusal;
 use crate::signature::{Signature, signature_of};
+use crate::slots::Slots;
 use class_base::{ABSTRACT, PRIVATE, STATIC, has_flag};
 use class_read::MethodView;
 use class_world::{MethodRef, World};
@@ -310,7 +311,7 @@ pub(crate) fn call_of(
     Ok(Call {
         class,
         method,
-        params: signature.params,
+        params: Slots::new(alloc, signature.params)?,
         result: signature.result,
         target: None,
     })

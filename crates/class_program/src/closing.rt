@@ -4,6 +4,7 @@ ghost use Rattle.class_world.specs.Worlds.{classes_of};
 ghost use Rattle.std.specs.Prelude.{◌≡◌, ◌≤◌, map, length, IfOk, OnOk, IsTrue, flat_map};
 ghost use Rattle.std.specs.List.{list_all};
 ghost use Rattle.class_program.specs.Said.{Says};
+ghost use Rattle.class_program.specs.Rows.{AreRows};
 ghost use Rattle.class_program.specs.Runs.{runs};
 ghost use Rattle.class_program.specs.Programs.{refs_of};
 ghost use Rattle.class_program.specs.Statics.{fields_named, statics_of};
@@ -15,6 +16,8 @@ use crate::op::{Call, Op};
 use crate::program::{Method, Program, StaticField};
 use crate::reached::MethodRefs;
 use crate::runs::runs;
+use crate::selections::Selections;
+use crate::slots::SharedSlots;
 use crate::statics::{placed_use, statics_named};
 use class_world::{LinkFault, MethodRef, World};
 use list_views::Seq;
@@ -35,36 +38,44 @@ fn add_runs(
     world: &World<'_>,
     alloc: Global,
     insns: &[(u16, Op)],
+    rows: &mut Selections,
     refs: &mut MethodRefs,
 ) -> Result<(), AllocError>
-    ensures { OnOk result (refs.new ≡ with_new refs.old (flat_map (λ x. runs (classes_of world.now) x.1) insns.now)) }
+    requires { AreRows (classes_of world.now) rows.now }
+    ensures refs { OnOk result (refs.new ≡ with_new refs.old (flat_map (λ x. runs (classes_of world.now) x.1) insns.now)) }
+    ensures rows { OnOk result (AreRows (classes_of world.now) rows.new) }
 {
     for insn in insns {
-        let found = runs(world, alloc, &insn.1)?;
+        let found = runs(world, alloc, rows, &insn.1)?;
         add_all(found.as_slice(), refs)?;
     }
     Ok(())
 }
 
-/// The reached methods by number, and what they are; the numbers of their calls' methods are still to be put in.
+/// The reached methods by number, and what they are; the numbers of their calls' methods are still to be put in. What classes
+/// select for their calls is put into rows.
 fn reach<'a>(
     world: &World<'a>,
     alloc: Global,
+    rows: &mut Selections,
     entry: MethodRef,
 ) -> Result<(MethodRefs, Seq<Method<'a>>), LinkFault>
-    requires { IsTrue (has_body (classes_of world.now) entry) }
+    requires entry { IsTrue (has_body (classes_of world.now) entry) }
+    requires rows { AreRows (classes_of world.now) rows.now }
     ensures methods { Says (λ r. r.1) result (methods_of (classes_of world.now) (reached (classes_of world.now) entry)) }
     ensures refs { IfOk result (λ r. r.0 ≡ reached (classes_of world.now) entry) }
     ensures numbers { IfOk result (λ r. refs_of r.1 ≡ r.0) }
     ensures bodies { IfOk result (λ r. IsTrue (list_all (has_body (classes_of world.now)) r.0)) }
     ensures closed { IfOk result (λ r. IsTrue (is_closed (classes_of world.now) r.0 r.1)) }
+    ensures rows { IfOk result (λ _. AreRows (classes_of world.now) rows.new) }
 {
     let mut refs = MethodRefs::new(alloc);
     refs.add(entry)?;
+    let mut shared = SharedSlots::new(alloc);
     let mut methods = Seq::new(alloc);
     while let Some(next) = refs.get(methods.len()) {
-        let method = method_of(world, alloc, next)?;
-        add_runs(world, alloc, method.insns.as_slice(), &mut refs)?;
+        let method = method_of(world, alloc, &mut shared, next)?;
+        add_runs(world, alloc, method.insns.as_slice(), rows, &mut refs)?;
         methods.push(method)?;
     }
     Ok((refs, methods))
@@ -195,7 +206,8 @@ impl<'a> Program<'a> {
         ensures entry { IfOk result (λ program. program.entry ≡ entry) }
         ensures statics { IfOk result (λ program. program.statics ≡ statics_of (classes_of world.entry) (fields_named program.methods)) }
     {
-        let (refs, methods) = reach(&world, alloc, entry)?;
+        let mut selections = Selections::new(alloc);
+        let (refs, methods) = reach(&world, alloc, &mut selections, entry)?;
         let statics = statics_named(&world, alloc, methods.as_slice())?;
         let methods = methods_numbered(alloc, &refs, statics.as_slice(), methods)?;
         Ok(Program {
@@ -204,6 +216,7 @@ impl<'a> Program<'a> {
             methods,
             statics,
             refs,
+            selections,
         })
     }
 }

@@ -19,7 +19,9 @@ mod receivers;
 mod refusal;
 mod runs;
 mod selected;
+mod selections;
 mod signature;
+mod slots;
 mod static_operand;
 mod statics;
 
@@ -28,3 +30,4 @@ pub use laws::closed_instructions_are_good;
 pub use op::{Call, FieldRef, FieldUse, Op, StaticUse};
 pub use program::{CatchRange, Method, Program, StaticField};
 pub use selected::Selected;
+pub use slots::Slots;

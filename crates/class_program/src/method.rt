@@ -19,6 +19,7 @@ use crate::op::Op;
 use crate::ops::{fault_at, op_of};
 use crate::program::{CatchRange, Method};
 use crate::signature::{Signature, declared_signature};
+use crate::slots::SharedSlots;
 use class_base::{Handler, NATIVE, STATIC, SYNCHRONIZED, has_flag};
 use class_pool::Pool;
 use class_read::{CodeView, MethodView};
@@ -142,9 +143,10 @@ fn method_name(
 }
 
 /// The instructions with their names resolved.
-fn ops_of(
-    world: &World<'_>,
+fn ops_of<'a>(
+    world: &World<'a>,
     alloc: Global,
+    shared: &mut SharedSlots<'a>,
     class: u32,
     name: &MethodName,
     insns: Vec<(u16, Insn)>,
@@ -154,7 +156,7 @@ fn ops_of(
 {
     let mut ops = Seq::with_capacity(alloc, insns.len())?;
     for insn in insns {
-        ops.push(op_said(world, alloc, class, name, insn)?)?;
+        ops.push(op_said(world, alloc, shared, class, name, insn)?)?;
     }
     Ok(ops)
 }
@@ -191,9 +193,10 @@ fn own_types(
 
 /// An instruction and its place, with its names resolved.
 #[tactic(auto, unfolding(crate::specs::Methods::op_said))]
-fn op_said(
-    world: &World<'_>,
+fn op_said<'a>(
+    world: &World<'a>,
     alloc: Global,
+    shared: &mut SharedSlots<'a>,
     class: u32,
     name: &MethodName,
     insn: (u16, Insn),
@@ -203,7 +206,7 @@ fn op_said(
 {
     let (pc, insn) = insn;
     let op = op_of(world, alloc, class, name, pc, insn)?;
-    Ok((pc, op))
+    Ok((pc, shared.shared_op(world, op)?))
 }
 
 /// The class of a name, which must be there.
@@ -283,6 +286,7 @@ fn pool<'w, 'a>(world: &'w World<'a>, class: u32) -> &'w Pool<'a>
 fn declared<'a>(
     world: &World<'a>,
     alloc: Global,
+    shared: &mut SharedSlots<'a>,
     method: MethodRef,
     view: &MethodView<'a>,
 ) -> Result<Method<'a>, LinkFault>
@@ -297,7 +301,7 @@ fn declared<'a>(
     not_synchronized(alloc, &name, view)?;
     let types = own_types(world, alloc, &name, view.desc)?;
     let insns = insns_of(alloc, &name, code)?;
-    let insns = ops_of(world, alloc, class, &name, insns)?;
+    let insns = ops_of(world, alloc, shared, class, &name, insns)?;
     let table = table_of(world, alloc, pool(world, class), code.table.as_slice())?;
     Ok(Method {
         class,
@@ -317,13 +321,14 @@ fn declared<'a>(
 pub(crate) fn method_of<'a>(
     world: &World<'a>,
     alloc: Global,
+    shared: &mut SharedSlots<'a>,
     method: MethodRef,
 ) -> Result<Method<'a>, LinkFault>
     requires { IsTrue (has_body (classes_of world.now) method) }
     ensures { (content : MethodContent) → method_at (classes_of world.now) method ≡ Some content → Says (λ m. m) result (method_of (classes_of world.now) method content) }
 {
     match world.method_at(method) {
-        Some(view) => declared(world, alloc, method, view),
+        Some(view) => declared(world, alloc, shared, method, view),
         None => Err(LinkFault::Memory),
     }
 }

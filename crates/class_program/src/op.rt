@@ -1,9 +1,9 @@
 //! Instructions with the names that they give resolved.
 
+use crate::slots::Slots;
 use class_world::MethodRef;
 use code_decode::Insn;
 use jvm_values::{Slot, Ty};
-use list_views::Seq;
 
 /// An instance field that an instruction names (JVM specification, section 5.4.3.2).
 #[derive(Clone, Copy, Debug, PartialEq, Eq)]
@@ -42,7 +42,7 @@ pub struct Call {
     /// The method that resolution gives.
     pub method: MethodRef,
     /// The parameters of the descriptor, without a receiver.
-    pub params: Seq<Slot>,
+    pub params: Slots,
     /// The result of the descriptor; none for `V`.
     pub result: Option<Slot>,
     /// For `invokestatic` and `invokespecial` the number of that method among the reached ones, none where it is

@@ -4,11 +4,13 @@ ghost use Rattle.std.specs.Prelude.{◌≡◌, ◌≤◌, Ok, length, IsTrue};
 ghost use Rattle.std.specs.List.{list_all};
 ghost use Rattle.class_world.specs.Resolve.{has_body};
 ghost use Rattle.class_program.specs.Statics.{fields_named, statics_of};
+ghost use Rattle.class_program.specs.Rows.{AreRows};
 ghost use Rattle.class_program.specs.Reached.{reached, close_of, is_closed};
 ghost use Rattle.class_program.specs.Programs.{refs_of};
 
 use crate::insns::Instructions;
 use crate::reached::MethodRefs;
+use crate::selections::Selections;
 use class_world::{MethodRef, World};
 use jvm_values::Slot;
 use list_views::{Bytes, Seq};
@@ -78,11 +80,13 @@ pub struct Program<'a> {
     /// The static fields that reached instructions name, each once, by class number and then in file order.
     pub statics: Seq<StaticField<'a>>,
     pub(crate) refs: MethodRefs,
+    pub(crate) selections: Selections,
     ghost found: { statics ≡ statics_of (classes_of world) (fields_named methods) },
     ghost few: { length statics ≤ 256 },
     ghost made: { close_of (classes_of world) entry ≡ Ok methods },
     ghost numbers: { refs ≡ refs_of methods },
     ghost reaches: { refs ≡ reached (classes_of world) entry },
     ghost bodies: { IsTrue (list_all (has_body (classes_of world)) refs) },
+    ghost rows: { AreRows (classes_of world) selections },
     ghost whole: { IsTrue (is_closed (classes_of world) refs methods) },
 }

@@ -3,10 +3,12 @@ ghost use Rattle.class_world.specs.Worlds.{classes_of};
 ghost use Rattle.std.specs.Prelude.{◌≡◌, IfOk};
 ghost use Rattle.std.specs.Option.{option_to_list};
 ghost use Rattle.class_read.specs.View.{method_content};
+ghost use Rattle.class_program.specs.Rows.{IsRow, AreRows};
 ghost use Rattle.class_program.specs.Runs.{with_body, selected_body, selections, call_selections, runs};
 
 use crate::op::{Call, Op};
 use crate::receivers::receivers;
+use crate::selections::{Selections, selected};
 use class_read::MethodView;
 use class_world::{MethodRef, World};
 use list_views::Seq;
@@ -25,10 +27,16 @@ fn with_body(world: &World<'_>, method: MethodRef) -> Option<MethodRef>
 
 /// What a receiver's class selects, unless it is abstract.
 #[tactic(auto, unfolding(crate::specs::Runs::selected_body))]
-fn selected_body(world: &World<'_>, name: &[u8], desc: &[u8], class: u32) -> Option<MethodRef>
-    ensures { result ≡ selected_body (classes_of world.now) name.now desc.now class }
+fn selected_body(
+    world: &World<'_>,
+    row: &[Option<MethodRef>],
+    named: &MethodView<'_>,
+    class: u32,
+) -> Option<MethodRef>
+    requires { IsRow (classes_of world.now) (method_content named.now) row.now }
+    ensures { result ≡ selected_body (classes_of world.now) named.now.name.now named.now.desc.now class }
 {
-    let selected = world.select_in(name, desc, class)?;
+    let selected = selected(world, row, named, class)?;
     with_body(world, selected)
 }
 
@@ -37,15 +45,17 @@ fn selected_body(world: &World<'_>, name: &[u8], desc: &[u8], class: u32) -> Opt
 fn selections(
     world: &World<'_>,
     alloc: Global,
-    named: u32,
+    row: &[Option<MethodRef>],
+    class: u32,
     method: &MethodView<'_>,
 ) -> Result<Seq<MethodRef>, AllocError>
-    ensures { IfOk result (λ found. found ≡ selections (classes_of world.now) named (method_content method.now)) }
+    requires { IsRow (classes_of world.now) (method_content method.now) row.now }
+    ensures { IfOk result (λ found. found ≡ selections (classes_of world.now) class (method_content method.now)) }
 {
-    let receivers = receivers(world, alloc, named)?;
+    let receivers = receivers(world, alloc, class)?;
     let mut found = Seq::new(alloc);
     for class in receivers.as_slice() {
-        if let Some(selected) = selected_body(world, method.name, method.desc, *class) {
+        if let Some(selected) = selected_body(world, row, method, *class) {
             found.push(selected)?;
         }
     }
@@ -57,12 +67,18 @@ fn selections(
 fn call_selections(
     world: &World<'_>,
     alloc: Global,
+    rows: &mut Selections,
     call: &Call,
 ) -> Result<Seq<MethodRef>, AllocError>
-    ensures { IfOk result (λ found. found ≡ call_selections (classes_of world.now) call.now) }
+    requires { AreRows (classes_of world.now) rows.now }
+    ensures found { IfOk result (λ found. found ≡ call_selections (classes_of world.now) call.now) }
+    ensures rows { IfOk result (λ _. AreRows (classes_of world.now) rows.new) }
 {
     match world.method_at(call.method) {
-        Some(method) => selections(world, alloc, call.class, method),
+        Some(method) => {
+            rows.add(world, alloc, call.method, method)?;
+            selections(world, alloc, rows.row(call.method), call.class, method)
+        }
         None => Ok(Seq::new(alloc)),
     }
 }
@@ -88,14 +104,21 @@ fn one_with_body(
 ///
 /// Want of memory.
 #[tactic(auto, unfolding(crate::specs::Runs::runs))]
-pub(crate) fn runs(world: &World<'_>, alloc: Global, op: &Op) -> Result<Seq<MethodRef>, AllocError>
-    ensures { IfOk result (λ found. found ≡ runs (classes_of world.now) op.now) }
+pub(crate) fn runs(
+    world: &World<'_>,
+    alloc: Global,
+    rows: &mut Selections,
+    op: &Op,
+) -> Result<Seq<MethodRef>, AllocError>
+    requires { AreRows (classes_of world.now) rows.now }
+    ensures found { IfOk result (λ found. found ≡ runs (classes_of world.now) op.now) }
+    ensures rows { IfOk result (λ _. AreRows (classes_of world.now) rows.new) }
 {
     match op {
         Op::Invokestatic(call) => one_with_body(world, alloc, call),
         Op::Invokespecial(call) => one_with_body(world, alloc, call),
-        Op::Invokevirtual(call) => call_selections(world, alloc, call),
-        Op::Invokeinterface(call) => call_selections(world, alloc, call),
+        Op::Invokevirtual(call) => call_selections(world, alloc, rows, call),
+        Op::Invokeinterface(call) => call_selections(world, alloc, rows, call),
         _ => Ok(Seq::new(alloc)),
     }
 }

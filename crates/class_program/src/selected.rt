@@ -2,6 +2,7 @@
 ghost use Rattle.class_world.specs.Worlds.{classes_of};
 ghost use Rattle.std.specs.Prelude.{◌≡◌, ◌<◌, Some, length, option_and_then, IsTrue};
 ghost use Rattle.std.specs.Option.{option_map, option_map_or, option_copied};
+ghost use Rattle.class_read.specs.View.{method_content};
 ghost use Rattle.class_world.specs.Resolve.{method_at};
 ghost use Rattle.class_world.specs.Select.Selection.{Runs, Lacks};
 ghost use Rattle.class_world.specs.Select.{selected_virtual, selected_interface};
@@ -13,6 +14,8 @@ ghost use Rattle.class_program.specs.Selected.{selection_at, selected_in, select
 use crate::op::{Call, Op};
 use crate::program::{Method, Program};
 use crate::receivers::is_receiver;
+use crate::selections::selected;
+use class_read::MethodView;
 use class_world::MethodRef;
 
 /// What a virtual or interface call does.
@@ -70,12 +73,13 @@ impl<'a> Program<'a> {
         }
     }
 
-    /// What a class selects by name and descriptor.
+    /// What a class selects by the name and the descriptor of a method.
     #[tactic(auto, unfolding(class_world::specs::Select::selected_virtual, crate::specs::Selected::selected_in))]
-    fn selected_by(&self, name: &[u8], desc: &[u8], class: u32) -> Option<Selected>
-        ensures { result ≡ selected_in (refs_of self.now.methods) (selected_virtual (classes_of self.now.world) name.now desc.now class) }
+    fn selected_by(&self, method: MethodRef, named: &MethodView<'_>, class: u32) -> Option<Selected>
+        requires { method_at (classes_of self.now.world) method ≡ Some (method_content named.now) }
+        ensures { result ≡ selected_in (refs_of self.now.methods) (selected_virtual (classes_of self.now.world) named.now.name.now named.now.desc.now class) }
     {
-        match self.world.select_in(name, desc, class) {
+        match selected(&self.world, self.selections.row(method), named, class) {
             Some(method) => {
                 if self.world.is_abstract_method(method) {
                     Some(Selected::Abstract)
@@ -93,7 +97,7 @@ impl<'a> Program<'a> {
         ensures { result ≡ selected_in (refs_of self.now.methods) (option_map_or (λ m. selected_virtual (classes_of self.now.world) m.name m.desc class) (method_at (classes_of self.now.world) call.now.method) Lacks) }
     {
         match self.world.method_at(call.method) {
-            Some(named) => self.selected_by(named.name, named.desc, class),
+            Some(named) => self.selected_by(call.method, named, class),
             None => Some(Selected::Abstract),
         }
     }
@@ -107,7 +111,7 @@ impl<'a> Program<'a> {
         match self.world.method_at(call.method) {
             Some(named) => {
                 if self.world.is_below(class, call.class) {
-                    self.selected_by(named.name, named.desc, class)
+                    self.selected_by(call.method, named, class)
                 } else {
                     Some(Selected::NoInterface)
                 }

@@ -1,5 +1,4 @@
 use Rattle.std.proofs.Common.{◌≡◌, drop}
-use Rattle.std.specs.Prelude.{map}
 use Rattle.class_world.specs.Worlds.{classes_of}
 use Rattle.class_program.specs.Signatures.{has_unsupported}
 use Rattle.class_program.proofs.signature.has_unsupported.Given as goal

@@ -1,4 +1,4 @@
-use Rattle.std.proofs.Common.{◌≡◌, ◌++◌, ap, sym, ◌∙◌, append-nil}
+use Rattle.std.proofs.Common.{◌++◌, ap, ◌∙◌}
 use Rattle.std.specs.Option.{option_to_list}
 use Rattle.class_program.specs.Statics.{SameFields, field_named}
 use Rattle.class_program.proofs.StaticLists.{same_added, same_kept, fields_step}

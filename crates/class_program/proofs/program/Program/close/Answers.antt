@@ -7,6 +7,7 @@ use Rattle.class_program.specs.Programs.{refs_of}
 use Rattle.class_program.specs.Statics.{statics_named}
 use Rattle.class_program.proofs.Closed.{closed_from}
 use Rattle.class_program.proofs.Made.{closed_is, numbered_refs}
+use Rattle.class_program.proofs.Rows.{no_rows}
 use Rattle.class_program.proofs.StaticLists.{statics_found, statics_few}
 use Rattle.class_program.proofs.program.Program.close.Goals as goal
 
@@ -33,5 +34,9 @@ invariant_of-result c =
       numbers = sym (ap refs_of numbered ∙ numbered_refs refs statics c.in_ok-refs.methods ∙ c.in_ok-refs.ensures.numbers);
       reaches = c.in_ok-refs.ensures.refs;
       bodies = c.in_ok-refs.ensures.bodies;
+      rows = c.in_ok-refs.ensures.rows;
       whole = closed_from world refs statics c.in_ok-refs.methods c.in_ok-methods.methods numbered c.in_ok-refs.ensures.closed;
     }
+
+pub reach-requires-clause-rows : goal.reach-requires-clause-rows
+reach-requires-clause-rows c = no_rows (classes_of c.args.world) _ c.new-selections.ensures
