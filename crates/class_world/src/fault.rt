@@ -59,7 +59,9 @@ pub enum LinkFault {
         /// The interface's name.
         name: Seq<u8>,
     },
-    /// A class that would be initialised has a static initialiser (section 5.5).
+    /// A class that would be initialised has a static initialiser, or one above it has (section 5.5): the class of a reached
+    /// method, the class that is named to be made, or the one that declares the field that look-up finds for a static field's
+    /// instruction, also where that field is one of objects.
     StaticInit {
         /// The name of the first class with one, from the tested class up.
         name: Seq<u8>,
