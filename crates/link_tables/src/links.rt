@@ -2,7 +2,7 @@
 ghost use Rattle.std.specs.Prelude.{◌≡◌, ◌<◌, length};
 
 use crate::entry::Entry;
-use anyhow::{Result, bail};
+use anyhow::Result;
 use class_program::Program;
 use class_world::LinkFault;
 use jvm_values::Types;
@@ -11,9 +11,14 @@ use table_cases::Case;
 
 pub fn answer(alloc: Global, case: &Case<'_>) -> Result<String> {
     let entry = Entry::read(alloc, case, 0)?;
-    match entry.close(alloc)? {
-        Ok(program) => Ok(reached_line(alloc, &program)?),
-        Err(fault) => fault_line(alloc, fault),
+    let closed = entry.close(alloc)?;
+    closed_line(alloc, &closed)
+}
+
+fn closed_line(alloc: Global, closed: &Result<Program<'_>, LinkFault>) -> Result<String> {
+    match closed {
+        Ok(program) => Ok(reached_line(alloc, program)?),
+        Err(fault) => Ok(fault_line(alloc, fault)?),
     }
 }
 
@@ -73,11 +78,9 @@ fn digit(value: u8) -> char {
     }
 }
 
-fn fault_line(alloc: Global, fault: LinkFault) -> Result<String> {
-    if let LinkFault::Memory = fault {
-        bail!("out of memory");
-    }
+fn fault_line(alloc: Global, fault: &LinkFault) -> Result<String, AllocError> {
+    let text = fault.text(alloc)?;
     let mut line = String::from_str(alloc, "link: ")?;
-    put_bytes(&mut line, fault.text(alloc)?.as_slice())?;
+    put_bytes(&mut line, text.as_slice())?;
     Ok(line)
 }
