@@ -82,3 +82,22 @@ fn both_forms_touch_the_same_sets(rt: HostRuntime) -> Result<(), Fail> {
     }
     Ok(())
 }
+
+/// Whether a copy of many pairs has the same at these places.
+fn copied_alike<P: Pairs>(alloc: Global) -> Result<bool, AllocError> {
+    let pairs = many::<P>(alloc)?;
+    let copy = pairs.copied(alloc)?;
+    for n in [0, 1, 142, 8787, 20000] {
+        if copy.nth(n) != pairs.nth(n) {
+            return Ok(false);
+        }
+    }
+    Ok(true)
+}
+
+#[test]
+fn a_copy_has_the_same_pairs(rt: HostRuntime) -> Result<(), Fail> {
+    assert_eq!(rt; copied_alike::<ListPairs>(rt.alloc())?, true);
+    assert_eq!(rt; copied_alike::<PackedPairs>(rt.alloc())?, true);
+    Ok(())
+}
