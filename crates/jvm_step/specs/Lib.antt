@@ -3,3 +3,4 @@ pub mod Effects
 pub mod Table
 pub mod Running
 pub mod Acts
+pub mod Steps

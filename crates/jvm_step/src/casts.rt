@@ -45,7 +45,7 @@ fn type_of(object: &Object) -> Option<Ty>
 }
 
 /// Whether an object is of a type or one below it.
-fn is_object_below<T: Types>(types: &T, object: &Object, t: Ty) -> bool
+pub(crate) fn is_object_below<T: Types>(types: &T, object: &Object, t: Ty) -> bool
     ensures { result ≡ T.sub types.now (type_of object.now) t }
 {
     match type_of(object) {
@@ -109,6 +109,7 @@ fn one_or_zero(test: bool) -> i32
 pub fn instanceof<T: Types>(types: &T, frame: &mut Frame, heap: &Heap, t: Ty) -> After
     ensures effect { Acts (instanceof_effect (world_types (T.sub types.now) (T.erase types.now) (T.classes types.now) (T.fields types.now) (T.can_be_made types.now)) t heap.now (frame_of frame.old)) result (frame_of frame.old) (frame_of frame.new) }
     ensures room { frame.new.stack.1 ≡ frame.old.stack.1 }
+    ensures method { frame.new.method ≡ frame.old.method }
 {
     let Some(reference) = reference_at(&frame.stack, 0) else {
         return After::Next;
@@ -124,6 +125,7 @@ pub fn instanceof<T: Types>(types: &T, frame: &mut Frame, heap: &Heap, t: Ty) ->
 pub fn aastore<T: Types>(types: &T, alloc: Global, frame: &mut Frame, heap: &mut Heap) -> After
     ensures effect { Acts (aastore_effect (world_types (T.sub types.now) (T.erase types.now) (T.classes types.now) (T.fields types.now) (T.can_be_made types.now)) (frame_of frame.old) heap.old) result (frame_of frame.old, heap.old) (frame_of frame.new, heap.new) }
     ensures room { frame.new.stack.1 ≡ frame.old.stack.1 }
+    ensures method { frame.new.method ≡ frame.old.method }
 {
     let Some(value) = reference_at(&frame.stack, 0) else {
         return After::Next;

@@ -20,6 +20,7 @@ use std::alloc::{AllocError, AllocFailed};
 pub fn push(frame: &mut Frame, value: Value) -> Result<After, AllocError>
     ensures effect { Tries (constant_effect value (frame_of frame.old)) result (frame_of frame.old) (frame_of frame.new) }
     ensures room { frame.old.stack.1 ≤ frame.new.stack.1 }
+    ensures method { frame.new.method ≡ frame.old.method }
     ensures memory { OnErr result (frame.old.stack.1 ≤ length frame.old.stack.0) }
 {
     match frame.stack.push(value) {
@@ -57,6 +58,7 @@ fn reference_in(locals: &Seq<Option<Value>>, n: u16) -> Option<Value>
 pub fn iload(frame: &mut Frame, n: u16) -> Result<After, AllocError>
     ensures effect { Tries (iload_effect n (frame_of frame.old)) result (frame_of frame.old) (frame_of frame.new) }
     ensures room { frame.old.stack.1 ≤ frame.new.stack.1 }
+    ensures method { frame.new.method ≡ frame.old.method }
     ensures memory { OnErr result (frame.old.stack.1 ≤ length frame.old.stack.0) }
 {
     match int_in(&frame.locals, n) {
@@ -70,6 +72,7 @@ pub fn iload(frame: &mut Frame, n: u16) -> Result<After, AllocError>
 pub fn aload(frame: &mut Frame, n: u16) -> Result<After, AllocError>
     ensures effect { Tries (aload_effect n (frame_of frame.old)) result (frame_of frame.old) (frame_of frame.new) }
     ensures room { frame.old.stack.1 ≤ frame.new.stack.1 }
+    ensures method { frame.new.method ≡ frame.old.method }
     ensures memory { OnErr result (frame.old.stack.1 ≤ length frame.old.stack.0) }
 {
     match reference_in(&frame.locals, n) {
@@ -83,6 +86,7 @@ pub fn aload(frame: &mut Frame, n: u16) -> Result<After, AllocError>
 pub fn istore(frame: &mut Frame, n: u16) -> After
     ensures effect { Acts (istore_effect n (frame_of frame.old)) result (frame_of frame.old) (frame_of frame.new) }
     ensures room { frame.new.stack.1 ≡ frame.old.stack.1 }
+    ensures method { frame.new.method ≡ frame.old.method }
 {
     let Some(number) = int_at(&frame.stack, 0) else {
         return After::Next;
@@ -99,6 +103,7 @@ pub fn istore(frame: &mut Frame, n: u16) -> After
 pub fn astore(frame: &mut Frame, n: u16) -> After
     ensures effect { Acts (astore_effect n (frame_of frame.old)) result (frame_of frame.old) (frame_of frame.new) }
     ensures room { frame.new.stack.1 ≡ frame.old.stack.1 }
+    ensures method { frame.new.method ≡ frame.old.method }
 {
     let Some(reference) = reference_at(&frame.stack, 0) else {
         return After::Next;
@@ -115,6 +120,7 @@ pub fn astore(frame: &mut Frame, n: u16) -> After
 pub fn iinc(frame: &mut Frame, n: u16, by: i16) -> After
     ensures effect { Acts (iinc_effect n by (frame_of frame.old)) result (frame_of frame.old) (frame_of frame.new) }
     ensures room { frame.new.stack.1 ≡ frame.old.stack.1 }
+    ensures method { frame.new.method ≡ frame.old.method }
 {
     let Some(number) = int_in(&frame.locals, n) else {
         return After::Next;
@@ -130,6 +136,7 @@ pub fn iinc(frame: &mut Frame, n: u16, by: i16) -> After
 pub fn arith(frame: &mut Frame, op: IntOp) -> After
     ensures effect { Acts (arith_effect op (frame_of frame.old)) result (frame_of frame.old) (frame_of frame.new) }
     ensures room { frame.new.stack.1 ≡ frame.old.stack.1 }
+    ensures method { frame.new.method ≡ frame.old.method }
 {
     let Some(right) = int_at(&frame.stack, 0) else {
         return After::Next;
@@ -151,6 +158,7 @@ pub fn arith(frame: &mut Frame, op: IntOp) -> After
 pub fn ineg(frame: &mut Frame) -> After
     ensures effect { Acts (ineg_effect (frame_of frame.old)) result (frame_of frame.old) (frame_of frame.new) }
     ensures room { frame.new.stack.1 ≡ frame.old.stack.1 }
+    ensures method { frame.new.method ≡ frame.old.method }
 {
     let Some(value) = int_at(&frame.stack, 0) else {
         return After::Next;
@@ -166,6 +174,7 @@ pub fn ineg(frame: &mut Frame) -> After
 pub fn narrow(frame: &mut Frame, kind: Kind) -> After
     ensures effect { Acts (narrow_effect kind (frame_of frame.old)) result (frame_of frame.old) (frame_of frame.new) }
     ensures room { frame.new.stack.1 ≡ frame.old.stack.1 }
+    ensures method { frame.new.method ≡ frame.old.method }
 {
     let Some(value) = int_at(&frame.stack, 0) else {
         return After::Next;
@@ -179,6 +188,7 @@ pub fn narrow(frame: &mut Frame, kind: Kind) -> After
 pub fn jump_if(frame: &mut Frame, cond: Cond, place: u16) -> After
     ensures effect { Acts (if_effect cond place (frame_of frame.old)) result (frame_of frame.old) (frame_of frame.new) }
     ensures room { frame.new.stack.1 ≡ frame.old.stack.1 }
+    ensures method { frame.new.method ≡ frame.old.method }
 {
     let Some(value) = int_at(&frame.stack, 0) else {
         return After::Next;
@@ -196,6 +206,7 @@ pub fn jump_if(frame: &mut Frame, cond: Cond, place: u16) -> After
 pub fn jump_if_ints(frame: &mut Frame, cond: Cond, place: u16) -> After
     ensures effect { Acts (if_icmp_effect cond place (frame_of frame.old)) result (frame_of frame.old) (frame_of frame.new) }
     ensures room { frame.new.stack.1 ≡ frame.old.stack.1 }
+    ensures method { frame.new.method ≡ frame.old.method }
 {
     let Some(right) = int_at(&frame.stack, 0) else {
         return After::Next;
@@ -237,6 +248,7 @@ fn is_null(a: Value) -> bool
 pub fn jump_if_same(frame: &mut Frame, wanted: bool, place: u16) -> After
     ensures effect { Acts (if_acmp_effect wanted place (frame_of frame.old)) result (frame_of frame.old) (frame_of frame.new) }
     ensures room { frame.new.stack.1 ≡ frame.old.stack.1 }
+    ensures method { frame.new.method ≡ frame.old.method }
 {
     let Some(right) = reference_at(&frame.stack, 0) else {
         return After::Next;
@@ -257,6 +269,7 @@ pub fn jump_if_same(frame: &mut Frame, wanted: bool, place: u16) -> After
 pub fn jump_if_null(frame: &mut Frame, wanted: bool, place: u16) -> After
     ensures effect { Acts (if_null_effect wanted place (frame_of frame.old)) result (frame_of frame.old) (frame_of frame.new) }
     ensures room { frame.new.stack.1 ≡ frame.old.stack.1 }
+    ensures method { frame.new.method ≡ frame.old.method }
 {
     let Some(value) = reference_at(&frame.stack, 0) else {
         return After::Next;
@@ -294,6 +307,7 @@ fn target_at(default: u16, targets: &[u16], i: &i64) -> u16
 pub fn tableswitch(frame: &mut Frame, default: u16, low: i32, targets: &[u16]) -> After
     ensures effect { Acts (tableswitch_effect default low targets.now (frame_of frame.old)) result (frame_of frame.old) (frame_of frame.new) }
     ensures room { frame.new.stack.1 ≡ frame.old.stack.1 }
+    ensures method { frame.new.method ≡ frame.old.method }
 {
     let Some(key) = int_at(&frame.stack, 0) else {
         return After::Next;
@@ -320,6 +334,7 @@ fn target_of(default: u16, cases: &[Case], key: i32) -> u16
 pub fn lookupswitch(frame: &mut Frame, default: u16, cases: &[Case]) -> After
     ensures effect { Acts (lookupswitch_effect default cases.now (frame_of frame.old)) result (frame_of frame.old) (frame_of frame.new) }
     ensures room { frame.new.stack.1 ≡ frame.old.stack.1 }
+    ensures method { frame.new.method ≡ frame.old.method }
 {
     let Some(key) = int_at(&frame.stack, 0) else {
         return After::Next;

@@ -1,19 +1,28 @@
 //! One step of the written machine.
 //!
 //! What each instruction does to its frame, to the static fields and to the heap stands in `specs/Effects`, and in one table in
-//! `specs/Table`; what these effects make of a state, and runs, in `specs/Running`. The calls here do the effects.
+//! `specs/Table`; what these effects make of a state, and runs, in `specs/Running`. `start` and `step` run the machine; the other
+//! calls do the effects of single instructions.
 #![tactic(auto)]
 
 mod after;
+mod applying;
 mod built_ins;
 mod calls;
 mod casts;
+mod entries;
 mod frames;
 mod leaves;
+mod normal;
 mod objects;
 mod operands;
+mod outcome;
+mod perform;
 mod reads;
 mod shuffles;
+mod steps;
+mod throwing;
+mod tops;
 mod writes;
 
 pub use after::After;
@@ -25,6 +34,8 @@ pub use frames::{
 };
 pub use leaves::{areturn, athrow, ireturn, return_nothing};
 pub use objects::{anewarray, new_object, newarray};
+pub use outcome::Outcome;
 pub use reads::{aaload, arraylength, getfield, getstatic, number_load};
 pub use shuffles::shuffle;
+pub use steps::{start, step};
 pub use writes::{number_store, putfield, putstatic};

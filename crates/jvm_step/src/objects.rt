@@ -73,14 +73,25 @@ fn reference_array(alloc: Global, element: Ty, count: &i32) -> Result<Option<Obj
     Ok(Some(Object::Refs { element, items }))
 }
 
+/// The number of the next object. A heap with as many objects as there are numbers wants memory.
+pub(crate) fn next_number(heap: &Heap) -> Result<u32, AllocError>
+    ensures { IfOk result (λ number. number ≡ length heap.now.objects) }
+{
+    if heap.objects.len() < 4_294_967_296 {
+        Ok(heap.objects.len() as u32)
+    } else {
+        Err(AllocError)
+    }
+}
+
 /// Puts an object at the heap's end, and a reference to it in the place of the top value.
 fn put(frame: &mut Frame, heap: &mut Heap, object: Object) -> Result<After, AllocError>
     requires top { 0 < length frame.old.stack.0 }
-    requires count { length heap.old.objects < 2 ^ 32 }
     ensures effect { Tries (Some (makes object (drop 1 frame.old.stack.0) (frame_of frame.old) heap.old)) result (frame_of frame.old, heap.old) (frame_of frame.new, heap.new) }
     ensures room { frame.new.stack.1 ≡ frame.old.stack.1 }
+    ensures method { frame.new.method ≡ frame.old.method }
 {
-    let number = heap.objects.len() as u32;
+    let number = next_number(heap)?;
     match heap.objects.push(object) {
         Ok(()) => {
             replace(&mut frame.stack, 0, Value::Ref(number));
@@ -98,9 +109,9 @@ pub fn newarray(
     heap: &mut Heap,
     kind: Kind,
 ) -> Result<After, AllocError>
-    requires count { length heap.old.objects < 2 ^ 32 }
     ensures effect { Tries (newarray_effect kind (frame_of frame.old) heap.old) result (frame_of frame.old, heap.old) (frame_of frame.new, heap.new) }
     ensures room { frame.new.stack.1 ≡ frame.old.stack.1 }
+    ensures method { frame.new.method ≡ frame.old.method }
 {
     let Some(count) = int_at(&frame.stack, 0) else {
         return Ok(After::Next);
@@ -119,9 +130,9 @@ pub fn anewarray(
     heap: &mut Heap,
     element: Ty,
 ) -> Result<After, AllocError>
-    requires count { length heap.old.objects < 2 ^ 32 }
     ensures effect { Tries (anewarray_effect element (frame_of frame.old) heap.old) result (frame_of frame.old, heap.old) (frame_of frame.new, heap.new) }
     ensures room { frame.new.stack.1 ≡ frame.old.stack.1 }
+    ensures method { frame.new.method ≡ frame.old.method }
 {
     let Some(count) = int_at(&frame.stack, 0) else {
         return Ok(After::Next);
@@ -164,14 +175,14 @@ pub fn new_object(
     heap: &mut Heap,
     t: Ty,
 ) -> Result<After, AllocError>
-    requires count { length heap.old.objects < 2 ^ 32 }
     ensures effect { Tries (new_effect (types_of (classes_of world.now)) t (frame_of frame.old) heap.old) result (frame_of frame.old, heap.old) (frame_of frame.new, heap.new) }
     ensures room { frame.old.stack.1 ≤ frame.new.stack.1 }
+    ensures method { frame.new.method ≡ frame.old.method }
 {
     let Some(object) = instance(alloc, world, t)? else {
         return Ok(After::Next);
     };
-    let number = heap.objects.len() as u32;
+    let number = next_number(heap)?;
     if frame.stack.push(Value::Ref(number)).is_err() {
         return Err(AllocError);
     }

@@ -43,6 +43,7 @@ fn field_in(object: &Object, place: u32) -> Option<Value>
 pub fn getfield(frame: &mut Frame, heap: &Heap, used: FieldUse) -> After
     ensures effect { (types : WorldTypes) → Acts (getfield_effect types used heap.now (frame_of frame.old)) result (frame_of frame.old) (frame_of frame.new) }
     ensures room { frame.new.stack.1 ≡ frame.old.stack.1 }
+    ensures method { frame.new.method ≡ frame.old.method }
 {
     let Some(reference) = reference_at(&frame.stack, 0) else {
         return After::Next;
@@ -81,6 +82,7 @@ fn length_of(object: &Object) -> Option<usize>
 pub fn arraylength(frame: &mut Frame, heap: &Heap) -> After
     ensures effect { Acts (arraylength_effect heap.now (frame_of frame.old)) result (frame_of frame.old) (frame_of frame.new) }
     ensures room { frame.new.stack.1 ≡ frame.old.stack.1 }
+    ensures method { frame.new.method ≡ frame.old.method }
 {
     let Some(reference) = reference_at(&frame.stack, 0) else {
         return After::Next;
@@ -132,6 +134,7 @@ pub(crate) fn is_for(kinds: ItemKind, kind: Kind) -> bool
 pub fn getstatic(frame: &mut Frame, statics: &Seq<Value>, place: u32) -> Result<After, AllocError>
     ensures effect { Tries (getstatic_effect place statics.now (frame_of frame.old)) result (frame_of frame.old) (frame_of frame.new) }
     ensures room { frame.old.stack.1 ≤ frame.new.stack.1 }
+    ensures method { frame.new.method ≡ frame.old.method }
     ensures memory { OnErr result (frame.old.stack.1 ≤ length frame.old.stack.0) }
 {
     match statics.as_slice().get(place as usize).copied() {
@@ -182,6 +185,7 @@ fn references_in(object: &Object) -> Option<&[Value]>
 pub fn number_load(frame: &mut Frame, heap: &Heap, kinds: ItemKind) -> After
     ensures effect { Acts (number_load_effect kinds heap.now (frame_of frame.old)) result (frame_of frame.old) (frame_of frame.new) }
     ensures room { frame.new.stack.1 ≡ frame.old.stack.1 }
+    ensures method { frame.new.method ≡ frame.old.method }
 {
     let Some(index) = int_at(&frame.stack, 0) else {
         return After::Next;
@@ -213,6 +217,7 @@ pub fn number_load(frame: &mut Frame, heap: &Heap, kinds: ItemKind) -> After
 pub fn aaload(frame: &mut Frame, heap: &Heap) -> After
     ensures effect { Acts (aaload_effect heap.now (frame_of frame.old)) result (frame_of frame.old) (frame_of frame.new) }
     ensures room { frame.new.stack.1 ≡ frame.old.stack.1 }
+    ensures method { frame.new.method ≡ frame.old.method }
 {
     let Some(index) = int_at(&frame.stack, 0) else {
         return After::Next;

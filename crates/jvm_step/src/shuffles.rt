@@ -74,6 +74,7 @@ fn push_two(stack: &mut Stack<Value>, a: Value, b: Value) -> Result<(), AllocErr
 fn pop(frame: &mut Frame) -> After
     ensures effect { Acts (shuffle_effect shuffles.Pop (frame_of frame.old)) result (frame_of frame.old) (frame_of frame.new) }
     ensures room { frame.new.stack.1 ≡ frame.old.stack.1 }
+    ensures method { frame.new.method ≡ frame.old.method }
 {
     if !frame.stack.is_empty() {
         take(&mut frame.stack, 1);
@@ -86,6 +87,7 @@ fn pop(frame: &mut Frame) -> After
 fn pop2(frame: &mut Frame) -> After
     ensures effect { Acts (shuffle_effect shuffles.Pop2 (frame_of frame.old)) result (frame_of frame.old) (frame_of frame.new) }
     ensures room { frame.new.stack.1 ≡ frame.old.stack.1 }
+    ensures method { frame.new.method ≡ frame.old.method }
 {
     if frame.stack.len() >= 2 {
         take(&mut frame.stack, 2);
@@ -98,6 +100,7 @@ fn pop2(frame: &mut Frame) -> After
 fn swap(frame: &mut Frame) -> After
     ensures effect { Acts (shuffle_effect shuffles.Swap (frame_of frame.old)) result (frame_of frame.old) (frame_of frame.new) }
     ensures room { frame.new.stack.1 ≡ frame.old.stack.1 }
+    ensures method { frame.new.method ≡ frame.old.method }
 {
     if let Some((a, b)) = two(&frame.stack) {
         set(&mut frame.stack, 0, b);
@@ -111,6 +114,7 @@ fn swap(frame: &mut Frame) -> After
 fn dup(frame: &mut Frame) -> Result<After, AllocError>
     ensures effect { Tries (shuffle_effect shuffles.Dup (frame_of frame.old)) result (frame_of frame.old) (frame_of frame.new) }
     ensures room { frame.old.stack.1 ≤ frame.new.stack.1 }
+    ensures method { frame.new.method ≡ frame.old.method }
     ensures memory { OnErr result (frame.old.stack.1 ≤ length frame.old.stack.0) }
 {
     let Some(a) = value_at(&frame.stack, 0) else {
@@ -127,6 +131,7 @@ fn dup(frame: &mut Frame) -> Result<After, AllocError>
 fn dup_x1(frame: &mut Frame) -> Result<After, AllocError>
     ensures effect { Tries (shuffle_effect shuffles.DupX1 (frame_of frame.old)) result (frame_of frame.old) (frame_of frame.new) }
     ensures room { frame.old.stack.1 ≤ frame.new.stack.1 }
+    ensures method { frame.new.method ≡ frame.old.method }
     ensures memory { OnErr result (frame.old.stack.1 ≤ length frame.old.stack.0) }
 {
     let Some((a, b)) = two(&frame.stack) else {
@@ -147,6 +152,7 @@ fn dup_x1(frame: &mut Frame) -> Result<After, AllocError>
 fn dup_x2(frame: &mut Frame) -> Result<After, AllocError>
     ensures effect { Tries (shuffle_effect shuffles.DupX2 (frame_of frame.old)) result (frame_of frame.old) (frame_of frame.new) }
     ensures room { frame.old.stack.1 ≤ frame.new.stack.1 }
+    ensures method { frame.new.method ≡ frame.old.method }
     ensures memory { OnErr result (frame.old.stack.1 ≤ length frame.old.stack.0) }
 {
     let Some((a, b, c)) = three(&frame.stack) else {
@@ -168,6 +174,7 @@ fn dup_x2(frame: &mut Frame) -> Result<After, AllocError>
 fn dup2(frame: &mut Frame) -> Result<After, AllocError>
     ensures effect { Tries (shuffle_effect shuffles.Dup2 (frame_of frame.old)) result (frame_of frame.old) (frame_of frame.new) }
     ensures room { frame.old.stack.1 ≤ frame.new.stack.1 }
+    ensures method { frame.new.method ≡ frame.old.method }
     ensures memory { OnErr result (frame.old.stack.1 ≤ length frame.old.stack.0 + 1) }
 {
     let Some((a, b)) = two(&frame.stack) else {
@@ -182,6 +189,7 @@ fn dup2(frame: &mut Frame) -> Result<After, AllocError>
 fn dup2_x1(frame: &mut Frame) -> Result<After, AllocError>
     ensures effect { Tries (shuffle_effect shuffles.Dup2X1 (frame_of frame.old)) result (frame_of frame.old) (frame_of frame.new) }
     ensures room { frame.old.stack.1 ≤ frame.new.stack.1 }
+    ensures method { frame.new.method ≡ frame.old.method }
     ensures memory { OnErr result (frame.old.stack.1 ≤ length frame.old.stack.0 + 1) }
 {
     let Some((a, b, c)) = three(&frame.stack) else {
@@ -199,6 +207,7 @@ fn dup2_x1(frame: &mut Frame) -> Result<After, AllocError>
 fn dup2_x2(frame: &mut Frame) -> Result<After, AllocError>
     ensures effect { Tries (shuffle_effect shuffles.Dup2X2 (frame_of frame.old)) result (frame_of frame.old) (frame_of frame.new) }
     ensures room { frame.old.stack.1 ≤ frame.new.stack.1 }
+    ensures method { frame.new.method ≡ frame.old.method }
     ensures memory { OnErr result (frame.old.stack.1 ≤ length frame.old.stack.0 + 1) }
 {
     let Some((a, b, c, d)) = four(&frame.stack) else {
@@ -216,6 +225,7 @@ fn dup2_x2(frame: &mut Frame) -> Result<After, AllocError>
 pub fn shuffle(frame: &mut Frame, shuffle: Shuffle) -> Result<After, AllocError>
     ensures effect { Tries (shuffle_effect shuffle (frame_of frame.old)) result (frame_of frame.old) (frame_of frame.new) }
     ensures room { frame.old.stack.1 ≤ frame.new.stack.1 }
+    ensures method { frame.new.method ≡ frame.old.method }
     ensures memory { OnErr result (frame.old.stack.1 ≤ length frame.old.stack.0 + 1) }
 {
     match shuffle {

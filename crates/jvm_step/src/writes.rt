@@ -97,6 +97,7 @@ fn set_number_of(alloc: Global, heap: &mut Heap, r: u32, i: usize, n: i32)
 pub fn putfield(alloc: Global, frame: &mut Frame, heap: &mut Heap, used: FieldUse) -> After
     ensures effect { (types : WorldTypes) → Acts (putfield_effect types used (frame_of frame.old) heap.old) result (frame_of frame.old, heap.old) (frame_of frame.new, heap.new) }
     ensures room { frame.new.stack.1 ≡ frame.old.stack.1 }
+    ensures method { frame.new.method ≡ frame.old.method }
 {
     let Some(value) = value_at(&frame.stack, 0) else {
         return After::Next;
@@ -125,6 +126,7 @@ pub fn putstatic(
 ) -> After
     ensures effect { (types : WorldTypes) (heap : Heap) → Acts (putstatic_effect types fields.now place heap (frame_of frame.old) statics.old) result (frame_of frame.old, statics.old) (frame_of frame.new, statics.new) }
     ensures room { frame.new.stack.1 ≡ frame.old.stack.1 }
+    ensures method { frame.new.method ≡ frame.old.method }
 {
     let Some(field) = fields.get(place as usize) else {
         return After::Next;
@@ -179,6 +181,7 @@ pub(crate) fn index_below(count: usize, i: &i32) -> Option<usize>
 pub fn number_store(alloc: Global, frame: &mut Frame, heap: &mut Heap, kinds: ItemKind) -> After
     ensures effect { Acts (number_store_effect kinds (frame_of frame.old) heap.old) result (frame_of frame.old, heap.old) (frame_of frame.new, heap.new) }
     ensures room { frame.new.stack.1 ≡ frame.old.stack.1 }
+    ensures method { frame.new.method ≡ frame.old.method }
 {
     let Some(value) = int_at(&frame.stack, 0) else {
         return After::Next;
