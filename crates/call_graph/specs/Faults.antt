@@ -1,0 +1,18 @@
+-- The fault of calls in words.
+use Rattle.std.specs.Prelude.{ℕ, List, [], ◌∷◌, codes}
+use Rattle.fault_words.specs.Words.{joined}
+use Rattle.class_world.specs.Faults.{method_fields}
+use Rattle.call_graph.specs.declared.fault.CallFault.{CallFault}
+use Rattle.call_graph.specs.declared.fault.CallFault.TheVariants.{Recursive, Memory}
+
+abbrev pub fault_name : CallFault → List ℕ
+fault_name (Recursive method) = codes "Recursive"
+fault_name Memory = codes "Memory"
+
+abbrev pub fault_fields : CallFault → List ℕ
+fault_fields (Recursive method) = method_fields method []
+fault_fields Memory = []
+
+-- the name, and then the fields
+abbrev pub fault_text : CallFault → List ℕ
+fault_text fault = joined (fault_name fault ∷ fault_fields fault ∷ [])

@@ -1,0 +1,5 @@
+pub mod Calls
+pub mod Faults
+pub mod Graphs
+pub mod Listed
+pub mod Marking

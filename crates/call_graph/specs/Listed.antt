@@ -1,0 +1,59 @@
+-- The calls of a program, listed.
+use Rattle.std.specs.Prelude.{◌≡◌, ◌⊎◌, ◌+◌, ℕ, List, [], ◌∷◌, length, slice_get, map, if◌then◌else◌, Option, Some, None}
+use Rattle.std.specs.List.{filter_map, flat_map, range_with_len}
+use Rattle.std.specs.Option.{option_map_or, option_to_list}
+use Rattle.class_program.specs.declared.op.Op.{Op}
+use Rattle.class_program.specs.declared.op.Op.TheVariants.{Invokevirtual, Invokespecial, Invokestatic, Invokeinterface}
+use Rattle.class_program.specs.declared.program.Method.{Method}
+use Rattle.class_program.specs.declared.selected.Selected.{Selected}
+use Rattle.class_program.specs.declared.selected.Selected.TheVariants as answers
+use Rattle.class_program.specs.Programs.{Program, op_at}
+use Rattle.class_program.specs.Selected.{selected_at, can_receive_at}
+
+-- a number is in a list
+abbrev pub Has : List ℕ → ℕ → Type 0
+Has [] b = ⊥
+Has (x ∷ xs) b = (x ≡ b) ⊎ Has xs b
+
+-- the list of a number; numbers past the end have the empty one
+abbrev pub row_at : List (List ℕ) → ℕ → List ℕ
+row_at graph a = option_map_or (λ row. row) (slice_get graph a) []
+
+-- a number is in the other one's list
+abbrev pub Edge : List (List ℕ) → ℕ → ℕ → Type 0
+Edge graph a b = Has (row_at graph a) b
+
+abbrev pub method_of : Option Selected → Option ℕ
+method_of (Some (answers.Method number)) = Some number
+method_of _ = None
+
+-- what the call at a place runs on an object of a class
+unfoldable pub class_run : Program → ℕ → ℕ → ℕ → Option ℕ
+class_run p a place class = if can_receive_at p a place class then method_of (selected_at p a place class) else None
+
+-- what it runs on objects of all classes
+unfoldable pub class_runs : Program → ℕ → ℕ → List ℕ
+class_runs p a place = filter_map (class_run p a place) (range_with_len 0 (length p.world))
+
+-- what the instruction at a place can run
+abbrev pub op_runs : Program → ℕ → ℕ → Op → List ℕ
+op_runs p a place (Invokestatic call) = option_to_list call.target
+op_runs p a place (Invokespecial call) = option_to_list call.target
+op_runs p a place (Invokevirtual call) = class_runs p a place
+op_runs p a place (Invokeinterface call) = class_runs p a place
+op_runs p a place _ = []
+
+unfoldable pub place_runs : Program → ℕ → ℕ → List ℕ
+place_runs p a place = option_map_or (op_runs p a place) (op_at p.methods a place) []
+
+-- what the instructions of a method can run
+unfoldable pub method_runs : Program → ℕ → List (ℕ × Op) → List ℕ
+method_runs p a insns = flat_map (λ x. place_runs p a x.0) insns
+
+abbrev pub rows_from : Program → ℕ → List Method → List (List ℕ)
+rows_from p a [] = []
+rows_from p a (m ∷ methods) = method_runs p a m.insns ∷ rows_from p (a + 1) methods
+
+-- what each method can run
+abbrev pub graph_of : Program → List (List ℕ)
+graph_of p = rows_from p 0 p.methods
