@@ -1,0 +1,139 @@
+-- The changes that are found are those of the definition.
+use Rattle.std.proofs.Common.{◌≡◌, ◌⊎◌, inl, inr, ℕ, zero, suc, ◌+◌, ◌<◌, ◌≤◌, Bool, true, false, cond, List, [], ◌∷◌, ◌++◌, length, get_or, ℤ, pos, Option, Some, None, subst, ap, arith, refl, ◌∙◌, sym, length-append}
+use Rattle.std.specs.Ordering.{int_eq}
+use Rattle.std.specs.Prelude.{◌&&◌, slice_get}
+use Rattle.std.proofs.lemmas.Bool.{false≢true, cases_eq}
+use Rattle.std.proofs.lemmas.Bool.Decides.{Decides-int_eq}
+use Rattle.std.proofs.lemmas.List.{get_or_at, get_or_append_left}
+use Rattle.std.proofs.lemmas.Option.{slice_get_within}
+use Rattle.lin_core.specs.declared.rows.WRow.{WRow}
+use Rattle.descent.specs.declared.rules.PathRule.{PathRule}
+use Rattle.descent.specs.declared.rules.Place.{Place}
+use Rattle.descent.specs.declared.rules.SlotForm.{SlotForm}
+use Rattle.rank_search.specs.declared.links.Come.{Come}
+use Rattle.rank_search.specs.declared.links.Link.{Link}
+use Rattle.rank_search.specs.declared.links.Tie.{Tie}
+use Rattle.rank_search.specs.Links.{IsIntLink, IsStep, IsWay, total}
+use Rattle.rank_search.specs.Plain.{IsChange, ChangesBy}
+use Rattle.rank_search.specs.Positions.{IsVariable, StandsAt, slot_at}
+use Rattle.rank_search.specs.Searching.{InTies, Covers, IsReached, Known, has_none, only_variable, variable_of, variable_at, more_of, IsDifference, AreIntTies, TellsChange, TellChanges}
+
+one_number : (a b : ℕ) → ◌≡◌ {A = Option ℕ} (Some a) (Some b) → a ≡ b
+one_number a b e = cc
+
+one_int : (a b : ℤ) → ◌≡◌ {A = Option ℤ} (Some a) (Some b) → a ≡ b
+one_int a b e = cc
+
+no_int : (a : ℤ) → ◌≡◌ {A = Option ℤ} None (Some a) → ⊥
+no_int a e = absurd (cc)
+
+no_number : (a : ℕ) → ◌≡◌ {A = Option ℕ} None (Some a) → ⊥
+no_number a e = absurd (cc)
+
+no_come : (a : Come) → ◌≡◌ {A = Option Come} None (Some a) → ⊥
+no_come a e = absurd (cc)
+
+-- what one variable has more than another one
+abbrev pub Sound : List Tie → ℕ → Known → Type 0
+Sound ties start known = (variable : ℕ) (come : Come) → get_or known variable None ≡ Some come → IsReached ties start variable come.by
+
+abbrev pub Complete : List Tie → ℕ → Known → Type 0
+Complete ties start known = (variable : ℕ) (by : ℤ) → IsReached ties start variable by → (come : Come) × (get_or known variable None ≡ Some come)
+
+difference_cases : (ties : List Tie) (start finish : ℕ) (known : Known) (found : Option Come) → Sound ties start known → Complete ties start known → get_or known finish None ≡ found → IsDifference ties start finish (more_of found)
+difference_cases ties start finish known None sound complete e = record {
+  sound = λ by m. absurd (no_int by m);
+  complete = λ by r. let w = complete finish by r in absurd (no_come w.0 (sym e ∙ w.1));
+}
+difference_cases ties start finish known (Some come) sound complete e = record {
+  sound = λ by m. subst (λ (x : ℤ). IsReached ties start finish x) (one_int come.by by m) (sound finish come e);
+  complete = λ by r. (come.by, refl);
+}
+
+pub difference_is : (ties : List Tie) (start finish : ℕ) (known seen : Known) (come : Option Come) (more : Option ℤ) → Sound ties start known → Complete ties start known → seen ≡ known → come ≡ get_or seen finish None → more ≡ more_of come → IsDifference ties start finish more
+difference_is ties start finish known seen come more sound complete s c m = subst (λ (o : Option ℤ). IsDifference ties start finish o) (sym (m ∙ ap more_of (c ∙ ap (λ (l : Known). get_or l finish None) s))) (difference_cases ties start finish known (get_or known finish None) sound complete refl)
+
+-- a variable at a place
+both : (a b : Bool) → a ≡ true → b ≡ true → (a && b) ≡ true
+both true b e f = f
+both false b e f = absurd (false≢true e)
+
+chosen : (A : Type 0) (test : Bool) (a b : A) → test ≡ true → cond test a b ≡ a
+chosen A true a b e = refl
+chosen A false a b e = absurd (false≢true e)
+
+int_same : (x y : ℤ) → x ≡ y → int_eq x y ≡ true
+int_same x y e = (Decides-int_eq x y).1 e
+
+variable_is : (slot : SlotForm) (variable : ℕ) → IsVariable slot variable → variable_of (Some slot) ≡ Some variable
+variable_is slot variable is =
+    let plain = both (int_eq slot.constant (pos 0)) (has_none slot.weights) (int_same slot.constant (pos 0) is.constant) (ap has_none is.weights) in
+    chosen (Option ℕ) (int_eq slot.constant (pos 0) && has_none slot.weights) (only_variable slot.terms) None plain ∙ ap only_variable is.terms ∙ chosen (Option ℕ) (int_eq (pos 1) (pos 1)) (Some variable) None (int_same (pos 1) (pos 1) refl)
+
+stands_is : (slots : List SlotForm) (size : Bool) (place : Place) (variable : ℕ) → StandsAt slots size place variable → variable_at slots size place ≡ Some variable
+stands_is slots size place variable stands = ap variable_of stands.1 ∙ variable_is stands.0 variable stands.2
+
+-- links of the definition and ties
+covers_in : (ties : List Tie) (u v : ℕ) → Covers ties u v → (link : Link) × InTies ties link × (link.from ≡ u) × (link.to ≡ v)
+covers_in [] u v h = absurd h
+covers_in (tie ∷ rest) u v h = elim h as (λ o. (link : Link) × InTies (tie ∷ rest) link × (link.from ≡ u) × (link.to ≡ v)) [
+  | inl s ↦ (tie.link, inl refl, s.0, s.1)
+  | inr r ↦ let w = covers_in rest u v r in (w.0, inr w.1, w.2, w.3)
+]
+
+covered_way : (rows : List WRow) (ties : List Tie) (u v : ℕ) (links : List Link) → AreIntTies rows ties → IsWay (IsIntLink rows) u links v → (other : List Link) × IsWay (InTies ties) u other v
+covered_way rows ties u v [] are way = ([], way)
+covered_way rows ties u v (link ∷ rest) are way =
+    let w = covers_in ties link.from link.to (are.complete link way.0.is) in
+    let more = covered_way rows ties link.to v rest are way.1 in
+    (w.0 ∷ more.0, (record { begins = w.2 ∙ way.0.begins; is = w.1 }, subst (λ (x : ℕ). IsWay (InTies ties) x more.0 v) (sym w.3) more.1))
+
+int_way : (rows : List WRow) (ties : List Tie) (u v : ℕ) (links : List Link) → AreIntTies rows ties → IsWay (InTies ties) u links v → IsWay (IsIntLink rows) u links v
+int_way rows ties u v [] are way = way
+int_way rows ties u v (link ∷ rest) are way = (record { begins = way.0.begins; is = are.sound link way.0.is }, int_way rows ties link.to v rest are way.1)
+
+change_is : (rows : List WRow) (ties : List Tie) (u v : ℕ) (c : ℤ) (more : Option ℤ) → AreIntTies rows ties → IsDifference ties u v more → IsChange rows u v c → more ≡ Some c
+change_is rows ties u v c more are difference change =
+    let covered = covered_way rows ties u v change.links are change.way in
+    let found = difference.complete (total covered.0) (covered.0, covered.1, refl) in
+    let reached = difference.sound found.0 found.1 in
+    let same : found.0 ≡ c = sym reached.2 ∙ change.each reached.0 (int_way rows ties u v reached.0 are reached.1) in
+    found.1 ∙ ap Some same
+
+pub change_told : (rule : PathRule) (place : Place) (ties : List Tie) (start finish : ℕ) (more : Option ℤ) → AreIntTies rule.rows ties → variable_at rule.first false place ≡ Some start → variable_at rule.last false place ≡ Some finish → IsDifference ties start finish more → TellsChange rule place more
+change_told rule place ties start finish more are s f difference c changes =
+    let first : changes.start ≡ start = one_number changes.start start (sym (stands_is rule.first false place changes.start changes.ends.first) ∙ s) in
+    let last : changes.finish ≡ finish = one_number changes.finish finish (sym (stands_is rule.last false place changes.finish changes.ends.last) ∙ f) in
+    change_is rule.rows ties start finish c more are difference (subst (λ (x : ℕ). IsChange rule.rows x finish c) first (subst (λ (y : ℕ). IsChange rule.rows changes.start y c) last changes.change))
+
+pub no_start : (rule : PathRule) (place : Place) → variable_at rule.first false place ≡ None → TellsChange rule place None
+no_start rule place e c changes = absurd (no_number changes.start (sym e ∙ stands_is rule.first false place changes.start changes.ends.first))
+
+pub no_finish : (rule : PathRule) (place : Place) → variable_at rule.last false place ≡ None → TellsChange rule place None
+no_finish rule place e c changes = absurd (no_number changes.finish (sym e ∙ stands_is rule.last false place changes.finish changes.ends.last))
+
+-- the changes of the first places
+pub record AreTold (rule : PathRule) (places : List Place) (changes : List (Option ℤ)) (n : ℕ) : Type 0 where
+  pub count : length changes ≡ n
+  pub each : (k : ℕ) (place : Place) → k < n → slice_get places k ≡ Some place → TellsChange rule place (get_or changes k None)
+
+pub told_first : (rule : PathRule) (places : List Place) (changes : List (Option ℤ)) → changes ≡ [] → AreTold rule places changes 0
+told_first rule places changes e = record { count = ap length e; each = λ k place low. absurd (omega (arith, low)) }
+
+one_place : (a b : Place) → ◌≡◌ {A = Option Place} (Some a) (Some b) → a ≡ b
+one_place a b e = cc
+
+pub told_more : (rule : PathRule) (places : List Place) (changes new : List (Option ℤ)) (change : Option ℤ) (place : Place) (n : ℕ) → new ≡ changes ++ change ∷ [] → slice_get places n ≡ Some place → TellsChange rule place change → AreTold rule places changes n → AreTold rule places new (n + 1)
+told_more rule places changes new change place n e at tells h = record {
+  count = let c : length new ≡ length changes + 1 = ap length e ∙ length-append changes (change ∷ []) in omega (arith, c, h.count);
+  each = λ k other low is. subst (λ (l : List (Option ℤ)). TellsChange rule other (get_or l k None)) (sym e) (elim (cases_eq k n) as (λ o. TellsChange rule other (get_or (changes ++ change ∷ []) k None)) [
+    | inl s ↦ subst (λ (x : Option ℤ). TellsChange rule other x) (sym (get_or_at changes change [] None k (h.count ∙ sym s))) (subst (λ (x : Place). TellsChange rule x change) (one_place place other (sym at ∙ ap (slice_get places) (sym s) ∙ is)) tells)
+    | inr d ↦ subst (λ (x : Option ℤ). TellsChange rule other x) (sym (get_or_append_left changes (change ∷ []) None k (let b = before k n low d in omega (arith, b, h.count)))) (h.each k other (before k n low d) is)
+  ]);
+}
+  where
+    before : (a b : ℕ) → a < b + 1 → (a ≡ b → ⊥) → a < b
+    before a b h n = omega (arith, n)
+
+pub told_last : (rule : PathRule) (places : List Place) (changes : List (Option ℤ)) (n : ℕ) → length places ≤ n → AreTold rule places changes n → TellChanges rule places changes
+told_last rule places changes n past h k place is = h.each k place (let low = slice_get_within places k place is in omega (arith, low)) is
