@@ -1,0 +1,33 @@
+-- What calls answer that take flows to a table, and what holds of the forms of a closed program.
+use Rattle.std.specs.Prelude.{◌≡◌, ◌<◌, Bool, false, List, length, Option, Some, None, MatchBool, IfSome}
+use Rattle.jvm_values.specs.Subtyping.{IsReference, IsSlot}
+use Rattle.jvm_values.specs.TypedHeaps.{WorldTypes}
+use Rattle.class_program.specs.Programs.{Program}
+use Rattle.op_forms.specs.Forms.{Form}
+use Rattle.op_forms.specs.Forms.Form.{Getstatic, Putstatic, Getfield, Putfield, Invokevirtual, Invokespecial, Invokestatic, Invokeinterface, New, Anewarray, Checkcast}
+use Rattle.frame_types.specs.declared.table.Table.{Table}
+use Rattle.frame_types.specs.Tables.{Flow}
+use Rattle.frame_types.specs.Growth.{IsGrown, AreRefused}
+use Rattle.code_verify.specs.Rows.{static_slot}
+
+-- the table takes the flows, or nothing that has what it has does
+abbrev pub Comes : WorldTypes → List Flow → Bool → Table → Table → Type 0
+Comes types flows ok old new = MatchBool ok (IsGrown types flows old new) (AreRefused types flows old)
+
+-- the types that a form brings into a frame are the world's
+abbrev pub IsGoodForm : Program → Form → Type 0
+IsGoodForm p (Getstatic place) = IfSome (static_slot p place) (IsSlot (length p.world))
+IsGoodForm p (Getfield used) = IsSlot (length p.world) used.slot
+IsGoodForm p (Invokevirtual call) = IfSome call.result (IsSlot (length p.world))
+IsGoodForm p (Invokespecial call) = IfSome call.result (IsSlot (length p.world))
+IsGoodForm p (Invokestatic call) = IfSome call.result (IsSlot (length p.world))
+IsGoodForm p (Invokeinterface call) = IfSome call.result (IsSlot (length p.world))
+IsGoodForm p (New t) = IsReference (length p.world) t
+IsGoodForm p (Anewarray t) = IsReference (length p.world) t × (t.dims < 255)
+IsGoodForm p (Checkcast t) = IsReference (length p.world) t
+IsGoodForm p _ = Unit {0}
+
+-- what a place of a method leads to comes to the table; where it leads to nothing, nothing comes
+abbrev pub Looks : WorldTypes → Option (List Flow) → Bool → Table → Table → Type 0
+Looks types None ok old new = ok ≡ false
+Looks types (Some flows) ok old new = Comes types flows ok old new

@@ -1,0 +1,130 @@
+-- Where a method's code leads from a place, and with what types (JVM specification, sections 4.10.1.6 and 4.10.2.2).
+use Rattle.std.specs.Prelude.{ℕ, ◌++◌, ◌||◌, ◌&&◌, not, nat_eq, nat_le, nat_lt, Bool, true, false, if◌then◌else◌, List, [], ◌∷◌, map, filter, Option, Some, None, unwrap_or, IsTrue}
+use Rattle.std.specs.List.{list_any}
+use Rattle.std.specs.Option.{option_map_or, option_to_list, is_some}
+use Rattle.list_views.specs.Options.{◌>>=◌, asked}
+use Rattle.code_decode.specs.declared.insn.Case.{Case}
+use Rattle.jvm_values.specs.declared.types.Ty.{Ty}
+use Rattle.jvm_values.specs.declared.typing.PlaceType.TheVariants as places
+use Rattle.jvm_values.specs.States.{PlaceTypes}
+use Rattle.jvm_values.specs.Subtyping.{class_type}
+use Rattle.class_world.specs.World.{World}
+use Rattle.class_world.specs.Types.{is_sub, erase}
+use Rattle.class_world.specs.BuiltIns.{throwable}
+use Rattle.class_program.specs.declared.op.Op.{Op}
+use Rattle.class_program.specs.declared.program.CatchRange.{CatchRange}
+use Rattle.class_program.specs.declared.program.Method.{Method}
+use Rattle.class_program.specs.Instructions.{instruction_at}
+use Rattle.class_program.specs.Programs.{Program}
+use Rattle.op_forms.specs.Forms.{Form, form_of}
+use Rattle.op_forms.specs.Forms.Form.{If, IfIcmp, IfAcmpeq, IfAcmpne, Ifnull, Ifnonnull, Goto, Tableswitch, Lookupswitch, Ireturn, Areturn, Return, Athrow}
+use Rattle.frame_types.specs.Tables.{Flow}
+use Rattle.code_verify.specs.Rows.{types_after}
+
+-- ---- where a form leads
+
+-- the next instruction may run after it: not after a jump without a condition, a switch, a return or a throw
+abbrev pub falls : Form → Bool
+falls (Goto place) = false
+falls (Tableswitch default low targets) = false
+falls (Lookupswitch default cases) = false
+falls Ireturn = false
+falls Areturn = false
+falls Return = false
+falls Athrow = false
+falls _ = true
+
+-- the place of a jump, or of a switch where no key fits
+abbrev pub jump : Form → Option ℕ
+jump (If cond place) = Some place
+jump (IfIcmp cond place) = Some place
+jump (IfAcmpeq place) = Some place
+jump (IfAcmpne place) = Some place
+jump (Ifnull place) = Some place
+jump (Ifnonnull place) = Some place
+jump (Goto place) = Some place
+jump (Tableswitch default low targets) = Some default
+jump (Lookupswitch default cases) = Some default
+jump _ = None
+
+-- the places of a switch's keys
+abbrev pub table_targets : Form → List ℕ
+table_targets (Tableswitch default low targets) = targets
+table_targets _ = []
+
+abbrev pub lookup_cases : Form → List Case
+lookup_cases (Lookupswitch default cases) = cases
+lookup_cases _ = []
+
+-- where a form may jump to
+abbrev pub jumps : Form → List ℕ
+jumps form = option_to_list (jump form) ++ (table_targets form ++ map (λ c. c.target) (lookup_cases form))
+
+-- where it leads, if its next instruction is at a place
+abbrev pub ways : Form → Option ℕ → List ℕ
+ways form next = option_to_list (if falls form then next else None) ++ jumps form
+
+-- it does not lead off the code's end
+abbrev pub is_inside : Form → Option ℕ → Bool
+is_inside form next = not (falls form) || is_some next
+
+-- ---- handlers
+
+-- a range has a place; its end does not belong to it
+abbrev pub covers : ℕ → CatchRange → Bool
+covers place range = nat_le range.start place && nat_lt place range.end
+
+-- the class that a range catches: Throwable, where it catches everything
+abbrev pub caught_class : CatchRange → Ty
+caught_class range = class_type (unwrap_or range.catch throwable)
+
+-- a class that is caught is Throwable or below it, by the true relation
+abbrev pub CanCatch : World → CatchRange → Type 0
+CanCatch world range = IsTrue (is_sub world (caught_class range) (class_type throwable))
+
+-- a handler is entered with a place's locals, and what is caught alone on the stack
+abbrev pub caught_frame : World → PlaceTypes → CatchRange → PlaceTypes
+caught_frame world frame range = record { locals = frame.locals; stack = places.Ref (erase world (caught_class range)) ∷ [] }
+
+-- ---- what a typed place leads to
+
+-- from a form: the types after it come to each place where it leads
+abbrev pub onward : PlaceTypes → List ℕ → List Flow
+onward after places = map (λ to. record { to = to; frame = after }) places
+
+-- from a place of the code: to the handler of each range that has it
+abbrev pub caught : World → ℕ → PlaceTypes → List CatchRange → List Flow
+caught world place frame ranges = map (λ range. record { to = range.handler; frame = caught_frame world frame range }) (filter (covers place) ranges)
+
+-- What runs at a place of a method where it has these types: the form of the instruction there, the place of the next
+-- one, and the types after it. None where no instruction stands there, where it does not find what it needs, and where it
+-- leads off the code's end.
+unfoldable pub runs_at : Program → Method → ℕ → PlaceTypes → Option (Form × Option ℕ × PlaceTypes)
+runs_at p m place frame = do
+  here ← instruction_at m.insns place
+  form ← form_of here.0
+  inside ← asked (is_inside form here.1)
+  after ← types_after p m form frame
+  Some (form, here.1, after)
+
+-- all that the place then leads to
+unfoldable pub flows_from : Program → Method → ℕ → PlaceTypes → Option (List Flow)
+flows_from p m place frame = do
+  ran ← runs_at p m place frame
+  Some (onward ran.2 (ways ran.0 ran.1) ++ caught p.world place frame m.table)
+
+-- ---- what can be reached
+
+abbrev pub ways_of_op : Op → Option ℕ → List ℕ
+ways_of_op op next = option_map_or (λ form. ways form next) (form_of op) []
+
+-- the places to which a place leads, whatever the types are
+unfoldable pub places_from : Method → ℕ → List ℕ
+places_from m place =
+    option_map_or (λ here. ways_of_op here.0 here.1) (instruction_at m.insns place) []
+    ++ map (λ range. range.handler) (filter (covers place) m.table)
+
+-- Some way leads from the method's start to a place, through instructions and through handlers of what they throw.
+pub data IsReachable (m : Method) : ℕ → Type 0 where
+  start : IsReachable m 0
+  onwards : (from to : ℕ) → IsReachable m from → IsTrue (list_any (nat_eq to) (places_from m from)) → IsReachable m to

@@ -1,0 +1,13 @@
+//! What locals and stacks hold at each place of a program's methods, before any run.
+#![tactic(auto)]
+
+mod after;
+mod fault;
+mod operands;
+mod rows;
+mod shuffles;
+mod want;
+
+pub use after::types_after;
+pub use fault::VerifyFault;
+pub use want::Want;
