@@ -1,0 +1,155 @@
+-- What the calls promise: whatever fits a state fits one of its children, by an edge.
+use Rattle.std.specs.Prelude.{◌≡◌, ◌≢◌, ◌⊎◌, ℕ, ◌<◌, Bool, true, false, not, IsTrue, List, [], ◌∷◌, ◌++◌, length, map, All, Contains, Option, Some, None, slice_get, pos, replicate, ℤ}
+use Rattle.jvm_values.specs.declared.types.Ty.{Ty}
+use Rattle.jvm_values.specs.declared.types.Slot.{Slot}
+use Rattle.jvm_values.specs.declared.types.Slot.TheVariants as slots
+use Rattle.jvm_values.specs.declared.heap.Value.{Value}
+use Rattle.jvm_values.specs.declared.heap.Value.TheVariants as values
+use Rattle.jvm_values.specs.declared.heap.Object.{Object}
+use Rattle.jvm_values.specs.declared.heap.Object.TheVariants as objects
+use Rattle.jvm_values.specs.declared.heap.Heap.{Heap}
+use Rattle.jvm_values.specs.declared.shape.Shape.{Shape}
+use Rattle.jvm_values.specs.Subtyping.{SubtypeLaws, IsReference}
+use Rattle.jvm_values.specs.States.{MachineState}
+use Rattle.jvm_values.specs.Heaps.{target, IsInHeap, IsClosed}
+use Rattle.jvm_values.specs.TypedHeaps.{WorldTypes, HasType, IsTypedHeap}
+use Rattle.jvm_values.specs.Writes.{IsWritten}
+use Rattle.std.specs.List.{AllZip}
+use Rattle.abs_cells.specs.declared.cells.Cell.{Cell}
+use Rattle.abs_cells.specs.declared.cells.Cell.TheVariants as cells
+use Rattle.abs_cells.specs.AbstractStates.{AbstractState}
+use Rattle.abs_cells.specs.Cells.{is_int, is_known, is_comparable, cell_at, HasCell, AreEqual}
+use Rattle.abs_cells.specs.Sound.{IsWellFormed, IsSound}
+use Rattle.abs_cells.specs.Fits.{Meaning, Fits}
+use Rattle.term_graph.specs.declared.links.Link.{Link}
+use Rattle.term_graph.specs.Edges.{Edge}
+use Rattle.abs_heap.specs.Refining.{Case, IsCase, cases_of, IsWithCell, AreEqualChildren}
+use Rattle.abs_heap.specs.Writing.{Write, IsWriteChild, IsItemChild, IsObjectChild, IsNewArrayChild}
+
+-- what a world's types obey
+abbrev pub AreLawful : WorldTypes → Type 0
+AreLawful types = SubtypeLaws types.sub types.erase types.classes types.fields types.can_be_made
+
+-- an edge without rows, of no step or one, with a merged pair or none
+abbrev pub plain_link : Bool → Option (ℕ × ℕ) → Link
+plain_link step merged = record { rows = []; merged = merged; step = step }
+
+-- a child fits a state of the machine by some map, and the edge to it holds
+pub record Goes (types : WorldTypes) (state : AbstractState) (machine : MachineState) (meaning : Meaning) (link : Link) (child : AbstractState) (machine_after : MachineState) : Type 0 where
+  pub meaning_after : Meaning
+  pub fits : Fits types child machine_after meaning_after
+  pub edge : Edge state machine meaning link child machine_after meaning_after
+
+-- the references of a machine's state are below its heap's length
+pub record IsClosedState (machine : MachineState) (state : AbstractState) (meaning : Meaning) : Type 0 where
+  pub heap : IsClosed machine.heap
+  pub ids : (id : ℕ) → HasCell (λ _. true) state id → IsInHeap (length machine.heap.objects) (meaning id)
+
+-- null, or not
+abbrev pub NullSplits : Type 0
+NullSplits =
+    (types : WorldTypes) (state first second : AbstractState) (machine : MachineState) (meaning : Meaning) (x : ℕ) (bound : Ty) (shape : Shape)
+    → IsWellFormed state → Fits types state machine meaning → cell_at state x ≡ Some (cells.Unk bound true shape)
+    → IsWithCell state x cells.Null first → IsWithCell state x (cells.Unk bound false shape) second
+    → Goes types state machine meaning (plain_link false None) first machine ⊎ Goes types state machine meaning (plain_link false None) second machine
+
+-- a child of a case, among the children of all of them
+pub record GoesToCase (types : WorldTypes) (state : AbstractState) (machine : MachineState) (meaning : Meaning) (children : List AbstractState) : Type 0 where
+  pub n : ℕ
+  pub child : AbstractState
+  pub is : slice_get children n ≡ Some child
+  pub goes : Goes types state machine meaning (plain_link false None) child machine
+
+-- the same where each child has its merged pair, or none
+pub record GoesToMerged (types : WorldTypes) (state : AbstractState) (machine : MachineState) (meaning : Meaning) (children : List (Option (ℕ × ℕ) × AbstractState)) : Type 0 where
+  pub n : ℕ
+  pub merged : Option (ℕ × ℕ)
+  pub child : AbstractState
+  pub is : slice_get children n ≡ Some (merged, child)
+  pub goes : Goes types state machine meaning (plain_link false merged) child machine
+
+-- by class. The object's own type is below the wanted one, and no known id stands for the object
+abbrev pub ClassesSplit : Type 0
+ClassesSplit =
+    (types : WorldTypes) (state : AbstractState) (children : List AbstractState) (machine : MachineState) (meaning : Meaning) (x : ℕ) (bound wanted : Ty) (shape : Shape)
+    → AreLawful types → IsSound types state → IsTypedHeap types machine.heap → IsClosedState machine state meaning → Fits types state machine meaning
+    → cell_at state x ≡ Some (cells.Unk bound false shape) → IsTrue (is_comparable types.sub bound wanted) → HasType types machine.heap (meaning x) wanted
+    → ((k : ℕ) → HasCell is_known state k → AreEqual state x k → ⊥)
+    → AllZip (IsCase types state x shape) (cases_of types bound wanted) children
+    → GoesToCase types state machine meaning children
+
+-- one object, or two
+abbrev pub EqualSplits : Type 0
+EqualSplits =
+    (types : WorldTypes) (state : AbstractState) (children : List (Option (ℕ × ℕ) × AbstractState)) (machine : MachineState) (meaning : Meaning) (x y : ℕ)
+    → AreLawful types → IsSound types state → IsTypedHeap types machine.heap → IsClosedState machine state meaning → Fits types state machine meaning
+    → AreEqual state x y → x ≢ y → AreEqualChildren types.sub state x y children
+    → GoesToMerged types state machine meaning children
+
+-- a write into a field, or of an item of an array of references
+abbrev pub with_heap : MachineState → Heap → MachineState
+with_heap machine heap = record machine { heap = heap }
+
+pub record IsWriteOf (state : AbstractState) (write : Write) (place : ℕ) (cell : Cell) : Type 0 where
+  pub field_is : (field : ℕ) → write.field ≡ Some field → (place ≡ field) × ((class : ℕ) × (ids : List ℕ) × ((cell ≡ cells.Obj class ids) × (field < length ids)))
+  pub array_is : write.field ≡ None → (element : Ty) × (len : ℕ) × (shape : Shape) × (cell ≡ cells.Refs element len shape)
+
+abbrev pub WritesGoOn : Type 0
+WritesGoOn =
+    (types : WorldTypes) (state child : AbstractState) (machine : MachineState) (meaning : Meaning) (write : Write) (cell : Cell) (o place : ℕ) (heap : Heap)
+    → IsWellFormed state → IsClosedState machine state meaning → Fits types state machine meaning
+    → HasCell (λ c. not (is_int c)) state write.value → cell_at state write.object ≡ Some cell → IsWriteOf state write place cell → target (meaning write.object) ≡ Some o
+    → IsWritten machine.heap o place (meaning write.value) heap
+    → IsWriteChild state write child
+    → Goes types state machine meaning (plain_link true None) child (with_heap machine heap)
+
+-- an item of an array of references: the child fits with its id standing for the item
+pub record GoesWith (types : WorldTypes) (state : AbstractState) (machine : MachineState) (meaning : Meaning) (child : AbstractState) (machine_after : MachineState) (id : ℕ) (value : Value) : Type 0 where
+  pub meaning_after : Meaning
+  pub fits : Fits types child machine_after meaning_after
+  pub value_is : meaning_after id ≡ value
+  pub others : (other : ℕ) → HasCell (λ _. true) state other → meaning_after other ≡ meaning other
+  pub edge : Edge state machine meaning (plain_link true None) child machine_after meaning_after
+
+abbrev pub ItemsGoOn : Type 0
+ItemsGoOn =
+    (types : WorldTypes) (state child : AbstractState) (machine : MachineState) (meaning : Meaning) (k item o n : ℕ) (element own : Ty) (len : ℕ) (shape : Shape) (items : List Value) (value : Value)
+    → AreLawful types → IsSound types state → IsTypedHeap types machine.heap → IsClosedState machine state meaning → Fits types state machine meaning
+    → cell_at state k ≡ Some (cells.Refs element len shape) → target (meaning k) ≡ Some o
+    → slice_get machine.heap.objects o ≡ Some (objects.Refs own items) → slice_get items n ≡ Some value
+    → IsItemChild types.sub state k element shape item child
+    → GoesWith types state machine meaning child machine item value
+
+-- a new object at the heap's end
+abbrev pub zero_of : Slot → Value
+zero_of (slots.Num kind) = values.Int (pos 0)
+zero_of (slots.Ref t) = values.Null
+
+abbrev pub heap_with : Heap → Object → Heap
+heap_with heap object = record { objects = heap.objects ++ (object ∷ []) }
+
+abbrev pub ObjectsGoOn : Type 0
+ObjectsGoOn =
+    (types : WorldTypes) (state child : AbstractState) (machine : MachineState) (meaning : Meaning) (class id : ℕ)
+    → IsSound types state → IsClosedState machine state meaning → Fits types state machine meaning
+    → class < types.classes → IsTrue (types.can_be_made class)
+    → IsObjectChild types state class id child
+    → GoesWith types state machine meaning child (with_heap machine (heap_with machine.heap (objects.Instance class (map zero_of (types.fields class))))) id (values.Ref (length machine.heap.objects))
+
+-- a new array of so many items, whose length is an id's int
+abbrev pub zeros_of : Slot → ℕ → Object
+zeros_of (slots.Num kind) count = objects.Nums kind (replicate count (pos 0))
+zeros_of (slots.Ref t) count = objects.Refs t (replicate count values.Null)
+
+-- an array may have items of it
+abbrev pub IsItemSlot : WorldTypes → Slot → Type 0
+IsItemSlot types (slots.Num kind) = Unit {0}
+IsItemSlot types (slots.Ref t) = IsReference types.classes t × (t.dims < 255)
+
+abbrev pub ArraysGoOn : Type 0
+ArraysGoOn =
+    (types : WorldTypes) (state child : AbstractState) (machine : MachineState) (meaning : Meaning) (element : Slot) (len id count : ℕ)
+    → AreLawful types → IsSound types state → IsClosedState machine state meaning → Fits types state machine meaning
+    → IsItemSlot types element → HasCell is_int state len → meaning len ≡ values.Int (pos count)
+    → IsNewArrayChild types.erase state element len id child
+    → GoesWith types state machine meaning child (with_heap machine (heap_with machine.heap (zeros_of element count))) id (values.Ref (length machine.heap.objects))

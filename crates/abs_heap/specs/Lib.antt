@@ -1,0 +1,6 @@
+pub mod Counts
+pub mod Given
+pub mod Laws
+pub mod Names
+pub mod Refining
+pub mod Writing
