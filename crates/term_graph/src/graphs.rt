@@ -2,25 +2,30 @@
 ghost use Rattle.std.specs.Prelude.{◌≡◌, ◌<◌, ◌-◌, ◌^◌, ◌++◌, ◌∷◌, [], length, Some, slice_get, slice_set, IfOk, OnOk, OnErr};
 ghost use Rattle.term_graph.specs.Graphs.{left_by};
 
+use crate::copies::copied_node;
 use crate::nodes::{By, Node};
+use crate::sources::NodeSource;
 use abs_cells::Pairs;
 use list_views::Seq;
 use std::alloc::{AllocError, Global};
 use std::marker::Model;
 
-/// A graph: its nodes, each under its number, the first under 0. It is seen as the list of its nodes.
+/// A graph: its nodes, each under its number, the first under 0. It is seen as the list of its nodes, of which there are at
+/// most 2^32 - 16.
 #[derive(Debug, Drop)]
 pub struct Graph<P: Pairs> {
     nodes: Seq<Node<P>>,
 }
 
 impl<P: Pairs> Model for Graph<P> {
-    ghost use Rattle.std.specs.Prelude.{List};
+    ghost use Rattle.std.specs.Prelude.{List, length, ◌≤◌};
     ghost use Rattle.term_graph.specs.Graphs.{GraphNode};
 
     ghost Value = { List GraphNode };
 
     ghost view = { λ graph. graph.nodes };
+
+    ghost invariant = { λ graph. length graph.nodes ≤ 4294967280 };
 }
 
 impl<P: Pairs> Graph<P> {
@@ -70,5 +75,17 @@ impl<P: Pairs> Graph<P> {
         ensures { self.new ≡ left_by self.old n by }
     {
         self.nodes.at_mut(n as usize).set_by(by);
+    }
+}
+
+impl<P: Pairs> NodeSource<P> for Graph<P> {
+    ghost graph = { λ graph. graph };
+
+    fn count(&self) -> u32 {
+        self.nodes.len() as u32
+    }
+
+    fn node(&mut self, alloc: Global, n: u32) -> Result<Node<P>, AllocError> {
+        copied_node(alloc, self.at(n))
     }
 }

@@ -5,12 +5,14 @@
 //! definition, `specs/Edges`.
 #![tactic(auto)]
 
+mod copies;
 mod graphs;
 mod links;
 mod nodes;
 mod parts;
 mod sources;
 
+pub use copies::{copied_node, copied_state};
 pub use graphs::Graph;
 pub use links::{Link, LinkRow, Links, Side};
 pub use nodes::{By, Child, Node};
