@@ -154,7 +154,7 @@ impl Table {
         requires even { length self.old.waiting ≡ length self.old.types }
         requires small { length self.old.types ≤ 65536 }
         requires done { (place : ℕ) → place < self.old.low → waits self.old.waiting place ≡ false }
-        ensures taken { MatchOption result ((place : ℕ) → waits self.new.waiting place ≡ false) (λ place. (IsTrue (waits self.old.waiting place)) × (self.new ≡ record self.old { waiting = slice_set self.old.waiting place false; low = place + 1 }) × ((k : ℕ) → k < place → waits self.old.waiting k ≡ false)) }
+        ensures taken { MatchOption result ((place : ℕ) → waits self.old.waiting place ≡ false) (λ place. (IsTrue (waits self.old.waiting place)) × (self.new ≡ record self.old { waiting = slice_set self.old.waiting place false; low = place + 1 }) × ((k : ℕ) → k < place → waits self.old.waiting k ≡ false)) }
         ensures types { self.new.types ≡ self.old.types }
     {
         while self.low < self.waiting.len() {
