@@ -1,0 +1,4 @@
+pub mod Counting
+pub mod Cycles
+pub mod Falling
+pub mod Marked

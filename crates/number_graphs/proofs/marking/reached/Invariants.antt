@@ -1,0 +1,10 @@
+use Rattle.std.proofs.Common.{◌+◌, length}
+use Rattle.number_graphs.specs.Marking.{open_count}
+use Rattle.number_graphs.proofs.Cycles.{Spreads}
+use Rattle.number_graphs.proofs.marking.reached.Given as goal
+
+abbrev pub invariant-loop-number : goal.invariant-loop-number
+invariant-loop-number l = Spreads l.graph l.start l.marks.items l.todo
+
+abbrev pub decreases-loop-number : goal.decreases-loop-number
+decreases-loop-number l = open_count l.marks.items + length l.todo

@@ -1,0 +1,5 @@
+pub mod Finding
+pub mod Ready
+pub mod Summing
+pub mod Telling
+pub mod Walking

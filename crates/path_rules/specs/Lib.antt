@@ -1,0 +1,6 @@
+pub mod Answers
+pub mod Conditions
+pub mod Paths
+pub mod Rules
+pub mod Stops
+pub mod Walks
