@@ -1,2 +1,11 @@
 mod Carrying
+mod Covering
+mod Enough
+mod Entries
+mod Keys
+mod Leasts
+mod Partners
 mod Positions
+mod Reaching
+mod Ready
+mod Testing

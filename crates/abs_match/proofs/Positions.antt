@@ -1,10 +1,10 @@
 -- Positions of two states that agree: from places, numbered from the bottom, to frames and stacks from the top down.
-use Rattle.std.proofs.Common.{◌≡◌, ℕ, suc, ◌-◌, ◌<◌, List, [], ◌∷◌, length, map, reverse, get_or, Option, Some, slice_get, refl, sym, ap, subst, ◌∙◌, arith}
+use Rattle.std.proofs.Common.{◌≡◌, ℕ, zero, suc, ◌+◌, ◌-◌, ◌<◌, ◌≤◌, List, [], ◌∷◌, length, map, reverse, get_or, Option, Some, None, slice_get, refl, sym, ap, subst, ◌∙◌, arith}
 use Rattle.std.proofs.lemmas.List.{get_or-reverse, length-reverse, reverse-reverse, length-map}
 use Rattle.std.proofs.lemmas.Option.{slice_get-get_or, get_or_from_slice_get, slice_get_within, slice_get-map}
 use Rattle.std.specs.Option.{option_and_then, option_map}
 use Rattle.std.specs.List.{AllZip}
-use Rattle.jvm_values.proofs.Options.{given, some_is}
+use Rattle.jvm_values.proofs.Options.{given, some_is, none_is_not_some}
 use Rattle.abs_cells.specs.AbstractStates.{AbstractFrame, AbstractState}
 use Rattle.abs_reach.specs.Instances.{image_in, Place, local, entry, frame_at, id_at, FrameHead, head_of}
 

@@ -1,5 +1,5 @@
--- What a match of two abstract states carries over.
-use Rattle.std.specs.Prelude.{◌≡◌, ℕ, List, Option, Some, None, slice_get}
+-- What a match of two abstract states carries over, and states all of whose ids are reached.
+use Rattle.std.specs.Prelude.{◌≡◌, ℕ, true, List, Option, Some, None, slice_get}
 use Rattle.jvm_values.specs.declared.heap.Value.{Value}
 use Rattle.jvm_values.specs.declared.heap.Value.TheVariants as values
 use Rattle.jvm_values.specs.declared.heap.Object.TheVariants as objects
@@ -11,7 +11,9 @@ use Rattle.jvm_values.specs.TypedHeaps.{WorldTypes}
 use Rattle.abs_cells.specs.AbstractStates.{AbstractState}
 use Rattle.abs_cells.specs.Sound.{IsWellFormed}
 use Rattle.abs_cells.specs.Fits.{Meaning, Fits}
+use Rattle.abs_cells.specs.Cells.{HasCell}
 use Rattle.abs_reach.specs.Instances.{image_in, InstanceOf}
+use Rattle.abs_reach.specs.Reached.{IsReached, IsDropped}
 
 -- the value of an id's image; null where there is none
 abbrev pub value_of_image : Meaning → Option ℕ → Value
@@ -29,6 +31,10 @@ HasArraysOfWorld types heap = (place : ℕ) (element : Ty) (items : List Value) 
 -- what a world's types obey
 abbrev pub AreLawful : WorldTypes → Type 0
 AreLawful types = SubtypeLaws types.sub types.erase types.classes types.fields types.can_be_made
+
+-- What is left without the ids that positions don't reach has none of them.
+abbrev pub DroppedStatesReachAll : Type 0
+DroppedStatesReachAll = (whole part : AbstractState) → IsDropped whole part → (id : ℕ) → HasCell (λ _. true) part id → IsReached part id
 
 -- Whatever fits a state fits each state of which it is an instance, by the map.
 abbrev pub MatchesCarryFitting : Type 0

@@ -1,2 +1,3 @@
 pub mod Laws
+pub mod Matching
 pub use Rattle.abs_reach.specs.Instances

@@ -3,6 +3,16 @@
 //! The clauses are relations (`abs_reach`, `specs/Instances`). What fits a state fits each state of which it is an instance.
 #![tactic(auto)]
 
+mod apart;
+mod clauses;
+mod covers;
 mod laws;
+mod least;
+mod maps;
+mod matching;
+mod pairing;
+mod places;
 
-pub use laws::matches_carry_fitting;
+pub use clauses::MatchFault;
+pub use laws::{dropped_states_reach_all, matches_carry_fitting};
+pub use matching::instance;

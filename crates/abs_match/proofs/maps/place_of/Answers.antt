@@ -1,0 +1,28 @@
+use Rattle.std.proofs.Common.{◌<◌, arith}
+use Rattle.abs_match.proofs.Keys.{middle_in, found, key_found, up_to, from, nowhere}
+use Rattle.abs_match.proofs.maps.place_of.Goals as goal
+
+pub returns-then-found-id-clause-image : goal.returns-then-found-id-clause-image
+returns-then-found-id-clause-image c = found c.args.entries.now c.args.id c.loop-low.low c.loop-low.high (0, 0) c.requires c.loop-low-test.true c.loop-low.invariant.end c.if-found-id.true
+
+pub returns-then-found-id-clause-key : goal.returns-then-found-id-clause-key
+returns-then-found-id-clause-key c = key_found c.args.entries.now c.args.id c.loop-low.low c.loop-low.high (0, 0) c.requires c.loop-low-test.true c.loop-low.invariant.end c.if-found-id.true
+
+pub loop-low-preserved-then-found-id-2 : goal.loop-low-preserved-then-found-id-2
+loop-low-preserved-then-found-id-2 c = record {
+  order = let h = middle_in c.loop-low.low c.loop-low.high c.loop-low-test.true in omega (arith, h.1);
+  end = c.loop-low.invariant.end;
+  below = up_to c.args.entries.now c.args.id c.loop-low.low c.loop-low.high (0, 0) c.requires c.loop-low-test.true c.loop-low.invariant.end c.if-found-id-2.true;
+  above = c.loop-low.invariant.above;
+}
+
+pub loop-low-preserved : goal.loop-low-preserved
+loop-low-preserved c = record {
+  order = let h = middle_in c.loop-low.low c.loop-low.high c.loop-low-test.true in h.0;
+  end = let h = middle_in c.loop-low.low c.loop-low.high c.loop-low-test.true in omega (arith, h.1, c.loop-low.invariant.end);
+  below = c.loop-low.invariant.below;
+  above = from c.args.entries.now c.args.id c.loop-low.low c.loop-low.high (0, 0) c.requires c.loop-low-test.true c.loop-low.invariant.end (omega (arith, c.if-found-id.false, c.if-found-id-2.false));
+}
+
+pub returns-clause-image : goal.returns-clause-image
+returns-clause-image c = nowhere c.args.entries.now c.args.id c.loop-low.low c.loop-low.high c.loop-low-test.false c.loop-low.invariant.below c.loop-low.invariant.above
