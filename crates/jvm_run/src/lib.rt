@@ -1,0 +1,8 @@
+//! What typings give: states with the types of a program's least typings never get stuck.
+//!
+//! The laws stand in `specs/Laws`.
+#![tactic(auto)]
+
+mod laws;
+
+pub use laws::{runs_are_never_stuck, runs_are_typed, starts_are_typed, steps_are_typed};
