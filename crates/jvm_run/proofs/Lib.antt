@@ -1,5 +1,6 @@
 pub mod ArrayForms
 pub mod CallForms
+pub mod Constants
 pub mod FieldForms
 pub mod FormTable
 pub mod Forms

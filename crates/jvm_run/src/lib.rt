@@ -4,5 +4,7 @@
 #![tactic(auto)]
 
 mod laws;
+mod program_ints;
 
 pub use laws::{runs_are_never_stuck, runs_are_typed, starts_are_typed, steps_are_typed};
+pub use program_ints::has_ints;
