@@ -1,1 +1,16 @@
 pub mod Taken
+pub mod WorldOf
+pub mod Basics
+pub mod TypeShapes
+pub mod OperandLaws
+pub mod Shuffling
+pub mod RowLaws
+pub mod FlowLaws
+pub mod Handlers
+pub mod GoodForms
+pub mod Running
+pub mod Solved
+pub mod Listed
+pub mod Beginning
+pub mod Looking
+pub mod Steps

@@ -1,5 +1,5 @@
 -- What calls answer that take flows to a table, and what holds of the forms of a closed program.
-use Rattle.std.specs.Prelude.{◌≡◌, ◌<◌, Bool, false, List, length, Option, Some, None, MatchBool, IfSome}
+use Rattle.std.specs.Prelude.{◌≡◌, ℕ, ◌<◌, Bool, false, List, length, Option, Some, None, MatchBool, IfSome}
 use Rattle.jvm_values.specs.Subtyping.{IsReference, IsSlot}
 use Rattle.jvm_values.specs.TypedHeaps.{WorldTypes}
 use Rattle.class_program.specs.Programs.{Program}
@@ -8,6 +8,8 @@ use Rattle.op_forms.specs.Forms.Form.{Getstatic, Putstatic, Getfield, Putfield, 
 use Rattle.frame_types.specs.declared.table.Table.{Table}
 use Rattle.frame_types.specs.Tables.{Flow}
 use Rattle.frame_types.specs.Growth.{IsGrown, AreRefused}
+use Rattle.code_verify.specs.declared.fault.VerifyFault.{VerifyFault}
+use Rattle.code_verify.specs.declared.fault.VerifyFault.TheVariants.{NoTyping, Memory}
 use Rattle.code_verify.specs.Rows.{static_slot}
 
 -- the table takes the flows, or nothing that has what it has does
@@ -31,3 +33,8 @@ IsGoodForm p _ = Unit {0}
 abbrev pub Looks : WorldTypes → Option (List Flow) → Bool → Table → Table → Type 0
 Looks types None ok old new = ok ≡ false
 Looks types (Some flows) ok old new = Comes types flows ok old new
+
+-- the fault names that number, or there is none of 32 bits
+abbrev pub Names : ℕ → VerifyFault → Type 0
+Names number (NoTyping method) = method ≡ number
+Names number Memory = Unit {0}

@@ -3,11 +3,15 @@
 
 mod after;
 mod fault;
+mod flows;
+mod method;
 mod operands;
 mod rows;
 mod shuffles;
+mod typing;
 mod want;
 
 pub use after::types_after;
 pub use fault::VerifyFault;
+pub use typing::{Typing, verify};
 pub use want::Want;

@@ -1,0 +1,57 @@
+-- Options, tests and lists, place by place.
+use Rattle.std.proofs.Common.{◌≡◌, ℕ, zero, suc, ◌+◌, ◌<◌, Bool, true, false, cond, ltb, ◌&&◌, List, [], ◌∷◌, length, Option, Some, None, refl, sym, ap, subst, ◌∙◌, arith}
+use Rattle.std.specs.Prelude.{slice_get, slice_set, All}
+use Rattle.std.specs.List.{AllZip}
+use Rattle.std.specs.Option.{option_and_then}
+use Rattle.list_views.specs.Options.{asked}
+use Rattle.std.proofs.lemmas.Bool.{false≢true, ltb-true, lt-ltb}
+
+pub some_is : {A : Type 0} {x y : A} → Some x ≡ Some y → x ≡ y
+some_is e = cc
+
+pub none_is_not_some : {A : Type 0} (x : A) → None ≡ Some x → ⊥
+none_is_not_some x e = cc
+
+-- what a chain of two answers was
+pub given : {A B : Type 0} (f : A → Option B) (x : Option A) (c : B) → option_and_then f x ≡ Some c → (y : A) × ((x ≡ Some y) × (f y ≡ Some c))
+given f None c e = absurd (cc)
+given f (Some y) c e = (y, (refl, e))
+
+-- a test that was asked came out
+pub was_asked : {B : Type 0} (test : Bool) (f : Unit {0} → Option B) (c : B) → option_and_then f (asked test) ≡ Some c → (test ≡ true) × (f tt ≡ Some c)
+was_asked true f c e = (refl, e)
+was_asked false f c e = absurd (none_is_not_some c e)
+
+-- a choice whose second side is none
+pub chosen : {B : Type 0} (test : Bool) (x : Option B) (c : B) → cond test x None ≡ Some c → (test ≡ true) × (x ≡ Some c)
+chosen true x c e = (refl, e)
+chosen false x c e = absurd (none_is_not_some c e)
+
+pub both : (a b : Bool) → (a && b) ≡ true → (a ≡ true) × (b ≡ true)
+both true b e = (refl, e)
+both false b e = absurd (false≢true e)
+
+pub zip_at : {A : Type 0} (R : A → A → Type 0) (xs ys : List A) → AllZip R xs ys → (n : ℕ) (y : A) → slice_get ys n ≡ Some y → (x : A) × ((slice_get xs n ≡ Some x) × R x y)
+zip_at R [] [] h n y e = absurd (none_is_not_some y e)
+zip_at R [] (z ∷ ys) h n y e = absurd h
+zip_at R (x ∷ xs) [] h n y e = absurd h
+zip_at R (x ∷ xs) (z ∷ ys) h zero y e = (x, (refl, subst (R x) (some_is e) h.0))
+zip_at R (x ∷ xs) (z ∷ ys) h (suc n) y e = zip_at R xs ys h.1 n y e
+
+pub zip_set : {A : Type 0} (R : A → A → Type 0) (xs ys : List A) (n : ℕ) (a b : A) → AllZip R xs ys → R a b → AllZip R (slice_set xs n a) (slice_set ys n b)
+zip_set R [] [] n a b h r = tt
+zip_set R [] (z ∷ ys) n a b h r = absurd h
+zip_set R (x ∷ xs) [] n a b h r = absurd h
+zip_set R (x ∷ xs) (z ∷ ys) zero a b h r = (r, h.1)
+zip_set R (x ∷ xs) (z ∷ ys) (suc n) a b h r = (h.0, zip_set R xs ys n a b h.1 r)
+
+pub zip_long : {A : Type 0} (R : A → A → Type 0) (xs ys : List A) → AllZip R xs ys → length xs ≡ length ys
+zip_long R [] [] h = refl
+zip_long R [] (z ∷ ys) h = absurd h
+zip_long R (x ∷ xs) [] h = absurd h
+zip_long R (x ∷ xs) (z ∷ ys) h = ap suc (zip_long R xs ys h.1)
+
+pub all_at : {A : Type 0} (P : A → Type 0) (xs : List A) → All P xs → (n : ℕ) (x : A) → slice_get xs n ≡ Some x → P x
+all_at P [] h n x e = absurd (none_is_not_some x e)
+all_at P (y ∷ xs) h zero x e = subst P (some_is e) (h 0 y (omega arith))
+all_at P (y ∷ xs) h (suc n) x e = all_at P xs (λ k d l. h (suc k) d (omega arith)) n x e
