@@ -2,7 +2,6 @@
 //! fields of a case, divided by tabs. The answer to each comes on a line of its own.
 #![tactic(auto)]
 
-mod entry;
 mod links;
 mod select;
 

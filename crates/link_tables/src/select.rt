@@ -1,8 +1,8 @@
 //! `select`: a reached method's number, the place of a call, a class by its name, and the entry method and class files as
 //! in `link-52`; what the call does on an object of the class.
-use crate::entry::Entry;
 use anyhow::{Context, Result, bail};
 use class_program::{Program, Selected};
+use entry_cases::Entry;
 use std::alloc::{AllocError, Global};
 use table_cases::Case;
 

@@ -2,7 +2,7 @@
 ghost use Rattle.std.specs.Prelude.{◌≡◌, ◌<◌, ◌≤◌, length, IfOk};
 ghost use Rattle.std.specs.List.{AllByRecursion};
 ghost use Rattle.class_world.specs.Linking.{CanBeRead};
-ghost use Rattle.link_tables.specs.ReadClasses.{AreRead};
+ghost use Rattle.entry_cases.specs.ReadClasses.{AreRead};
 
 use anyhow::{Context, Result, bail};
 use class_program::Program;

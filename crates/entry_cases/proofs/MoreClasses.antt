@@ -3,7 +3,7 @@ use Rattle.std.proofs.Common.{◌≡◌, ◌<◌, ◌≤◌, ◌+◌, ◌++◌, 
 use Rattle.std.specs.List.{AllByRecursion}
 use Rattle.class_read.specs.Content.{ClassContent}
 use Rattle.class_world.specs.Linking.{CanBeRead}
-use Rattle.link_tables.specs.ReadClasses.{AreRead}
+use Rattle.entry_cases.specs.ReadClasses.{AreRead}
 
 each_more : (classes : List ClassContent) (class : ClassContent) → AllByRecursion CanBeRead classes → CanBeRead class → AllByRecursion CanBeRead (classes ++ class ∷ [])
 each_more [] class all one = (one, tt)
