@@ -2,10 +2,13 @@ mod Carrying
 mod Covering
 mod Enough
 mod Entries
+mod Forcing
+mod ForcingPlaces
 mod Keys
 mod Leasts
 mod Partners
 mod Positions
 mod Reaching
 mod Ready
+mod SearchTurns
 mod Testing

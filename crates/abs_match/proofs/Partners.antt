@@ -58,7 +58,7 @@ place_of_cell (c ∷ given) y cell e = go (eqb c.0 y) refl e (place_of_cell give
     go true f h later = (0, ap (λ (id : ℕ). Some (id, c.1)) (eqb-true c.0 y f) ∙ ap (λ (x : Cell). Some (y, x)) (some_is h))
     go false f h later = let rest = later h in (suc rest.0, rest.1)
 
-mapped : {A B : Type 0} (f : A → B) (x : Option A) (b : B) → option_map f x ≡ Some b → (a : A) × ((x ≡ Some a) × (f a ≡ b))
+pub mapped : {A B : Type 0} (f : A → B) (x : Option A) (b : B) → option_map f x ≡ Some b → (a : A) × ((x ≡ Some a) × (f a ≡ b))
 mapped f None b e = absurd (none_is_not_some b e)
 mapped f (Some a) b e = (a, (refl, some_is e))
 

@@ -1,3 +1,4 @@
+pub mod Forced
 pub mod Laws
 pub mod Matching
 pub use Rattle.abs_reach.specs.Instances

@@ -6,6 +6,8 @@
 mod apart;
 mod clauses;
 mod covers;
+mod finding;
+mod forced;
 mod laws;
 mod least;
 mod maps;
@@ -14,5 +16,6 @@ mod pairing;
 mod places;
 
 pub use clauses::MatchFault;
+pub use finding::find_map;
 pub use laws::{dropped_states_reach_all, matches_carry_fitting};
 pub use matching::instance;
