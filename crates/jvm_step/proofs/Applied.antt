@@ -25,7 +25,7 @@ head_is x y xs ys e = cc
 abbrev given_to : MachineFrame → Option Value → MachineFrame
 given_to caller value = record caller { stack = with_result value caller.stack }
 
-behind : (o : Option (Op × Option ℕ)) (place : ℕ) (on : ℕ → Step) → option_and_then (λ (x : Op × Option ℕ). x.1) o ≡ Some place → option_and_then (λ (here : Op × Option ℕ). option_and_then (λ (q : ℕ). Some (on q)) here.1) o ≡ Some (on place)
+pub behind : (o : Option (Op × Option ℕ)) (place : ℕ) (on : ℕ → Step) → option_and_then (λ (x : Op × Option ℕ). x.1) o ≡ Some place → option_and_then (λ (here : Op × Option ℕ). option_and_then (λ (q : ℕ). Some (on q)) here.1) o ≡ Some (on place)
 behind None place on e = absurd (none_is_not_some place e)
 behind (Some here) place on e = ap (option_and_then (λ (q : ℕ). Some (on q))) e
 

@@ -39,7 +39,7 @@ handled_by None o range on = refl
 handled_by (Some m) None range on = refl
 handled_by (Some m) (Some object) range on = refl
 
-throwing_is : (p : Program) (s : MachineState) (r : ℕ) (frames : List MachineFrame) → throwing_step p s r frames ≡ option_map (λ (found : Option CatchRange). handled_in s r found frames) (handler_in p s r frames)
+pub throwing_is : (p : Program) (s : MachineState) (r : ℕ) (frames : List MachineFrame) → throwing_step p s r frames ≡ option_map (λ (found : Option CatchRange). handled_in s r found frames) (handler_in p s r frames)
 unfolding throwing_step handler_in
 throwing_is p s r [] = refl
 throwing_is p s r (frame ∷ below) = handled_by (slice_get p.methods frame.method) (object_at s.heap r) (λ (m : Method) (object : Object). find (takes p.world object frame.pc) m.table) (handled s r frame below)

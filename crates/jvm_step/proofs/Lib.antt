@@ -3,6 +3,8 @@ pub mod CallOps
 pub mod Doing
 pub mod Fields
 pub mod Handlers
+pub mod Light
 pub mod NormalSteps
 pub mod Rooms
 pub mod Stacks
+pub mod Wanted

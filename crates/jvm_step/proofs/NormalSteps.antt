@@ -79,7 +79,7 @@ module _ (p : Program) (heap : Heap) (mode : Mode) (statics : List Value) where
   no_method [] frame result new l e n = absurd (omega (arith, l))
   no_method (first ∷ below) frame result new l e n = stuck _ result _ new (no_method_by (frame_of first) (map frame_of below) (subst (λ (f : Frame). slice_get p.methods f.method ≡ None) e n))
 
-  normal_is : (frame : MachineFrame) (below : List MachineFrame) (m : Method) (here : Option (Form × Option ℕ)) → slice_get p.methods frame.method ≡ Some m → form_here p frame ≡ here → normal_step p (at (frame ∷ below)) (frame ∷ below) ≡ option_and_then (λ (x : Form × Option ℕ). option_and_then (λ (e : Effect Work). applied p below x.1 (work_of (at (frame ∷ below)) frame) e) (effect_of p m x.0 (work_of (at (frame ∷ below)) frame))) here
+  pub normal_is : (frame : MachineFrame) (below : List MachineFrame) (m : Method) (here : Option (Form × Option ℕ)) → slice_get p.methods frame.method ≡ Some m → form_here p frame ≡ here → normal_step p (at (frame ∷ below)) (frame ∷ below) ≡ option_and_then (λ (x : Form × Option ℕ). option_and_then (λ (e : Effect Work). applied p below x.1 (work_of (at (frame ∷ below)) frame) e) (effect_of p m x.0 (work_of (at (frame ∷ below)) frame))) here
   unfolding normal_step form_here
   normal_is frame below m here s e =
       let on : Form → Option ℕ → Option Step = λ (form : Form) (next : Option ℕ). option_and_then (λ (x : Effect Work). applied p below next (work_of (at (frame ∷ below)) frame) x) (effect_of p m form (work_of (at (frame ∷ below)) frame)) in

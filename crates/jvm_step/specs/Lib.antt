@@ -4,3 +4,4 @@ pub mod Table
 pub mod Running
 pub mod Acts
 pub mod Steps
+pub mod Memory

@@ -1,5 +1,5 @@
 //! What is left to do after an instruction, done to the state.
-ghost use Rattle.std.specs.Prelude.{◌≡◌, ◌<◌, ◌∷◌, ℕ, List, All, OnErr, Option, Some, length, MatchResult, IfOk, reverse, slice_get, take, option_and_then};
+ghost use Rattle.std.specs.Prelude.{◌≡◌, ◌<◌, ◌∷◌, ℕ, List, All, OnErr, IsOk, Option, Some, length, MatchResult, IfOk, reverse, slice_get, take, option_and_then};
 ghost use Rattle.jvm_values.specs.States.{MachineFrame, state_of};
 ghost use Rattle.class_world.specs.Worlds.{classes_of};
 ghost use Rattle.class_program.specs.Views.{program_of};
@@ -8,6 +8,7 @@ ghost use Rattle.class_program.specs.Programs.{insn_at};
 ghost use Rattle.jvm_step.specs.declared.after.After.TheVariants as afters;
 ghost use Rattle.jvm_step.specs.Effects.{types_of, new_instance};
 ghost use Rattle.jvm_step.specs.Running.{new_frame};
+ghost use Rattle.jvm_step.specs.Memory.{TakesNone, CallerLacks};
 ghost use Rattle.jvm_step.specs.Steps.{Does, HasRoom, MayFail, applied_in, going_at, thrown_in, raised_in, called_in, returned_in};
 
 use crate::after::After;
@@ -101,6 +102,7 @@ fn give_back(state: &mut State, place: u16, value: Option<Value>) -> Result<(), 
     requires { 1 < length state.old.frames.0 }
     ensures state { MatchResult result (λ _. state_of state.new ≡ returned_in place value (state_of state.old)) (λ _. state_of state.new ≡ state_of state.old) }
     ensures room { (methods : List MethodSeen) → All (HasRoom methods) state.old.frames.0 → All (HasRoom methods) state.new.frames.0 }
+    ensures memory { OnErr result (CallerLacks value state.old.frames.0) }
 {
     give_to_caller(&mut state.frames, place, value)?;
     drop_top(&mut state.frames);
@@ -119,6 +121,7 @@ fn call(
     requires { 0 < length state.old.frames.0 }
     ensures state { (next : Option ℕ) → Does (applied_in (program_of program.now) next (afters.Invoke number count) (state_of state.old) (state_of state.old).frames) result (state_of state.old) (state_of state.new) }
     ensures room { All (HasRoom (program_of program.now).methods) state.old.frames.0 → All (HasRoom (program_of program.now).methods) state.new.frames.0 }
+    ensures memory { (next : Option ℕ) → TakesNone (program_of program.now).methods state.old.frames.0 (state_of state.old) (applied_in (program_of program.now) next (afters.Invoke number count) (state_of state.old) (state_of state.old).frames) → IsOk result }
 {
     match program.methods.get(number as usize) {
         Some(method) => {
@@ -148,6 +151,7 @@ fn return_to_caller(
     requires { 1 < length state.old.frames.0 }
     ensures state { (next : Option ℕ) → Does (applied_in (program_of program.now) next (afters.Return value) (state_of state.old) (state_of state.old).frames) result (state_of state.old) (state_of state.new) }
     ensures room { All (HasRoom (program_of program.now).methods) state.old.frames.0 → All (HasRoom (program_of program.now).methods) state.new.frames.0 }
+    ensures memory { (next : Option ℕ) → TakesNone (program_of program.now).methods state.old.frames.0 (state_of state.old) (applied_in (program_of program.now) next (afters.Return value) (state_of state.old) (state_of state.old).frames) → IsOk result }
 {
     match place_behind(program, state.frames.at(1)) {
         Some(place) => {
@@ -166,6 +170,7 @@ fn return_from(
 ) -> Result<Outcome, AllocError>
     ensures state { (next : Option ℕ) → Does (applied_in (program_of program.now) next (afters.Return value) (state_of state.old) (state_of state.old).frames) result (state_of state.old) (state_of state.new) }
     ensures room { All (HasRoom (program_of program.now).methods) state.old.frames.0 → All (HasRoom (program_of program.now).methods) state.new.frames.0 }
+    ensures memory { (next : Option ℕ) → TakesNone (program_of program.now).methods state.old.frames.0 (state_of state.old) (applied_in (program_of program.now) next (afters.Return value) (state_of state.old) (state_of state.old).frames) → IsOk result }
 {
     if state.frames.len() < 2 {
         Ok(Outcome::Returned(value))
@@ -184,7 +189,8 @@ pub(crate) fn apply(
 ) -> Result<Outcome, AllocError>
     ensures state { Does (applied_in (program_of program.now) next after (state_of state.old) (state_of state.old).frames) result (state_of state.old) (state_of state.new) }
     ensures room { All (HasRoom (program_of program.now).methods) state.old.frames.0 → All (HasRoom (program_of program.now).methods) state.new.frames.0 }
-    ensures memory { OnErr result (MayFail after) }
+    ensures fails { OnErr result (MayFail after) }
+    ensures memory { TakesNone (program_of program.now).methods state.old.frames.0 (state_of state.old) (applied_in (program_of program.now) next after (state_of state.old) (state_of state.old).frames) → IsOk result }
 {
     if state.frames.is_empty() {
         return Ok(Outcome::Going);

@@ -1,5 +1,5 @@
 //! A step in normal mode: the effect of the running frame's instruction, done to the state.
-ghost use Rattle.std.specs.Prelude.{◌≡◌, ◌<◌, List, All, length, unwrap_or, Some};
+ghost use Rattle.std.specs.Prelude.{◌≡◌, ◌<◌, List, All, length, unwrap_or, Some, IsOk, OnErr};
 ghost use Rattle.std.specs.Option.{option_map};
 ghost use Rattle.jvm_values.specs.States.{frame_of, state_of};
 ghost use Rattle.class_program.specs.declared.program.Method.{Method as MethodSeen};
@@ -8,6 +8,7 @@ ghost use Rattle.op_forms.specs.Forms.{form_seen};
 ghost use Rattle.jvm_step.specs.Acts.{Tries};
 ghost use Rattle.jvm_step.specs.Running.{Step, normal_step};
 ghost use Rattle.jvm_step.specs.Steps.{Steps, HasRoom, form_here, here_seen, form_in, effect_in, IsRunning};
+ghost use Rattle.jvm_step.specs.Memory.{TakesNone, WantsIn};
 
 use crate::after::After;
 use crate::applying::apply;
@@ -40,6 +41,7 @@ fn perform_in(
     requires here { form_in (program_of program.now) (state_of state.old).frames ≡ Some (form_seen form.now) }
     ensures state { Tries (effect_in (program_of program.now) method.now (form_seen form.now) (state_of state.old) (state_of state.old).frames) result (state_of state.old) (state_of state.new) }
     ensures room { (methods : List MethodSeen) → All (HasRoom methods) state.old.frames.0 → All (HasRoom methods) state.new.frames.0 }
+    ensures memory { OnErr result (WantsIn (program_of program.now) method.now (form_seen form.now) state.old.statics state.old.heap state.old.frames.0) }
 {
     perform(
         alloc,
@@ -65,6 +67,7 @@ fn execute(
     requires runs { IsRunning (program_of program.now) (state_of state.old).frames method.now (form_seen form.now) next }
     ensures state { Steps (unwrap_or (normal_step (program_of program.now) (state_of state.old) (state_of state.old).frames) Step.Stuck) result (state_of state.old) (state_of state.new) }
     ensures room { All (HasRoom (program_of program.now).methods) state.old.frames.0 → All (HasRoom (program_of program.now).methods) state.new.frames.0 }
+    ensures memory { TakesNone (program_of program.now).methods state.old.frames.0 (state_of state.old) (unwrap_or (normal_step (program_of program.now) (state_of state.old) (state_of state.old).frames) Step.Stuck) → IsOk result }
 {
     match perform_in(alloc, program, method, state, form) {
         Ok(after) => apply(alloc, program, state, next, after),
@@ -80,6 +83,7 @@ pub(crate) fn normal_step(
 ) -> Result<Outcome, AllocError>
     ensures state { Steps (unwrap_or (normal_step (program_of program.now) (state_of state.old) (state_of state.old).frames) Step.Stuck) result (state_of state.old) (state_of state.new) }
     ensures room { All (HasRoom (program_of program.now).methods) state.old.frames.0 → All (HasRoom (program_of program.now).methods) state.new.frames.0 }
+    ensures memory { TakesNone (program_of program.now).methods state.old.frames.0 (state_of state.old) (unwrap_or (normal_step (program_of program.now) (state_of state.old) (state_of state.old).frames) Step.Stuck) → IsOk result }
 {
     if state.frames.is_empty() {
         return Ok(Outcome::Going);

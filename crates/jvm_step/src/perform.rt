@@ -8,6 +8,7 @@ ghost use Rattle.jvm_step.specs.Acts.{Acts, Tries};
 ghost use Rattle.jvm_step.specs.Effects.{constant_effect, iinc_effect, tableswitch_effect};
 ghost use Rattle.jvm_step.specs.Table.{effect_of};
 ghost use Rattle.jvm_step.specs.Steps.{work_seen, form_at};
+ghost use Rattle.jvm_step.specs.Memory.{Wants};
 
 use crate::after::After;
 use crate::calls::{invoke_selected, invokespecial, invokestatic};
@@ -69,6 +70,7 @@ pub(crate) fn perform(
     ensures effect { Tries (effect_of (program_of program.now) method.now (form_seen form.now) (work_seen frame.old statics.old heap.old)) result (work_seen frame.old statics.old heap.old) (work_seen frame.new statics.new heap.new) }
     ensures room { frame.old.stack.1 ≤ frame.new.stack.1 }
     ensures method { frame.new.method ≡ frame.old.method }
+    ensures memory { OnErr result (Wants frame.old.stack.1 (work_seen frame.old statics.old heap.old) (effect_of (program_of program.now) method.now (form_seen form.now) (work_seen frame.old statics.old heap.old))) }
 {
     match form {
         Form::Nop => Ok(After::Next),

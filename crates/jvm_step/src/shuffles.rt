@@ -1,11 +1,13 @@
 //! Reorderings of the operand stack.
-ghost use Rattle.std.specs.Prelude.{◌≡◌, ◌+◌, ◌<◌, ◌≤◌, ◌∷◌, length, drop, slice_set, MatchOption, MatchResult, OnErr};
+ghost use Rattle.std.specs.Prelude.{◌≡◌, ◌+◌, ◌<◌, ◌≤◌, ◌∷◌, List, Some, length, drop, slice_set, MatchOption, MatchResult, OnErr};
 ghost use Rattle.std.specs.Option.{option_map};
 ghost use Rattle.jvm_values.specs.States.{frame_of};
 ghost use Rattle.jvm_step.specs.Acts.{Acts, Tries};
 ghost use Rattle.jvm_step.specs.Operands.{top};
 ghost use Rattle.jvm_step.specs.Effects.{shuffle_effect};
+ghost use Rattle.jvm_values.specs.declared.heap.Value.{Value as ValueSeen};
 ghost use Rattle.op_forms.specs.declared.form.Shuffle.TheVariants as shuffles;
+ghost use Rattle.op_forms.specs.Forms.{shuffled};
 
 use crate::after::After;
 use crate::operands::{take, value_at};
@@ -221,12 +223,13 @@ fn dup2_x2(frame: &mut Frame) -> Result<After, AllocError>
     Ok(After::Next)
 }
 
-/// Reorders the top of the stack.
+/// Reorders the top of the stack. Memory is wanting only where the stack has no room for what stands on it afterwards.
 pub fn shuffle(frame: &mut Frame, shuffle: Shuffle) -> Result<After, AllocError>
     ensures effect { Tries (shuffle_effect shuffle (frame_of frame.old)) result (frame_of frame.old) (frame_of frame.new) }
     ensures room { frame.old.stack.1 ≤ frame.new.stack.1 }
     ensures method { frame.new.method ≡ frame.old.method }
     ensures memory { OnErr result (frame.old.stack.1 ≤ length frame.old.stack.0 + 1) }
+    ensures full { OnErr result ((after : List ValueSeen) → shuffled shuffle frame.old.stack.0 ≡ Some after → frame.old.stack.1 < length after) }
 {
     match shuffle {
         Shuffle::Pop => Ok(pop(frame)),

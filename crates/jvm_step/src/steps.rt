@@ -1,8 +1,9 @@
 //! One step, and the state in which a run begins.
-ghost use Rattle.std.specs.Prelude.{◌≡◌, IfOk, Some, All};
+ghost use Rattle.std.specs.Prelude.{◌≡◌, IfOk, IsOk, Some, All};
 ghost use Rattle.jvm_values.specs.States.{state_of};
 ghost use Rattle.class_program.specs.Views.{program_of};
 ghost use Rattle.jvm_step.specs.Running as running;
+ghost use Rattle.jvm_step.specs.Memory.{TakesNone};
 ghost use Rattle.jvm_step.specs.Steps.{Steps, HasRoom};
 
 use crate::entries::new_frame;
@@ -21,11 +22,14 @@ use std::alloc::{AllocError, Global};
 ///
 /// # Errors
 ///
-/// Want of memory, also where the heap has 2^32 objects and one more is made; then the state is as it was.
+/// Want of memory, also where the heap has 2^32 objects and one more is made; then the state is as it was. Where each stack has
+/// room for as many values as its method says, memory is wanting only in a step that makes an object or a frame, or that leaves
+/// a longer stack.
 #[tactic(auto, unfolding(crate::specs::Running::step))]
 pub fn step(alloc: Global, program: &Program<'_>, state: &mut State) -> Result<Outcome, AllocError>
     ensures step { Steps (running.step (program_of program.now) (state_of state.old)) result (state_of state.old) (state_of state.new) }
     ensures room { All (HasRoom (program_of program.now).methods) state.old.frames.0 → All (HasRoom (program_of program.now).methods) state.new.frames.0 }
+    ensures memory { TakesNone (program_of program.now).methods state.old.frames.0 (state_of state.old) (running.step (program_of program.now) (state_of state.old)) → IsOk result }
 {
     match state.mode {
         Mode::Normal => normal_step(alloc, program, state),

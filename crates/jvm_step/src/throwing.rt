@@ -1,5 +1,5 @@
 //! Throwing mode: the first entry of the running method's exception table that takes the thrown object, else the frame goes.
-ghost use Rattle.std.specs.Prelude.{◌≡◌, ◌<◌, List, All, length, MatchResult, unwrap_or};
+ghost use Rattle.std.specs.Prelude.{◌≡◌, ◌<◌, List, All, length, MatchResult, IsOk, OnErr, unwrap_or};
 ghost use Rattle.std.specs.List.{find};
 ghost use Rattle.std.specs.Option.{option_map};
 ghost use Rattle.jvm_step.specs.Operands.{object_at as thrown_at};
@@ -11,6 +11,7 @@ ghost use Rattle.class_world.specs.Types.{is_sub};
 ghost use Rattle.jvm_values.specs.Subtyping.{class_type};
 ghost use Rattle.jvm_values.specs.TypedHeaps.{type_of};
 ghost use Rattle.jvm_step.specs.Running.{Step, takes, throwing_step};
+ghost use Rattle.jvm_step.specs.Memory.{TakesNone, TopLacks, CatchLacks};
 ghost use Rattle.jvm_step.specs.Steps.{Does, HasRoom, handler_in, handled_in, handled_at, unwound_in};
 
 use crate::casts::is_object_below;
@@ -64,6 +65,7 @@ fn catch_at(state: &mut State, place: u16, r: u32) -> Result<(), AllocError>
     requires { 0 < length state.old.frames.0 }
     ensures state { MatchResult result (λ _. state_of state.new ≡ handled_at place r (state_of state.old)) (λ _. state_of state.new ≡ state_of state.old) }
     ensures room { (methods : List MethodSeen) → All (HasRoom methods) state.old.frames.0 → All (HasRoom methods) state.new.frames.0 }
+    ensures memory { OnErr result (TopLacks state.old.frames.0) }
 {
     handle_in_top(&mut state.frames, place, r)?;
     state.mode = Mode::Normal;
@@ -85,6 +87,7 @@ fn handle(state: &mut State, r: u32, found: Option<CatchRange>) -> Result<Outcom
     requires { 0 < length state.old.frames.0 }
     ensures state { Does (handled_in (state_of state.old) r found (state_of state.old).frames) result (state_of state.old) (state_of state.new) }
     ensures room { (methods : List MethodSeen) → All (HasRoom methods) state.old.frames.0 → All (HasRoom methods) state.new.frames.0 }
+    ensures memory { OnErr result (CatchLacks found state.old.frames.0) }
 {
     match found {
         Some(range) => {
@@ -138,6 +141,7 @@ pub(crate) fn throwing_step(
 ) -> Result<Outcome, AllocError>
     ensures state { Does (unwrap_or (throwing_step (program_of program.now) (state_of state.old) r (state_of state.old).frames) Step.Stuck) result (state_of state.old) (state_of state.new) }
     ensures room { All (HasRoom (program_of program.now).methods) state.old.frames.0 → All (HasRoom (program_of program.now).methods) state.new.frames.0 }
+    ensures memory { TakesNone (program_of program.now).methods state.old.frames.0 (state_of state.old) (unwrap_or (throwing_step (program_of program.now) (state_of state.old) r (state_of state.old).frames) Step.Stuck) → IsOk result }
 {
     if state.frames.is_empty() {
         return Ok(Outcome::Going);

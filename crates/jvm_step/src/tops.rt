@@ -2,6 +2,7 @@
 ghost use Rattle.std.specs.Prelude.{◌≡◌, ◌<◌, ◌≤◌, List, All, length, map, OnErr, MatchResult};
 ghost use Rattle.class_program.specs.declared.program.Method.{Method};
 ghost use Rattle.jvm_values.specs.States.{frame_of};
+ghost use Rattle.jvm_step.specs.Memory.{CallerLacks, TopLacks};
 ghost use Rattle.jvm_step.specs.Steps.{HasRoom, below_of, frames_with, callers_with, at_place, emptied, without_top, given, handling};
 
 use crate::operands::replace;
@@ -114,6 +115,7 @@ pub(crate) fn give_to_caller(
     ensures frames { MatchResult result (λ _. map frame_of frames.new.0 ≡ callers_with (given place value) (map frame_of frames.old.0)) (λ _. map frame_of frames.new.0 ≡ map frame_of frames.old.0) }
     ensures room { (methods : List Method) → All (HasRoom methods) frames.old.0 → All (HasRoom methods) frames.new.0 }
     ensures count { length frames.new.0 ≡ length frames.old.0 }
+    ensures memory { OnErr result (CallerLacks value frames.old.0) }
 {
     give(frames.at_mut(1), place, value)
 }
@@ -124,6 +126,7 @@ pub(crate) fn handle_in_top(frames: &mut Stack<Frame>, place: u16, r: u32) -> Re
     ensures frames { MatchResult result (λ _. map frame_of frames.new.0 ≡ frames_with (handling place r) (map frame_of frames.old.0)) (λ _. map frame_of frames.new.0 ≡ map frame_of frames.old.0) }
     ensures room { (methods : List Method) → All (HasRoom methods) frames.old.0 → All (HasRoom methods) frames.new.0 }
     ensures count { length frames.new.0 ≡ length frames.old.0 }
+    ensures memory { OnErr result (TopLacks frames.old.0) }
 {
     begin_handler(frames.at_mut(0), place, r)
 }

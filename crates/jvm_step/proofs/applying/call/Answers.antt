@@ -3,6 +3,7 @@ use Rattle.jvm_values.specs.States.{state_of}
 use Rattle.std.proofs.lemmas.Option.{slice_get_read, slice_get_past}
 use Rattle.class_program.specs.Views.{program_of}
 use Rattle.jvm_step.proofs.Applied.{runs, called, uncalled}
+use Rattle.jvm_step.proofs.Light.{call_heavy}
 use Rattle.jvm_step.proofs.applying.call.Goals as goal
 
 pub returns-in_err-invoke-in-Some-clause-state : goal.returns-in_err-invoke-in-Some-clause-state
@@ -23,3 +24,6 @@ returns-in_ok-invoke-in-Some-clause-room c = c.in_ok-invoke-in-Some.ensures.room
 
 pub returns-in-None-clause-state : goal.returns-in-None-clause-state
 returns-in-None-clause-state c next = uncalled (program_of c.args.program.now) next c.args.state.now.heap c.args.state.now.mode c.args.state.now.statics _ c.args.number c.args.count _ (slice_get_past c.args.program.now.methods c.args.number c.in-None.ensures)
+
+pub returns-in_err-invoke-in-Some-clause-memory : goal.returns-in_err-invoke-in-Some-clause-memory
+returns-in_err-invoke-in-Some-clause-memory c next light = absurd (call_heavy (program_of c.args.program.now) c.args.state.now.heap c.args.state.now.mode c.args.state.now.statics c.args.state.now.frames.0 next (state_of c.args.state.now).frames c.args.number c.args.count light)
