@@ -1,11 +1,9 @@
 -- The changes that are found are those of the definition.
-use Rattle.std.proofs.Common.{◌≡◌, ◌⊎◌, inl, inr, ℕ, zero, suc, ◌+◌, ◌<◌, ◌≤◌, Bool, true, false, cond, List, [], ◌∷◌, ◌++◌, length, get_or, ℤ, pos, Option, Some, None, subst, ap, arith, refl, ◌∙◌, sym, length-append}
+use Rattle.std.proofs.Common.{◌≡◌, inl, inr, ℕ, Bool, true, false, cond, List, [], ◌∷◌, get_or, ℤ, pos, Option, Some, None, subst, ap, refl, ◌∙◌, sym}
 use Rattle.std.specs.Ordering.{int_eq}
-use Rattle.std.specs.Prelude.{◌&&◌, slice_get}
-use Rattle.std.proofs.lemmas.Bool.{false≢true, cases_eq}
+use Rattle.std.specs.Prelude.{◌&&◌}
+use Rattle.std.proofs.lemmas.Bool.{false≢true, and_parts}
 use Rattle.std.proofs.lemmas.Bool.Decides.{Decides-int_eq}
-use Rattle.std.proofs.lemmas.List.{get_or_at, get_or_append_left}
-use Rattle.std.proofs.lemmas.Option.{slice_get_within}
 use Rattle.lin_core.specs.declared.rows.WRow.{WRow}
 use Rattle.descent.specs.declared.rules.PathRule.{PathRule}
 use Rattle.descent.specs.declared.rules.Place.{Place}
@@ -13,10 +11,10 @@ use Rattle.descent.specs.declared.rules.SlotForm.{SlotForm}
 use Rattle.rank_search.specs.declared.links.Come.{Come}
 use Rattle.rank_search.specs.declared.links.Link.{Link}
 use Rattle.rank_search.specs.declared.links.Tie.{Tie}
-use Rattle.rank_search.specs.Links.{IsIntLink, IsStep, IsWay, total}
-use Rattle.rank_search.specs.Plain.{IsChange, ChangesBy}
+use Rattle.rank_search.specs.Links.{IsIntLink, IsWay, total}
+use Rattle.rank_search.specs.Plain.{IsChange}
 use Rattle.rank_search.specs.Positions.{IsVariable, StandsAt, slot_at}
-use Rattle.rank_search.specs.Searching.{InTies, Covers, IsReached, Known, has_none, only_variable, variable_of, variable_at, more_of, IsDifference, AreIntTies, TellsChange, TellChanges}
+use Rattle.rank_search.specs.Searching.{InTies, Covers, IsReached, Known, has_none, only_variable, variable_of, variable_at, more_of, IsDifference, AreIntTies, TellsChange}
 
 one_number : (a b : ℕ) → ◌≡◌ {A = Option ℕ} (Some a) (Some b) → a ≡ b
 one_number a b e = cc
@@ -70,7 +68,7 @@ variable_is slot variable is =
     let plain = both (int_eq slot.constant (pos 0)) (has_none slot.weights) (int_same slot.constant (pos 0) is.constant) (ap has_none is.weights) in
     chosen (Option ℕ) (int_eq slot.constant (pos 0) && has_none slot.weights) (only_variable slot.terms) None plain ∙ ap only_variable is.terms ∙ chosen (Option ℕ) (int_eq (pos 1) (pos 1)) (Some variable) None (int_same (pos 1) (pos 1) refl)
 
-stands_is : (slots : List SlotForm) (size : Bool) (place : Place) (variable : ℕ) → StandsAt slots size place variable → variable_at slots size place ≡ Some variable
+pub stands_is : (slots : List SlotForm) (size : Bool) (place : Place) (variable : ℕ) → StandsAt slots size place variable → variable_at slots size place ≡ Some variable
 stands_is slots size place variable stands = ap variable_of stands.1 ∙ variable_is stands.0 variable stands.2
 
 -- links of the definition and ties
@@ -100,40 +98,49 @@ change_is rows ties u v c more are difference change =
     let same : found.0 ≡ c = sym reached.2 ∙ change.each reached.0 (int_way rows ties u v reached.0 are reached.1) in
     found.1 ∙ ap Some same
 
+-- and the other way round: the slot at the place is this variable alone
+only_is : (terms : List (ℕ × ℤ)) (variable : ℕ) → only_variable terms ≡ Some variable → terms ≡ (variable, pos 1) ∷ []
+only_is [] variable e = absurd (no_number variable e)
+only_is (term ∷ []) variable e = only_cases (int_eq term.1 (pos 1)) term variable refl e
+  where
+    made : ℕ → ℤ → List (ℕ × ℤ)
+    made v c = (v, c) ∷ []
+
+    only_cases : (test : Bool) (term : ℕ × ℤ) (variable : ℕ) → int_eq term.1 (pos 1) ≡ test → cond test (Some term.0) None ≡ Some variable → term ∷ [] ≡ (variable, pos 1) ∷ []
+    only_cases true term variable t e = ap (λ (v : ℕ). made v term.1) (one_number term.0 variable e) ∙ ap (made variable) ((Decides-int_eq term.1 (pos 1)).0 t)
+    only_cases false term variable t e = absurd (no_number variable e)
+only_is (term ∷ more ∷ rest) variable e = absurd (no_number variable e)
+
+none_is : (list : List (ℕ × ℤ)) → has_none list ≡ true → list ≡ []
+none_is [] e = refl
+none_is (one ∷ rest) e = absurd (false≢true e)
+
+slot_cases : (test : Bool) (slot : SlotForm) (variable : ℕ) → (int_eq slot.constant (pos 0) && has_none slot.weights) ≡ test → cond test (only_variable slot.terms) None ≡ Some variable → IsVariable slot variable
+slot_cases true slot variable t e =
+    let parts = and_parts (int_eq slot.constant (pos 0)) (has_none slot.weights) t in
+    record { terms = only_is slot.terms variable e; constant = (Decides-int_eq slot.constant (pos 0)).0 parts.0; weights = none_is slot.weights parts.1 }
+slot_cases false slot variable t e = absurd (no_number variable e)
+
+pub stands_at : (slots : List SlotForm) (size : Bool) (place : Place) (variable : ℕ) → variable_at slots size place ≡ Some variable → StandsAt slots size place variable
+stands_at slots size place variable e = by_slot (slot_at slots size place) refl e
+  where
+    by_slot : (found : Option SlotForm) → slot_at slots size place ≡ found → variable_of found ≡ Some variable → StandsAt slots size place variable
+    by_slot None s e = absurd (no_number variable e)
+    by_slot (Some slot) s e = (slot, s, slot_cases (int_eq slot.constant (pos 0) && has_none slot.weights) slot variable refl e)
+
 pub change_told : (rule : PathRule) (place : Place) (ties : List Tie) (start finish : ℕ) (more : Option ℤ) → AreIntTies rule.rows ties → variable_at rule.first false place ≡ Some start → variable_at rule.last false place ≡ Some finish → IsDifference ties start finish more → TellsChange rule place more
-change_told rule place ties start finish more are s f difference c changes =
-    let first : changes.start ≡ start = one_number changes.start start (sym (stands_is rule.first false place changes.start changes.ends.first) ∙ s) in
-    let last : changes.finish ≡ finish = one_number changes.finish finish (sym (stands_is rule.last false place changes.finish changes.ends.last) ∙ f) in
-    change_is rule.rows ties start finish c more are difference (subst (λ (x : ℕ). IsChange rule.rows x finish c) first (subst (λ (y : ℕ). IsChange rule.rows changes.start y c) last changes.change))
+change_told rule place ties start finish more are s f difference = record {
+  told = λ c changes.
+      let first : changes.start ≡ start = one_number changes.start start (sym (stands_is rule.first false place changes.start changes.ends.first) ∙ s) in
+      let last : changes.finish ≡ finish = one_number changes.finish finish (sym (stands_is rule.last false place changes.finish changes.ends.last) ∙ f) in
+      change_is rule.rows ties start finish c more are difference (subst (λ (x : ℕ). IsChange rule.rows x finish c) first (subst (λ (y : ℕ). IsChange rule.rows changes.start y c) last changes.change));
+  says = λ c e.
+      let reached = difference.sound c e in
+      record { start = start; finish = finish; ends = record { first = stands_at rule.first false place start s; last = stands_at rule.last false place finish f }; links = reached.0; way = int_way rule.rows ties start finish reached.0 are reached.1; adds = reached.2 };
+}
 
 pub no_start : (rule : PathRule) (place : Place) → variable_at rule.first false place ≡ None → TellsChange rule place None
-no_start rule place e c changes = absurd (no_number changes.start (sym e ∙ stands_is rule.first false place changes.start changes.ends.first))
+no_start rule place e = record { told = λ c changes. absurd (no_number changes.start (sym e ∙ stands_is rule.first false place changes.start changes.ends.first)); says = λ c e. absurd (no_int c e) }
 
 pub no_finish : (rule : PathRule) (place : Place) → variable_at rule.last false place ≡ None → TellsChange rule place None
-no_finish rule place e c changes = absurd (no_number changes.finish (sym e ∙ stands_is rule.last false place changes.finish changes.ends.last))
-
--- the changes of the first places
-pub record AreTold (rule : PathRule) (places : List Place) (changes : List (Option ℤ)) (n : ℕ) : Type 0 where
-  pub count : length changes ≡ n
-  pub each : (k : ℕ) (place : Place) → k < n → slice_get places k ≡ Some place → TellsChange rule place (get_or changes k None)
-
-pub told_first : (rule : PathRule) (places : List Place) (changes : List (Option ℤ)) → changes ≡ [] → AreTold rule places changes 0
-told_first rule places changes e = record { count = ap length e; each = λ k place low. absurd (omega (arith, low)) }
-
-one_place : (a b : Place) → ◌≡◌ {A = Option Place} (Some a) (Some b) → a ≡ b
-one_place a b e = cc
-
-pub told_more : (rule : PathRule) (places : List Place) (changes new : List (Option ℤ)) (change : Option ℤ) (place : Place) (n : ℕ) → new ≡ changes ++ change ∷ [] → slice_get places n ≡ Some place → TellsChange rule place change → AreTold rule places changes n → AreTold rule places new (n + 1)
-told_more rule places changes new change place n e at tells h = record {
-  count = let c : length new ≡ length changes + 1 = ap length e ∙ length-append changes (change ∷ []) in omega (arith, c, h.count);
-  each = λ k other low is. subst (λ (l : List (Option ℤ)). TellsChange rule other (get_or l k None)) (sym e) (elim (cases_eq k n) as (λ o. TellsChange rule other (get_or (changes ++ change ∷ []) k None)) [
-    | inl s ↦ subst (λ (x : Option ℤ). TellsChange rule other x) (sym (get_or_at changes change [] None k (h.count ∙ sym s))) (subst (λ (x : Place). TellsChange rule x change) (one_place place other (sym at ∙ ap (slice_get places) (sym s) ∙ is)) tells)
-    | inr d ↦ subst (λ (x : Option ℤ). TellsChange rule other x) (sym (get_or_append_left changes (change ∷ []) None k (let b = before k n low d in omega (arith, b, h.count)))) (h.each k other (before k n low d) is)
-  ]);
-}
-  where
-    before : (a b : ℕ) → a < b + 1 → (a ≡ b → ⊥) → a < b
-    before a b h n = omega (arith, n)
-
-pub told_last : (rule : PathRule) (places : List Place) (changes : List (Option ℤ)) (n : ℕ) → length places ≤ n → AreTold rule places changes n → TellChanges rule places changes
-told_last rule places changes n past h k place is = h.each k place (let low = slice_get_within places k place is in omega (arith, low)) is
+no_finish rule place e = record { told = λ c changes. absurd (no_number changes.finish (sym e ∙ stands_is rule.last false place changes.finish changes.ends.last)); says = λ c e. absurd (no_int c e) }

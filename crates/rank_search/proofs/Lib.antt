@@ -1,3 +1,13 @@
 pub mod Changed
+pub mod Fallen
+pub mod Falling
+pub mod Listed
+pub mod Lowered
+pub mod Pairs
+pub mod Placed
+pub mod Raised
+pub mod Ranked
 pub mod Reached
+pub mod Sized
 pub mod Tied
+pub mod Told

@@ -1,16 +1,15 @@
 -- Going on along ties until none leads on knows exactly the variables that links lead to.
-use Rattle.std.proofs.Common.{◌≡◌, ◌⊎◌, inl, inr, ℕ, zero, suc, ◌+◌, ◌-◌, ◌<◌, ◌≤◌, Bool, true, false, cond, List, [], ◌∷◌, ◌++◌, length, get_or, set, replicate, sum_by, ℤ, pos, ◌+ℤ◌, Option, Some, None, subst, ap, arith, refl, ◌∙◌, sym, length-append}
-use Rattle.std.specs.Prelude.{◌||◌, ◌&&◌, nat_lt, slice_get, is_none}
-use Rattle.std.specs.List.{All}
+use Rattle.std.proofs.Common.{◌≡◌, inl, inr, ℕ, zero, suc, ◌+◌, ◌-◌, ◌<◌, ◌≤◌, Bool, true, false, cond, List, [], ◌∷◌, ◌++◌, length, get_or, set, replicate, ℤ, pos, ◌+ℤ◌, Option, Some, None, subst, ap, arith, refl, ◌∙◌, sym}
+use Rattle.std.specs.Prelude.{◌||◌, nat_lt, is_none}
 use Rattle.std.proofs.Math.ListN.{length-set}
-use Rattle.std.proofs.lemmas.Bool.{false≢true, true≢false, cases_eq, lt-ltb, ltb-true, or_cases}
+use Rattle.std.proofs.lemmas.Bool.{false≢true, true≢false, cases_eq, lt-ltb, ltb-true}
 use Rattle.std.proofs.lemmas.Int.{ints}
 use Rattle.std.proofs.lemmas.List.{get_or-set_same, get_or-set_other, length-replicate}
 use Rattle.std.proofs.lemmas.List.Sums.{sum_by-set}
 use Rattle.rank_search.specs.declared.links.Come.{Come}
 use Rattle.rank_search.specs.declared.links.Link.{Link}
 use Rattle.rank_search.specs.declared.links.Tie.{Tie}
-use Rattle.rank_search.specs.Links.{IsStep, IsWay, total}
+use Rattle.rank_search.specs.Links.{IsWay, total}
 use Rattle.rank_search.specs.Searching.{InTies, IsReached, Known, moves_at, moves, by_of, step, relaxed, any_moves, unknown, AreBelow}
 
 -- a way that goes on by one link more
@@ -28,7 +27,7 @@ total_more (x ∷ rest) link = ap (λ (t : ℤ). x.by +ℤ t) (total_more rest l
     both : (a b c : ℤ) → a +ℤ (b +ℤ c) ≡ (a +ℤ b) +ℤ c
     both a b c = omega (arith, ints)
 
-reached_more : (ties : List Tie) (first u : ℕ) (by sum : ℤ) (link : Link) → IsReached ties first u by → link.from ≡ u → InTies ties link → sum ≡ by +ℤ link.by → IsReached ties first link.to sum
+pub reached_more : (ties : List Tie) (first u : ℕ) (by sum : ℤ) (link : Link) → IsReached ties first u by → link.from ≡ u → InTies ties link → sum ≡ by +ℤ link.by → IsReached ties first link.to sum
 reached_more ties first u by sum link r e is s = (r.0 ++ link ∷ [], way_more (InTies ties) first u r.0 link r.1 e is, total_more r.0 link ∙ ap (λ (t : ℤ). t +ℤ link.by) r.2 ∙ sym s)
 
 -- what is known is reached
@@ -185,7 +184,7 @@ kept : (rest : List Tie) (known : Known) (v : ℕ) (come : Come) → get_or know
 kept [] known v come at = at
 kept (tie ∷ rest) known v come at = kept rest (step tie known) v come (kept_cases (moves tie known) tie known v come refl at)
 
-none_before : (n v : ℕ) (come : Come) → get_or (replicate n None) v None ≡ Some come → ⊥
+pub none_before : (n v : ℕ) (come : Come) → get_or (replicate n None) v None ≡ Some come → ⊥
 none_before zero v come e = not_some come e
 none_before (suc n) zero come e = not_some come e
 none_before (suc n) (suc v) come e = none_before n v come e

@@ -1,5 +1,5 @@
 -- The ties that are found are the int links of the rows.
-use Rattle.std.proofs.Common.{◌≡◌, ◌⊎◌, inl, inr, ℕ, zero, suc, ◌+◌, ◌<◌, ◌≤◌, Bool, true, false, cond, eqb, List, [], ◌∷◌, ◌++◌, length, ℤ, pos, negsuc, ◌+ℤ◌, ◌-ℤ◌, ◌*ℤ◌, Option, Some, None, Result, Ok, Err, subst, ap, arith, refl, ◌∙◌, sym, Decides}
+use Rattle.std.proofs.Common.{◌≡◌, ◌⊎◌, inl, inr, ℕ, zero, suc, ◌+◌, Bool, true, false, cond, eqb, List, [], ◌∷◌, ◌++◌, ℤ, pos, negsuc, ◌+ℤ◌, ◌-ℤ◌, ◌*ℤ◌, Option, Some, None, Result, Ok, Err, subst, ap, arith, refl, ◌∙◌, sym}
 use Rattle.std.specs.Ordering.{int_eq}
 use Rattle.std.specs.Prelude.{◌&&◌, slice_get, IfOk}
 use Rattle.std.proofs.lemmas.Bool.{false≢true, true≢false, eqb-true, eq-eqb, and_parts}
@@ -25,7 +25,7 @@ both true b e f = f
 both false b e f = absurd (false≢true e)
 
 -- a row that bounds a variable
-kind_is : (kind : RowKind) → is_inequality kind ≡ true → kind ≡ AtLeastZero
+pub kind_is : (kind : RowKind) → is_inequality kind ≡ true → kind ≡ AtLeastZero
 kind_is AtLeastZero e = refl
 kind_is IsZero e = absurd (false≢true e)
 
@@ -36,7 +36,7 @@ none_is (one ∷ rest) e = absurd (false≢true e)
 pair_is : (term : ℕ × ℤ) (variable : ℕ) (times : ℤ) → term.0 ≡ variable → term.1 ≡ times → term ≡ (variable, times)
 pair_is (v, t) variable times e f = ap (λ (x : ℕ). (x, t)) e ∙ ap (λ (y : ℤ). (variable, y)) f
 
-alone_is : (variable : ℕ) (times : ℤ) (terms : List (ℕ × ℤ)) → is_alone variable times terms ≡ true → terms ≡ (variable, times) ∷ []
+pub alone_is : (variable : ℕ) (times : ℤ) (terms : List (ℕ × ℤ)) → is_alone variable times terms ≡ true → terms ≡ (variable, times) ∷ []
 alone_is variable times [] e = absurd (false≢true e)
 alone_is variable times (term ∷ []) e =
     let parts = and_parts (eqb term.0 variable) (int_eq term.1 times) e in
@@ -46,7 +46,7 @@ alone_is variable times (term ∷ more ∷ rest) e = absurd (false≢true e)
 alone_same : (variable : ℕ) (times : ℤ) → is_alone variable times ((variable, times) ∷ []) ≡ true
 alone_same variable times = both (eqb variable variable) (int_eq times times) (eq-eqb variable variable refl) (int_same times times refl)
 
-bound_is : (rows : List WRow) (variable : ℕ) (times : ℤ) (row : WRow) → IsAmong rows row → is_bound variable times row ≡ true → HasBound rows variable times row.constant
+pub bound_is : (rows : List WRow) (variable : ℕ) (times : ℤ) (row : WRow) → IsAmong rows row → is_bound variable times row ≡ true → HasBound rows variable times row.constant
 bound_is rows variable times row among e =
     let parts = and_parts (is_inequality row.kind) (is_alone variable times row.terms && has_none row.weights) e in
     let more = and_parts (is_alone variable times row.terms) (has_none row.weights) parts.1 in
@@ -59,7 +59,7 @@ bound_is rows variable times row among e =
       weights = none_is row.weights more.1;
     }
 
-bound_told : (rows : List WRow) (variable : ℕ) (times constant : ℤ) (bound : HasBound rows variable times constant) → is_bound variable times bound.row ≡ true
+pub bound_told : (rows : List WRow) (variable : ℕ) (times constant : ℤ) (bound : HasBound rows variable times constant) → is_bound variable times bound.row ≡ true
 bound_told rows variable times constant bound = both (is_inequality bound.row.kind) (is_alone variable times bound.row.terms && has_none bound.row.weights) (ap is_inequality bound.inequality) (both (is_alone variable times bound.row.terms) (has_none bound.row.weights) (ap (is_alone variable times) bound.terms ∙ alone_same variable times) (ap has_none bound.weights))
 
 -- the row that a variable is at most a number

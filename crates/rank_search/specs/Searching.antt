@@ -1,5 +1,5 @@
 -- Words for this crate's own functions: how the links of a path are found.
-use Rattle.std.specs.Prelude.{ℕ, suc, ℤ, pos, negsuc, ◌≡◌, ◌⊎◌, ◌<◌, ◌≤◌, ◌+ℤ◌, ◌-ℤ◌, ◌*ℤ◌, ◌==◌, ◌&&◌, ◌++◌, Bool, true, false, List, [], ◌∷◌, Option, Some, None, Result, Ok, Err, if◌then◌else◌, slice_get, slice_set, get_or, nat_lt, is_none, sum_by, ◌||◌, int_le, int_lt, length}
+use Rattle.std.specs.Prelude.{ℕ, suc, ℤ, pos, negsuc, ◌≡◌, ◌⊎◌, ◌<◌, ◌+ℤ◌, ◌-ℤ◌, ◌*ℤ◌, ◌==◌, ◌&&◌, ◌++◌, Bool, true, false, List, [], ◌∷◌, Option, Some, None, if◌then◌else◌, slice_get, slice_set, get_or, nat_lt, is_none, sum_by, ◌||◌, int_le, int_lt, length, unsigned_abs}
 use Rattle.std.specs.List.{All}
 use Rattle.std.specs.Ordering.{int_eq}
 use Rattle.lin_core.specs.declared.rows.RowKind.{RowKind}
@@ -14,7 +14,7 @@ use Rattle.rank_search.specs.declared.links.Beside.{Beside}
 use Rattle.rank_search.specs.declared.links.Tie.{Tie}
 use Rattle.rank_search.specs.declared.links.Come.{Come}
 use Rattle.rank_search.specs.Links.{IsIntLink, IsWay, total}
-use Rattle.rank_search.specs.Plain.{ChangesBy}
+use Rattle.rank_search.specs.Plain.{ChangesBy, IsMultiple, MovesBy}
 use Rattle.rank_search.specs.Positions.{slot_at}
 
 -- the kinds of rows
@@ -180,9 +180,10 @@ pub record AreIntTies (rows : List WRow) (ties : List Tie) : Type 0 where
   pub sound : (link : Link) → InTies ties link → IsIntLink rows link
   pub complete : (link : Link) → IsIntLink rows link → Covers ties link.from link.to
 
--- where the int at a place changes along a rule, the number is this
-abbrev pub TellsChange : PathRule → Place → Option ℤ → Type 0
-TellsChange rule place change = (c : ℤ) → ChangesBy rule place c → change ≡ Some c
+-- where the int at a place changes along a rule, the number is this; and some links say the number
+pub record TellsChange (rule : PathRule) (place : Place) (change : Option ℤ) : Type 0 where
+  pub told : (c : ℤ) → ChangesBy rule place c → change ≡ Some c
+  pub says : (c : ℤ) → change ≡ Some c → MovesBy rule place c
 
 -- the same for a list of places, and for each of the rules
 abbrev pub TellChanges : PathRule → List Place → List (Option ℤ) → Type 0
@@ -222,3 +223,32 @@ ranks_by form table = never_rises form table && falls form table
 -- the multiples from -4 to 4 other than 0
 abbrev pub multiple_of : ℕ → ℤ
 multiple_of n = if n == 0 then pos 1 else (if n == 1 then negsuc 0 else (if n == 2 then pos 2 else (if n == 3 then negsuc 1 else (if n == 4 then pos 3 else (if n == 5 then negsuc 2 else (if n == 6 then pos 4 else negsuc 3))))))
+
+-- no sum of multiples of two of the first places ranks the rules
+abbrev pub NoneOfPair : List (List (Option ℤ)) → ℕ → ℕ → ℕ → Type 0
+NoneOfPair table one other count = (n k : ℕ) → n < count → k < 8 → ranks_by (record { one = one; times = multiple_of n; other = other; more = multiple_of k }) table ≡ false
+
+abbrev pub NoneWithOne : List (List (Option ℤ)) → ℕ → ℕ → Type 0
+NoneWithOne table one count = (other : ℕ) → other < count → NoneOfPair table one other 8
+
+abbrev pub NoSum : List (List (Option ℤ)) → ℕ → ℕ → Type 0
+NoSum table ones count = (one : ℕ) → one < ones → NoneWithOne table one count
+
+-- no int and no negative of one ranks the rules
+abbrev pub NoOne : List (List (Option ℤ)) → ℕ → Type 0
+NoOne table count = (i n : ℕ) → i < count → n < 2 → ranks_by (record { one = i; times = multiple_of n; other = i; more = pos 0 }) table ≡ false
+
+-- a form of one int, or of two, that ranks the rules by the table; the places are below a number
+pub record IsOneFound (table : List (List (Option ℤ))) (count : ℕ) (form : Candidate) : Type 0 where
+  pub one : form.one < count
+  pub other : form.other ≡ form.one
+  pub times : unsigned_abs form.times ≡ 1
+  pub more : form.more ≡ pos 0
+  pub ranks : ranks_by form table ≡ true
+
+pub record IsSumFound (table : List (List (Option ℤ))) (count : ℕ) (form : Candidate) : Type 0 where
+  pub one : form.one < count
+  pub other : form.other < count
+  pub times : IsMultiple form.times
+  pub more : IsMultiple form.more
+  pub ranks : ranks_by form table ≡ true

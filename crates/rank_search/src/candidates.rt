@@ -1,6 +1,8 @@
 //! Forms of ints that may rank rules.
-ghost use Rattle.std.specs.Prelude.{◌≡◌, ◌<◌, ◌+ℤ◌, ◌*ℤ◌, ℕ, false, pos, negsuc, None, Some, IfOk, IfSome, int_le, int_lt, get_or};
-ghost use Rattle.rank_search.specs.Searching.{value_of, form_value, is_weak, is_strict, never_rises, falls, ranks_by, multiple_of};
+ghost use Rattle.std.specs.Prelude.{◌≡◌, ◌<◌, ◌+ℤ◌, ◌*ℤ◌, ℕ, false, pos, negsuc, None, Some, IfOk, IfSome, int_le, int_lt, get_or, ◌&&◌, true, unsigned_abs};
+ghost use Rattle.rank_search.specs.Searching.{value_of, form_value, is_weak, is_strict, never_rises, falls, ranks_by, multiple_of, IsOneFound, IsSumFound, NoneOfPair, NoneWithOne, NoOne, NoSum};
+ghost use Rattle.rank_search.specs.Plain.{IsMultiple};
+ghost use Rattle.rank_search.specs.Rising.{falling_form, NoFall};
 
 use list_views::Seq;
 use std::alloc::AllocError;
@@ -123,7 +125,8 @@ fn ranks_by(form: &Candidate, table: &[Seq<Option<i64>>]) -> Result<bool, AllocE
 
 /// The multiples from -4 to 4 other than 0, by number.
 fn multiple_of(number: u32) -> i64
-    ensures { result ≡ multiple_of number }
+    ensures value { result ≡ multiple_of number }
+    ensures multiple { IsMultiple result }
 {
     if number == 0 {
         return 1;
@@ -156,7 +159,8 @@ fn with_times(
     times: &i64,
     other: usize,
 ) -> Result<Option<Candidate>, AllocError>
-    ensures { IfOk result (λ found. found ≡ None → (k : ℕ) → k < 8 → ranks_by (record { one = one; times = times.now; other = other; more = multiple_of k }) table.now ≡ false) }
+    ensures some { IfOk result (λ found. IfSome found (λ form. (form.one ≡ one) × (form.times ≡ times.now) × (form.other ≡ other) × IsMultiple form.more × (ranks_by form table.now ≡ true))) }
+    ensures none { IfOk result (λ found. found ≡ None → (k : ℕ) → k < 8 → ranks_by (record { one = one; times = times.now; other = other; more = multiple_of k }) table.now ≡ false) }
 {
     for k in 0..8 {
         let form = Candidate {
@@ -172,14 +176,78 @@ fn with_times(
     Ok(None)
 }
 
+/// The first form of these two places that ranks the rules.
+fn of_pair(
+    table: &[Seq<Option<i64>>],
+    one: usize,
+    other: usize,
+) -> Result<Option<Candidate>, AllocError>
+    ensures some { IfOk result (λ found. IfSome found (λ form. (form.one ≡ one) × IsMultiple form.times × (form.other ≡ other) × IsMultiple form.more × (ranks_by form table.now ≡ true))) }
+    ensures none { IfOk result (λ found. found ≡ None → NoneOfPair table.now one other 8) }
+{
+    for n in 0..8 {
+        let times = multiple_of(n);
+        let found = with_times(table, one, &times, other)?;
+        if found.is_some() {
+            return Ok(found);
+        }
+    }
+    Ok(None)
+}
+
+/// The first form of two places, of which this is the first, that ranks the rules.
+fn with_one(
+    table: &[Seq<Option<i64>>],
+    one: usize,
+    count: usize,
+) -> Result<Option<Candidate>, AllocError>
+    ensures some { IfOk result (λ found. IfSome found (λ form. (form.one ≡ one) × IsMultiple form.times × (form.other < count) × IsMultiple form.more × (ranks_by form table.now ≡ true))) }
+    ensures none { IfOk result (λ found. found ≡ None → NoneWithOne table.now one count) }
+{
+    for other in 0..count {
+        let found = of_pair(table, one, other)?;
+        if found.is_some() {
+            return Ok(found);
+        }
+    }
+    Ok(None)
+}
+
+/// The first form of two places that ranks the rules.
+pub(crate) fn sum_of_two(
+    table: &[Seq<Option<i64>>],
+    count: usize,
+) -> Result<Option<Candidate>, AllocError>
+    ensures some { IfOk result (λ found. IfSome found (λ form. IsSumFound table.now count form)) }
+    ensures none { IfOk result (λ found. found ≡ None → NoSum table.now count count) }
+{
+    for one in 0..count {
+        let found = with_one(table, one, count)?;
+        if found.is_some() {
+            return Ok(found);
+        }
+    }
+    Ok(None)
+}
+
+/// 1 and -1, by number.
+fn unit_of(number: u32) -> i64
+    requires { number < 2 }
+    ensures value { result ≡ multiple_of number }
+    ensures unit { unsigned_abs result ≡ 1 }
+{
+    if number == 0 { 1 } else { -1 }
+}
+
 /// The int at a place, or its negative, if that ranks the rules.
 fn of_one(table: &[Seq<Option<i64>>], one: usize) -> Result<Option<Candidate>, AllocError>
-    ensures { IfOk result (λ found. found ≡ None → (n : ℕ) → n < 2 → ranks_by (record { one = one; times = multiple_of n; other = one; more = pos 0 }) table.now ≡ false) }
+    ensures some { IfOk result (λ found. IfSome found (λ form. (form.one ≡ one) × (unsigned_abs form.times ≡ 1) × (form.other ≡ one) × (form.more ≡ pos 0) × (ranks_by form table.now ≡ true))) }
+    ensures none { IfOk result (λ found. found ≡ None → (n : ℕ) → n < 2 → ranks_by (record { one = one; times = multiple_of n; other = one; more = pos 0 }) table.now ≡ false) }
 {
     for n in 0..2 {
         let form = Candidate {
             one,
-            times: multiple_of(n),
+            times: unit_of(n),
             other: one,
             more: 0,
         };
@@ -191,8 +259,12 @@ fn of_one(table: &[Seq<Option<i64>>], one: usize) -> Result<Option<Candidate>, A
 }
 
 /// The first int or negative of an int that ranks the rules.
-fn one_int(table: &[Seq<Option<i64>>], count: usize) -> Result<Option<Candidate>, AllocError>
-    ensures { IfOk result (λ found. found ≡ None → (i n : ℕ) → i < count → n < 2 → ranks_by (record { one = i; times = multiple_of n; other = i; more = pos 0 }) table.now ≡ false) }
+pub(crate) fn one_int(
+    table: &[Seq<Option<i64>>],
+    count: usize,
+) -> Result<Option<Candidate>, AllocError>
+    ensures some { IfOk result (λ found. IfSome found (λ form. IsOneFound table.now count form)) }
+    ensures none { IfOk result (λ found. found ≡ None → NoOne table.now count) }
 {
     for one in 0..count {
         let found = of_one(table, one)?;
@@ -201,4 +273,49 @@ fn one_int(table: &[Seq<Option<i64>>], count: usize) -> Result<Option<Candidate>
         }
     }
     Ok(None)
+}
+
+/// The first place that falls on some rule and rises on none, by tables of falls: what each place falls by at least, and what
+/// it falls by where a fall counts.
+pub(crate) fn first_falling(
+    weak: &[Seq<Option<i64>>],
+    strict: &[Seq<Option<i64>>],
+    count: usize,
+) -> Result<Option<usize>, AllocError>
+    ensures some { IfOk result (λ found. IfSome found (λ one. (one < count) × ((never_rises (falling_form one) weak.now && falls (falling_form one) strict.now) ≡ true))) }
+    ensures none { IfOk result (λ found. found ≡ None → NoFall weak.now strict.now count) }
+{
+    for one in 0..count {
+        if is_falling(weak, strict, one)? {
+            return Ok(Some(one));
+        }
+    }
+    Ok(None)
+}
+
+/// The form of one place that counts down what the place falls by.
+fn falling_form(one: usize) -> Candidate
+    ensures { result ≡ falling_form one }
+{
+    Candidate {
+        one,
+        times: -1,
+        other: one,
+        more: 0,
+    }
+}
+
+/// Whether a place falls on some rule and rises on none.
+fn is_falling(
+    weak: &[Seq<Option<i64>>],
+    strict: &[Seq<Option<i64>>],
+    one: usize,
+) -> Result<bool, AllocError>
+    ensures { IfOk result (λ is. is ≡ (never_rises (falling_form one) weak.now && falls (falling_form one) strict.now)) }
+{
+    let form = falling_form(one);
+    if !never_rises(&form, weak)? {
+        return Ok(false);
+    }
+    falls(&form, strict)
 }

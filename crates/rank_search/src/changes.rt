@@ -11,7 +11,7 @@ use list_views::Seq;
 use std::alloc::{AllocError, Global};
 
 /// What a variable that is known has more.
-fn more_of(come: Option<Come>) -> Option<i64>
+pub(crate) fn more_of(come: Option<Come>) -> Option<i64>
     ensures { result ≡ more_of come }
 {
     match come {

@@ -9,7 +9,7 @@ ghost use Rattle.rank_search.specs.Searching.{has_none, only_variable, variable_
 use descent::{Place, SlotForm};
 
 /// Whether both are so or both are not.
-fn same(one: bool, other: bool) -> bool
+pub(crate) fn same(one: bool, other: bool) -> bool
     ensures { result ≡ same one other }
 {
     if one { other } else { !other }
@@ -42,7 +42,7 @@ fn is_at(slot: &SlotForm, size: bool, place: &Place) -> bool
 }
 
 /// The first slot of the kind at the place.
-fn slot_at<'a>(slots: &'a [SlotForm], size: bool, place: &Place) -> Option<&'a SlotForm>
+pub(crate) fn slot_at<'a>(slots: &'a [SlotForm], size: bool, place: &Place) -> Option<&'a SlotForm>
     ensures { MatchOption result (slot_at slots.now size place.now ≡ None) (λ slot. slot_at slots.now size place.now ≡ Some slot.now) }
 {
     for slot in slots {

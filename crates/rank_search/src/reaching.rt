@@ -7,7 +7,7 @@ use crate::links::{Come, Tie};
 use std::alloc::{AllocError, Global};
 
 /// One more than the greatest of a number and the variables to which ties lead.
-fn span(ties: &[Tie], first: u32) -> usize
+pub(crate) fn span(ties: &[Tie], first: u32) -> usize
     ensures first { first < result }
     ensures ties { AreBelow ties.now result }
 {
@@ -55,7 +55,7 @@ fn by_of(come: Option<Come>) -> i64
 }
 
 /// The sum of two numbers, where it is one of 64 bits.
-fn sum(one: &i64, other: &i64) -> Option<i64>
+pub(crate) fn sum(one: &i64, other: &i64) -> Option<i64>
     ensures { IfSome result (λ sum. sum ≡ one.now +ℤ other.now) }
 {
     one.checked_add(*other)
@@ -92,7 +92,7 @@ fn pass(ties: &[Tie], known: &mut Vec<Option<Come>>) -> Result<bool, AllocError>
 }
 
 /// So many variables of which nothing is known.
-fn none_known(alloc: Global, count: usize) -> Result<Vec<Option<Come>>, AllocError>
+pub(crate) fn none_known(alloc: Global, count: usize) -> Result<Vec<Option<Come>>, AllocError>
     ensures { IfOk result (λ known. known.items ≡ replicate count None) }
 {
     let mut known = Vec::new(alloc);

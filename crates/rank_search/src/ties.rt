@@ -11,7 +11,7 @@ use list_views::Seq;
 use std::alloc::{AllocError, Global};
 
 /// Whether the row says that something is at least 0.
-fn is_inequality(kind: RowKind) -> bool
+pub(crate) fn is_inequality(kind: RowKind) -> bool
     ensures { result ≡ is_inequality kind }
 {
     match kind {
@@ -21,7 +21,7 @@ fn is_inequality(kind: RowKind) -> bool
 }
 
 /// Whether the terms are so many times one variable.
-fn is_alone(terms: &[(u32, i64)], variable: u32, times: &i64) -> bool
+pub(crate) fn is_alone(terms: &[(u32, i64)], variable: u32, times: &i64) -> bool
     ensures { result ≡ is_alone variable times.now terms.now }
 {
     match terms {
@@ -31,7 +31,7 @@ fn is_alone(terms: &[(u32, i64)], variable: u32, times: &i64) -> bool
 }
 
 /// Whether the row says of the variable alone that so many times it and a constant is at least 0.
-fn is_bound(row: &WRow, variable: u32, times: &i64) -> bool
+pub(crate) fn is_bound(row: &WRow, variable: u32, times: &i64) -> bool
     ensures { result ≡ is_bound variable times.now row.now }
 {
     is_inequality(row.kind)
@@ -99,7 +99,7 @@ fn constant_at(rows: &[WRow], n: usize) -> Option<i64>
 }
 
 /// Of two terms the variable with the coefficient 1 and the one with -1.
-fn order_of(one: &(u32, i64), other: &(u32, i64)) -> Option<(u32, u32)>
+pub(crate) fn order_of(one: &(u32, i64), other: &(u32, i64)) -> Option<(u32, u32)>
     ensures { result ≡ order_of one.now other.now }
 {
     if one.1 == 1 && other.1 == -1 {
@@ -112,7 +112,7 @@ fn order_of(one: &(u32, i64), other: &(u32, i64)) -> Option<(u32, u32)>
 }
 
 /// The negative of a number, where it is one of 64 bits.
-fn negative(number: &i64) -> Option<i64>
+pub(crate) fn negated(number: &i64) -> Option<i64>
     ensures { IfSome result (λ negative. negative ≡ pos 0 -ℤ number.now) }
 {
     0i64.checked_sub(*number)
@@ -137,7 +137,7 @@ fn add_both(
 ) -> Result<(), AllocError>
     ensures { OnOk result (ties.new ≡ ties.old ++ both_ways plus minus k.now row beside) }
 {
-    let Some(less) = negative(k) else {
+    let Some(less) = negated(k) else {
         return Err(AllocError);
     };
     let there = Link {

@@ -1,5 +1,4 @@
-use Rattle.std.proofs.Common.{◌≡◌, ℕ, ◌<◌, false, pos}
-use Rattle.rank_search.specs.declared.candidates.Candidate.{Candidate}
+use Rattle.std.proofs.Common.{◌≡◌, ℕ, ◌<◌, false}
 use Rattle.rank_search.specs.Searching.{ranks_by, multiple_of}
 use Rattle.rank_search.proofs.candidates.with_times.Given as goal
 

@@ -1,4 +1,4 @@
-use Rattle.std.proofs.Common.{ℕ, ◌+◌, Bool, cond}
+use Rattle.std.proofs.Common.{◌+◌, cond}
 use Rattle.rank_search.specs.Searching.{unknown}
 use Rattle.rank_search.proofs.Reached.{IsRelaxing}
 use Rattle.rank_search.proofs.reaching.reach.Given as goal

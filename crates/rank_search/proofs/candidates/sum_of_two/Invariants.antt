@@ -1,0 +1,5 @@
+use Rattle.rank_search.specs.Searching.{NoSum}
+use Rattle.rank_search.proofs.candidates.sum_of_two.Given as goal
+
+abbrev pub invariant-loop-one : goal.invariant-loop-one
+invariant-loop-one l = NoSum l.table l.one l.count

@@ -1,0 +1,7 @@
+use Rattle.std.proofs.Common.{List, true, subst, sym}
+use Rattle.descent.specs.declared.rules.Place.{Place}
+use Rattle.rank_search.specs.Rising.{ArePlacesOf}
+use Rattle.rank_search.proofs.searching.size_form.Goals as goal
+
+pub size_in-requires-clause-places : goal.size_in-requires-clause-places
+size_in-requires-clause-places c = subst (λ (l : List Place). ArePlacesOf c.args.rules.now true l) (sym c.as_slice-2.ensures) c.in_ok-places.ensures
