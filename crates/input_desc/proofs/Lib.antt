@@ -1,0 +1,4 @@
+pub mod Faultless
+pub mod NamedTypes
+pub mod TypedInputs
+pub mod Unfit

@@ -1,0 +1,140 @@
+-- Descriptions against a program: the first fault, and what is described.
+use Rattle.std.specs.Prelude.{◌≡◌, ◌≤◌, All, ℕ, ◌==◌, ◌&&◌, ◌||◌, not, ℤ, Bool, true, false, if◌then◌else◌, List, [], ◌∷◌, ◌++◌, length, map, slice_get, Option, Some, None, Result, Ok, Err, option_and_then, option_map, is_some}
+use Rattle.std.specs.List.{position_from}
+use Rattle.std.specs.Int.{int_max, int_min}
+use Rattle.std.specs.Option.{option_or, option_map_or}
+use Rattle.lin_core.specs.Intervals.{Bounds, interval_of}
+use Rattle.jvm_values.specs.declared.types.Ty.{Ty}
+use Rattle.jvm_values.specs.declared.types.Slot.{Slot}
+use Rattle.jvm_values.specs.declared.types.Slot.TheVariants as slots
+use Rattle.jvm_values.specs.Kinds.{least_of, greatest_of}
+use Rattle.class_world.specs.World.{World, is_static}
+use Rattle.class_world.specs.Types.{is_sub, erase}
+use Rattle.class_world.specs.Resolve.{method_at}
+use Rattle.class_program.specs.Programs.{Program}
+use Rattle.input_text.specs.declared.fault.DescFault.{DescFault}
+use Rattle.input_text.specs.declared.fault.DescFault.TheVariants.{ParamCount, StaticCount, ParamKind, EmptyInterval, UnknownType, BadPair}
+use Rattle.input_text.specs.declared.texts.DescText.{DescText}
+use Rattle.input_text.specs.declared.texts.InputText.{InputText}
+use Rattle.input_text.specs.declared.texts.InputText.TheVariants as texts
+use Rattle.input_desc.specs.declared.desc.Input.{Input}
+use Rattle.input_desc.specs.declared.desc.Input.TheVariants.{Int, Ref}
+use Rattle.input_desc.specs.declared.desc.Desc.{Desc}
+use Rattle.input_desc.specs.Due.{IsDue, fault_if}
+use Rattle.input_desc.specs.Given.{params_of, statics_of, slots_of}
+use Rattle.input_desc.specs.Pairs.{is_no_pair, is_reference_slot, IsPairBelow}
+use Rattle.input_desc.specs.TypeNames.{type_named}
+use Rattle.input_desc.specs.Typed.{first_unfit}
+
+-- the entry method has a receiver, as its parameter 0
+abbrev pub has_receiver : Program → Bool
+has_receiver p = option_map_or (λ m. not (is_static m.flags)) (method_at p.world p.entry) false
+
+-- ---- kinds
+
+-- an int for a number, a reference for a reference
+abbrev pub is_alike : Slot → InputText → Bool
+is_alike (slots.Num kind) (texts.Int lo hi) = true
+is_alike (slots.Num kind) (texts.Ref ty null shape) = false
+is_alike (slots.Ref t) (texts.Int lo hi) = false
+is_alike (slots.Ref t) (texts.Ref ty null shape) = true
+
+-- the first input may be null
+abbrev pub begins_null : List InputText → Bool
+begins_null [] = false
+begins_null (texts.Int lo hi ∷ inputs) = false
+begins_null (texts.Ref ty null shape ∷ inputs) = null
+
+-- the first input of another kind; a receiver that may be null is one
+abbrev pub first_of_other_kind : Bool → List Slot → List InputText → Option ℕ
+first_of_other_kind receiver wanted inputs = if receiver && begins_null inputs then Some 0 else first_unfit is_alike 0 wanted inputs
+
+-- ---- what is described
+
+-- the ints of an interval that a slot can hold; None where there are none
+abbrev pub ints_of : Slot → ℤ → ℤ → Option Input
+ints_of (slots.Num kind) lo hi = option_map Int (interval_of (int_max (least_of kind) lo) (int_min (greatest_of kind) hi))
+ints_of (slots.Ref t) lo hi = None
+
+-- the erased type, where it is below another one
+abbrev pub erased_below : World → Ty → Ty → Option Ty
+erased_below world t s = if is_sub world (erase world s) t then Some (erase world s) else None
+
+-- a type that a text names, erased, where it is below the slot's erased type; None where it isn't, or there is none
+abbrev pub type_for : World → Slot → List ℕ → Option Ty
+type_for world (slots.Num kind) text = None
+type_for world (slots.Ref t) text = option_and_then (erased_below world (erase world t)) (type_named world text)
+
+-- what is described of an input
+abbrev pub input_of : World → Slot → InputText → Option Input
+input_of world slot (texts.Int lo hi) = ints_of slot lo hi
+input_of world slot (texts.Ref ty null shape) = option_map (λ t. Ref t null shape) (type_for world slot ty)
+
+abbrev pub inputs_from : World → List Slot → List InputText → List (Option Input)
+inputs_from world [] inputs = []
+inputs_from world (slot ∷ more) [] = []
+inputs_from world (slot ∷ more) (input ∷ inputs) = input_of world slot input ∷ inputs_from world more inputs
+
+-- not a number without an int
+abbrev pub has_ints : Slot → Option Input → Bool
+has_ints slot input = is_reference_slot slot || is_some input
+
+-- not a reference without a type
+abbrev pub has_a_type : Slot → Option Input → Bool
+has_a_type slot input = not (is_reference_slot slot) || is_some input
+
+-- ---- the whole
+
+-- the first fault of what is described of inputs, and then of pairs
+unfoldable pub found_fault : List Slot → List (Option Input) → List (ℕ × ℕ) → Option DescFault
+found_fault wanted found pairs =
+    option_or (option_map EmptyInterval (first_unfit has_ints 0 wanted found))
+    (option_or (option_map UnknownType (first_unfit has_a_type 0 wanted found))
+    (option_map BadPair (position_from (is_no_pair wanted) 0 pairs)))
+
+-- kinds come first
+unfoldable pub later_fault : Program → List InputText → List (ℕ × ℕ) → Option DescFault
+later_fault p texts' pairs =
+    option_or (option_map ParamKind (first_of_other_kind (has_receiver p) (slots_of p) texts'))
+    (found_fault (slots_of p) (inputs_from p.world (slots_of p) texts') pairs)
+
+-- The first fault of a description against a program: the counts, then fault by fault, and of a fault the first input or pair.
+unfoldable pub desc_fault : Program → DescText → Option DescFault
+desc_fault p text =
+    option_or (fault_if (not (length text.params == length (params_of p))) ParamCount)
+    (option_or (fault_if (not (length text.statics == length (statics_of p))) StaticCount)
+    (later_fault p (text.params ++ text.statics) (text.same ++ text.share)))
+
+-- what is found for inputs without a fault, or the first fault
+abbrev pub Finds : Program → List InputText → List (ℕ × ℕ) → Result (List (Option Input)) DescFault → Type 0
+Finds p texts' pairs (Ok found) = (later_fault p texts' pairs ≡ None) × (found ≡ inputs_from p.world (slots_of p) texts')
+Finds p texts' pairs (Err fault) = IsDue fault (later_fault p texts' pairs)
+
+-- a description of at most 2,048 inputs, each of which is there
+pub record IsMade (found : List (Option Input)) (same share : List (ℕ × ℕ)) (desc : Desc) : Type 0 where
+  pub inputs_are : map Some desc.inputs ≡ found
+  pub same_is : desc.same ≡ same
+  pub share_is : desc.share ≡ share
+  pub few : length desc.inputs ≤ 2048
+
+-- what is made of texts and pairs without a fault, or the first fault
+abbrev pub Fitted : Program → List InputText → List (ℕ × ℕ) → List (ℕ × ℕ) → Result Desc DescFault → Type 0
+Fitted p texts' same share (Ok desc) = (later_fault p texts' (same ++ share) ≡ None) × IsMade (inputs_from p.world (slots_of p) texts') same share desc
+Fitted p texts' same share (Err fault) = IsDue fault (later_fault p texts' (same ++ share))
+
+-- a description of inputs of the program
+pub record IsDescribed (p : Program) (text : DescText) (desc : Desc) : Type 0 where
+  pub inputs_are : map Some desc.inputs ≡ inputs_from p.world (slots_of p) (text.params ++ text.statics)
+  pub same_is : desc.same ≡ text.same
+  pub share_is : desc.share ≡ text.share
+
+-- what is described where there is no fault, or the first fault
+abbrev pub Describes : Program → DescText → Result Desc DescFault → Type 0
+Describes p text (Ok desc) = (desc_fault p text ≡ None) × IsDescribed p text desc
+Describes p text (Err fault) = IsDue fault (desc_fault p text)
+
+-- As many inputs as the program has, at most 2,048; and pairs of two different ones.
+pub record IsGoodDesc (p : Program) (desc : Desc) : Type 0 where
+  pub count : length desc.inputs ≡ length (slots_of p)
+  pub few : length desc.inputs ≤ 2048
+  pub pairs : All (IsPairBelow (length desc.inputs)) (desc.same ++ desc.share)

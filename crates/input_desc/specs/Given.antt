@@ -1,0 +1,45 @@
+-- What a program asks for: a value for each parameter of its entry method and for each of its static fields. These are its inputs.
+use Rattle.std.specs.Prelude.{ℕ, pos, List, [], ◌++◌, slice_get, map, Option, Some, None}
+use Rattle.std.specs.Option.{option_map_or}
+use Rattle.jvm_values.specs.declared.types.Kind.TheVariants as kinds
+use Rattle.jvm_values.specs.declared.types.Slot.{Slot}
+use Rattle.jvm_values.specs.declared.types.Slot.TheVariants as slots
+use Rattle.jvm_values.specs.declared.heap.Value.{Value}
+use Rattle.jvm_values.specs.declared.heap.Value.TheVariants.{Int, Null}
+use Rattle.class_program.specs.declared.program.StaticField.{StaticField}
+use Rattle.class_program.specs.Programs.{Program}
+
+-- what the parameters of the entry method hold; its number is 0
+abbrev pub params_of : Program → List Slot
+params_of p = option_map_or (λ m. m.params) (slice_get p.methods 0) []
+
+-- what a static field holds
+abbrev pub field_slot : StaticField → Slot
+field_slot s = s.slot
+
+-- what the static fields hold
+abbrev pub statics_of : Program → List Slot
+statics_of p = map field_slot p.statics
+
+-- what an argument is: for a number of each kind it is any int (JVM specification, SE 8, section 2.11.1)
+abbrev pub argument_slot : Slot → Slot
+argument_slot (slots.Num kind) = slots.Num kinds.Int
+argument_slot (slots.Ref t) = slots.Ref t
+
+-- what inputs are: those of parameters and then those of static fields
+abbrev pub inputs_of : List Slot → List Slot → List Slot
+inputs_of params fields = map argument_slot params ++ fields
+
+-- what the inputs of a program are
+abbrev pub slots_of : Program → List Slot
+slots_of p = inputs_of (params_of p) (statics_of p)
+
+-- what a static field holds that nothing was said of (JVM specification, SE 8, sections 2.3 and 2.4)
+abbrev pub initial_value : Slot → Value
+initial_value (slots.Num kind) = Int (pos 0)
+initial_value (slots.Ref t) = Null
+
+-- the values of static fields: those that are given, or the initial ones
+abbrev pub static_values : List Slot → Option (List Value) → List Value
+static_values fields (Some values) = values
+static_values fields None = map initial_value fields

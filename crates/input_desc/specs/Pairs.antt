@@ -1,0 +1,24 @@
+-- Pairs of inputs.
+use Rattle.std.specs.Prelude.{◌≢◌, ℕ, ◌<◌, ◌==◌, ◌&&◌, not, Bool, true, false, List, slice_get}
+use Rattle.std.specs.Option.{option_map_or}
+use Rattle.jvm_values.specs.declared.types.Slot.{Slot}
+use Rattle.jvm_values.specs.declared.types.Slot.TheVariants as slots
+
+abbrev pub is_reference_slot : Slot → Bool
+is_reference_slot (slots.Num kind) = false
+is_reference_slot (slots.Ref t) = true
+
+-- the input of a number is a reference
+abbrev pub is_reference_at : List Slot → ℕ → Bool
+is_reference_at wanted n = option_map_or is_reference_slot (slice_get wanted n) false
+
+-- two different reference inputs
+abbrev pub is_pair : List Slot → ℕ × ℕ → Bool
+is_pair wanted pair = not (pair.0 == pair.1) && (is_reference_at wanted pair.0 && is_reference_at wanted pair.1)
+
+abbrev pub is_no_pair : List Slot → ℕ × ℕ → Bool
+is_no_pair wanted pair = not (is_pair wanted pair)
+
+-- two different numbers below one
+abbrev pub IsPairBelow : ℕ → ℕ × ℕ → Type 0
+IsPairBelow count pair = (pair.0 ≢ pair.1) × ((pair.0 < count) × (pair.1 < count))

@@ -1,0 +1,90 @@
+//! What a program asks for.
+ghost use Rattle.std.specs.Prelude.{◌≡◌, IfOk, map};
+ghost use Rattle.class_program.specs.Views.{program_of};
+ghost use Rattle.input_desc.specs.Given.{argument_slot, field_slot, initial_value, slots_of, statics_of, static_values};
+
+use class_program::{Program, StaticField};
+use jvm_values::{Kind, Slot, Value};
+use list_views::Seq;
+use std::alloc::{AllocError, Global};
+
+/// What an argument is.
+fn argument_slot(slot: Slot) -> Slot
+    ensures { result ≡ argument_slot slot }
+{
+    match slot {
+        Slot::Num(_) => Slot::Num(Kind::Int),
+        Slot::Ref(t) => Slot::Ref(t),
+    }
+}
+
+/// What arguments are.
+fn argument_slots(alloc: Global, params: &[Slot]) -> Result<Seq<Slot>, AllocError>
+    ensures { IfOk result (λ slots. slots ≡ map argument_slot params.now) }
+{
+    let mut slots = Seq::new(alloc);
+    for slot in params {
+        slots.push(argument_slot(*slot))?;
+    }
+    Ok(slots)
+}
+
+/// What static fields hold.
+fn field_slots(alloc: Global, fields: &[StaticField<'_>]) -> Result<Seq<Slot>, AllocError>
+    ensures { IfOk result (λ slots. slots ≡ map field_slot fields.now) }
+{
+    let mut slots = Seq::new(alloc);
+    for field in fields {
+        slots.push(field.slot)?;
+    }
+    Ok(slots)
+}
+
+/// What the inputs of a program are.
+pub(crate) fn inputs(alloc: Global, program: &Program<'_>) -> Result<Seq<Slot>, AllocError>
+    ensures { IfOk result (λ slots. slots ≡ slots_of (program_of program.now)) }
+{
+    program.is_good();
+    let mut slots = argument_slots(alloc, program.methods.at(0).params.as_slice())?;
+    let fields = field_slots(alloc, program.statics.as_slice())?;
+    slots.extend_from_slice(fields.as_slice())?;
+    Ok(slots)
+}
+
+/// What a static field holds that nothing was said of.
+fn initial_value(slot: Slot) -> Value
+    ensures { result ≡ initial_value slot }
+{
+    match slot {
+        Slot::Num(_) => Value::Int(0),
+        Slot::Ref(_) => Value::Null,
+    }
+}
+
+/// The values of static fields of which nothing was said.
+fn initial_values(alloc: Global, slots: &[Slot]) -> Result<Seq<Value>, AllocError>
+    ensures { IfOk result (λ values. values ≡ map initial_value slots.now) }
+{
+    let mut values = Seq::new(alloc);
+    for slot in slots {
+        values.push(initial_value(*slot))?;
+    }
+    Ok(values)
+}
+
+/// The values of the static fields: those that are given, or the initial ones.
+pub(crate) fn static_values(
+    alloc: Global,
+    program: &Program<'_>,
+    given: Option<Seq<Value>>,
+) -> Result<Seq<Value>, AllocError>
+    ensures { IfOk result (λ values. values ≡ static_values (statics_of (program_of program.now)) given) }
+{
+    match given {
+        Some(values) => Ok(values),
+        None => {
+            let fields = field_slots(alloc, program.statics.as_slice())?;
+            initial_values(alloc, fields.as_slice())
+        }
+    }
+}
