@@ -21,7 +21,7 @@ MANY = ('class A;method f ()V static stack 2 locals 2;iconst_0;ifne others;sipus
 
 def many(methods, objects):
     calls = ' '.join('invokestatic A m%d ()V;' % n for n in range(methods))
-    bodies = ';'.join('method m%d ()V static stack 0 locals 0;return;end' % n for n in range(methods))
+    bodies = '|'.join('method m%d ()V static stack 0 locals 0;return;end' % n for n in range(methods))
     return MANY % (objects, calls, bodies)
 
 

@@ -63,11 +63,11 @@ impl<'a> Entry<'a> {
     }
 }
 
-/// The class file of a listing whose lines are divided by semicolons.
+/// The class file of a listing whose lines are divided by vertical bars.
 fn class_file(alloc: Global, listing: &str) -> Result<Vec<u8>> {
     let mut text = Vec::new(alloc);
     for b in listing.as_bytes() {
-        text.push(if *b == b';' { b'\n' } else { *b })?;
+        text.push(if *b == b'|' { b'\n' } else { *b })?;
     }
     match assemble(alloc, text.as_slice()) {
         Ok(file) => Ok(file.into_vec()),

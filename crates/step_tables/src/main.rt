@@ -1,6 +1,6 @@
 //! Tells single steps of small programs: each line of the input is the word `step`, a tab and the fields of a case, divided by
 //! tabs. The fields are a number of steps, the class, name and descriptor of a method without parameters, and the listings of
-//! the classes, whose lines are divided by semicolons. The answer to each comes on a line of its own: the state after so many
+//! the classes, whose lines are divided by vertical bars. The answer to each comes on a line of its own: the state after so many
 //! steps from the start, `->`, and the state after one more, or how the run ends there.
 #![tactic(auto)]
 
