@@ -21,7 +21,7 @@ MANY = ('class A;method f ()V static stack 2 locals 2;iconst_0;ifne others;sipus
 
 def many(methods, objects):
     calls = ' '.join('invokestatic A m%d ()V;' % n for n in range(methods))
-    bodies = '|'.join('method m%d ()V static stack 0 locals 0;return;end' % n for n in range(methods))
+    bodies = ';'.join('method m%d ()V static stack 0 locals 0;return;end' % n for n in range(methods))
     return MANY % (objects, calls, bodies)
 
 
@@ -34,7 +34,7 @@ CASES = [
 
 
 def line(listing, steps):
-    return ('step\t%d\tA\tf\t()V\t%s\n' % (steps, listing)).encode()
+    return ('step\t%d\tA\tf\t()V\t%s\n' % (steps, listing.replace(';', '|'))).encode()
 
 
 def main():
