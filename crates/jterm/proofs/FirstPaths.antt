@@ -5,9 +5,8 @@ use Rattle.std.specs.List.{list_all}
 use Rattle.jvm_values.specs.declared.types.Kind.TheVariants as kinds
 use Rattle.jvm_values.specs.declared.types.Slot.{Slot}
 use Rattle.jvm_values.specs.declared.types.Slot.TheVariants.{Num, Ref}
-use Rattle.class_world.specs.World.{World}
 use Rattle.class_program.specs.declared.program.Method.{Method}
-use Rattle.jterm.specs.declared.form.Form.{Form}
+use Rattle.jterm.specs.declared.form.StraightForm.{StraightForm}
 use Rattle.class_program.specs.Instructions.{is_placed}
 use Rattle.class_program.specs.Programs.{Program}
 use Rattle.jterm.specs.Forms.{forms_of}
@@ -47,39 +46,39 @@ all-ints (suc count) = all-ints count
 
 -- ---- methods
 
-pub IsStraight-Passes : (world : World) (params : ℕ) (method : Method) (forms : List (ℕ × Form)) → IsTrue (is_placed method.insns) → forms_of method.insns ≡ Some forms → IsIntMethod params method → Passes params method.max_stack method.max_locals forms → IsStraight world params method
-IsStraight-Passes world params method forms rising e of_ints passes = record {
+pub IsStraight-Passes : (p : Program) (params : ℕ) (method : Method) (forms : List (ℕ × StraightForm)) → IsTrue (is_placed method.insns) → forms_of method.insns ≡ Some forms → IsIntMethod params method → Passes params method.max_stack method.max_locals forms → IsStraight p params method
+IsStraight-Passes p params method forms rising e of_ints passes = record {
   of_ints = of_ints;
   forms = forms;
   forms_are = e;
   returns = ReturnsLast-Passes params method.max_stack method.max_locals forms passes;
-  typed = HasTyping-Passes world method params kinds.Int forms of_ints.takes of_ints.gives of_ints.no_table (reads_of method.insns forms e rising) passes;
+  typed = HasTyping-Passes p method params kinds.Int forms of_ints.takes of_ints.gives of_ints.no_table (reads_of method.insns forms e rising) passes;
 }
 
 some_is : {A : Type 0} (a b : A) → (let o : Option A = Some a in o) ≡ Some b → a ≡ b
 some_is a b e = cc
 
-pub Passes-IsStraight : (world : World) (params : ℕ) (method : Method) (forms : List (ℕ × Form)) → IsTrue (is_placed method.insns) → forms_of method.insns ≡ Some forms → IsStraight world params method → Passes params method.max_stack method.max_locals forms
-Passes-IsStraight world params method forms rising e p =
-    subst (Passes params method.max_stack method.max_locals) (some_is p.forms forms (sym p.forms_are ∙ e))
-    (Passes-HasTyping world method params p.forms p.of_ints.takes (reads_of method.insns p.forms p.forms_are rising) p.returns p.typed)
+pub Passes-IsStraight : (p : Program) (params : ℕ) (method : Method) (forms : List (ℕ × StraightForm)) → IsTrue (is_placed method.insns) → forms_of method.insns ≡ Some forms → IsStraight p params method → Passes params method.max_stack method.max_locals forms
+Passes-IsStraight p params method forms rising e s =
+    subst (Passes params method.max_stack method.max_locals) (some_is s.forms forms (sym s.forms_are ∙ e))
+    (Passes-HasTyping p method params s.forms s.of_ints.takes s.of_ints.no_table (reads_of method.insns s.forms s.forms_are rising) s.returns s.typed)
 
-pub straight_answer : (params : ℕ) (method : Method) (forms : List (ℕ × Form)) (answer : Bool) → IsTrue (is_placed method.insns) → forms_of method.insns ≡ Some forms → IsIntMethod params method → IsTrue answer ↔ Passes params method.max_stack method.max_locals forms → (world : World) → IsTrue answer ↔ IsStraight world params method
-straight_answer params method forms answer rising e of_ints h world = (
-  λ t. IsStraight-Passes world params method forms rising e of_ints (h.0 t),
-  λ p. h.1 (Passes-IsStraight world params method forms rising e p),
+pub straight_answer : (params : ℕ) (method : Method) (forms : List (ℕ × StraightForm)) (answer : Bool) → IsTrue (is_placed method.insns) → forms_of method.insns ≡ Some forms → IsIntMethod params method → IsTrue answer ↔ Passes params method.max_stack method.max_locals forms → (p : Program) → IsTrue answer ↔ IsStraight p params method
+straight_answer params method forms answer rising e of_ints h p = (
+  λ t. IsStraight-Passes p params method forms rising e of_ints (h.0 t),
+  λ s. h.1 (Passes-IsStraight p params method forms rising e s),
 )
 
 -- without forms
-pub no_forms : (world : World) (params : ℕ) (method : Method) → forms_of method.insns ≡ None → IsStraight world params method → ⊥
-no_forms world params method e p = let f = p.forms_are in cc
+pub no_forms : (p : Program) (params : ℕ) (method : Method) → forms_of method.insns ≡ None → IsStraight p params method → ⊥
+no_forms p params method e s = let f = s.forms_are in cc
 
 -- ---- programs
 
-pub first_path_answer : (params : ℕ) (program : Program) (method : Method) (answer : Bool) → program.methods ≡ method ∷ [] → program.statics ≡ [] → ((world : World) → IsTrue answer ↔ IsStraight world params method) → IsTrue answer ↔ IsFirstPath params program
+pub first_path_answer : (params : ℕ) (program : Program) (method : Method) (answer : Bool) → program.methods ≡ method ∷ [] → program.statics ≡ [] → ((p : Program) → IsTrue answer ↔ IsStraight p params method) → IsTrue answer ↔ IsFirstPath params program
 first_path_answer params program method answer only statics h = (
-  λ t. record { method = method; only = only; straight = (h program.world).0 t; statics = statics },
-  λ p. (h program.world).1 (subst (IsStraight program.world params) (same p.method method (sym p.only ∙ only)) p.straight),
+  λ t. record { method = method; only = only; straight = (h program).0 t; statics = statics },
+  λ p. (h program).1 (subst (IsStraight program params) (same p.method method (sym p.only ∙ only)) p.straight),
 )
   where
     same : (a b : Method) → a ∷ [] ≡ b ∷ [] → a ≡ b

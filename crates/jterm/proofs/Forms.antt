@@ -4,12 +4,14 @@ use Rattle.std.specs.Int.{w32, int_wrap}
 use Rattle.std.specs.Prelude.{◌+ℤ◌}
 use Rattle.jvm_values.specs.declared.heap.Value.{Value}
 use Rattle.jvm_values.specs.declared.heap.Value.TheVariants.{Int, Null, Ref}
-use Rattle.jvm_values.specs.States.{MachineFrame, PlaceTypes}
-use Rattle.jterm.specs.Options.{◌>>=◌}
-use Rattle.jterm.specs.Machine.{top_int, int_of_local, iconst_of, iload_of, istore_of, iadd_of}
+use Rattle.jvm_values.specs.declared.ints.IntOp.TheVariants as operators
 use Rattle.jvm_values.specs.declared.typing.PlaceType.{PlaceType}
 use Rattle.jvm_values.specs.declared.typing.PlaceType.TheVariants as holding
-use Rattle.jterm.specs.Typing.{top_int_place, int_place, iconst_types, iload_types, istore_types, iadd_types}
+use Rattle.jvm_values.specs.States.{MachineFrame, PlaceTypes}
+use Rattle.jvm_step.specs.Operands.{top_int}
+use Rattle.jvm_step.specs.Effects.{Effect, int_of_local, constant_effect, iload_effect, istore_effect, arith_effect}
+use Rattle.jterm.specs.Options.{◌>>=◌}
+use Rattle.jterm.proofs.StraightRows.{top_int_place, int_place, int_pushed, local_pushed, int_stored, ints_added}
 
 -- what a place holds is of its type; of null and references nothing is asked
 abbrev pub Fills : PlaceType → Option Value → Type 0
@@ -34,10 +36,10 @@ pub record FillFrame (types : PlaceTypes) (frame : MachineFrame) : Type 0 where
   pub locals : FillLocals types.locals frame.locals
   pub stack : FillStack types.stack frame.stack
 
--- a form did something to a frame, and left these types
-pub record Makes (types : PlaceTypes) (frame : MachineFrame) (made : Option MachineFrame) : Type 0 where
+-- a form does something to a frame, and leaves these types
+pub record Makes (types : PlaceTypes) (frame : MachineFrame) (effect : Option (Effect MachineFrame)) : Type 0 where
   pub after : MachineFrame
-  pub made_is : made ≡ Some after
+  pub made_is : effect ≡ Some (Effect.Next after)
   pub same_method : after.method ≡ frame.method
   pub fits : FillFrame types after
 
@@ -63,13 +65,11 @@ take_int (holding.Int ∷ places) below (Ref r ∷ values) e f = let h : Some (R
 
 -- a local that the types have as an int is an int
 pub record ReadsInt (n : ℕ) (locals : List (Option Value)) : Type 0 where
-  pub local : Option Value
   pub int : ℤ
-  pub read : slice_get locals n ≡ Some local
-  pub int_is : int_of_local local ≡ Some int
+  pub read : slice_get locals n ≡ Some (Some (Int int))
 
 reads : (local : Option Value) (locals : List (Option Value)) → Fills holding.Int local → ReadsInt 0 (local ∷ locals)
-reads local locals f = record { local = local; int = f.0; read = refl; int_is = subst (λ (o : Option Value). int_of_local o ≡ Some f.0) (sym f.1) refl }
+reads local locals f = record { int = f.0; read = ap Some f.1 }
 
 reads_at : (p : PlaceType) (local : Option Value) (locals : List (Option Value)) → int_place p ≡ Some holding.Int → Fills p local → ReadsInt 0 (local ∷ locals)
 reads_at holding.Int local locals e f = reads local locals f
@@ -85,7 +85,7 @@ read_int zero (q ∷ types) (local ∷ locals) p e i f =
     reads_at q local locals (subst (λ (x : PlaceType). int_place x ≡ Some holding.Int) (sym same) i) f.0
 read_int (suc n) (q ∷ types) (local ∷ locals) p e i f =
     let r = read_int n types locals p e i f.1 in
-    record { local = r.local; int = r.int; read = r.read; int_is = r.int_is }
+    record { int = r.int; read = r.read }
 
 -- only an int is read as one
 pub int_place-int : (p q : PlaceType) → int_place p ≡ Some q → q ≡ holding.Int
@@ -116,8 +116,8 @@ and_then-some (Some a) f b e = (a, refl, e)
 pub some-same : {A : Type 0} (a b : A) → Some a ≡ Some b → a ≡ b
 some-same a b e = cc
 
-pub iconst_makes : (v : ℤ) (types after : PlaceTypes) (frame : MachineFrame) → iconst_types types ≡ Some after → FillFrame types frame → Makes after frame (iconst_of v frame)
-unfolding iconst_types iconst_of
+pub iconst_makes : (v : ℤ) (types after : PlaceTypes) (frame : MachineFrame) → int_pushed types ≡ Some after → FillFrame types frame → Makes after frame (constant_effect (Int v) frame)
+unfolding int_pushed constant_effect
 iconst_makes v types after frame e f =
     let same : record types { stack = holding.Int ∷ types.stack } ≡ after = some-same _ _ e in
     record {
@@ -127,8 +127,8 @@ iconst_makes v types after frame e f =
       fits = subst (λ (x : PlaceTypes). FillFrame x (record frame { stack = Int v ∷ frame.stack })) same (record { locals = f.locals; stack = ((v, refl), f.stack) });
     }
 
-pub iload_makes : (n : ℕ) (types after : PlaceTypes) (frame : MachineFrame) → iload_types n types ≡ Some after → FillFrame types frame → Makes after frame (iload_of n frame)
-unfolding iload_types iload_of
+pub iload_makes : (n : ℕ) (types after : PlaceTypes) (frame : MachineFrame) → local_pushed n types ≡ Some after → FillFrame types frame → Makes after frame (iload_effect n frame)
+unfolding local_pushed iload_effect int_of_local
 iload_makes n types after frame e f =
     let first = and_then-some _ _ _ e in
     let second = and_then-some _ _ _ first.2 in
@@ -138,13 +138,13 @@ iload_makes n types after frame e f =
     let made : MachineFrame = record frame { stack = Int r.int ∷ frame.stack } in
     record {
       after = made;
-      made_is = rw (r.read, r.int_is);
+      made_is = rw r.read;
       same_method = refl;
       fits = subst (λ (x : PlaceTypes). FillFrame x made) same (record { locals = f.locals; stack = subst (λ (q : PlaceType). FillStack (q ∷ types.stack) (Int r.int ∷ frame.stack)) (sym int) ((r.int, refl), f.stack) });
     }
 
-pub iadd_makes : (types after : PlaceTypes) (frame : MachineFrame) → iadd_types types ≡ Some after → FillFrame types frame → Makes after frame (iadd_of frame)
-unfolding iadd_types iadd_of
+pub iadd_makes : (types after : PlaceTypes) (frame : MachineFrame) → ints_added types ≡ Some after → FillFrame types frame → Makes after frame (arith_effect operators.Add frame)
+unfolding ints_added arith_effect
 iadd_makes types after frame e f =
     let first = and_then-some _ _ _ e in
     let second = and_then-some _ _ _ first.2 in
@@ -165,8 +165,8 @@ pub chosen : {A : Type 0} (b : Bool) (x y : A) → (if b then Some x else None) 
 chosen true x y e = (refl, some-same x y e)
 chosen false x y e = absurd (cc)
 
-pub istore_makes : (n : ℕ) (types after : PlaceTypes) (frame : MachineFrame) → istore_types n types ≡ Some after → FillFrame types frame → Makes after frame (istore_of n frame)
-unfolding istore_types istore_of
+pub istore_makes : (n : ℕ) (types after : PlaceTypes) (frame : MachineFrame) → int_stored n types ≡ Some after → FillFrame types frame → Makes after frame (istore_effect n frame)
+unfolding int_stored istore_effect
 istore_makes n types after frame e f =
     let first = and_then-some _ _ _ e in
     let here = chosen (nat_lt n (length types.locals)) _ after first.2 in

@@ -11,10 +11,10 @@ use Rattle.jvm_values.specs.declared.types.Kind.TheVariants as kinds
 use Rattle.jvm_values.specs.declared.types.Slot.TheVariants.{Num}
 use Rattle.jvm_values.specs.States.{MachineFrame, MachineState}
 use Rattle.jvm_values.specs.declared.state.Mode.TheVariants.{Normal}
-use Rattle.class_world.specs.World.{World}
+use Rattle.class_world.specs.WorldTypes.{types_of}
 use Rattle.class_program.specs.declared.program.Method.{Method}
-use Rattle.jterm.specs.declared.form.Form.{Form}
-use Rattle.jterm.specs.declared.form.Form.TheVariants.{Ireturn}
+use Rattle.jterm.specs.declared.form.StraightForm.{StraightForm}
+use Rattle.jterm.specs.declared.form.StraightForm.TheVariants.{Ireturn}
 use Rattle.jterm.specs.declared.line.Line.{Line}
 use Rattle.jterm.specs.Decision.{IsGood}
 use Rattle.jterm.specs.FirstPath.{IsStraight}
@@ -25,7 +25,9 @@ use Rattle.class_program.specs.Good.{IsGoodMethod, AllOf}
 use Rattle.class_program.proofs.GoodPrograms.{good_program}
 use Rattle.jvm_values.specs.declared.typing.PlaceType.{PlaceType}
 use Rattle.jvm_values.specs.declared.typing.PlaceType.TheVariants as holding
-use Rattle.jterm.specs.Typing.{entry_types, type_of_slot}
+use Rattle.jvm_values.specs.TypedHeaps.{WorldTypes}
+use Rattle.code_verify.specs.Operands.{place_of}
+use Rattle.code_verify.specs.Typings.{entry_frame}
 use Rattle.jterm.proofs.Forms.{FillLocals, FillStack}
 use Rattle.jterm.proofs.PassComplete.{within_length}
 use Rattle.jterm.proofs.Places.{FirstAtZero, Reads, reads_of}
@@ -36,18 +38,18 @@ fill_unset : (n : ℕ) → FillLocals (replicate n holding.Unset) (replicate n N
 fill_unset zero = tt
 fill_unset (suc n) = (tt, fill_unset n)
 
-fill_ints : (world : World) (ints : List ℤ) (n : ℕ) (places : List PlaceType) (locals : List (Option Value)) → length ints ≡ n → FillLocals places locals → FillLocals (map (type_of_slot world) (replicate n (Num kinds.Int)) ++ places) (map (λ v. Some (Int v)) ints ++ locals)
-fill_ints world [] zero places locals e f = f
-fill_ints world [] (suc n) places locals e f = absurd (omega arith)
-fill_ints world (v ∷ ints) zero places locals e f = absurd (omega arith)
-fill_ints world (v ∷ ints) (suc n) places locals e f = ((v, refl), fill_ints world ints n places locals (omega arith) f)
+fill_ints : (types : WorldTypes) (ints : List ℤ) (n : ℕ) (places : List PlaceType) (locals : List (Option Value)) → length ints ≡ n → FillLocals places locals → FillLocals (map (place_of types) (replicate n (Num kinds.Int)) ++ places) (map (λ v. Some (Int v)) ints ++ locals)
+fill_ints types [] zero places locals e f = f
+fill_ints types [] (suc n) places locals e f = absurd (omega arith)
+fill_ints types (v ∷ ints) zero places locals e f = absurd (omega arith)
+fill_ints types (v ∷ ints) (suc n) places locals e f = ((v, refl), fill_ints types ints n places locals (omega arith) f)
 
-record Head (is : List (ℕ × Form)) : Type 0 where
-  first : ℕ × Form
-  rest : List (ℕ × Form)
+record Head (is : List (ℕ × StraightForm)) : Type 0 where
+  first : ℕ × StraightForm
+  rest : List (ℕ × StraightForm)
   split : is ≡ first ∷ rest
 
-head_of : (is before : List (ℕ × Form)) (last : ℕ × Form) → is ≡ before ++ last ∷ [] → Head is
+head_of : (is before : List (ℕ × StraightForm)) (last : ℕ × StraightForm) → is ≡ before ++ last ∷ [] → Head is
 head_of is [] last e = record { first = last; rest = []; split = e }
 head_of is (i ∷ before) last e = record { first = i; rest = before ++ last ∷ []; split = e }
 
@@ -57,17 +59,17 @@ same_first methods a b only first =
     cc
 
 -- a state that the line fits stands at the start of its straight method
-stands : (program : Program) (method : Method) (line : Line) (s : IsStraight program.world line.params method) (state : MachineState) → program.methods ≡ method ∷ [] → FitsDescription line program state → (place : ℕ) → place ≡ 0 → Stands program.world program method s.typed.0 place state
+stands : (program : Program) (method : Method) (line : Line) (s : IsStraight program line.params method) (state : MachineState) → program.methods ≡ method ∷ [] → FitsDescription line program state → (place : ℕ) → place ≡ 0 → Stands program method s.typed.0 place state
 stands program method line s state only f place z =
-    let world : World = program.world in
+    let types : WorldTypes = types_of program.world in
     let entry = s.typed.1.entry in
     let takes = s.of_ints.takes in
     let counted : length method.params ≡ line.params = ap length takes ∙ length-replicate line.params (Num kinds.Int) in
     let same : f.method ≡ method = same_first program.methods method f.method only f.first in
     let unset : replicate (f.method.max_locals - line.params) None ≡ replicate (method.max_locals - line.params) None = ap (λ (m : Method). replicate {A = Option Value} (m.max_locals - line.params) None) same in
     let held : f.frame.locals ≡ map (λ v. Some (Int v)) f.ints ++ replicate (method.max_locals - line.params) None = f.locals ∙ ap (λ (os : List (Option Value)). map (λ v. Some (Int v)) f.ints ++ os) unset in
-    let locals : FillLocals (entry_types world method).locals f.frame.locals =
-    rw (counted, takes, held) (fill_ints world f.ints line.params (replicate (method.max_locals - line.params) holding.Unset) (replicate (method.max_locals - line.params) None) f.count (fill_unset (method.max_locals - line.params))) in
+    let locals : FillLocals (entry_frame types method).locals f.frame.locals =
+    rw (counted, takes, held) (fill_ints types f.ints line.params (replicate (method.max_locals - line.params) holding.Unset) (replicate (method.max_locals - line.params) None) f.count (fill_unset (method.max_locals - line.params))) in
     let stack : FillStack [] f.frame.stack = rw f.stack tt in
     record {
       frame = f.frame;
@@ -78,18 +80,18 @@ stands program method line s state only f place z =
       types = entry.there;
       typed = subst (λ (n : ℕ). s.typed.0 n ≡ Some entry.there) (sym z) entry.is_there;
       fits = record {
-        locals = FillLocals-within world (entry_types world method).locals entry.there.locals f.frame.locals entry.locals locals;
-        stack = FillStack-within world [] entry.there.stack f.frame.stack entry.stack stack;
+        locals = FillLocals-within types (entry_frame types method).locals entry.there.locals f.frame.locals entry.wide.locals locals;
+        stack = FillStack-within types [] entry.there.stack f.frame.stack entry.wide.stack stack;
       };
     }
 
 -- and its run finishes
-finishes : (program : Program) (method : Method) (line : Line) → IsStraight program.world line.params method → IsTrue (is_placed method.insns) → program.methods ≡ method ∷ [] → (state : MachineState) → FitsDescription line program state → Finishes program state
+finishes : (program : Program) (method : Method) (line : Line) → IsStraight program line.params method → IsTrue (is_placed method.insns) → program.methods ≡ method ∷ [] → (state : MachineState) → FitsDescription line program state → Finishes program state
 finishes program method line s placed only state f =
     let reads : Reads method.insns s.forms = reads_of method.insns s.forms s.forms_are placed in
     let head = head_of s.forms s.returns.before (s.returns.place, Ireturn) s.returns.last in
     let first : FirstAtZero (head.first ∷ head.rest) = subst FirstAtZero head.split reads.first in
-    finishes_from program.world program method s.typed.0 s.forms head.rest [] head.first s.typed.1 reads head.split state
+    finishes_from program method s.typed.0 s.forms head.rest [] head.first s.of_ints.no_table s.typed.1 reads head.split state
     (stands program method line s state only f head.first.0 first)
 
 -- ---- a state that the line fits
@@ -98,14 +100,15 @@ zero_fits : FitsSigned w32 (pos 0)
 zero_fits = fits_signed_from_abs w32 (pos 0) (omega arith)
 
 -- the parameters fit in the locals
-params_fit : (world : World) (params : ℕ) (method : Method) → IsStraight world params method → params ≤ method.max_locals
-params_fit world params method s =
+params_fit : (program : Program) (params : ℕ) (method : Method) → IsStraight program params method → params ≤ method.max_locals
+params_fit program params method s =
     let entry = s.typed.1.entry in
-    let same = within_length world (entry_types world method).locals entry.there.locals entry.locals in
-    let wide : length entry.there.locals ≡ method.max_locals = (s.typed.1.each 0 entry.there entry.is_there).locals in
+    let types : WorldTypes = types_of program.world in
+    let same = within_length types (entry_frame types method).locals entry.there.locals entry.wide.locals in
+    let wide : length entry.there.locals ≡ method.max_locals = (s.typed.1.each 0 entry.there entry.is_there).limits.proper.count in
     let counted : length method.params ≡ params = ap length s.of_ints.takes ∙ length-replicate params (Num kinds.Int) in
-    let split : length (entry_types world method).locals ≡ length (map (type_of_slot world) method.params) + length (replicate (method.max_locals - length method.params) holding.Unset) = length-append _ _ in
-    let front : length (map (type_of_slot world) method.params) ≡ length method.params = length-map method.params (type_of_slot world) in
+    let split : length (entry_frame types method).locals ≡ length (map (place_of types) method.params) + length (replicate (method.max_locals - length method.params) holding.Unset) = length-append _ _ in
+    let front : length (map (place_of types) method.params) ≡ length method.params = length-map method.params (place_of types) in
     omega (arith, same, wide, counted, split, front)
 
 -- zero for each parameter, and the other locals unset
@@ -126,7 +129,7 @@ frame_of locals = record { method = 0; pc = 0; locals = locals; stack = [] }
 abbrev state_of : MachineFrame → MachineState
 state_of frame = record { frames = frame ∷ []; heap = record { objects = [] }; mode = Normal; statics = [] }
 
-fitting : (program : Program) (method : Method) (line : Line) → IsStraight program.world line.params method → program.methods ≡ method ∷ [] → (state : MachineState) × FitsDescription line program state
+fitting : (program : Program) (method : Method) (line : Line) → IsStraight program line.params method → program.methods ≡ method ∷ [] → (state : MachineState) × FitsDescription line program state
 fitting program method line s only = (
   state_of (frame_of (zeros line.params method.max_locals)),
   record {
@@ -141,7 +144,7 @@ fitting program method line s only = (
     count = length-replicate line.params (pos 0);
     range = All-replicate (FitsSigned w32) line.params (pos 0) (zero_fits);
     locals = refl;
-    as_many = zeros_length line.params method.max_locals (params_fit program.world line.params method s);
+    as_many = zeros_length line.params method.max_locals (params_fit program line.params method s);
     stack = refl;
     mode = refl;
     statics = refl;

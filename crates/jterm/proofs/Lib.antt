@@ -6,6 +6,9 @@ pub mod Endings
 pub mod Runs
 pub mod Forms
 pub mod Places
+pub mod StraightForms
+pub mod StraightRows
+pub mod Turns
 pub mod Straight
 pub mod Tests
 pub mod Words

@@ -1,7 +1,7 @@
 -- The pass over a straight code.
 use Rattle.std.proofs.Common.{◌≡◌, ℕ, suc, ◌+◌, ◌-◌, ◌<◌, ◌≤◌, List, [], ◌∷◌, ◌++◌, length, drop, Some, None, refl, ap, sym, ◌∙◌, true, false, Bool, arith, append_assoc, replicate, add-one, drop-cons, get_or}
 use Rattle.std.proofs.lemmas.List.{replicate-append-replicate}
-use Rattle.jterm.specs.declared.form.Form.{Form}
+use Rattle.jterm.specs.declared.form.StraightForm.{StraightForm}
 use Rattle.jterm.specs.declared.typing.Known.{Known}
 use Rattle.jterm.specs.Pass.{known_after, known_along}
 
@@ -13,14 +13,14 @@ entry_more set new params k e h below =
     ∙ ap (λ (s : List Bool). replicate params true ++ s) (replicate-append-replicate (k - params) 1 false ∙ ap (λ (m : ℕ). replicate m false) n)
 
 -- the pass goes on over the next form
-pub known_along-drop : (max_stack : ℕ) (forms : List (ℕ × Form)) (i : ℕ) (form : ℕ × Form) (known after : Known) → i < length forms → form ≡ get_or forms i form → known_after max_stack form.1 known ≡ Some after → known_along max_stack (drop i forms) known ≡ known_along max_stack (drop (i + 1) forms) after
+pub known_along-drop : (max_stack : ℕ) (forms : List (ℕ × StraightForm)) (i : ℕ) (form : ℕ × StraightForm) (known after : Known) → i < length forms → form ≡ get_or forms i form → known_after max_stack form.1 known ≡ Some after → known_along max_stack (drop i forms) known ≡ known_along max_stack (drop (i + 1) forms) after
 known_along-drop max_stack forms i form known after below e h =
     let d : drop i forms ≡ get_or forms i form ∷ drop (suc i) forms = drop-cons forms i form below in
-    let f : drop i forms ≡ form ∷ drop (suc i) forms = d ∙ ap (λ (x : ℕ × Form). x ∷ drop (suc i) forms) (sym e) in
+    let f : drop i forms ≡ form ∷ drop (suc i) forms = d ∙ ap (λ (x : ℕ × StraightForm). x ∷ drop (suc i) forms) (sym e) in
     rw (f, h, add-one) refl
 
-pub known_along-stop : (max_stack : ℕ) (forms : List (ℕ × Form)) (i : ℕ) (form : ℕ × Form) (known : Known) → i < length forms → form ≡ get_or forms i form → known_after max_stack form.1 known ≡ None → known_along max_stack (drop i forms) known ≡ None
+pub known_along-stop : (max_stack : ℕ) (forms : List (ℕ × StraightForm)) (i : ℕ) (form : ℕ × StraightForm) (known : Known) → i < length forms → form ≡ get_or forms i form → known_after max_stack form.1 known ≡ None → known_along max_stack (drop i forms) known ≡ None
 known_along-stop max_stack forms i form known below e h =
     let d : drop i forms ≡ get_or forms i form ∷ drop (suc i) forms = drop-cons forms i form below in
-    let f : drop i forms ≡ form ∷ drop (suc i) forms = d ∙ ap (λ (x : ℕ × Form). x ∷ drop (suc i) forms) (sym e) in
+    let f : drop i forms ≡ form ∷ drop (suc i) forms = d ∙ ap (λ (x : ℕ × StraightForm). x ∷ drop (suc i) forms) (sym e) in
     rw (f, h) refl

@@ -3,7 +3,8 @@ use Rattle.std.proofs.Common.{◌≡◌, ℕ, zero, suc, Option, ap, sym, ◌∙
 use Rattle.jvm_values.specs.declared.heap.Value.{Value}
 use Rattle.jvm_values.specs.States.{MachineState}
 use Rattle.class_program.specs.Programs.{Program}
-use Rattle.jterm.specs.Machine.{Going, Returned, Stuck, step, step_on, run, IsEnd, Ends, IsNeverStuck}
+use Rattle.jvm_step.specs.Running.Step.{Going, Returned, Stuck}
+use Rattle.jvm_step.specs.Running.{step, step_on, run, IsEnd, Ends, IsNeverStuck}
 
 -- a run ends and is never stuck
 pub record Finishes (program : Program) (state : MachineState) : Type 0 where

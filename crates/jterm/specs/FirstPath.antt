@@ -3,17 +3,16 @@ use Rattle.std.specs.Prelude.{◌≡◌, ◌≢◌, ℕ, Bool, true, false, List
 use Rattle.jvm_values.specs.declared.types.Kind.TheVariants as kinds
 use Rattle.jvm_values.specs.declared.types.Slot.{Slot}
 use Rattle.jvm_values.specs.declared.types.Slot.TheVariants.{Num}
-use Rattle.class_world.specs.World.{World}
 use Rattle.class_program.specs.declared.program.Method.{Method}
 use Rattle.class_program.specs.Programs.{Program}
-use Rattle.jterm.specs.declared.form.Form.{Form}
-use Rattle.jterm.specs.declared.form.Form.TheVariants.{Ireturn}
+use Rattle.code_verify.specs.Typings.{HasTyping}
+use Rattle.jterm.specs.declared.form.StraightForm.{StraightForm}
+use Rattle.jterm.specs.declared.form.StraightForm.TheVariants.{Ireturn}
 use Rattle.jterm.specs.Forms.{forms_of}
-use Rattle.jterm.specs.Typing.{HasTyping}
 
--- ireturn stands at the end, and nowhere else
-pub record ReturnsLast (forms : List (ℕ × Form)) : Type 0 where
-  pub before : List (ℕ × Form)
+-- an ireturn stands at the end, and nowhere else
+pub record ReturnsLast (forms : List (ℕ × StraightForm)) : Type 0 where
+  pub before : List (ℕ × StraightForm)
   pub place : ℕ
   pub last : forms ≡ before ++ (place, Ireturn) ∷ []
   pub nowhere_else : All (λ i. i.1 ≢ Ireturn) before
@@ -29,17 +28,17 @@ pub record IsIntMethod (params : ℕ) (method : Method) : Type 0 where
   pub gives : method.result ≡ Some (Num kinds.Int)
   pub no_table : method.table ≡ []
 
--- such a method whose code is a list of the forms with an ireturn at the end and nowhere else, and has a typing
-pub record IsStraight (world : World) (params : ℕ) (method : Method) : Type 0 where
+-- such a method whose code is a list of these forms with an ireturn at the end and nowhere else, and has a typing
+pub record IsStraight (program : Program) (params : ℕ) (method : Method) : Type 0 where
   pub of_ints : IsIntMethod params method
-  pub forms : List (ℕ × Form)
+  pub forms : List (ℕ × StraightForm)
   pub forms_are : forms_of method.insns ≡ Some forms
   pub returns : ReturnsLast forms
-  pub typed : HasTyping world method
+  pub typed : HasTyping program method
 
 -- a program of one such method, without static fields
 pub record IsFirstPath (params : ℕ) (program : Program) : Type 0 where
   pub method : Method
   pub only : program.methods ≡ method ∷ []
-  pub straight : IsStraight program.world params method
+  pub straight : IsStraight program params method
   pub statics : program.statics ≡ []

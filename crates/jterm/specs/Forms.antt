@@ -1,43 +1,26 @@
--- The instructions that the machine's table has so far.
-use Rattle.std.specs.Prelude.{ℕ, List, [], ◌∷◌, pos, negsuc, Option, Some, None, option_and_then}
+-- The instructions of the programs that are decided so far.
+use Rattle.std.specs.Prelude.{ℕ, List, [], ◌∷◌, Option, Some, None, option_and_then}
 use Rattle.std.specs.Option.{option_map}
-use Rattle.code_decode.specs.declared.insn.Insn.{Insn}
-use Rattle.code_decode.specs.declared.insn.Insn.TheVariants as insns
+use Rattle.jvm_values.specs.declared.ints.IntOp.TheVariants as operators
 use Rattle.class_program.specs.declared.op.Op.{Op}
-use Rattle.class_program.specs.declared.op.Op.TheVariants as ops
-use Rattle.jterm.specs.declared.form.Form.{Form}
-use Rattle.jterm.specs.declared.form.Form.TheVariants.{Iconst, Iload, Istore, Iadd, Ireturn}
+use Rattle.op_forms.specs.Forms.{Form, form_of}
+use Rattle.jterm.specs.declared.form.StraightForm.{StraightForm}
+use Rattle.jterm.specs.declared.form.StraightForm.TheVariants.{Iconst, Iload, Istore, Iadd, Ireturn}
 
--- the form of an instruction that names nothing; the short forms of an instruction mean what its long form means
-abbrev pub form_of_insn : Insn → Option Form
-form_of_insn insns.IconstM1 = Some (Iconst (negsuc 0))
-form_of_insn insns.Iconst0 = Some (Iconst (pos 0))
-form_of_insn insns.Iconst1 = Some (Iconst (pos 1))
-form_of_insn insns.Iconst2 = Some (Iconst (pos 2))
-form_of_insn insns.Iconst3 = Some (Iconst (pos 3))
-form_of_insn insns.Iconst4 = Some (Iconst (pos 4))
-form_of_insn insns.Iconst5 = Some (Iconst (pos 5))
-form_of_insn (insns.Bipush v) = Some (Iconst v)
-form_of_insn (insns.Iload n) = Some (Iload n)
-form_of_insn insns.Iload0 = Some (Iload 0)
-form_of_insn insns.Iload1 = Some (Iload 1)
-form_of_insn insns.Iload2 = Some (Iload 2)
-form_of_insn insns.Iload3 = Some (Iload 3)
-form_of_insn (insns.Istore n) = Some (Istore n)
-form_of_insn insns.Istore0 = Some (Istore 0)
-form_of_insn insns.Istore1 = Some (Istore 1)
-form_of_insn insns.Istore2 = Some (Istore 2)
-form_of_insn insns.Istore3 = Some (Istore 3)
-form_of_insn insns.Iadd = Some Iadd
-form_of_insn insns.Ireturn = Some Ireturn
-form_of_insn _ = None
+-- a form that pushes an int, reads or sets an int of a local, adds two ints, or returns one; none of the others
+abbrev pub straight_form : Form → Option StraightForm
+straight_form (Form.Iconst v) = Some (Iconst v)
+straight_form (Form.Iload n) = Some (Iload n)
+straight_form (Form.Istore n) = Some (Istore n)
+straight_form (Form.Arith operators.Add) = Some Iadd
+straight_form Form.Ireturn = Some Ireturn
+straight_form _ = None
 
--- the form of an instruction; none where the table does not have it yet
-abbrev pub form_of : Op → Option Form
-form_of (ops.Plain insn) = form_of_insn insn
-form_of _ = None
+-- the same of an instruction
+unfoldable pub straight_of : Op → Option StraightForm
+straight_of op = option_and_then straight_form (form_of op)
 
--- the forms of instructions, each with its place, where all have one
-abbrev pub forms_of : List (ℕ × Op) → Option (List (ℕ × Form))
+-- the forms of instructions, each with its place, where all have such a one
+abbrev pub forms_of : List (ℕ × Op) → Option (List (ℕ × StraightForm))
 forms_of [] = Some []
-forms_of (i ∷ insns) = option_and_then (λ form. option_map (λ forms. (i.0, form) ∷ forms) (forms_of insns)) (form_of i.1)
+forms_of (i ∷ insns) = option_and_then (λ form. option_map (λ forms. (i.0, form) ∷ forms) (forms_of insns)) (straight_of i.1)

@@ -16,7 +16,7 @@ use Rattle.class_world.specs.declared.world.MethodRef.{MethodRef}
 use Rattle.class_program.specs.declared.program.Method.{Method}
 use Rattle.class_program.specs.Programs.{Program, IsClosed}
 use Rattle.jterm.specs.declared.line.Line.{Line}
-use Rattle.jterm.specs.Machine.{Ends, IsNeverStuck}
+use Rattle.jvm_step.specs.Running.{Ends, IsNeverStuck}
 use Rattle.jterm.specs.Description.{IsLine, int_descriptor}
 
 -- ---- what class files and a description name
@@ -64,7 +64,7 @@ pub record NameProgram (files : List (List ℕ)) (desc : List ℕ) (line : Line)
 
 -- The state fits the line in the program, whose first method takes the line's ints and nothing else: one frame of that
 -- method at its start, as many locals as it may have, an int in each parameter's local, the other locals unset, an empty
--- stack, and normal mode. It has no values of static fields. The heap is any, since none of the forms reads it.
+-- stack, and normal mode. It has no values of static fields. The heap is any.
 pub record FitsDescription (line : Line) (program : Program) (state : MachineState) : Type 0 where
   pub method : Method
   pub first : slice_get program.methods 0 ≡ Some method

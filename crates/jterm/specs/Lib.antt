@@ -1,7 +1,5 @@
 pub mod Options
 pub mod Forms
-pub mod Machine
-pub mod Typing
 pub mod Description
 pub mod Headline
 pub mod FirstPath

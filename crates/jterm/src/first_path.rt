@@ -3,7 +3,7 @@ ghost use Rattle.std.specs.Prelude.{◌≡◌, ◌↔◌, ℕ, List, [], ◌∷�
 ghost use Rattle.std.specs.List.{list_all};
 ghost use Rattle.jvm_values.specs.declared.types.Kind.TheVariants as kinds;
 ghost use Rattle.jvm_values.specs.declared.types.Slot.TheVariants.{Num};
-ghost use Rattle.class_world.specs.World.{World};
+ghost use Rattle.class_program.specs.Programs.{Program as ProgramSeen};
 ghost use Rattle.class_program.specs.Views.{program_of};
 ghost use Rattle.jterm.specs.FirstPath.{is_int, IsIntMethod, IsStraight, IsFirstPath};
 
@@ -56,9 +56,9 @@ fn is_int_method(method: &Method<'_>, params: u8) -> bool
         && method.table.is_empty()
 }
 
-/// Whether the method takes so many ints and is straight, in whatever world.
+/// Whether the method takes so many ints and is straight, in whatever program.
 fn is_straight(alloc: Global, params: u8, method: &Method<'_>) -> Result<bool, AllocError>
-    ensures { IfOk result (λ answer. (world : World) → IsTrue answer ↔ IsStraight world params method.now) }
+    ensures { IfOk result (λ answer. (p : ProgramSeen) → IsTrue answer ↔ IsStraight p params method.now) }
 {
     if !is_int_method(method, params) {
         return Ok(false);

@@ -17,7 +17,6 @@ mod typing;
 mod verdict;
 
 pub use decision::decide;
-pub use form::Form;
 pub use laws::{answers_are_one, some_state_fits};
 pub use line::Line;
 pub use top::{Done, jterm};

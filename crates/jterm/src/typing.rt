@@ -2,12 +2,12 @@
 ghost use Rattle.std.specs.Prelude.{◌≡◌, ◌≤◌, IfOk, IsTrue, MatchBool, ◌↔◌, false, slice_index_or, None, Some};
 ghost use Rattle.jterm.specs.Pass.{Passes, entry_known, known_after, pushed, stored, added};
 
-use crate::form::Form;
+use crate::form::StraightForm;
 use list_views::Seq;
 use std::alloc::{AllocError, Global};
 
 /// What is known of a frame at a place of a straight code.
-#[derive(Debug, Drop)]
+#[derive(Drop)]
 pub struct Known {
     /// For each local whether it holds an int.
     pub set: Seq<bool>,
@@ -32,7 +32,7 @@ impl Known {
     }
 
     /// Whether a local holds an int.
-    fn is_set(&self, local: u8) -> bool
+    fn is_set(&self, local: u16) -> bool
         ensures { result ≡ slice_index_or self.now.set local false }
     {
         let local = usize::from(local);
@@ -51,7 +51,7 @@ impl Known {
     }
 
     /// Takes an int into a local, where there are both, and says so.
-    fn store(&mut self, local: u8) -> bool
+    fn store(&mut self, local: u16) -> bool
         ensures { MatchBool result (stored local self.old ≡ Some self.new) (stored local self.old ≡ None) }
     {
         let local = usize::from(local);
@@ -75,15 +75,15 @@ impl Known {
     }
 
     /// Goes over a form that isn't the last, where it finds what it needs, and says so.
-    fn runs(&mut self, form: Form, max_stack: u16) -> bool
+    fn runs(&mut self, form: StraightForm, max_stack: u16) -> bool
         ensures { MatchBool result (known_after max_stack form self.old ≡ Some self.new) (known_after max_stack form self.old ≡ None) }
     {
         match form {
-            Form::Iconst(_) => self.push(max_stack),
-            Form::Iload(local) => self.is_set(local) && self.push(max_stack),
-            Form::Istore(local) => self.store(local),
-            Form::Iadd => self.add(),
-            Form::Ireturn => false,
+            StraightForm::Iconst(_) => self.push(max_stack),
+            StraightForm::Iload(local) => self.is_set(local) && self.push(max_stack),
+            StraightForm::Istore(local) => self.store(local),
+            StraightForm::Iadd => self.add(),
+            StraightForm::Ireturn => false,
         }
     }
 }
@@ -96,7 +96,7 @@ impl Known {
 /// Want of memory.
 pub fn has_typing(
     alloc: Global,
-    forms: &[(u16, Form)],
+    forms: &[(u16, StraightForm)],
     params: u16,
     max_stack: u16,
     max_locals: u16,
@@ -106,7 +106,7 @@ pub fn has_typing(
     if params > max_locals {
         return Ok(false);
     }
-    let Some(((_, Form::Ireturn), before)) = forms.split_last() else {
+    let Some(((_, StraightForm::Ireturn), before)) = forms.split_last() else {
         return Ok(false);
     };
     let mut known = Known::at_entry(alloc, params, max_locals)?;

@@ -92,6 +92,16 @@ fn constants_that_no_instruction_needs_change_nothing(rt: HostRuntime) -> Result
 }
 
 #[test]
+fn an_int_is_pushed_and_kept_by_each_spelling(rt: HostRuntime) -> Result<(), Fail> {
+    let listing =
+        b"class A\nmethod f ()I static stack 2 locals 301\nsipush 300\nistore 300\nldc int 70000\niload 300\niadd\nireturn\nend\n";
+    let outcome = proved(rt.alloc(), listing, &[], 100)?;
+    assert_eq!(rt; outcome.status, 0);
+    assert_eq!(rt; outcome.out.bytes(), b"YES\n".as_slice());
+    Ok(())
+}
+
+#[test]
 fn a_string_on_the_stack_is_named_with_its_place(rt: HostRuntime) -> Result<(), Fail> {
     let listing =
         b"class A\nmethod f ()I static stack 1 locals 0\nldc string x\npop\nbipush 7\nireturn\nend\n";
