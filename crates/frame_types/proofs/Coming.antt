@@ -10,6 +10,9 @@ use Rattle.frame_types.specs.Growth.{IsMerged, IsApart, IsComing}
 use Rattle.frame_types.specs.GrowthLaws.{Laws, frame_refl}
 use Rattle.frame_types.proofs.Lists.{some_is}
 
+pub not_there : (frame : PlaceTypes) → None ≡ Some frame → ⊥
+not_there frame e = cc
+
 module _ (types : WorldTypes) (laws : Laws types) (max_locals : ℕ) where
   pub first : (before : Option PlaceTypes) (more new : PlaceTypes) → before ≡ None → new ≡ more → IsProper types max_locals more → IsMerged types max_locals before more new
   first before more new n e p = subst (IsMerged types max_locals before more) (sym e) (record {
@@ -32,5 +35,5 @@ module _ (types : WorldTypes) (laws : Laws types) (max_locals : ℕ) where
 
   pub answered : (coming : Coming) (before : Option PlaceTypes) (old more new : PlaceTypes) → before ≡ Some old → IsMergedAs types max_locals old more new coming → IsComing types max_locals before more (Some new) coming
   answered comings.Same before old more new b h = (new, (refl, merged before old more new b h.0, ap Some h.1 ∙ sym b))
-  answered comings.Grew before old more new b h = (new, (refl, merged before old more new b h))
+  answered comings.Grew before old more new b h = (new, (refl, merged before old more new b h.0, λ e. h.1 (some_is (e ∙ b))))
   answered comings.Apart before old more new b h = apart before old more b h

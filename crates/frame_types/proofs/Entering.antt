@@ -119,8 +119,8 @@ module _ (types : WorldTypes) (laws : Laws types) where
         let a : IsFrame types new.max_locals old.max_stack g = subst (λ n. IsFrame types n old.max_stack g) (sym (ml ∙ r.max_locals)) (frames_after old new to more frame t depth merged at_to at_other place g e) in
         subst (λ n. IsFrame types new.max_locals n g) (sym (ms ∙ r.max_stack)) a
 
-    grown : IsTable types new → ((place : ℕ) → (types_at new.types place ≡ types_at old.types place) ⊎ IsTrue (waits new.waiting place)) → ((place : ℕ) → IsTrue (waits old.waiting place) → IsTrue (waits new.waiting place)) → IsGrown types (record { to = to; frame = more } ∷ []) old new
-    grown table changes still = record {
+    grown : IsTable types new → ((place : ℕ) → (types_at new.types place ≡ types_at old.types place) ⊎ IsTrue (waits new.waiting place)) → ((place : ℕ) → IsTrue (waits old.waiting place) → IsTrue (waits new.waiting place)) → ((place : ℕ) → IsTrue (waits new.waiting place) → IsTrue (waits old.waiting place) ⊎ (types_at new.types place ≡ types_at old.types place → ⊥)) → IsGrown types (record { to = to; frame = more } ∷ []) old new
+    grown table changes still begun = record {
       table = table;
       max_locals = ml ∙ r.max_locals;
       max_stack = ms ∙ r.max_stack;
@@ -130,6 +130,7 @@ module _ (types : WorldTypes) (laws : Laws types) where
       places = places_after old new to more frame t depth merged at_to at_other;
       changes = changes;
       still = still;
+      begun = begun;
     }
 
     pub entered_same : new.waiting ≡ mid.waiting → new.low ≡ mid.low → option_map types_of later ≡ option_map types_of x → IsGrown types (record { to = to; frame = more } ∷ []) old new
@@ -147,9 +148,10 @@ module _ (types : WorldTypes) (laws : Laws types) where
           | inr h ↦ inl (at_other place h)
         ])
         (λ place h. marks place ∙ h)
+        (λ place h. inl (sym (marks place) ∙ h))
 
-    pub entered_more : new.waiting ≡ slice_set mid.waiting to true → new.low ≡ min mid.low to → IsGrown types (record { to = to; frame = more } ∷ []) old new
-    entered_more w low =
+    pub entered_more : new.waiting ≡ slice_set mid.waiting to true → new.low ≡ min mid.low to → (option_map types_of later ≡ option_map types_of x → ⊥) → IsGrown types (record { to = to; frame = more } ∷ []) old new
+    entered_more w low other =
         let lw : to < length mid.waiting = omega (arith, l, r.even) in
         let marked : waits new.waiting to ≡ true = ap (λ (xs : List Bool). waits xs to) w ∙ get_or-set_same mid.waiting to true false lw in
         let marks : (place : ℕ) → (place ≡ to → ⊥) → waits new.waiting place ≡ waits old.waiting place = λ place h. ap (λ (xs : List Bool). waits xs place) w ∙ get_or-set_other mid.waiting to place true false h ∙ r.marks place in
@@ -167,6 +169,10 @@ module _ (types : WorldTypes) (laws : Laws types) where
         (λ place h. elim (same_or_not place to) [
           | inl e ↦ ap (waits new.waiting) e ∙ marked
           | inr e ↦ marks place e ∙ h
+        ])
+        (λ place h. elim (same_or_not place to) [
+          | inl e ↦ inr (λ s. other (is ∙ sym at_to ∙ ap (types_at new.types) (sym e) ∙ s ∙ ap (types_at old.types) e ∙ sym was))
+          | inr e ↦ inl (sym (marks place e) ∙ h)
         ])
 
   pub entered_apart : (old mid : Table) (to : ℕ) (x : Option FrameType) (more : PlaceTypes) → IsRoomier old mid → to < length mid.types → x ≡ get_or mid.types to x → length more.locals ≡ old.max_locals → IsApart types (length more.locals) (option_map types_of x) more → AreRefused types (record { to = to; frame = more } ∷ []) old

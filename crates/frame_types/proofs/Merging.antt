@@ -16,6 +16,7 @@ use Rattle.frame_types.proofs.Lists.{all_zip}
 pub record AreMerging (types : WorldTypes) (i : ℕ) (old more now : List PlaceType) (grew : Bool) : Type 0 where
   pub below : AreJoinsBelow types i old more now
   pub same : grew ≡ false → now ≡ old
+  pub changed : grew ≡ true → now ≡ old → ⊥
 
 -- a stack with a set entry replaced
 pub set_next : (now : List PlaceType) (i : ℕ) (j : PlaceType) (later : List PlaceType) → All IsSet now → IsSet j → later ≡ set now i j → All IsSet later
@@ -32,6 +33,7 @@ module _ (types : WorldTypes) where
   none_yet old more = record {
     below = record { long = refl; joins = λ k l. absurd (omega arith); others = λ k l. refl };
     same = λ e. refl;
+    changed = λ (e : false ≡ true). cc;
   }
 
   -- the place that is next is as it was
@@ -44,8 +46,8 @@ module _ (types : WorldTypes) where
       subst (IsOfWorld types) (sym (is_old i old more now x h l e)) (All-get_or (IsOfWorld types) old i places.Unset m a)
 
   -- the next place is replaced
-  pub next : (i : ℕ) (old more now : List PlaceType) (j : PlaceType) (grew : Bool) → i < length now → AreMerging types i old more now grew → IsPlaceJoin types (get_or old i places.Unset) (get_or more i places.Unset) j → AreMerging types (i + 1) old more (set now i j) true
-  next i old more now j grew l h k = record {
+  pub next : (i : ℕ) (old more now : List PlaceType) (j : PlaceType) (grew : Bool) → i < length now → AreMerging types i old more now grew → IsPlaceJoin types (get_or old i places.Unset) (get_or more i places.Unset) j → (j ≡ get_or old i places.Unset → ⊥) → AreMerging types (i + 1) old more (set now i j) true
+  next i old more now j grew l h k other = record {
     below = record {
       long = length-set now i j ∙ h.below.long;
       joins = below_more _ _
@@ -54,6 +56,7 @@ module _ (types : WorldTypes) where
       others = λ n m. let ne : n ≢ i = omega arith in get_or-set_other now i n j places.Unset ne ∙ h.below.others n (omega arith);
     };
     same = λ (e : true ≡ false). cc;
+    changed = λ e f. other (sym (get_or-set_same now i j places.Unset l) ∙ ap (λ (xs : List PlaceType). get_or xs i places.Unset) f);
   }
 
   -- or is its own join
@@ -65,14 +68,15 @@ module _ (types : WorldTypes) where
       others = λ n m. h.below.others n (omega arith);
     };
     same = h.same;
+    changed = h.changed;
   }
 
   -- the same of what a call read and answered
-  pub next_is : (i : ℕ) (old more now : List PlaceType) (x y j : PlaceType) (grew : Bool) (later : List PlaceType) (grown : Bool) → i < length now → AreMerging types i old more now grew → x ≡ get_or now i x → y ≡ get_or more i places.Unset → IsPlaceJoin types x y j → later ≡ set now i j → grown ≡ true → AreMerging types (i + 1) old more later grown
-  next_is i old more now x y j grew later grown l h r s k e f =
+  pub next_is : (i : ℕ) (old more now : List PlaceType) (x y j : PlaceType) (grew : Bool) (later : List PlaceType) (grown : Bool) → i < length now → AreMerging types i old more now grew → x ≡ get_or now i x → y ≡ get_or more i places.Unset → IsPlaceJoin types x y j → (j ≡ x → ⊥) → later ≡ set now i j → grown ≡ true → AreMerging types (i + 1) old more later grown
+  next_is i old more now x y j grew later grown l h r s k other e f =
       let p : IsPlaceJoin types (get_or old i places.Unset) y j = subst (λ (v : PlaceType). IsPlaceJoin types v y j) (is_old i old more now x h.below l r) k in
       let q : IsPlaceJoin types (get_or old i places.Unset) (get_or more i places.Unset) j = subst (λ (v : PlaceType). IsPlaceJoin types (get_or old i places.Unset) v j) s p in
-      let m : AreMerging types (i + 1) old more later true = subst (λ (xs : List PlaceType). AreMerging types (i + 1) old more xs true) (sym e) (next i old more now j grew l h q) in
+      let m : AreMerging types (i + 1) old more later true = subst (λ (xs : List PlaceType). AreMerging types (i + 1) old more xs true) (sym e) (next i old more now j grew l h q (λ d. other (d ∙ sym (is_old i old more now x h.below l r)))) in
       subst (AreMerging types (i + 1) old more later) (sym f) m
 
   pub stays_so : (i : ℕ) (old more now : List PlaceType) (x y j : PlaceType) (grew : Bool) (later : List PlaceType) (grown : Bool) → i < length now → AreMerging types i old more now grew → x ≡ get_or now i x → y ≡ get_or more i places.Unset → IsPlaceJoin types x y j → j ≡ x → later ≡ now → grown ≡ grew → AreMerging types (i + 1) old more later grown

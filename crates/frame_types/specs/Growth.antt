@@ -22,10 +22,10 @@ pub record IsMerged (types : WorldTypes) (max_locals : ℕ) (old : Option PlaceT
 abbrev pub IsApart : WorldTypes → ℕ → Option PlaceTypes → PlaceTypes → Type 0
 IsApart types max_locals old more = (top : PlaceTypes) → IsProper types max_locals top → ((frame : PlaceTypes) → old ≡ Some frame → IsFrameWithin types frame top) → IsFrameWithin types more top → ⊥
 
--- what an entry becomes where a frame comes, by what the call answers
+-- what an entry becomes where a frame comes, by what the call answers: it grows exactly where it is not as before
 abbrev pub IsComing : WorldTypes → ℕ → Option PlaceTypes → PlaceTypes → Option PlaceTypes → Coming → Type 0
 IsComing types max_locals old more new comings.Same = (frame : PlaceTypes) × ((new ≡ Some frame) × IsMerged types max_locals old more frame × (new ≡ old))
-IsComing types max_locals old more new comings.Grew = (frame : PlaceTypes) × ((new ≡ Some frame) × IsMerged types max_locals old more frame)
+IsComing types max_locals old more new comings.Grew = (frame : PlaceTypes) × ((new ≡ Some frame) × IsMerged types max_locals old more frame × (new ≡ old → ⊥))
 IsComing types max_locals old more new comings.Apart = IsApart types max_locals old more
 
 -- ---- tables
@@ -50,7 +50,8 @@ AreFrames types table typing = (place : ℕ) (frame : PlaceTypes) → typing pla
 abbrev pub is_led_to : List Flow → ℕ → Bool
 is_led_to flows place = list_any (λ flow. nat_eq place flow.to) flows
 
--- The new table has what the old one had and takes the flows too, and is the least that does. What has changed waits.
+-- The new table has what the old one had and takes the flows too, and is the least that does. What has changed waits, and
+-- nothing else begins to.
 pub record IsGrown (types : WorldTypes) (flows : List Flow) (old new : Table) : Type 0 where
   pub table : IsTable types new
   pub max_locals : new.max_locals ≡ old.max_locals
@@ -61,6 +62,7 @@ pub record IsGrown (types : WorldTypes) (flows : List Flow) (old new : Table) : 
   pub places : (place : ℕ) (frame : PlaceTypes) → types_at new.types place ≡ Some frame → ((before : PlaceTypes) × (types_at old.types place ≡ Some before)) ⊎ IsTrue (is_led_to flows place)
   pub changes : (place : ℕ) → (types_at new.types place ≡ types_at old.types place) ⊎ IsTrue (waits new.waiting place)
   pub still : (place : ℕ) → IsTrue (waits old.waiting place) → IsTrue (waits new.waiting place)
+  pub begun : (place : ℕ) → IsTrue (waits new.waiting place) → IsTrue (waits old.waiting place) ⊎ (types_at new.types place ≡ types_at old.types place → ⊥)
 
 -- nothing has all that the table has and takes the flows
 abbrev pub AreRefused : WorldTypes → List Flow → Table → Type 0

@@ -1,5 +1,5 @@
 -- Laws of wider types and of tables that grow, for the proofs of this crate and of those above it.
-use Rattle.std.proofs.Common.{◌≡◌, ℕ, zero, suc, ◌+◌, ◌||◌, Bool, true, false, List, [], ◌∷◌, ◌++◌, length, get_or, Some, inl, inr, refl, sym, ap, subst, ◌∙◌, arith, length-append}
+use Rattle.std.proofs.Common.{◌≡◌, ℕ, zero, suc, ◌+◌, ◌||◌, Bool, true, false, List, [], ◌∷◌, ◌++◌, length, get_or, Option, Some, None, inl, inr, refl, sym, ap, subst, ◌∙◌, arith, length-append}
 use Rattle.std.specs.Prelude.{All, IsTrue, nat_eq}
 use Rattle.std.specs.List.{AllZip, list_any}
 use Rattle.std.proofs.lemmas.List.{get_or_append_left, get_or-append-add}
@@ -14,6 +14,7 @@ use Rattle.frame_types.specs.declared.table.Table.{Table}
 use Rattle.frame_types.specs.Places.{IsWithin, IsFrameWithin, IsOfWorld, IsProper, IsFrame}
 use Rattle.frame_types.specs.Tables.{CodeTypes, Flow, Takes, IsAtMost, types_at}
 use Rattle.frame_types.specs.Growth.{IsTable, AreFrames, IsGrown, AreRefused}
+use Rattle.frame_types.specs.HeightLaws.{frame_antisym}
 
 -- ---- lists
 
@@ -36,6 +37,12 @@ all_map P Q xs f h k d l = f (get_or xs k d) (h k d l)
 or_true : (a : Bool) → (a || true) ≡ true
 or_true true = refl
 or_true false = refl
+
+none_is_not_some : {A : Type 0} (x : A) → None ≡ Some x → ⊥
+none_is_not_some x e = cc
+
+some_is : {A : Type 0} {x y : A} → Some x ≡ Some y → x ≡ y
+some_is e = cc
 
 pub any_left : {A : Type 0} (p : A → Bool) (xs ys : List A) → IsTrue (list_any p xs) → IsTrue (list_any p (xs ++ ys))
 any_left p xs ys h = list_any-append p xs ys ∙ ap (λ (b : Bool). b || list_any p ys) h
@@ -126,18 +133,35 @@ module _ (types : WorldTypes) (laws : Laws types) where
 
   -- ---- growth
 
-  pub grown_none : (table : Table) → IsTable types table → IsGrown types [] table table
-  grown_none table h = record {
+  -- a table that takes the flows need not grow
+  pub grown_taken : (flows : List Flow) (table : Table) → IsTable types table → All (Takes types (types_at table.types)) flows → IsGrown types flows table table
+  grown_taken flows table h t = record {
     table = h;
     max_locals = refl;
     max_stack = refl;
     kept = at_most_itself table.max_locals table.max_stack (types_at table.types) h.frames;
-    taken = λ k d l. absurd (omega arith);
+    taken = t;
     least = λ other frames below all. below;
     places = λ place frame e. inl (frame, e);
     changes = λ place. inl refl;
     still = λ place w. w;
+    begun = λ place w. inl w;
   }
+
+  pub grown_none : (table : Table) → IsTable types table → IsGrown types [] table table
+  grown_none table h = grown_taken [] table h (λ k d l. absurd (omega arith))
+
+  -- what has grown does not come back
+  pub grown_on : (a b c : CodeTypes) → IsAtMost types a b → IsAtMost types b c → (place : ℕ) → (x y : Option PlaceTypes) → a place ≡ x → b place ≡ y → c place ≡ x → y ≡ x
+  grown_on a b c p q place None None e f g = refl
+  grown_on a b c p q place (Some before) None e f g = let t = p place before e in absurd (none_is_not_some t.there (sym f ∙ t.is_there))
+  grown_on a b c p q place None (Some frame) e f g = let t = q place frame f in absurd (none_is_not_some t.there (sym g ∙ t.is_there))
+  grown_on a b c p q place (Some before) (Some frame) e f g =
+      let t = p place before e in
+      let u = q place frame f in
+      let same : t.there ≡ frame = some_is (sym t.is_there ∙ f) in
+      let back : u.there ≡ before = some_is (sym u.is_there ∙ g) in
+      ap Some (sym (frame_antisym types laws before frame (subst (IsFrameWithin types before) same t.wide) (subst (IsFrameWithin types frame) back u.wide)))
 
   other_frames : (a b : Table) → b.max_locals ≡ a.max_locals → b.max_stack ≡ a.max_stack → (other : CodeTypes) → AreFrames types a other → AreFrames types b other
   other_frames a b e f other h place frame g =
@@ -166,6 +190,13 @@ module _ (types : WorldTypes) (laws : Laws types) where
       | inr w ↦ inr w
     ];
     still = λ place w. q.still place (p.still place w);
+    begun = λ place w. elim (q.begun place w) [
+      | inl v ↦ elim (p.begun place v) [
+        | inl u ↦ inl u
+        | inr h ↦ inr (λ e. h (grown_on (types_at a.types) (types_at b.types) (types_at c.types) p.kept q.kept place (types_at a.types place) (types_at b.types place) refl refl e))
+      ]
+      | inr h ↦ inr (λ e. h (e ∙ sym (grown_on (types_at a.types) (types_at b.types) (types_at c.types) p.kept q.kept place (types_at a.types place) (types_at b.types place) refl refl e)))
+    ];
   }
 
   pub refused_after : (fs gs : List Flow) (a b : Table) → IsGrown types fs a b → AreRefused types gs b → AreRefused types (fs ++ gs) a

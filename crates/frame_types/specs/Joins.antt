@@ -41,8 +41,8 @@ pub record IsFrameJoin (types : WorldTypes) (max_locals : ℕ) (old more new : P
 abbrev pub AreFramesApart : WorldTypes → ℕ → PlaceTypes → PlaceTypes → Type 0
 AreFramesApart types max_locals old more = (top : PlaceTypes) → IsProper types max_locals top → IsFrameWithin types old top → IsFrameWithin types more top → ⊥
 
--- what a frame becomes where another comes, by what the call answers
+-- what a frame becomes where another comes, by what the call answers: it grows exactly where it is not as before
 abbrev pub IsMergedAs : WorldTypes → ℕ → PlaceTypes → PlaceTypes → PlaceTypes → Coming → Type 0
 IsMergedAs types max_locals old more new comings.Same = IsFrameJoin types max_locals old more new × (new ≡ old)
-IsMergedAs types max_locals old more new comings.Grew = IsFrameJoin types max_locals old more new
+IsMergedAs types max_locals old more new comings.Grew = IsFrameJoin types max_locals old more new × (new ≡ old → ⊥)
 IsMergedAs types max_locals old more new comings.Apart = AreFramesApart types max_locals old more

@@ -2,4 +2,9 @@ pub mod Places
 pub mod Tables
 pub mod Joins
 pub mod Growth
+pub mod Heights
+pub mod HeightLaws
 pub mod GrowthLaws
+pub mod Work
+pub mod WorkLaws
+pub mod JoinLaws

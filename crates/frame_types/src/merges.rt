@@ -1,5 +1,5 @@
 //! Frames that come to one place.
-ghost use Rattle.std.specs.Prelude.{◌≡◌, ◌↔◌, IsTrue, length, All, MatchOption, false, Some};
+ghost use Rattle.std.specs.Prelude.{◌≡◌, ◌↔◌, IsTrue, length, All, MatchOption, true, false, Some};
 ghost use Rattle.jvm_values.specs.TypedHeaps.{world_types};
 ghost use Rattle.jvm_values.specs.States.{types_of};
 ghost use Rattle.frame_types.specs.Places.{IsOfWorld, IsSet, IsProper};
@@ -23,6 +23,7 @@ fn merge_locals<T: Types>(types: &T, locals: &mut Seq<PlaceType>, more: &[PlaceT
     requires more { All (IsOfWorld (world_types (T.sub types.now) (T.erase types.now) (T.classes types.now) (T.fields types.now) (T.can_be_made types.now))) more.now }
     ensures joins { AreJoins (world_types (T.sub types.now) (T.erase types.now) (T.classes types.now) (T.fields types.now) (T.can_be_made types.now)) locals.old more.now locals.new }
     ensures same { result ≡ false → locals.new ≡ locals.old }
+    ensures grew { result ≡ true → locals.new ≡ locals.old → ⊥ }
 {
     let mut grew = false;
     for i in 0..more.len() {
@@ -51,6 +52,7 @@ fn merge_stack<T: Types>(
     ensures joins { MatchOption result (AreApart (world_types (T.sub types.now) (T.erase types.now) (T.classes types.now) (T.fields types.now) (T.can_be_made types.now)) stack.old.0 more.now.0) (λ grew. AreJoins (world_types (T.sub types.now) (T.erase types.now) (T.classes types.now) (T.fields types.now) (T.can_be_made types.now)) stack.old.0 more.now.0 stack.new.0) }
     ensures set { MatchOption result (Unit {0}) (λ grew. All IsSet stack.new.0) }
     ensures same { result ≡ Some false → stack.new.0 ≡ stack.old.0 }
+    ensures grew { result ≡ Some true → stack.new.0 ≡ stack.old.0 → ⊥ }
 {
     let mut grew = false;
     for i in 0..more.len() {

@@ -1,4 +1,5 @@
-use Rattle.std.proofs.Common.{◌<◌, length, arith, ap}
+use Rattle.std.proofs.Common.{◌<◌, length, arith, ap, sym, ◌∙◌}
+use Rattle.std.proofs.lemmas.Bool.{false≢true}
 use Rattle.std.proofs.lemmas.List.{get_or_read}
 use Rattle.jvm_values.specs.declared.typing.PlaceType.TheVariants as places
 use Rattle.frame_types.proofs.Merging.{next_is, stays_so, set_next, apart_there}
@@ -19,7 +20,7 @@ loop-i-preserved g c =
     let s = get_or_read c.args.more.now.0 _ _ m c.at-come.ensures places.Unset in
     elim c.if-not-same.branch [
       | then-not-same w ↦ (
-        next_is _ _ _ _ _ _ _ _ _ _ _ l c.loop-i.invariant.0 c.at-here.ensures s c.join_places-joined.ensures (ap (λ x. x.0) w.stack-is) w.grew-is,
+        next_is _ _ _ _ _ _ _ _ _ _ _ l c.loop-i.invariant.0 c.at-here.ensures s c.join_places-joined.ensures (λ e. absurd (false≢true (sym w.if-not-same.true ∙ c.is_same-same.ensures.1 e))) (ap (λ x. x.0) w.stack-is) w.grew-is,
         set_next _ _ _ _ c.loop-i.invariant.1 c.in_default.not-Unset (ap (λ x. x.0) w.stack-is),
       )
       | else-not-same w ↦ (

@@ -14,7 +14,7 @@ returns-in-Same g c =
 pub returns-in-Grew : goal.returns-in-Grew
 returns-in-Grew g c =
     let m = rw c.in-Grew.is at c.in_ok-coming.ensures in
-    entered_more _ (g.met.T.Types.laws c.args.types.now) c.args.self.now c.make_room.new.self _ _ _ _ _ _ c.requires.table c.in_ok-make_room.ensures.roomier c.in_ok-make_room.ensures.count c.at_mut-there.ensures.item (ap (λ (t : Table). t.types) c.mark.ensures) (ap (λ (t : Table). t.max_locals) c.mark.ensures) (ap (λ (t : Table). t.max_stack) c.mark.ensures) c.requires.depth c.requires.proper.count m.1.0 m.1.1 (ap (λ (t : Table). t.waiting) c.mark.ensures) (ap (λ (t : Table). t.low) c.mark.ensures)
+    entered_more _ (g.met.T.Types.laws c.args.types.now) c.args.self.now c.make_room.new.self _ _ _ _ _ _ c.requires.table c.in_ok-make_room.ensures.roomier c.in_ok-make_room.ensures.count c.at_mut-there.ensures.item (ap (λ (t : Table). t.types) c.mark.ensures) (ap (λ (t : Table). t.max_locals) c.mark.ensures) (ap (λ (t : Table). t.max_stack) c.mark.ensures) c.requires.depth c.requires.proper.count m.1.0 m.1.1 (ap (λ (t : Table). t.waiting) c.mark.ensures) (ap (λ (t : Table). t.low) c.mark.ensures) m.1.2
 
 pub returns-in-Apart : goal.returns-in-Apart
 returns-in-Apart g c =
