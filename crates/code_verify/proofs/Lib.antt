@@ -14,3 +14,6 @@ pub mod Listed
 pub mod Beginning
 pub mod Looking
 pub mod Steps
+pub mod LeastTypings
+pub mod Passing
+pub mod PlaceLists

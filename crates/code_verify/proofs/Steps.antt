@@ -14,10 +14,14 @@ use Rattle.frame_types.specs.Places.{IsProper}
 use Rattle.frame_types.specs.Tables.{Flow, types_at}
 use Rattle.frame_types.specs.Growth.{IsTable, IsGrown, AreRefused, waits}
 use Rattle.frame_types.specs.GrowthLaws.{Laws}
+use Rattle.frame_types.specs.Work.{work_left}
+use Rattle.frame_types.specs.WorkLaws.{taken_work, looked_work}
 use Rattle.code_verify.specs.Flows.{flows_from, CanCatch}
 use Rattle.code_verify.specs.Typings.{HasTyping, IsLeastTyping, entry_frame, entry_flow}
 use Rattle.code_verify.specs.Answers.{Looks}
 use Rattle.code_verify.specs.Solving.{IsSolving}
+use Rattle.code_verify.proofs.Basics.{some_is}
+use Rattle.code_verify.proofs.FlowLaws.{came}
 use Rattle.code_verify.proofs.Solved.{refused, solved, finished, first_solving, first_refused, entry_proper}
 
 -- a table that catches something else has no typing
@@ -48,6 +52,17 @@ module _ (p : Program) (m : Method) (good : IsGood p) (g : IsGoodMethod p m) (la
     pub looked_is : (frame : PlaceTypes) (new : Table) (ok : Bool) → types_at mid.types place ≡ Some frame → Looks (types_of p.world) (flows_from p m place frame) ok mid new → MatchBool ok (IsSolving p m new) (HasTyping p m → ⊥)
     looked_is frame new true there h = solved p m good g laws old mid s place is below frame there new h
     looked_is frame new false there h = refused p m good g laws old mid s place is below frame there new h
+
+    -- less work is left
+    pub taken_less : IsTrue (waits old.waiting place) → work_left (types_of p.world) mid < work_left (types_of p.world) old
+    taken_less w = subst (λ (t : Table). work_left (types_of p.world) t < work_left (types_of p.world) old) (sym is) (taken_work (types_of p.world) laws old place s.is_table w)
+
+    less_by : (found : Option (List Flow)) (new : Table) (ok : Bool) → IsTrue (waits old.waiting place) → Looks (types_of p.world) found ok mid new → ok ≡ true → work_left (types_of p.world) new < work_left (types_of p.world) old
+    less_by None new ok w h e = absurd (false≢true (sym h ∙ e))
+    less_by (Some flows) new ok w h e = looked_work (types_of p.world) laws flows old mid new place s.is_table w is (came (types_of p.world) laws flows ok mid new e h)
+
+    pub looked_less : IsTrue (waits old.waiting place) → (frame : PlaceTypes) (new : Table) (ok : Bool) → Looks (types_of p.world) (flows_from p m place frame) ok mid new → Some ok ≡ Some true → work_left (types_of p.world) new < work_left (types_of p.world) old
+    looked_less w frame new ok h e = less_by (flows_from p m place frame) new ok w h (some_is e)
 
   -- ---- the end
 

@@ -7,6 +7,8 @@ use Rattle.jvm_values.specs.States.{PlaceTypes}
 use Rattle.jvm_values.specs.TypedHeaps.{WorldTypes}
 use Rattle.class_program.specs.declared.program.Method.{Method}
 use Rattle.class_program.specs.Programs.{Program}
+use Rattle.class_program.specs.Good.{IsGood, IsGoodMethod}
+use Rattle.class_world.specs.Linking.{is_linked}
 use Rattle.class_world.specs.WorldTypes.{types_of}
 use Rattle.frame_types.specs.Places.{IsFrame}
 use Rattle.frame_types.specs.Tables.{CodeTypes, Flow, Takes, IsAtMost}
@@ -48,6 +50,14 @@ pub record IsLeastTyping (p : Program) (m : Method) (typing : CodeTypes) : Type 
   pub is_typing : IsTyping p m typing
   pub least : (other : CodeTypes) → IsTyping p m other → IsAtMost (types_of p.world) typing other
   pub reached : (place : ℕ) → IsTrue (is_some (typing place)) ↔ IsReachable m place
+
+-- Where a method of a good program has a typing, it has a least one.
+abbrev pub LeastTypingsExist : Type 0
+LeastTypingsExist = (p : Program) (m : Method) → IsTrue (is_linked p.world) → IsGood p → IsGoodMethod p m → HasTyping p m → (typing : CodeTypes) × IsLeastTyping p m typing
+
+-- It has no other: two least typings have the same types at each place.
+abbrev pub LeastTypingsAreOne : Type 0
+LeastTypingsAreOne = (p : Program) (m : Method) → IsTrue (is_linked p.world) → (a b : CodeTypes) → IsLeastTyping p m a → IsLeastTyping p m b → (place : ℕ) → a place ≡ b place
 
 -- ---- programs
 

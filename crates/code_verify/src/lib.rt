@@ -4,8 +4,10 @@
 mod after;
 mod fault;
 mod flows;
+mod least;
 mod method;
 mod operands;
+mod passed;
 mod rows;
 mod shuffles;
 mod typing;
@@ -13,5 +15,6 @@ mod want;
 
 pub use after::types_after;
 pub use fault::VerifyFault;
+pub use least::least_typings_exist;
 pub use typing::{Typing, verify};
 pub use want::Want;

@@ -1,7 +1,7 @@
 //! The least typing of one method.
 ghost use Rattle.class_world.specs.Worlds.{classes_of};
 ghost use Rattle.class_world.specs.WorldTypes.{types_of};
-ghost use Rattle.std.specs.Prelude.{◌≡◌, ◌↔◌, ◌≤◌, length, Some, None, All, IfOk, MatchBool, MatchOption, IsTrue};
+ghost use Rattle.std.specs.Prelude.{◌≡◌, ◌↔◌, ◌<◌, ◌≤◌, length, Some, None, true, All, IfOk, MatchBool, MatchOption, IsTrue};
 ghost use Rattle.std.specs.Option.{option_map};
 ghost use Rattle.jvm_values.specs.States.{types_of as seen};
 ghost use Rattle.class_program.specs.Views.{program_of};
@@ -10,14 +10,16 @@ ghost use Rattle.op_forms.specs.Forms.{form_seen};
 ghost use Rattle.frame_types.specs.Tables.{types_at};
 ghost use Rattle.frame_types.specs.Places.{IsProper};
 ghost use Rattle.frame_types.specs.Growth.{IsTable};
+ghost use Rattle.frame_types.specs.Work.{work_left};
 ghost use Rattle.code_verify.specs.Answers.{Looks};
 ghost use Rattle.code_verify.specs.Flows.{CanCatch, runs_at, flows_from};
 ghost use Rattle.code_verify.specs.Typings.{entry_frame, HasTyping, IsLeastTyping};
-ghost use Rattle.code_verify.specs.Solving.{IsSolving};
+ghost use Rattle.code_verify.specs.Solving.{IsSolving, IsPassed};
 
 use crate::after::types_after;
-use crate::flows::{caught_class, enter_handlers, enter_ways, falls};
+use crate::flows::{caught_class, enter_ways, falls};
 use crate::operands::place_of;
+use crate::passed::{Passed, pass_handlers};
 use crate::rows::{THROWABLE, class_type};
 use class_program::{CatchRange, Method, Program};
 use class_world::World;
@@ -108,13 +110,16 @@ fn look(
     place: u16,
     frame: &mut FrameType,
     table: &mut Table,
+    passed: &mut Passed,
 ) -> Result<bool, AllocError>
     requires good { IsGood (program_of program.now) }
     requires method { IsGoodMethod (program_of program.now) method.now }
     requires table { IsTable (types_of (classes_of program.now.world)) table.old }
     requires proper { IsProper (types_of (classes_of program.now.world)) table.old.max_locals (seen frame.old) }
     requires catches { All (CanCatch (classes_of program.now.world)) method.now.table }
-    ensures { IfOk result (λ ok. Looks (types_of (classes_of program.now.world)) (flows_from (program_of program.now) method.now place (seen frame.old)) ok table.old table.new) }
+    requires passed { IsPassed (classes_of program.now.world) method.now.table (types_at table.old.types) passed.old }
+    ensures looks { IfOk result (λ ok. Looks (types_of (classes_of program.now.world)) (flows_from (program_of program.now) method.now place (seen frame.old)) ok table.old table.new) }
+    ensures passed { IfOk result (λ ok. ok ≡ true → IsPassed (classes_of program.now.world) method.now.table (types_at table.new.types) passed.new) }
 {
     let mut after = copy_of(alloc, frame)?;
     let ran = run_at(program, method, place, &mut after)?;
@@ -125,13 +130,14 @@ fn look(
     if !entered {
         return Ok(false);
     }
-    enter_handlers(
+    pass_handlers(
         alloc,
         &program.world,
         place,
         method.table.as_slice(),
         frame,
         table,
+        passed,
     )
 }
 
@@ -141,11 +147,15 @@ fn look_on(
     program: &Program<'_>,
     method: &Method<'_>,
     table: &mut Table,
+    passed: &mut Passed,
 ) -> Result<Option<bool>, AllocError>
     requires good { IsGood (program_of program.now) }
     requires method { IsGoodMethod (program_of program.now) method.now }
     requires solving { IsSolving (program_of program.now) method.now table.old }
-    ensures { IfOk result (λ answer. MatchOption answer (IsLeastTyping (program_of program.now) method.now (types_at table.new.types)) (λ ok. MatchBool ok (IsSolving (program_of program.now) method.now table.new) (HasTyping (program_of program.now) method.now → ⊥))) }
+    requires passed { IsPassed (classes_of program.now.world) method.now.table (types_at table.old.types) passed.old }
+    ensures answer { IfOk result (λ answer. MatchOption answer (IsLeastTyping (program_of program.now) method.now (types_at table.new.types)) (λ ok. MatchBool ok (IsSolving (program_of program.now) method.now table.new) (HasTyping (program_of program.now) method.now → ⊥))) }
+    ensures less { IfOk result (λ answer. answer ≡ Some true → work_left (types_of (classes_of program.now.world)) table.new < work_left (types_of (classes_of program.now.world)) table.old) }
+    ensures passed { IfOk result (λ answer. answer ≡ Some true → IsPassed (classes_of program.now.world) method.now.table (types_at table.new.types) passed.new) }
 {
     let Some(place) = table.take() else {
         return Ok(None);
@@ -153,7 +163,7 @@ fn look_on(
     let found = frame_at(alloc, table, place)?;
     match found {
         Some(mut frame) => {
-            let looked = look(alloc, program, method, place, &mut frame, table)?;
+            let looked = look(alloc, program, method, place, &mut frame, table, passed)?;
             Ok(Some(looked))
         }
         None => Ok(Some(true)),
@@ -180,7 +190,8 @@ fn first_table(
     if entered { Ok(Some(table)) } else { Ok(None) }
 }
 
-/// The least typing of a method, by place; None where it has no typing.
+/// The least typing of a method, by place; None where it has no typing. It ends, since a place waits to be looked at again
+/// only when its types have grown, and they grow at most to the widest ones.
 ///
 /// # Errors
 ///
@@ -201,13 +212,13 @@ pub(crate) fn type_method(
     let Some(mut table) = first else {
         return Ok(None);
     };
-    for _ in 0..u64::MAX {
-        let looked = look_on(alloc, program, method, &mut table)?;
+    let mut passed = Passed::nothing(alloc);
+    loop {
+        let looked = look_on(alloc, program, method, &mut table, &mut passed)?;
         match looked {
             Some(true) => {}
             Some(false) => return Ok(None),
             None => return Ok(Some(table.types)),
         }
     }
-    Err(AllocError)
 }
