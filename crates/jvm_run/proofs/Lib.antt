@@ -14,6 +14,7 @@ pub mod ObjectForms
 pub mod Objects
 pub mod Placed
 pub mod Returning
+pub mod RunSteps
 pub mod StackForms
 pub mod Stepping
 pub mod TypedRuns
