@@ -1,0 +1,15 @@
+//! The steps that commands have in common, from the bytes of class files to a program with its typings, and how they refuse an
+//! input: with the first fault at its place.
+//!
+//! The definitions stand in `specs/Steps` (steps one after another), `specs/Classes`, `specs/Programs` and `specs/Lines`.
+#![tactic(auto)]
+
+mod classes;
+mod lines;
+mod programs;
+mod refused;
+
+pub use classes::{link, read_classes};
+pub use lines::refusal_text;
+pub use programs::{close, test_calls, typings};
+pub use refused::{Fault, Place, Refused, refuse_desc};
