@@ -1,0 +1,5 @@
+pub mod Answering
+pub mod Endings
+pub mod Inputs
+pub mod OneAnswer
+pub mod States

@@ -1,0 +1,108 @@
+-- What `run` answers for so many steps, the bytes of a state, and those of class files.
+use Rattle.std.specs.Prelude.{◌≡◌, ℕ, List, Option, Some, Result, Ok, Err}
+use Rattle.jvm_values.specs.States.{MachineState}
+use Rattle.class_read.specs.Content.{ClassContent}
+use Rattle.class_world.specs.World.{World}
+use Rattle.class_world.specs.declared.world.MethodRef.{MethodRef}
+use Rattle.class_program.specs.Programs.{Program}
+use Rattle.jvm_step.specs.Running.{start}
+use Rattle.jvm_run.specs.declared.ended.Ended.{Ended}
+use Rattle.jvm_run.specs.Runs.{EndsAs}
+use Rattle.input_text.specs.Answers.{SaysOf, AnswersText}
+use Rattle.input_text.specs.States.{state_of}
+use Rattle.input_text.specs.declared.texts.StateText.{StateText}
+use Rattle.input_text.specs.declared.fault.DescFault.{DescFault}
+use Rattle.input_text.specs.declared.fault.DescFault.TheVariants as descs
+use Rattle.input_desc.specs.declared.states.StateInput.{StateInput}
+use Rattle.input_desc.specs.Entries.{entry_of}
+use Rattle.input_desc.specs.Given.{statics_of, static_values}
+use Rattle.input_desc.specs.States.{objects_of, fault_of, GivesState}
+use Rattle.input_steps.specs.declared.refused.Refused.{Refused}
+use Rattle.input_steps.specs.declared.refused.Refused.TheVariants.{At, Memory}
+use Rattle.input_steps.specs.declared.refused.Place.{Place}
+use Rattle.input_steps.specs.declared.refused.Place.TheVariants as places
+use Rattle.input_steps.specs.declared.refused.Fault.{Fault}
+use Rattle.input_steps.specs.declared.refused.Fault.TheVariants as faults
+use Rattle.input_steps.specs.Steps.{IsAt, Then}
+use Rattle.input_steps.specs.Classes.{AllSpell, RefusesClasses, IsWorldOf, RefusesWorld}
+use Rattle.input_steps.specs.Programs.{IsProgramOf, RefusesProgram, IsAcyclic, RefusesCalls, HasTypings, RefusesTypes}
+use Rattle.run_call.specs.Lines.{ended_line}
+
+-- ---- what a state says
+
+-- a fault of the state
+abbrev pub OfState : (DescFault → Type 0) → Place → Fault → Type 0
+OfState = IsAt {C = DescFault} (λ fault. places.State) faults.Desc
+
+-- the bytes say this
+abbrev pub IsStateText : List ℕ → StateText → Type 0
+IsStateText state text = SaysOf state_of state (Ok text)
+
+-- a fault of the bytes
+abbrev pub IsTextFault : List ℕ → DescFault → Type 0
+IsTextFault state descs.Memory = ⊥
+IsTextFault state fault = AnswersText state_of state (Err fault)
+
+abbrev pub RefusesState : List ℕ → Place → Fault → Type 0
+RefusesState state = OfState (IsTextFault state)
+
+-- the state names no method of the world that can run
+abbrev pub RefusesEntry : World → StateText → Place → Fault → Type 0
+RefusesEntry world text = OfState (λ fault. entry_of world text.entry ≡ Err fault)
+
+-- the state gives this to the program
+abbrev pub IsInput : Program → StateText → StateInput → Type 0
+IsInput p text input = GivesState p text (Ok input)
+
+-- the first fault of what the state gives to the program
+abbrev pub input_fault : Program → StateText → Option DescFault
+input_fault p text = fault_of p (objects_of p text) text.args (static_values (statics_of p) text.statics)
+
+abbrev pub RefusesInput : Program → StateText → Place → Fault → Type 0
+RefusesInput p text = OfState (λ fault. input_fault p text ≡ Some fault)
+
+-- ---- the run
+
+-- the run of so many steps from the start with this input ends so, and leaves this state
+pub record Runs (p : Program) (input : StateInput) (fuel : ℕ) (ended : Ended) (last : MachineState) : Type 0 where
+  pub first : MachineState
+  pub starts : start p input.args input.statics input.heap ≡ Some first
+  pub ends : EndsAs p first fuel ended last
+
+-- the line of the run
+pub record IsRunLine (fuel : ℕ) (p : Program) (input : StateInput) (line : List ℕ) : Type 0 where
+  pub ended : Ended
+  pub last : MachineState
+  pub runs : Runs p input fuel ended last
+  pub line_is : line ≡ ended_line p.world last.heap fuel ended
+
+-- nothing is refused
+abbrev pub AnswersRun : ℕ → Program → StateInput → Result (List ℕ) Refused → Type 0
+AnswersRun fuel p input (Ok line) = IsRunLine fuel p input line
+AnswersRun fuel p input (Err (At place fault)) = ⊥
+AnswersRun fuel p input (Err Memory) = Unit {0}
+
+-- ---- the steps, in their order
+
+-- of a program: its calls, its types, and what the state gives to it
+abbrev pub AnswersProgram : ℕ → StateText → Program → Result (List ℕ) Refused → Type 0
+AnswersProgram fuel text p =
+    Then {A = Unit {0}} (λ nothing. IsAcyclic p) (RefusesCalls p) (λ nothing.
+    Then {A = Unit {0}} (λ nothing. HasTypings p) (RefusesTypes p) (λ nothing.
+    Then (IsInput p text) (RefusesInput p text) (AnswersRun fuel p)))
+
+-- of an entry: its program
+abbrev pub AnswersEntry : ℕ → StateText → World → MethodRef → Result (List ℕ) Refused → Type 0
+AnswersEntry fuel text world entry = Then (IsProgramOf world entry) (RefusesProgram world entry) (AnswersProgram fuel text)
+
+-- of classes: the world that they make, and the method that the state names
+abbrev pub AnswersNamed : ℕ → StateText → List ClassContent → Result (List ℕ) Refused → Type 0
+AnswersNamed fuel text classes =
+    Then (IsWorldOf classes) (RefusesWorld classes) (λ world.
+    Then (λ entry. entry_of world text.entry ≡ Ok entry) (RefusesEntry world text) (AnswersEntry fuel text world))
+
+-- of the files: the classes that they spell, and the state's text
+abbrev pub Answers : ℕ → List ℕ → List (List ℕ) → Result (List ℕ) Refused → Type 0
+Answers fuel state files =
+    Then (AllSpell files) (RefusesClasses files) (λ classes.
+    Then (IsStateText state) (RefusesState state) (λ text. AnswersNamed fuel text classes))
