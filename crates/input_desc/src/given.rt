@@ -40,8 +40,12 @@ fn field_slots(alloc: Global, fields: &[StaticField<'_>]) -> Result<Seq<Slot>, A
     Ok(slots)
 }
 
-/// What the inputs of a program are.
-pub(crate) fn inputs(alloc: Global, program: &Program<'_>) -> Result<Seq<Slot>, AllocError>
+/// What the inputs of a program are: the parameters, where a number of any kind is an int, and then the static fields.
+///
+/// # Errors
+///
+/// Want of memory.
+pub fn inputs(alloc: Global, program: &Program<'_>) -> Result<Seq<Slot>, AllocError>
     ensures { IfOk result (λ slots. slots ≡ slots_of (program_of program.now)) }
 {
     program.is_good();
