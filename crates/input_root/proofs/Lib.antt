@@ -1,0 +1,5 @@
+pub mod Found
+pub mod Holding
+pub mod Listed
+pub mod Rooted
+pub mod Shown

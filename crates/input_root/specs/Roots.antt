@@ -1,0 +1,36 @@
+-- The states that a description fits, and what is known of them.
+use Rattle.std.specs.Prelude.{◌≡◌, ℕ, List, ◌++◌, slice_get, None}
+use Rattle.std.specs.Option.{unwrap_or}
+use Rattle.jvm_values.specs.declared.heap.Value.{Value}
+use Rattle.jvm_values.specs.declared.heap.Value.TheVariants.{Null}
+use Rattle.jvm_values.specs.States.{MachineState}
+use Rattle.class_world.specs.WorldTypes.{types_of}
+use Rattle.class_program.specs.Programs.{Program, IsClosed}
+use Rattle.abs_cells.specs.Fits.{Meaning, Fits}
+use Rattle.frame_types.specs.Tables.{CodeTypes}
+use Rattle.code_verify.specs.Typings.{IsTypingOf}
+use Rattle.code_verify.specs.TypedStates.{IsTypedState}
+use Rattle.input_text.specs.declared.texts.DescText.{DescText}
+use Rattle.input_desc.specs.declared.desc.Desc.{Desc}
+use Rattle.input_desc.specs.Descs.{desc_fault, IsDescribed}
+use Rattle.input_desc.specs.Fitting.{FitsDescription}
+use Rattle.input_desc.specs.Initial.{initial_of}
+
+-- each id stands for the value of the input of its number
+abbrev pub input_values : List Value → Meaning
+input_values values id = unwrap_or (slice_get values id) Null
+
+-- A state that fits a description of a program has the types of the program's typing.
+abbrev pub FittingStatesAreTyped : Type 0
+FittingStatesAreTyped =
+    (p : Program) (text : DescText) (desc : Desc) (typing : ℕ → CodeTypes) (state : MachineState)
+    → IsClosed p → IsTypingOf p typing → desc_fault p text ≡ None → IsDescribed p text desc
+    → FitsDescription p desc state → IsTypedState p typing state
+
+-- The initial abstract state of a description describes each state that fits it.
+abbrev pub FittingStatesAreDescribed : Type 0
+FittingStatesAreDescribed =
+    (p : Program) (text : DescText) (desc : Desc) (state : MachineState)
+    → IsClosed p → desc_fault p text ≡ None → IsDescribed p text desc
+    → (fits : FitsDescription p desc state)
+    → Fits (types_of p.world) (initial_of p desc) state (input_values (fits.args ++ state.statics))

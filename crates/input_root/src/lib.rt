@@ -1,0 +1,8 @@
+//! Which states a description speaks of: they have the types of the program's typing, and its initial abstract state describes them.
+//!
+//! The laws are calls that do nothing when they run.
+#![tactic(auto)]
+
+mod laws;
+
+pub use laws::{fitting_states_are_described, fitting_states_are_typed};
