@@ -1,5 +1,5 @@
 -- Descriptions that are made of texts and pairs.
-use Rattle.std.proofs.Common.{◌≡◌, ℕ, Bool, true, eqb, List, ◌++◌, length, Option, Some, None, Result, Ok, Err, refl, sym, ap, subst, ◌∙◌}
+use Rattle.std.proofs.Common.{◌≡◌, ℕ, eqb, List, ◌++◌, length, Option, None, Result, Ok, Err, refl, sym, ap, subst, ◌∙◌}
 use Rattle.std.specs.Prelude.{IfOk, not}
 use Rattle.std.specs.Option.{option_or}
 use Rattle.std.proofs.lemmas.Bool.{eq-eqb}
@@ -12,9 +12,9 @@ use Rattle.input_desc.specs.declared.desc.Input.{Input}
 use Rattle.input_desc.specs.declared.desc.Desc.{Desc}
 use Rattle.input_desc.specs.Due.{IsDue, fault_if, IsMemoryOr}
 use Rattle.input_desc.specs.Given.{params_of, statics_of, slots_of}
-use Rattle.input_desc.specs.Descs.{inputs_from, later_fault, desc_fault, Finds, IsMade, Fitted, IsDescribed, Describes, IsGoodDesc}
+use Rattle.input_desc.specs.Descs.{inputs_from, later_fault, desc_fault, Finds, IsMade, Fitted, Describes, IsGoodDesc}
 use Rattle.input_desc.proofs.Faultless.{memory_due}
-use Rattle.input_desc.proofs.GoodDescs.{texts_count, made_is_good}
+use Rattle.input_desc.proofs.GoodDescs.{made_is_good}
 
 -- what is made of what was found
 pub fitted_from : (p : Program) (texts' : List InputText) (same share pairs : List (ℕ × ℕ)) (found : List (Option Input)) (result : Result Desc DescFault) → pairs ≡ same ++ share → Finds p texts' pairs (Ok found) → IsMemoryOr result (λ desc. IsMade found same share desc) → Fitted p texts' same share result

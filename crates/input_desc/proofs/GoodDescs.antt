@@ -1,8 +1,8 @@
 -- What is described without a fault: each input is there, and each pair is one.
-use Rattle.std.proofs.Common.{◌≡◌, ◌≢◌, ℕ, ◌+◌, ◌≤◌, ◌<◌, Bool, true, false, cond, eqb, List, [], ◌∷◌, ◌++◌, length, length-append, map, Option, Some, None, Result, Ok, Err, refl, sym, ap, subst, ◌∙◌, arith}
-use Rattle.std.specs.Prelude.{All, IfOk, not, ◌&&◌, ◌||◌, slice_get, is_some}
+use Rattle.std.proofs.Common.{◌≡◌, ◌≢◌, ℕ, ◌+◌, ◌≤◌, ◌<◌, Bool, true, false, cond, eqb, List, [], ◌∷◌, ◌++◌, length, length-append, map, Option, Some, None, Ok, refl, sym, ap, subst, ◌∙◌, arith}
+use Rattle.std.specs.Prelude.{All, not, ◌&&◌, slice_get, is_some}
 use Rattle.std.specs.List.{list_all, position_from}
-use Rattle.std.specs.Option.{option_map, option_map_or, option_or}
+use Rattle.std.specs.Option.{option_map_or}
 use Rattle.std.proofs.lemmas.Bool.{false≢true, and_parts, not-true, not-false, eqb-false}
 use Rattle.std.proofs.lemmas.List.{length-map}
 use Rattle.std.proofs.lemmas.List.Elements.{All-nil, All-cons, All-head, All-tail, All-weaker}
@@ -11,8 +11,7 @@ use Rattle.jvm_values.specs.declared.types.Slot.{Slot}
 use Rattle.jvm_values.specs.declared.types.Slot.TheVariants as slots
 use Rattle.class_world.specs.World.{World}
 use Rattle.class_program.specs.Programs.{Program}
-use Rattle.input_text.specs.declared.fault.DescFault.{DescFault}
-use Rattle.input_text.specs.declared.fault.DescFault.TheVariants.{ParamCount, StaticCount, ParamKind, EmptyInterval, UnknownType, BadPair}
+use Rattle.input_text.specs.declared.fault.DescFault.TheVariants.{EmptyInterval, UnknownType, BadPair}
 use Rattle.input_text.specs.declared.texts.InputText.{InputText}
 use Rattle.input_text.specs.declared.texts.DescText.{DescText}
 use Rattle.input_desc.specs.declared.desc.Input.{Input}
@@ -20,8 +19,8 @@ use Rattle.input_desc.specs.declared.desc.Desc.{Desc}
 use Rattle.input_desc.specs.Given.{params_of, statics_of, field_slot, argument_slot, slots_of}
 use Rattle.input_desc.specs.Pairs.{is_reference_slot, is_reference_at, is_pair, is_no_pair, IsPairBelow}
 use Rattle.input_desc.specs.Typed.{first_unfit}
-use Rattle.input_desc.specs.Descs.{has_receiver, first_of_other_kind, input_of, inputs_from, has_ints, has_a_type, found_fault, later_fault, desc_fault, Finds, IsMade, IsDescribed, Describes, IsGoodDesc}
-use Rattle.input_desc.proofs.Faultless.{neither, not_mapped, counted}
+use Rattle.input_desc.specs.Descs.{inputs_from, has_ints, has_a_type, found_fault, later_fault, Finds, IsMade, IsGoodDesc}
+use Rattle.input_desc.proofs.Faultless.{neither, not_mapped}
 
 -- ---- each input is there
 

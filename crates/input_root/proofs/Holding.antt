@@ -1,33 +1,28 @@
 -- The values of inputs that fit a description have the types of their parameters and static fields.
-use Rattle.std.proofs.Common.{◌≡◌, ℕ, zero, suc, ◌+◌, ◌≤◌, ℤ, ◌≤ℤ◌, Bool, true, false, cond, List, [], ◌∷◌, ◌++◌, length, map, Option, Some, None, sym, refl, ap, subst, ◌∙◌, arith}
-use Rattle.std.specs.Prelude.{IsTrue, slice_get, int_le, option_and_then, option_map}
+use Rattle.std.proofs.Common.{◌≡◌, ℕ, zero, suc, ◌≤◌, ℤ, ◌≤ℤ◌, Bool, true, false, cond, List, [], ◌∷◌, length, map, Option, Some, None, sym, refl, ap, subst, ◌∙◌, arith}
+use Rattle.std.specs.Prelude.{slice_get, int_le, option_and_then, option_map}
 use Rattle.std.specs.List.{AllZip}
 use Rattle.std.specs.Int.{int_max, int_min}
 use Rattle.std.proofs.lemmas.Int.{ints, clamps}
-use Rattle.lin_core.specs.Intervals.{Bounds, IsIn}
+use Rattle.lin_core.specs.Intervals.{IsIn}
 use Rattle.jvm_values.specs.declared.types.Kind.{Kind}
-use Rattle.jvm_values.specs.declared.types.Base.{Base}
-use Rattle.jvm_values.specs.declared.types.Base.TheVariants as bases
 use Rattle.jvm_values.specs.declared.types.Ty.{Ty}
 use Rattle.jvm_values.specs.declared.types.Slot.{Slot}
 use Rattle.jvm_values.specs.declared.types.Slot.TheVariants as slots
 use Rattle.jvm_values.specs.declared.heap.Value.{Value}
-use Rattle.jvm_values.specs.declared.heap.Value.TheVariants as values
 use Rattle.jvm_values.specs.declared.heap.Heap.{Heap}
 use Rattle.jvm_values.specs.declared.shape.Shape.{Shape}
 use Rattle.jvm_values.specs.Kinds.{IsOfKind, least_of, greatest_of}
-use Rattle.jvm_values.specs.Subtyping.{SubtypeLaws, IsErased}
-use Rattle.jvm_values.specs.TypedHeaps.{WorldTypes, type_of, HasType, Holds}
-use Rattle.class_world.specs.World.{World, is_interface_class}
+use Rattle.jvm_values.specs.TypedHeaps.{WorldTypes, Holds}
+use Rattle.class_world.specs.World.{World}
 use Rattle.class_world.specs.WorldTypes.{types_of}
-use Rattle.class_world.specs.Types.{is_sub, erase, erase_by, erased_base}
-use Rattle.class_world.specs.Fields.{fields_of, can_be_made}
+use Rattle.class_world.specs.Types.{is_sub, erase}
 use Rattle.input_text.specs.declared.texts.InputText.{InputText}
 use Rattle.input_text.specs.declared.texts.InputText.TheVariants as texts
 use Rattle.input_desc.specs.declared.desc.Input.{Input}
 use Rattle.input_desc.specs.declared.desc.Input.TheVariants.{Int, Ref}
 use Rattle.input_desc.specs.TypeNames.{type_named}
-use Rattle.input_desc.specs.Descs.{ints_of, erased_below, type_for, input_of, inputs_from}
+use Rattle.input_desc.specs.Descs.{ints_of, erased_below, input_of, inputs_from}
 use Rattle.input_desc.specs.Fitting.{FitsInput}
 use Rattle.input_desc.proofs.Wider.{Laws, has_wider, erased_twice}
 

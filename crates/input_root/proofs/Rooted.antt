@@ -1,12 +1,11 @@
 -- A state that fits a description has the types of the program's typing, and the initial abstract state describes it.
-use Rattle.std.proofs.Common.{◌≡◌, ◌≢◌, ℕ, ◌+◌, ◌-◌, zero, suc, ◌≤◌, ◌<◌, Bool, true, false, cond, eqb, List, [], ◌∷◌, ◌++◌, length, map, replicate, Option, Some, None, ◌⊎◌, inl, inr, sym, refl, ap, subst, ◌∙◌, arith, length-append}
-use Rattle.std.specs.Prelude.{IsTrue, All, IfSome, slice_get, ◌&&◌, ◌||◌, not}
+use Rattle.std.proofs.Common.{◌≡◌, ◌≢◌, ℕ, ◌+◌, ◌-◌, Bool, true, false, List, [], ◌∷◌, ◌++◌, length, map, replicate, Option, Some, None, ◌⊎◌, inl, inr, sym, refl, ap, subst, ◌∙◌}
+use Rattle.std.specs.Prelude.{All, IfSome, slice_get, ◌&&◌, ◌||◌}
 use Rattle.std.specs.List.{AllZip}
-use Rattle.std.specs.Option.{option_map, option_map_or, option_or, unwrap_or}
+use Rattle.std.specs.Option.{option_map_or, unwrap_or}
 use Rattle.std.proofs.lemmas.Bool.{false≢true, and_from}
 use Rattle.std.proofs.lemmas.List.{length-map}
 use Rattle.std.proofs.lemmas.List.Elements.{All-nil, All-append, All-map, All-replicate, All-cons}
-use Rattle.jvm_values.specs.declared.types.Kind.TheVariants as kinds
 use Rattle.jvm_values.specs.declared.types.Ty.{Ty}
 use Rattle.jvm_values.specs.declared.types.Slot.{Slot}
 use Rattle.jvm_values.specs.declared.types.Slot.TheVariants as slots
@@ -17,29 +16,25 @@ use Rattle.jvm_values.specs.declared.heap.Heap.{Heap}
 use Rattle.jvm_values.specs.declared.shape.Shape.{Shape}
 use Rattle.jvm_values.specs.declared.typing.PlaceType.{PlaceType}
 use Rattle.jvm_values.specs.declared.typing.PlaceType.TheVariants as places
-use Rattle.jvm_values.specs.declared.state.Mode.{Mode}
-use Rattle.jvm_values.specs.declared.state.Mode.TheVariants.{Normal, Throwing}
-use Rattle.jvm_values.specs.States.{MachineFrame, MachineState, PlaceTypes}
-use Rattle.jvm_values.specs.Heaps.{target, Region, HasShape, IsInHeap}
-use Rattle.jvm_values.specs.TypedHeaps.{WorldTypes, type_of, HasType, Holds}
+use Rattle.jvm_values.specs.declared.state.Mode.TheVariants.{Normal}
+use Rattle.jvm_values.specs.States.{MachineState}
+use Rattle.jvm_values.specs.Heaps.{target, HasShape, IsInHeap}
+use Rattle.jvm_values.specs.TypedHeaps.{WorldTypes, type_of, Holds}
 use Rattle.jvm_values.proofs.Typed.{value_in_heap}
 use Rattle.class_world.specs.World.{World}
 use Rattle.class_world.specs.WorldTypes.{types_of}
 use Rattle.class_world.specs.WorldLaws.{world_laws}
-use Rattle.class_world.specs.Types.{is_sub, erase}
+use Rattle.class_world.specs.Types.{is_sub}
 use Rattle.class_program.specs.declared.program.Method.{Method}
-use Rattle.class_program.specs.declared.program.StaticField.{StaticField}
-use Rattle.class_program.specs.Programs.{Program, IsClosed}
+use Rattle.class_program.specs.Programs.{Program}
 use Rattle.abs_cells.specs.declared.cells.Cell.{Cell}
-use Rattle.abs_cells.specs.declared.cells.Cell.TheVariants as cells
-use Rattle.abs_cells.specs.AbstractStates.{AbstractFrame, AbstractState}
-use Rattle.abs_cells.specs.Cells.{is_known, is_hazy, shape_of, cell_at, cell_in, are_compatible, is_comparable, HasCell, AreEqual, Share}
-use Rattle.abs_cells.specs.Fits.{Meaning, FitsFrame, FitsMode, IsObject, Describes, Fits, with_statics}
-use Rattle.frame_types.specs.Tables.{CodeTypes, Takes}
-use Rattle.frame_types.specs.Places.{IsWithin, IsFrameWithin}
+use Rattle.abs_cells.specs.Cells.{is_known, shape_of, cell_in, are_compatible, HasCell, AreEqual}
+use Rattle.abs_cells.specs.Fits.{Meaning, FitsFrame, FitsMode, Describes, with_statics}
+use Rattle.frame_types.specs.Tables.{CodeTypes}
+use Rattle.frame_types.specs.Places.{IsWithin}
 use Rattle.code_verify.specs.Operands.{place_of}
-use Rattle.code_verify.specs.Typings.{IsTypingOf, IsLeastTyping, IsTyping, entry_frame, entry_flow}
-use Rattle.code_verify.specs.TypedStates.{HasPlaceType, HasStack, IsTypedFrame, IsRunning, IsTop, AreTypedFrames, IsTypedState}
+use Rattle.code_verify.specs.Typings.{IsTypingOf, entry_frame}
+use Rattle.code_verify.specs.TypedStates.{HasPlaceType, HasStack, IsRunning, AreTypedFrames}
 use Rattle.input_text.specs.declared.texts.DescText.{DescText}
 use Rattle.input_text.specs.declared.fault.DescFault.TheVariants.{ParamCount, StaticCount}
 use Rattle.input_desc.specs.declared.desc.Input.{Input}
@@ -47,7 +42,7 @@ use Rattle.input_desc.specs.declared.desc.Input.TheVariants.{Int, Ref}
 use Rattle.input_desc.specs.declared.desc.Desc.{Desc}
 use Rattle.input_desc.specs.Given.{params_of, statics_of, field_slot, argument_slot, slots_of}
 use Rattle.input_desc.specs.Descs.{desc_fault, IsDescribed}
-use Rattle.input_desc.specs.Fitting.{FitsInput, IsListed, IsStart, FitsDescription}
+use Rattle.input_desc.specs.Fitting.{FitsInput, FitsDescription}
 use Rattle.input_desc.specs.Initial.{cell_of, cells_from, are_alike, locals_of, initial_locals, initial_of}
 use Rattle.input_desc.proofs.Faultless.{neither, counted}
 use Rattle.input_desc.proofs.GoodDescs.{texts_count}
@@ -57,7 +52,7 @@ use Rattle.input_desc.proofs.Zipped.{zip_append, zip_length, zip_at, zip_replica
 use Rattle.input_desc.proofs.Wider.{Laws, has_wider}
 use Rattle.input_root.proofs.Holding.{all_hold, input_erased}
 use Rattle.input_root.proofs.Listed.{listed, listed_kept, listed_in_both}
-use Rattle.input_root.proofs.Found.{IsInput, cell_found}
+use Rattle.input_root.proofs.Found.{cell_found}
 use Rattle.input_root.proofs.Shown.{locals_shown}
 
 -- ---- what is known of the inputs

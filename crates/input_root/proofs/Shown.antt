@@ -1,7 +1,7 @@
 -- The locals of an initial frame: each id stands beside its input's value.
-use Rattle.std.proofs.Common.{◌≡◌, ℕ, ◌+◌, ◌-◌, zero, suc, List, [], ◌∷◌, ◌++◌, length, map, replicate, Option, Some, None, sym, refl, ap, subst, ◌∙◌, append_assoc, arith}
+use Rattle.std.proofs.Common.{◌≡◌, ℕ, ◌+◌, ◌-◌, zero, suc, List, [], ◌∷◌, ◌++◌, length, map, replicate, Option, Some, None, sym, refl, ap, ◌∙◌, append_assoc, arith}
 use Rattle.std.specs.Prelude.{slice_get}
-use Rattle.std.specs.List.{AllZip, range_with_len}
+use Rattle.std.specs.List.{AllZip}
 use Rattle.jvm_values.specs.declared.heap.Value.{Value}
 use Rattle.abs_cells.specs.Fits.{Meaning}
 use Rattle.input_desc.specs.Initial.{given_from, initial_locals}
