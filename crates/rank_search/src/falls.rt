@@ -75,7 +75,7 @@ fn falls_at(
 }
 
 /// What the sizes at these places fall by along a rule, of which the links are found once.
-fn size_falls_of(
+fn all_size_falls(
     alloc: Global,
     rule: &PathRule,
     places: &[Place],
@@ -85,6 +85,21 @@ fn size_falls_of(
 {
     let ties = size_ties(alloc, rule.rows.as_slice(), rule.vars)?;
     falls_at(alloc, rule, true, ties.as_slice(), places)
+}
+
+/// The same, where no link is found for no place.
+fn size_falls_of(
+    alloc: Global,
+    rule: &PathRule,
+    places: &[Place],
+) -> Result<Seq<Option<i64>>, AllocError>
+    requires { IsRule rule.now }
+    ensures { IfOk result (λ falls. TellAll (TellsSize rule.now) places.now falls) }
+{
+    match places {
+        [] => Ok(Seq::new(alloc)),
+        _ => all_size_falls(alloc, rule, places),
+    }
 }
 
 /// What the ints at these places, or their negatives, fall by along a rule, of which the links are found once.
