@@ -1,7 +1,8 @@
-pub mod Found
 pub mod Links
-pub mod Plain
 pub mod Positions
-pub mod Rising
-pub mod Searching
+pub mod Plain
 pub mod Stepwise
+pub mod Found
+pub mod RankSteps
+pub mod Searching
+pub mod Rising

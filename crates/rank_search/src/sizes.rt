@@ -55,7 +55,7 @@ fn is_part(coefficient: &i64) -> bool
 }
 
 /// Whether a row says that the variable is at least 0.
-fn is_zero(variable: u32, row: &WRow) -> bool
+pub(crate) fn is_zero(variable: u32, row: &WRow) -> bool
     ensures { result ≡ is_zero variable row.now }
 {
     is_bound(row, variable, &1) && row.constant == 0
@@ -114,7 +114,7 @@ fn weighed_once(weights: &[(u32, i64)]) -> Result<i64, AllocError>
 }
 
 /// The constant of a row, where every class weighs 1.
-fn size_constant(row: &WRow) -> Result<i64, AllocError>
+pub(crate) fn size_constant(row: &WRow) -> Result<i64, AllocError>
     ensures { IfOk result (λ constant. constant ≡ size_constant row.now) }
 {
     let weighed = weighed_once(row.weights.as_slice())?;

@@ -131,7 +131,7 @@ pub(crate) fn fall_ties(
 }
 
 /// Whether the row bounds the start.
-fn bounds(negative: bool, start: u32, row: &WRow) -> bool
+pub(crate) fn bounds(negative: bool, start: u32, row: &WRow) -> bool
     ensures { result ≡ bounds negative start row.now }
 {
     let sign = if negative { -1 } else { 1 };

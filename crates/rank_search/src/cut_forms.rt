@@ -1,0 +1,205 @@
+//! The forms of cuts that parts make, and the weights of classes.
+ghost use Rattle.std.specs.Prelude.{◌<◌, IfSome, length};
+
+use crate::parts::{Part, is_size};
+use crate::positions::slot_at;
+use descent::{CutForm, PathRule, SlotForm};
+use list_views::Seq;
+use std::alloc::{AllocError, Global};
+
+/// An end of a rule at a cut.
+#[derive(Clone, Copy, Debug, PartialEq, Eq)]
+struct End {
+    cut: u32,
+    rule: usize,
+    last: bool,
+}
+
+/// Where an id stands.
+fn place_of(entries: &[(u16, i64)], id: u16) -> Option<usize>
+    ensures { IfSome result (λ n. n < length entries.now) }
+{
+    for (n, entry) in entries.iter().enumerate() {
+        if entry.0 == id {
+            return Some(n);
+        }
+    }
+    None
+}
+
+/// Counts an id so many times more; false past 64 bits.
+fn count(entries: &mut Vec<(u16, i64)>, id: u16, times: i64) -> Result<bool, AllocError> {
+    let Some(n) = place_of(entries.as_slice(), id) else {
+        entries.push((id, times))?;
+        return Ok(true);
+    };
+    match entries[n].1.checked_add(times) {
+        Some(sum) => {
+            entries[n] = (id, sum);
+            Ok(true)
+        }
+        None => Ok(false),
+    }
+}
+
+/// The entries that count, by id.
+fn in_order(alloc: Global, mut entries: Vec<(u16, i64)>) -> Result<Seq<(u16, i64)>, AllocError> {
+    entries.sort_by_key(|entry| entry.0)?;
+    let mut list = Seq::new(alloc);
+    for entry in &entries {
+        if entry.1 != 0 {
+            list.push(*entry)?;
+        }
+    }
+    Ok(list)
+}
+
+/// The multiples of ints or of sizes that parts make of a cut's slots; None where a place has no slot, or past 64 bits.
+fn entries_of(
+    alloc: Global,
+    slots: &[SlotForm],
+    size: bool,
+    parts: &[Part],
+) -> Result<Option<Seq<(u16, i64)>>, AllocError> {
+    let mut entries = Vec::new(alloc);
+    for part in parts {
+        if is_size(part.course) == size {
+            let Some(slot) = slot_at(slots, size, &part.place) else {
+                return Ok(None);
+            };
+            if !count(&mut entries, slot.id, part.times)? {
+                return Ok(None);
+            }
+        }
+    }
+    Ok(Some(in_order(alloc, entries)?))
+}
+
+/// The ends of the rules, by their cuts.
+fn ends_of(alloc: Global, rules: &[PathRule]) -> Result<Vec<End>, AllocError> {
+    let mut ends = Vec::new(alloc);
+    for (n, rule) in rules.iter().enumerate() {
+        ends.push(End {
+            cut: rule.from,
+            rule: n,
+            last: false,
+        })?;
+        ends.push(End {
+            cut: rule.to,
+            rule: n,
+            last: true,
+        })?;
+    }
+    ends.sort_by_key(|end| end.cut)?;
+    Ok(ends)
+}
+
+/// The slots of an end.
+fn slots_at<'a>(rules: &'a [PathRule], end: &End) -> &'a [SlotForm] {
+    match rules.get(end.rule) {
+        Some(rule) => {
+            if end.last {
+                rule.last.as_slice()
+            } else {
+                rule.first.as_slice()
+            }
+        }
+        None => &[],
+    }
+}
+
+/// The form of a cut that has these slots.
+fn form_of(
+    alloc: Global,
+    cut: u32,
+    slots: &[SlotForm],
+    parts: &[Part],
+    constant: i64,
+) -> Result<Option<CutForm>, AllocError> {
+    let Some(ints) = entries_of(alloc, slots, false, parts)? else {
+        return Ok(None);
+    };
+    let Some(sizes) = entries_of(alloc, slots, true, parts)? else {
+        return Ok(None);
+    };
+    Ok(Some(CutForm {
+        cut,
+        constant,
+        ints,
+        sizes,
+    }))
+}
+
+/// The forms of all cuts of the rules, with this constant; None where a cut has no slot at a place, or past 64 bits.
+///
+/// # Errors
+///
+/// Want of memory.
+pub(crate) fn forms_of(
+    alloc: Global,
+    rules: &[PathRule],
+    parts: &[Part],
+    constant: i64,
+) -> Result<Option<Seq<CutForm>>, AllocError> {
+    let ends = ends_of(alloc, rules)?;
+    let mut forms = Seq::new(alloc);
+    let mut before = None;
+    for end in &ends {
+        if before != Some(end.cut) {
+            let slots = slots_at(rules, end);
+            match form_of(alloc, end.cut, slots, parts, constant)? {
+                Some(form) => forms.push(form)?,
+                None => return Ok(None),
+            }
+        }
+        before = Some(end.cut);
+    }
+    Ok(Some(forms))
+}
+
+/// Adds the classes of multiples.
+fn add_classes(weights: &[(u32, i64)], classes: &mut Vec<u32>) -> Result<(), AllocError> {
+    for (class, _) in weights {
+        classes.push(*class)?;
+    }
+    Ok(())
+}
+
+/// Adds the classes of slots.
+fn add_slots(slots: &[SlotForm], classes: &mut Vec<u32>) -> Result<(), AllocError> {
+    for slot in slots {
+        add_classes(slot.weights.as_slice(), classes)?;
+    }
+    Ok(())
+}
+
+/// Adds the classes that a rule names.
+fn add_rule(rule: &PathRule, classes: &mut Vec<u32>) -> Result<(), AllocError> {
+    for row in rule.rows.as_slice() {
+        add_classes(row.weights.as_slice(), classes)?;
+    }
+    add_slots(rule.first.as_slice(), classes)?;
+    add_slots(rule.last.as_slice(), classes)
+}
+
+/// The weight 1 for each class that the rules name.
+///
+/// # Errors
+///
+/// Want of memory.
+pub(crate) fn ones(alloc: Global, rules: &[PathRule]) -> Result<Seq<(u32, i64)>, AllocError> {
+    let mut classes = Vec::new(alloc);
+    for rule in rules {
+        add_rule(rule, &mut classes)?;
+    }
+    classes.sort_by_key(|class| *class)?;
+    let mut weights = Seq::new(alloc);
+    let mut before = None;
+    for class in &classes {
+        if before != Some(*class) {
+            weights.push((*class, 1))?;
+        }
+        before = Some(*class);
+    }
+    Ok(weights)
+}
