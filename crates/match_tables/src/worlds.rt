@@ -1,0 +1,51 @@
+//! The world of a case's class files.
+ghost use Rattle.std.specs.Prelude.{◌≡◌, ◌<◌, ◌≤◌, length, IfOk};
+ghost use Rattle.std.specs.List.{AllByRecursion};
+ghost use Rattle.class_world.specs.Linking.{CanBeRead};
+ghost use Rattle.match_tables.specs.ReadClasses.{AreRead};
+
+use anyhow::{Result, bail};
+use class_read::ClassView;
+use class_world::World;
+use std::alloc::Global;
+use table_cases::Case;
+
+/// The contents of the class files in all fields from `first` on.
+pub fn files(alloc: Global, case: &Case<'_>, first: usize) -> Result<Vec<Vec<u8>>> {
+    let mut files = Vec::new(alloc);
+    for n in first..case.field_count() {
+        files.push(case.bytes(alloc, n)?)?;
+    }
+    Ok(files)
+}
+
+/// The world that the classes of files give.
+pub fn world(alloc: Global, files: &[Vec<u8>]) -> Result<World<'_>> {
+    match World::link(alloc, read_all(alloc, files)?) {
+        Ok(world) => Ok(world),
+        Err(_) => bail!("the classes can't be linked"),
+    }
+}
+
+fn read(alloc: Global, bytes: &[u8]) -> Result<ClassView<'_>>
+    ensures { IfOk result (λ class. CanBeRead class) }
+{
+    match ClassView::read(alloc, bytes) {
+        Ok(class) => Ok(class),
+        Err(_) => bail!("a class file can't be read"),
+    }
+}
+
+/// The classes of the files, fewer than 1,000.
+fn read_all(alloc: Global, files: &[Vec<u8>]) -> Result<Vec<ClassView<'_>>>
+    ensures { IfOk result (λ classes. AreRead classes.items) }
+{
+    let mut classes = Vec::new(alloc);
+    for file in files {
+        if classes.len() >= 999 {
+            bail!("there are too many class files");
+        }
+        classes.push(read(alloc, file.as_slice())?)?;
+    }
+    Ok(classes)
+}
