@@ -1,0 +1,9 @@
+-- Tests of the items of two lists, place by place.
+use Rattle.std.specs.Prelude.{Bool, true, false, ◌&&◌, List, [], ◌∷◌}
+
+-- the items meet a test, and the lists are as long as one another
+abbrev pub all_zip : {A B : Type 0} → (A → B → Bool) → List A → List B → Bool
+all_zip test [] [] = true
+all_zip test [] (y ∷ ys) = false
+all_zip test (x ∷ xs) [] = false
+all_zip test (x ∷ xs) (y ∷ ys) = test x y && all_zip test xs ys
