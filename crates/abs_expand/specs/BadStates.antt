@@ -1,0 +1,117 @@
+-- The abstract states that have no expansion, by the clause that they break.
+use Rattle.std.specs.Prelude.{◌≡◌, ◌≢◌, ℕ, ◌+◌, List, [], ◌∷◌, map, length, take, drop, All, Option, Some, None, slice_get}
+use Rattle.std.specs.List.{AllZip}
+use Rattle.std.specs.Option.{option_map_or}
+use Rattle.jvm_values.specs.declared.types.Slot.{Slot}
+use Rattle.jvm_values.specs.declared.types.Slot.TheVariants as slots
+use Rattle.jvm_values.specs.declared.typing.PlaceType.{PlaceType}
+use Rattle.jvm_values.specs.declared.typing.PlaceType.TheVariants as places
+use Rattle.jvm_values.specs.States.{PlaceTypes}
+use Rattle.abs_cells.specs.AbstractStates.{AbstractFrame, AbstractState}
+use Rattle.abs_cells.specs.Cells.{is_int, HasCell}
+use Rattle.abs_cells.specs.Sound.{IsSound}
+use Rattle.abs_reach.specs.Instances.{is_no_int}
+use Rattle.class_world.specs.WorldTypes.{types_of}
+use Rattle.class_program.specs.declared.op.Op.{Op}
+use Rattle.class_program.specs.declared.op.Op.TheVariants as ops
+use Rattle.class_program.specs.declared.program.Method.{Method}
+use Rattle.class_program.specs.Programs.{Program, op_at}
+use Rattle.frame_types.specs.Tables.{CodeTypes}
+use Rattle.code_verify.specs.TypedStates.{argument_count}
+
+-- ---- places
+
+-- an id is an int where the typing has an int, and else a reference, null too; a place without a type takes anything
+abbrev pub IsOfPlace : AbstractState → PlaceType → Option ℕ → Type 0
+IsOfPlace state places.Unset local = Unit {0}
+IsOfPlace state places.Int (Some id) = HasCell is_int state id
+IsOfPlace state places.Null (Some id) = HasCell is_no_int state id
+IsOfPlace state (places.Ref t) (Some id) = HasCell is_no_int state id
+IsOfPlace state _ None = ⊥
+
+abbrev pub IsOfField : AbstractState → Slot → Option ℕ → Type 0
+IsOfField state (slots.Num kind) (Some id) = HasCell is_int state id
+IsOfField state (slots.Ref t) (Some id) = HasCell is_no_int state id
+IsOfField state _ None = ⊥
+
+abbrev pub HasStackOf : AbstractState → List PlaceType → List ℕ → Type 0
+HasStackOf state wanted stack = AllZip (λ place id. IsOfPlace state place (Some id)) wanted stack
+
+-- ---- frames
+
+-- a call, and how many entries it takes from the stack
+abbrev pub call_takes : Op → Option ℕ
+call_takes (ops.Invokestatic call) = Some (argument_count (ops.Invokestatic call))
+call_takes (ops.Invokespecial call) = Some (argument_count (ops.Invokespecial call))
+call_takes (ops.Invokevirtual call) = Some (argument_count (ops.Invokevirtual call))
+call_takes (ops.Invokeinterface call) = Some (argument_count (ops.Invokeinterface call))
+call_takes _ = None
+
+abbrev pub call_at : Program → AbstractFrame → Option ℕ
+call_at p frame = option_map_or call_takes (op_at p.methods frame.method frame.pc) None
+
+-- the typing has the frame's place; the method's locals, and after them in the bottom frame the ids of the static fields, are
+-- as many as they are and of their kinds
+pub record IsPlaced (p : Program) (typing : ℕ → CodeTypes) (state : AbstractState) (statics : List Slot) (frame : AbstractFrame) (there : PlaceTypes) : Type 0 where
+  pub method : Method
+  pub is_method : slice_get p.methods frame.method ≡ Some method
+  pub is_there : typing frame.method frame.pc ≡ Some there
+  pub count : length frame.locals ≡ method.max_locals + length statics
+  pub locals : AllZip (IsOfPlace state) there.locals (take method.max_locals frame.locals)
+  pub fields : AllZip (IsOfField state) statics (drop method.max_locals frame.locals)
+
+-- the static fields' slots at the bottom frame
+abbrev pub statics_under : Program → List AbstractFrame → List Slot
+statics_under p [] = map (λ field. field.slot) p.statics
+statics_under p (frame ∷ below) = []
+
+-- a caller's stack has the types of its place without the arguments; that of a frame at no call isn't looked at
+abbrev pub HasCallersStack : AbstractState → Option ℕ → List PlaceType → List ℕ → Type 0
+HasCallersStack state None wanted stack = Unit {0}
+HasCallersStack state (Some count) wanted stack = HasStackOf state (drop count wanted) stack
+
+pub record IsCallerPlaced (p : Program) (typing : ℕ → CodeTypes) (state : AbstractState) (statics : List Slot) (frame : AbstractFrame) : Type 0 where
+  pub there : PlaceTypes
+  pub placed : IsPlaced p typing state statics frame there
+  pub stack : HasCallersStack state (call_at p frame) there.stack frame.stack
+
+abbrev pub AreCallersPlaced : Program → (ℕ → CodeTypes) → AbstractState → List AbstractFrame → Type 0
+AreCallersPlaced p typing state [] = Unit {0}
+AreCallersPlaced p typing state (frame ∷ below) = IsCallerPlaced p typing state (statics_under p below) frame × AreCallersPlaced p typing state below
+
+-- the running frame's stack has the types of its place; while a handler is looked for it is empty
+abbrev pub HasRunningStack : AbstractState → Option ℕ → List PlaceType → List ℕ → Type 0
+HasRunningStack state None wanted stack = HasStackOf state wanted stack
+HasRunningStack state (Some thrown) wanted stack = stack ≡ []
+
+pub record IsRunningPlaced (p : Program) (typing : ℕ → CodeTypes) (state : AbstractState) (statics : List Slot) (frame : AbstractFrame) : Type 0 where
+  pub there : PlaceTypes
+  pub placed : IsPlaced p typing state statics frame there
+  pub stack : HasRunningStack state state.throwing there.stack frame.stack
+
+abbrev pub ArePlaced : Program → (ℕ → CodeTypes) → AbstractState → List AbstractFrame → Type 0
+ArePlaced p typing state [] = Unit {0}
+ArePlaced p typing state (frame ∷ below) = IsRunningPlaced p typing state (statics_under p below) frame × AreCallersPlaced p typing state below
+
+-- each frame below the running one is at a call
+abbrev pub below_running : List AbstractFrame → List AbstractFrame
+below_running [] = []
+below_running (frame ∷ below) = below
+
+abbrev pub AreAtCalls : Program → List AbstractFrame → Type 0
+AreAtCalls p frames = All (λ (frame : AbstractFrame). call_at p frame ≢ None) (below_running frames)
+
+-- ---- clauses
+
+-- the state has an expansion
+pub record IsGoodState (p : Program) (typing : ℕ → CodeTypes) (state : AbstractState) : Type 0 where
+  pub sound : IsSound (types_of p.world) state
+  pub placed : ArePlaced p typing state state.frames
+  pub called : AreAtCalls p state.frames
+
+-- the first clause that a state breaks: 1, it isn't sound; 2, a position isn't as the typing has it; 3, a frame below the running
+-- one isn't at a call
+pub data IsBadState (p : Program) (typing : ℕ → CodeTypes) (state : AbstractState) : ℕ → Type 0 where
+  unsound : (IsSound (types_of p.world) state → ⊥) → IsBadState p typing state 1
+  misplaced : IsSound (types_of p.world) state → (ArePlaced p typing state state.frames → ⊥) → IsBadState p typing state 2
+  uncalled : IsSound (types_of p.world) state → ArePlaced p typing state state.frames → (AreAtCalls p state.frames → ⊥) → IsBadState p typing state 3

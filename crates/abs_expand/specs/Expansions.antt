@@ -1,0 +1,108 @@
+-- The expansion of an abstract state: the children of its plan, without the ids that nothing reaches (Otto, Brockschmidt, von Essen,
+-- Giesl 2010).
+use Rattle.std.specs.Prelude.{◌≡◌, ℕ, ◌+◌, ◌-◌, ◌<◌, ◌≤◌, Bool, false, if◌then◌else◌, List, [], ◌∷◌, All, map, length, take, Option, Some, None, slice_get}
+use Rattle.std.specs.List.{AllZip}
+use Rattle.std.specs.Option.{option_map_or}
+use Rattle.jvm_values.specs.declared.types.Ty.{Ty}
+use Rattle.jvm_values.specs.TypedHeaps.{WorldTypes}
+use Rattle.jvm_values.specs.States.{PlaceTypes}
+use Rattle.abs_cells.specs.declared.cells.Cell.{Cell}
+use Rattle.abs_cells.specs.declared.cells.Cell.TheVariants as cells
+use Rattle.abs_cells.specs.AbstractStates.{AbstractFrame, AbstractState}
+use Rattle.abs_cells.specs.Cells.{cell_at, are_compatible}
+use Rattle.term_graph.specs.declared.links.Link.{Link}
+use Rattle.term_graph.specs.Graphs.{GraphChild}
+use Rattle.abs_heap.specs.Refining.{IsCase, cases_of, IsWithCell, AreEqualChildren}
+use Rattle.abs_heap.specs.Counts.{new_ids}
+use Rattle.class_world.specs.WorldTypes.{types_of}
+use Rattle.class_program.specs.declared.program.Method.{Method}
+use Rattle.class_program.specs.Programs.{Program, insn_at}
+use Rattle.op_forms.specs.Forms.{Form, form_of}
+use Rattle.frame_types.specs.Tables.{CodeTypes}
+use Rattle.abs_expand.specs.Plans.{Turn, Plan, ends, steps, by_null, by_class, by_equal, no_child, ids_made}
+use Rattle.abs_expand.specs.Table.{plan_of_form}
+use Rattle.abs_expand.specs.Children.{IsTurnChild, IsLean}
+use Rattle.abs_expand.specs.Throwing.{throwing_plan}
+
+-- ---- the plan of a state
+
+-- in normal mode by the form of the instruction, with the typing's types there and the place of the next instruction. Where none
+-- comes after it, which no place of a typing leads to, its own place stands for that
+abbrev pub plan_here : Program → (ℕ → CodeTypes) → AbstractState → AbstractFrame → List AbstractFrame → Option Form → Option ℕ → Option PlaceTypes → Plan
+plan_here p typing state frame below (Some form) next (Some there) = plan_of_form (record { program = p; state = state; frame = frame; below = below; places = there.stack; next = option_map_or (λ place. place) next frame.pc }) form
+plan_here p typing state frame below _ next _ = no_child
+
+abbrev pub plan_in : Program → (ℕ → CodeTypes) → AbstractState → Option ℕ → List AbstractFrame → Plan
+plan_in p typing state thrown [] = no_child
+plan_in p typing state (Some x) (frame ∷ below) = throwing_plan (types_of p.world) state x frame below (option_map_or (λ (m : Method). m.table) (slice_get p.methods frame.method) [])
+plan_in p typing state None (frame ∷ below) = plan_here p typing state frame below (option_map_or (λ found. form_of found.0) (insn_at p.methods frame.method frame.pc) None) (option_map_or (λ found. found.1) (insn_at p.methods frame.method frame.pc) None) (typing frame.method frame.pc)
+
+abbrev pub plan_of : Program → (ℕ → CodeTypes) → AbstractState → Plan
+plan_of p typing state = plan_in p typing state state.throwing state.frames
+
+-- ---- the children of a plan
+
+abbrev pub stays : Option (ℕ × ℕ) → Link
+stays merged = record { rows = []; merged = merged; step = false }
+
+pub record IsSplitChild (P : AbstractState → Type 0) (merged : Option (ℕ × ℕ)) (child : GraphChild) : Type 0 where
+  pub is : P child.state
+  pub link : child.link ≡ stays merged
+
+abbrev pub AreNullChildren : AbstractState → ℕ → Option Cell → List GraphChild → Type 0
+AreNullChildren state x (Some (cells.Unk bound nullable shape)) (first ∷ second ∷ []) = IsSplitChild (IsWithCell state x cells.Null) None first × IsSplitChild (IsWithCell state x (cells.Unk bound false shape)) None second
+AreNullChildren state x _ _ = ⊥
+
+abbrev pub AreClassChildren : WorldTypes → AbstractState → ℕ → Ty → Option Cell → List GraphChild → Type 0
+AreClassChildren types state x wanted (Some (cells.Unk bound nullable shape)) children = AllZip (λ case (child : GraphChild). IsSplitChild (IsCase types state x shape case) None child) (cases_of types bound wanted) children
+AreClassChildren types state x wanted _ children = ⊥
+
+pub record AreEqualSplit (sub : Ty → Ty → Bool) (state : AbstractState) (x y : ℕ) (children : List GraphChild) : Type 0 where
+  pub merged : List (Option (ℕ × ℕ) × AbstractState)
+  pub are : AreEqualChildren sub state x y merged
+  pub each : AllZip (λ (m : Option (ℕ × ℕ) × AbstractState) (child : GraphChild). (child.state ≡ m.1) × (child.link ≡ stays m.0)) merged children
+
+-- the children of a plan in their order, before ids are dropped
+abbrev pub AreChildren : WorldTypes → AbstractState → Plan → List GraphChild → Type 0
+AreChildren types state ends children = ⊥
+AreChildren types state (steps turns) children = AllZip (IsTurnChild types state) turns children
+AreChildren types state (by_null x) children = AreNullChildren state x (cell_at state x) children
+AreChildren types state (by_class x wanted) children = AreClassChildren types state x wanted (cell_at state x) children
+AreChildren types state (by_equal x y) children = AreEqualSplit types.sub state x y children
+
+-- ---- too many ids
+
+-- how many ids each child has before ids are dropped
+abbrev pub class_counts : WorldTypes → AbstractState → Ty → Option Cell → List ℕ
+class_counts types state wanted (Some (cells.Unk bound nullable shape)) = map (λ case. length state.cells + new_ids types case) (cases_of types bound wanted)
+class_counts types state wanted _ = []
+
+abbrev pub equal_counts : WorldTypes → AbstractState → Option Cell → Option Cell → List ℕ
+equal_counts types state (Some c) (Some d) = if are_compatible types.sub c d then (length state.cells - 1) ∷ length state.cells ∷ [] else length state.cells ∷ []
+equal_counts types state _ _ = []
+
+abbrev pub counts_of : WorldTypes → AbstractState → Plan → List ℕ
+counts_of types state ends = []
+counts_of types state (steps turns) = map (λ (turn : Turn). length state.cells + ids_made types turn.act) turns
+counts_of types state (by_null x) = length state.cells ∷ length state.cells ∷ []
+counts_of types state (by_class x wanted) = class_counts types state wanted (cell_at state x)
+counts_of types state (by_equal x y) = equal_counts types state (cell_at state x) (cell_at state y)
+
+abbrev pub AreFew : List ℕ → Type 0
+AreFew counts = All (λ count. count ≤ 512) counts
+
+-- the first child that has more than 512 ids
+pub record IsFirstTooMany (counts : List ℕ) (n : ℕ) : Type 0 where
+  pub count : ℕ
+  pub is : slice_get counts n ≡ Some count
+  pub many : 512 < count
+  pub before : AreFew (take n counts)
+
+-- ---- the expansion
+
+-- the children of a state that has few enough ids in each
+pub record AreExpanded (types : WorldTypes) (state : AbstractState) (plan : Plan) (children : List GraphChild) : Type 0 where
+  pub few : AreFew (counts_of types state plan)
+  pub wholes : List GraphChild
+  pub are : AreChildren types state plan wholes
+  pub lean : AllZip IsLean wholes children

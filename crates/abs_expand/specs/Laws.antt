@@ -1,0 +1,49 @@
+-- What expansion promises: a state of the machine that fits and is typed ends with its next step where the expansion says so, and
+-- else fits a child, by an edge.
+use Rattle.std.specs.Prelude.{◌≡◌, ℕ, Bool, true, false, List, Some, slice_get}
+use Rattle.jvm_values.specs.States.{MachineState}
+use Rattle.abs_cells.specs.AbstractStates.{AbstractState}
+use Rattle.abs_cells.specs.Fits.{Meaning, Fits}
+use Rattle.class_world.specs.WorldTypes.{types_of}
+use Rattle.class_program.specs.Programs.{Program}
+use Rattle.class_program.specs.Good.{IsGood}
+use Rattle.frame_types.specs.Tables.{CodeTypes}
+use Rattle.code_verify.specs.Typings.{IsTypingOf}
+use Rattle.code_verify.specs.TypedStates.{IsTypedState}
+use Rattle.jvm_step.specs.Running.{step, IsEnd}
+use Rattle.jvm_step.specs.Running.Step.{Going}
+use Rattle.term_graph.specs.Graphs.{GraphChild}
+use Rattle.term_graph.specs.Edges.{Edge}
+use Rattle.abs_expand.specs.Plans.{ends}
+use Rattle.abs_expand.specs.BadStates.{IsGoodState}
+use Rattle.abs_expand.specs.Expansions.{plan_of, AreExpanded}
+
+-- the machine's state at a child: the same where the machine makes no step, else the one after its step
+abbrev pub IsAfter : Program → Bool → MachineState → MachineState → Type 0
+IsAfter p false machine after = after ≡ machine
+IsAfter p true machine after = step p machine ≡ Going after
+
+-- a child fits a state of the machine, and the edge to it holds
+pub record GoesToChild (p : Program) (state : AbstractState) (machine : MachineState) (meaning : Meaning) (children : List GraphChild) : Type 0 where
+  pub n : ℕ
+  pub child : GraphChild
+  pub is : slice_get children n ≡ Some child
+  pub after : MachineState
+  pub is_after : IsAfter p child.link.step machine after
+  pub meaning_after : Meaning
+  pub fits : Fits (types_of p.world) child.state after meaning_after
+  pub edge : Edge state machine meaning child.link child.state after meaning_after
+
+-- a good state, a typing of the program, and a typed state of the machine that fits
+pub record IsMet (p : Program) (typing : ℕ → CodeTypes) (state : AbstractState) (machine : MachineState) (meaning : Meaning) : Type 0 where
+  pub program : IsGood p
+  pub typing_is : IsTypingOf p typing
+  pub good : IsGoodState p typing state
+  pub typed : IsTypedState p typing machine
+  pub fits : Fits (types_of p.world) state machine meaning
+
+abbrev pub EndsEnd : Type 0
+EndsEnd = (p : Program) (typing : ℕ → CodeTypes) (state : AbstractState) (machine : MachineState) (meaning : Meaning) → IsMet p typing state machine meaning → plan_of p typing state ≡ ends → IsEnd (step p machine)
+
+abbrev pub StepsFitChildren : Type 0
+StepsFitChildren = (p : Program) (typing : ℕ → CodeTypes) (state : AbstractState) (machine : MachineState) (meaning : Meaning) (children : List GraphChild) → IsMet p typing state machine meaning → AreExpanded (types_of p.world) state (plan_of p typing state) children → GoesToChild p state machine meaning children

@@ -1,0 +1,11 @@
+pub mod Answers
+pub mod BadStates
+pub mod Children
+pub mod Expansions
+pub mod Laws
+pub mod Needs
+pub mod Plans
+pub mod Switches
+pub mod Table
+pub mod Throwing
+pub mod Turns

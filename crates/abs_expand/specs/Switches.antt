@@ -1,0 +1,21 @@
+-- The numbers of a switch's operand: keys rising, with the gaps before, between and after them, which lead to the default.
+use Rattle.std.specs.Prelude.{ℕ, ℤ, pos, ◌+ℤ◌, ◌-ℤ◌, List, [], ◌∷◌, map, Option, Some}
+use Rattle.lin_core.specs.Intervals.{Bounds, interval_of}
+use Rattle.code_decode.specs.declared.insn.Case.{Case}
+use Rattle.abs_ints.specs.Parts.{all_ints, just}
+
+-- a key and where it leads
+abbrev pub table_keys : ℤ → List ℕ → List (ℤ × ℕ)
+table_keys low [] = []
+table_keys low (target ∷ targets) = (low, target) ∷ table_keys (low +ℤ pos 1) targets
+
+abbrev pub lookup_keys : List Case → List (ℤ × ℕ)
+lookup_keys cases = map (λ (c : Case). (c.key, c.target)) cases
+
+-- from a number on
+abbrev pub parts_from : ℤ → ℕ → List (ℤ × ℕ) → List (Option Bounds × ℕ)
+parts_from low default [] = (interval_of low all_ints.hi, default) ∷ []
+parts_from low default (key ∷ keys) = (interval_of low (key.0 -ℤ pos 1), default) ∷ (Some (just key.0), key.1) ∷ parts_from (key.0 +ℤ pos 1) default keys
+
+abbrev pub parts_of : ℕ → List (ℤ × ℕ) → List (Option Bounds × ℕ)
+parts_of default keys = parts_from all_ints.lo default keys

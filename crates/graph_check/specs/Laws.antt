@@ -1,0 +1,53 @@
+-- What a good graph promises: a typed state of the machine that fits a node ends with its next step, or goes on to a node that this
+-- one names, by an edge.
+use Rattle.std.specs.Prelude.{◌≡◌, ◌⊎◌, ℕ, List, Some, slice_get}
+use Rattle.jvm_values.specs.States.{MachineState}
+use Rattle.abs_cells.specs.AbstractStates.{AbstractState}
+use Rattle.abs_cells.specs.Fits.{Meaning, Fits}
+use Rattle.class_world.specs.WorldTypes.{types_of}
+use Rattle.class_program.specs.Programs.{Program}
+use Rattle.frame_types.specs.Tables.{CodeTypes}
+use Rattle.jvm_step.specs.Running.{step, IsEnd}
+use Rattle.term_graph.specs.declared.links.Link.{Link}
+use Rattle.term_graph.specs.declared.nodes.By.{By}
+use Rattle.term_graph.specs.declared.nodes.By.TheVariants.{Expand, Instance, End, Todo}
+use Rattle.term_graph.specs.Graphs.{GraphNode}
+use Rattle.term_graph.specs.Edges.{Edge, InstanceEdge}
+use Rattle.abs_expand.specs.Laws.{IsAfter, IsMet}
+use Rattle.graph_check.specs.Good.{GraphOk}
+
+-- the n-th of the named nodes is reached by the n-th link
+pub record GoesByChild (p : Program) (state : AbstractState) (machine : MachineState) (meaning : Meaning) (named : List ℕ) (links : List Link) (to : ℕ) (child : AbstractState) (after : MachineState) (meaning_after : Meaning) : Type 0 where
+  pub n : ℕ
+  pub link : Link
+  pub is_link : slice_get links n ≡ Some link
+  pub is_named : slice_get named n ≡ Some to
+  pub is_after : IsAfter p link.step machine after
+  pub edge : Edge state machine meaning link child after meaning_after
+
+pub record GoesByInstance (machine : MachineState) (meaning : Meaning) (target : ℕ) (entries : List (ℕ × ℕ)) (to : ℕ) (after : MachineState) (meaning_after : Meaning) : Type 0 where
+  pub is_target : to ≡ target
+  pub edge : InstanceEdge entries machine meaning after meaning_after
+
+-- an edge leads from a node, left in a way, to a node's state
+abbrev pub GoesBy : Program → AbstractState → MachineState → Meaning → By → List Link → ℕ → AbstractState → MachineState → Meaning → Type 0
+GoesBy p state machine meaning (Expand named) links to child after meaning_after = GoesByChild p state machine meaning named links to child after meaning_after
+GoesBy p state machine meaning (Instance target entries) links to child after meaning_after = GoesByInstance machine meaning target entries to after meaning_after
+GoesBy p state machine meaning End links to child after meaning_after = ⊥
+GoesBy p state machine meaning Todo links to child after meaning_after = ⊥
+
+pub record GoesOn (p : Program) (nodes : List GraphNode) (node : GraphNode) (links : List Link) (machine : MachineState) (meaning : Meaning) : Type 0 where
+  pub to : ℕ
+  pub successor : GraphNode
+  pub is : slice_get nodes to ≡ Some successor
+  pub after : MachineState
+  pub meaning_after : Meaning
+  pub fits : Fits (types_of p.world) successor.state after meaning_after
+  pub by : GoesBy p node.state machine meaning node.by links to successor.state after meaning_after
+
+abbrev pub GraphsHoldRuns : Type 0
+GraphsHoldRuns =
+    (p : Program) (typing : ℕ → CodeTypes) (nodes : List GraphNode) (root : AbstractState) (links : List (List Link)) → GraphOk p typing nodes root links
+    → (n : ℕ) (node : GraphNode) (node_links : List Link) → slice_get nodes n ≡ Some node → slice_get links n ≡ Some node_links
+    → (machine : MachineState) (meaning : Meaning) → IsMet p typing node.state machine meaning
+    → IsEnd (step p machine) ⊎ GoesOn p nodes node node_links machine meaning
