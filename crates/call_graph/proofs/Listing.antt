@@ -19,9 +19,10 @@ use Rattle.class_program.specs.declared.selected.Selected.TheVariants as answers
 use Rattle.class_program.specs.Instructions.{instruction_at, first_place}
 use Rattle.class_program.specs.Programs.{Program, refs_of, insn_at, op_at}
 use Rattle.class_program.specs.Selected.{CanRun, selection_at, selected_in, selected_at, can_receive, can_receive_at}
-use Rattle.call_graph.specs.Graphs.{IsWay, Leads, IsOnCycle, IsLeastOnCycle}
+use Rattle.number_graphs.specs.Graphs.{IsWay, Leads, IsOnCycle, IsLeastOnCycle}
 use Rattle.call_graph.specs.Calls.{Calls}
-use Rattle.call_graph.specs.Listed.{Has, row_at, Edge, method_of, class_run, class_runs, op_runs, place_runs, method_runs, rows_from, graph_of}
+use Rattle.number_graphs.specs.Lists.{Has, row_at, Edge}
+use Rattle.call_graph.specs.Listed.{method_of, class_run, class_runs, op_runs, place_runs, method_runs, rows_from, graph_of}
 
 -- ---- lists
 

@@ -8,13 +8,16 @@ use Rattle.class_program.specs.declared.program.Method.{Method}
 use Rattle.class_read.specs.Content.{ClassContent}
 use Rattle.class_world.specs.declared.fault.MethodName.{MethodName}
 use Rattle.class_program.specs.Good.{AllOf, IsGood, IsGoodMethod}
-use Rattle.call_graph.specs.Graphs.{IsOnCycle, IsLeastOnCycle}
+use Rattle.number_graphs.specs.Graphs.{IsOnCycle, IsLeastOnCycle}
 use Rattle.call_graph.specs.Calls.{Calls, IsNameOf, Answers}
 use Rattle.call_graph.specs.declared.fault.CallFault.TheVariants.{Recursive}
-use Rattle.call_graph.proofs.Cycles.{cycle_within}
 use Rattle.call_graph.proofs.Listing.{none_calls, least_calls}
 use Rattle.class_program.specs.Programs.{Program}
-use Rattle.call_graph.specs.Listed.{Edge, method_runs, rows_from, graph_of}
+use Rattle.number_graphs.specs.Lists.{Edge, Ranked}
+use Rattle.number_graphs.specs.Laws.{CyclesAreListed, FallingHasNoCycle}
+use Rattle.number_graphs.specs.declared.ranking.Ranking.{Ranking}
+use Rattle.number_graphs.specs.declared.ranking.Ranking.TheVariants.{Ranks, Cycle}
+use Rattle.call_graph.specs.Listed.{method_runs, rows_from, graph_of}
 
 range_more : (a n : ℕ) → range_with_len a (suc n) ≡ range_with_len a n ++ (a + n) ∷ []
 range_more a zero = let e : a ≡ a + 0 = omega arith in ap (λ (x : ℕ). x ∷ []) e
@@ -72,12 +75,12 @@ all_at P (y ∷ xs) (suc i) x all e = all_at P xs i x all.1 e
 
 -- ---- the answer
 
-pub few_rows : (graph slice : List (List ℕ)) → slice ≡ graph → length graph ≤ 2 ^ 32 → length slice ≤ 2 ^ 32
-few_rows graph slice e l = subst (λ (g : List (List ℕ)). length g ≤ 2 ^ 32) (sym e) l
+pub few_rows : (graph slice : List (List ℕ)) → slice ≡ graph → length graph + 1 < 2 ^ 32 → length slice + 1 < 2 ^ 32
+few_rows graph slice e l = subst (λ (g : List (List ℕ)). length g + 1 < 2 ^ 32) (sym e) l
 
-pub number_within : (p : Program) (graph : List (List ℕ)) (a : ℕ) → graph ≡ graph_of p → IsLeastOnCycle (Edge graph) a → a < length p.methods
-number_within p graph a e l =
-    let k = cycle_within graph a l.on in
+pub number_within : CyclesAreListed → (p : Program) (graph : List (List ℕ)) (a : ℕ) → graph ≡ graph_of p → IsLeastOnCycle (Edge graph) a → a < length p.methods
+number_within listed p graph a e l =
+    let k = listed graph a l.on in
     let n : length graph ≡ length p.methods = ap length e ∙ graph_length p in
     omega (arith, k, n)
 
@@ -87,14 +90,13 @@ acyclic_some p graph a name e l n = (a, (least_calls p graph a e l, n))
 pub acyclic_none : (p : Program) (graph : List (List ℕ)) → graph ≡ graph_of p → ((a : ℕ) → IsOnCycle (Edge graph) a → ⊥) → Answers p (Ok tt)
 acyclic_none p graph e none = none_calls p graph e none
 
-abbrev pub AnswersLeast : List (List ℕ) → Option ℕ → Type 0
-AnswersLeast graph least = MatchOption least ((a : ℕ) → IsOnCycle (Edge graph) a → ⊥) (λ a. IsLeastOnCycle (Edge graph) a)
+-- a number that is named is the least one on a cycle
+pub cycle_least : (graph : List (List ℕ)) (ranking : Ranking) (a : ℕ) → Ranked graph ranking → ranking ≡ Cycle a → IsLeastOnCycle (Edge graph) a
+cycle_least graph ranking a r e = subst (λ (x : Ranking). Ranked graph x) e r
 
-pub some_least : (graph : List (List ℕ)) (least : Option ℕ) (a : ℕ) → AnswersLeast graph least → least ≡ Some a → IsLeastOnCycle (Edge graph) a
-some_least graph least a l e = subst (λ (o : Option ℕ). AnswersLeast graph o) e l
-
-pub none_least : (graph : List (List ℕ)) (least : Option ℕ) → AnswersLeast graph least → least ≡ None → (a : ℕ) → IsOnCycle (Edge graph) a → ⊥
-none_least graph least l e = subst (λ (o : Option ℕ). AnswersLeast graph o) e l
+-- ranks leave no cycle
+pub ranks_leave_none : FallingHasNoCycle → (graph : List (List ℕ)) (ranking : Ranking) (ranks : List ℕ) → Ranked graph ranking → ranking ≡ Ranks ranks → (a : ℕ) → IsOnCycle (Edge graph) a → ⊥
+ranks_leave_none falling graph ranking ranks r e = falling graph ranks (subst (λ (x : Ranking). Ranked graph x) e r)
 
 -- ---- names
 

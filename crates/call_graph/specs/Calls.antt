@@ -7,7 +7,7 @@ use Rattle.class_program.specs.declared.op.Op.{Op}
 use Rattle.class_program.specs.declared.program.Method.{Method}
 use Rattle.class_program.specs.Programs.{Program, op_at}
 use Rattle.class_program.specs.Selected.{CanRun}
-use Rattle.call_graph.specs.Graphs.{IsOnCycle, IsLeastOnCycle}
+use Rattle.number_graphs.specs.Graphs.{IsOnCycle, IsLeastOnCycle}
 use Rattle.call_graph.specs.declared.fault.CallFault.{CallFault}
 use Rattle.call_graph.specs.declared.fault.CallFault.TheVariants.{Recursive, Memory}
 

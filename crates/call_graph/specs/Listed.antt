@@ -1,5 +1,5 @@
 -- The calls of a program, listed.
-use Rattle.std.specs.Prelude.{◌≡◌, ◌⊎◌, ◌+◌, ℕ, List, [], ◌∷◌, length, slice_get, map, if◌then◌else◌, Option, Some, None}
+use Rattle.std.specs.Prelude.{◌+◌, ℕ, List, [], ◌∷◌, length, if◌then◌else◌, Option, Some, None}
 use Rattle.std.specs.List.{filter_map, flat_map, range_with_len}
 use Rattle.std.specs.Option.{option_map_or, option_to_list}
 use Rattle.class_program.specs.declared.op.Op.{Op}
@@ -9,19 +9,6 @@ use Rattle.class_program.specs.declared.selected.Selected.{Selected}
 use Rattle.class_program.specs.declared.selected.Selected.TheVariants as answers
 use Rattle.class_program.specs.Programs.{Program, op_at}
 use Rattle.class_program.specs.Selected.{selected_at, can_receive_at}
-
--- a number is in a list
-abbrev pub Has : List ℕ → ℕ → Type 0
-Has [] b = ⊥
-Has (x ∷ xs) b = (x ≡ b) ⊎ Has xs b
-
--- the list of a number; numbers past the end have the empty one
-abbrev pub row_at : List (List ℕ) → ℕ → List ℕ
-row_at graph a = option_map_or (λ row. row) (slice_get graph a) []
-
--- a number is in the other one's list
-abbrev pub Edge : List (List ℕ) → ℕ → ℕ → Type 0
-Edge graph a b = Has (row_at graph a) b
 
 abbrev pub method_of : Option Selected → Option ℕ
 method_of (Some (answers.Method number)) = Some number

@@ -1,5 +1,5 @@
 //! The calls of a program, listed.
-ghost use Rattle.std.specs.Prelude.{◌≡◌, ◌≤◌, ◌^◌, ◌++◌, length, IfOk, OnOk};
+ghost use Rattle.std.specs.Prelude.{◌≡◌, ◌<◌, ◌+◌, ◌^◌, ◌++◌, length, IfOk, OnOk};
 ghost use Rattle.std.specs.Option.{option_to_list};
 ghost use Rattle.class_program.specs.Views.{program_of};
 ghost use Rattle.call_graph.specs.Listed.{class_run, class_runs, op_runs, place_runs, method_runs, graph_of};
@@ -120,10 +120,10 @@ fn method_runs(
 /// Want of memory, which also answers more methods than 32 bits count.
 pub(crate) fn graph(alloc: Global, program: &Program<'_>) -> Result<Seq<Seq<u32>>, AllocError>
     ensures graph { IfOk result (λ graph. graph ≡ graph_of (program_of program.now)) }
-    ensures few { IfOk result (λ graph. length graph ≤ 2 ^ 32) }
+    ensures few { IfOk result (λ graph. length graph + 1 < 2 ^ 32) }
 {
     let methods = program.methods.as_slice();
-    if methods.len() > 0xffff_ffff {
+    if methods.len() > 0xffff_fffe {
         return Err(AllocError);
     }
     let mut graph = Seq::new(alloc);

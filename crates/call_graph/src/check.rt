@@ -1,17 +1,14 @@
 //! Whether methods call each other in a cycle.
-ghost use Rattle.std.specs.Prelude.{◌<◌, ◌≤◌, ◌^◌, ℕ, length, IfOk, MatchOption};
+ghost use Rattle.std.specs.Prelude.{◌<◌, length, IfOk};
 ghost use Rattle.class_program.specs.Views.{program_of};
 ghost use Rattle.call_graph.specs.Calls.{Answers, IsNameOf};
-ghost use Rattle.call_graph.specs.Graphs.{IsOnCycle, IsLeastOnCycle};
-ghost use Rattle.call_graph.specs.Listed.{Edge};
 
 use crate::calls::graph;
 use crate::fault::CallFault;
-use crate::graph::least_on_cycle;
-use crate::order::{falls, ranks};
 use class_program::Program;
 use class_world::MethodName;
 use list_views::Seq;
+use number_graphs::{Ranking, cycles_are_listed, falling_has_no_cycle, rank};
 use std::alloc::{AllocError, Global};
 
 /// The name of the method of a number.
@@ -27,18 +24,6 @@ fn name_of(alloc: Global, program: &Program<'_>, number: u32) -> Result<MethodNa
     Ok(MethodName { class, name, desc })
 }
 
-/// The least number on a cycle. Where there is none, it is seen in one walk; else number by number.
-fn least_recursive(alloc: Global, graph: &[Seq<u32>]) -> Result<Option<u32>, AllocError>
-    requires { length graph.now ≤ 2 ^ 32 }
-    ensures { IfOk result (λ least. MatchOption least ((a : ℕ) → IsOnCycle (Edge graph.now) a → ⊥) (λ a. IsLeastOnCycle (Edge graph.now) a)) }
-{
-    let ranks = ranks(alloc, graph)?;
-    if falls(graph, ranks.as_slice()) {
-        return Ok(None);
-    }
-    least_on_cycle(alloc, graph)
-}
-
 /// Tests that no method can call itself, over one or more calls. Every instruction of a method counts, and a call that selects
 /// counts with all that it can select.
 ///
@@ -48,13 +33,14 @@ fn least_recursive(alloc: Global, graph: &[Seq<u32>]) -> Result<Option<u32>, All
 pub fn acyclic(alloc: Global, program: &Program<'_>) -> Result<(), CallFault>
     ensures { Answers (program_of program.now) result }
 {
+    cycles_are_listed();
+    falling_has_no_cycle();
     let graph = graph(alloc, program)?;
-    let least = least_recursive(alloc, graph.as_slice())?;
-    match least {
-        Some(number) => {
+    match rank(alloc, graph.as_slice())? {
+        Ranking::Ranks(_) => Ok(()),
+        Ranking::Cycle(number) => {
             let method = name_of(alloc, program, number)?;
             Err(CallFault::Recursive { method })
         }
-        None => Ok(()),
     }
 }

@@ -4,8 +4,6 @@
 mod calls;
 mod check;
 mod fault;
-mod graph;
-mod order;
 
 pub use check::acyclic;
 pub use fault::CallFault;

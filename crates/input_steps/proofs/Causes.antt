@@ -9,7 +9,7 @@ use Rattle.class_world.specs.declared.fault.MethodName.{MethodName}
 use Rattle.class_world.specs.declared.world.MethodRef.{MethodRef}
 use Rattle.class_program.specs.Programs.{Program}
 use Rattle.class_program.specs.Reached.{close_of}
-use Rattle.call_graph.specs.Graphs.{IsLeastOnCycle}
+use Rattle.number_graphs.specs.Graphs.{IsLeastOnCycle}
 use Rattle.call_graph.specs.Calls.{Calls, IsNameOf}
 use Rattle.call_graph.specs.declared.fault.CallFault.TheVariants.{Recursive}
 use Rattle.code_verify.specs.Typings.{IsFirstUntyped}

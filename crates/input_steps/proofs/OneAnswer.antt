@@ -14,7 +14,7 @@ use Rattle.class_program.specs.Programs.{Program}
 use Rattle.class_program.specs.Reached.{close_of}
 use Rattle.class_program.specs.Said.{Said}
 use Rattle.class_program.specs.Statics.{fields_named, statics_of}
-use Rattle.call_graph.specs.Graphs.{IsLeastOnCycle}
+use Rattle.number_graphs.specs.Graphs.{IsLeastOnCycle}
 use Rattle.call_graph.specs.Calls.{Calls, IsNameOf}
 use Rattle.call_graph.specs.declared.fault.CallFault.TheVariants.{Recursive}
 use Rattle.code_verify.specs.Typings.{IsTypingOf, IsFirstUntyped, HasTyping}

@@ -6,7 +6,7 @@ use Rattle.class_world.specs.declared.fault.MethodName.{MethodName}
 use Rattle.class_world.specs.declared.world.MethodRef.{MethodRef}
 use Rattle.class_program.specs.Programs.{Program, IsClosed}
 use Rattle.class_program.specs.Reached.{close_of}
-use Rattle.call_graph.specs.Graphs.{IsOnCycle, IsLeastOnCycle}
+use Rattle.number_graphs.specs.Graphs.{IsOnCycle, IsLeastOnCycle}
 use Rattle.call_graph.specs.Calls.{Calls, IsNameOf}
 use Rattle.call_graph.specs.declared.fault.CallFault.TheVariants.{Recursive}
 use Rattle.frame_types.specs.Tables.{CodeTypes}

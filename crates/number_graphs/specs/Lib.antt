@@ -1,3 +1,4 @@
 pub mod Graphs
 pub mod Lists
 pub mod Marking
+pub mod Laws
