@@ -2,8 +2,8 @@
 //! classes of rules that reach each other, each by its first rule. Two more are made by hand: `orders` calls both orders, and `steps`
 //! checks a proof of so many rank steps without rules. `read`, which is for measuring alone, reads a case of `proof` and tests its
 //! limits.
-use crate::limits::{are_rules, are_steps};
-use crate::{orders, proofs, rules};
+use crate::limits::are_steps;
+use crate::{orders, proofs};
 use anyhow::{Context, Result, bail};
 use descent::{
     DescentFault, LinFault, PathRule, Proof, ProofStep, RankStep, StepFault, check_proof,
@@ -11,6 +11,7 @@ use descent::{
 };
 use json_view::{View, parse};
 use list_views::Seq;
+use rule_cases::{are_rules, ends, rules};
 use serde_json::Value;
 use std::alloc::Global;
 use std::fmt::Write;
@@ -35,8 +36,8 @@ fn value(alloc: Global, case: &Case<'_>, n: usize) -> Result<Value> {
     parse(alloc, text.as_bytes()).ok().context("JSON is wanted")
 }
 
-fn checked(alloc: Global, rules: &Value, proof: &Value, is_tested: bool) -> Result<String> {
-    let rules = rules::rules(alloc, &View::root(rules))?;
+fn checked(alloc: Global, list: &Value, proof: &Value, is_tested: bool) -> Result<String> {
+    let rules = rules(alloc, &View::root(list))?;
     let proof = proofs::proof(alloc, &View::root(proof))?;
     told(alloc, rules.as_slice(), &proof, is_tested)
 }
@@ -105,8 +106,8 @@ fn walked(alloc: Global, number: &Value) -> Result<String> {
 }
 
 /// The classes of the rules with these cuts.
-fn classes(alloc: Global, ends: &Value) -> Result<String> {
-    let rules = rules::ends(alloc, &View::root(ends))?;
+fn classes(alloc: Global, cuts: &Value) -> Result<String> {
+    let rules = ends(alloc, &View::root(cuts))?;
     let classes = components(alloc, rules.as_slice())?;
     let mut text = String::from_str(alloc, "[")?;
     for rule in 0..rules.len() {

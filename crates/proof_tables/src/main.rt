@@ -6,8 +6,6 @@ mod answers;
 mod limits;
 mod orders;
 mod proofs;
-mod reading;
-mod rules;
 
 use anyhow::Result;
 use std::io;

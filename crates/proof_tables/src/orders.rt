@@ -1,19 +1,18 @@
 //! Calls of both orders on a rule.
 use crate::answers::fault_text;
-use crate::limits::{are_few, are_forms, is_rule};
+use crate::limits::{are_few, are_forms};
 use crate::proofs::forms;
-use crate::reading::{item, pairs};
-use crate::rules::rules;
 use anyhow::{Result, bail};
 use descent::{DescentFault, LinearOrder, Order, Scratch, SizeOrder};
 use json_view::View;
+use rule_cases::{is_rule, item, pairs, rules};
 use serde_json::Value;
 use std::alloc::Global;
 
 /// What `weak`, `strict` and `bounded` of both orders answer, on the first of the rules, which has number 7. The second value has the
 /// forms and the multipliers; no class has a weight.
-pub fn shown(alloc: Global, rule: &Value, parts: &Value) -> Result<String> {
-    let rules = rules(alloc, &View::root(rule))?;
+pub fn shown(alloc: Global, list: &Value, parts: &Value) -> Result<String> {
+    let rules = rules(alloc, &View::root(list))?;
     let parts = View::root(parts);
     let forms = forms(alloc, &item(alloc, &parts, 0)?)?;
     let multipliers = pairs(alloc, &parts, 1)?;

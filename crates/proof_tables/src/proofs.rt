@@ -1,9 +1,9 @@
 //! Proofs as they stand in a case.
-use crate::reading::{count, integer, item, multiples, natural, naturals, pairs, word};
 use anyhow::{Result, bail};
 use descent::{CutForm, Proof, ProofStep, RankRule, RankStep};
 use json_view::View;
 use list_views::Seq;
+use rule_cases::{count, integer, item, multiples, natural, naturals, pairs, word};
 use std::alloc::Global;
 
 /// A proof: a list of steps.

@@ -3,12 +3,11 @@
 //! measuring alone, reads a case and tests its limits.
 ghost use Rattle.descent.specs.Conditions.{AreRules};
 
-use crate::limits::are_rules;
-use crate::rules;
 use anyhow::{Context, Result, bail};
 use descent::{PathRule, Place};
 use json_view::{View, parse};
 use rank_search::{PlainForm, StepwiseForm, plain_form, stepwise_form};
+use rule_cases::{are_rules, rules};
 use std::alloc::Global;
 use std::fmt::Write;
 use table_cases::Case;
@@ -18,7 +17,7 @@ pub fn answer(alloc: Global, case: &Case<'_>) -> Result<String> {
     let value = parse(alloc, case.text(0)?.as_bytes())
         .ok()
         .context("JSON is wanted")?;
-    let rules = rules::rules(alloc, &View::root(&value))?;
+    let rules = rules(alloc, &View::root(&value))?;
     told(alloc, case.table(), rules.as_slice())
 }
 

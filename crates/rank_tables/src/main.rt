@@ -3,9 +3,6 @@
 #![tactic(auto)]
 
 mod answers;
-mod limits;
-mod reading;
-mod rules;
 
 use anyhow::Result;
 use std::io;

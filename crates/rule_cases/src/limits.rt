@@ -1,4 +1,4 @@
-//! Tests of what the search asks.
+//! Tests of what proofs and searches ask of rules.
 ghost use Rattle.std.specs.Prelude.{◌≤◌, ◌^◌, IsTrue};
 ghost use Rattle.lin_core.specs.Rows.{RiseFrom};
 ghost use Rattle.lin_core.specs.Weights.{AreRows, IsRow, total_size};
@@ -64,7 +64,7 @@ fn are_slots(slots: &[SlotForm], vars: u32) -> bool
 }
 
 /// Whether the rows and slots of the rule are within the limits.
-fn is_rule(rule: &PathRule) -> bool
+pub fn is_rule(rule: &PathRule) -> bool
     ensures { IsTrue result → IsRule rule.now }
 {
     are_rows(rule.rows.as_slice(), rule.vars)

@@ -1,0 +1,10 @@
+//! Rules, forms and numbers as they stand in the cases of tables, and whether rules are within the limits of proofs.
+#![tactic(auto)]
+
+mod limits;
+mod listed;
+mod reading;
+
+pub use limits::{are_rules, is_rule};
+pub use listed::{ends, rules};
+pub use reading::{count, id, integer, item, multiples, natural, naturals, pairs, word};
