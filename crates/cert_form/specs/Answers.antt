@@ -1,0 +1,43 @@
+-- What a reader of a certificate's JSON answers: what the value says, or the first fault, or want of memory.
+use Rattle.std.specs.Prelude.{◌≡◌, List, ℕ, Result, Ok, Err}
+use Rattle.json_view.specs.Located.{Located}
+use Rattle.json_view.specs.declared.fault.JsonFault.{JsonFault}
+use Rattle.json_view.specs.declared.fault.JsonFault.TheVariants as faults
+use Rattle.cert_form.specs.declared.fault.CertFault.{CertFault}
+use Rattle.cert_form.specs.declared.fault.CertFault.TheVariants.{Json, Limit, Memory}
+
+-- what a value with its place says, or the first fault
+abbrev pub Reader : Type 0 → Type 0
+Reader A = Located → Result A CertFault
+
+-- the answer is what is said, where `shows` is what a clause sees of it; want of memory may stand in its place
+abbrev pub Tells : {T A : Type 0} → (T → A) → Result T CertFault → Result A CertFault → Type 0
+Tells shows (Ok value) said = said ≡ Ok (shows value)
+Tells shows (Err Memory) said = Unit {0}
+Tells shows (Err fault) said = said ≡ Err fault
+
+-- the same where a clause sees the value as it is
+abbrev pub Says : {A : Type 0} → Result A CertFault → Result A CertFault → Type 0
+Says (Ok value) said = said ≡ Ok value
+Says (Err Memory) said = Unit {0}
+Says (Err fault) said = said ≡ Err fault
+
+-- a fault of JSON as a fault of certificates
+abbrev pub lifted : JsonFault → CertFault
+lifted faults.Memory = Memory
+lifted fault = Json fault
+
+-- what is read of JSON, with its fault as one of certificates
+abbrev pub json : {A : Type 0} → Result A JsonFault → Result A CertFault
+json (Ok value) = Ok value
+json (Err fault) = Err (Json fault)
+
+-- faults at a place
+abbrev pub wrong_kind : {A : Type 0} → Located → Result A CertFault
+wrong_kind here = Err (Json (faults.WrongKind here.place))
+
+abbrev pub out_of_range : {A : Type 0} → Located → Result A CertFault
+out_of_range here = Err (Json (faults.OutOfRange here.place))
+
+abbrev pub past_limit : {A : Type 0} → Located → Result A CertFault
+past_limit here = Err (Limit here.place)

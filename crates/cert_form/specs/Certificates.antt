@@ -1,0 +1,99 @@
+-- Certificates: objects with exactly the fields `cuts`, `form`, `nodes` and `proof`. The names of the fields are tested
+-- first, and then `form`, `cuts`, `nodes` and `proof` are read in this order.
+--
+-- In form 1 each node is `{"by":B,"state":S}`. In form 2 a node that an `expand` node with a lower number names as a child
+-- has no state, since it has the child's: it is `{"by":B}`.
+use Rattle.std.specs.Prelude.{◌≡◌, ℕ, ℤ, pos, ◌==◌, ◌||◌, ◌&&◌, Bool, true, false, if◌then◌else◌, List, [], ◌∷◌, Option, Some, None, codes, length, Result, Ok, Err}
+use Rattle.std.specs.List.{list_any}
+use Rattle.std.specs.Ordering.{int_eq}
+use Rattle.json_view.specs.Answers.{Reads}
+use Rattle.json_view.specs.Located.{Located, root_of}
+use Rattle.json_view.specs.Reading.{int_of}
+use Rattle.json_view.specs.declared.fault.JsonFault.TheVariants as faults
+use Rattle.serde_json.specs.Data.{Data}
+use Rattle.abs_cells.specs.AbstractStates.{AbstractState}
+use Rattle.term_graph.specs.Graphs.{GraphPart}
+use Rattle.term_graph.specs.declared.nodes.By.{By}
+use Rattle.term_graph.specs.declared.nodes.By.TheVariants.{Expand, Instance, End, Todo}
+use Rattle.descent.specs.declared.proof.ProofStep.{ProofStep}
+use Rattle.cert_form.specs.declared.fault.CertFault.{CertFault}
+use Rattle.cert_form.specs.declared.fault.CertFault.TheVariants.{Json, Limit, Memory}
+use Rattle.cert_form.specs.Answers.{Reader, json}
+use Rattle.cert_form.specs.Fields.{◌>>=◌, only, field, entries_of, at_most, a_number}
+use Rattle.cert_form.specs.States.{state_of}
+use Rattle.cert_form.specs.Ways.{by_of, numbers_of}
+use Rattle.cert_form.specs.Steps.{proof_of}
+
+-- what a certificate says
+pub record CertContent : Type 0 where
+  pub cuts : List ℕ
+  pub parts : List GraphPart
+  pub proof : List ProofStep
+
+-- ---- nodes
+
+-- whether a node names another one as its child
+abbrev pub names_child : ℕ → By → Bool
+names_child n (Expand children) = list_any (λ child. child == n) children
+names_child n (Instance target map) = false
+names_child n End = false
+names_child n Todo = false
+
+-- whether one of the nodes does
+abbrev pub is_named : ℕ → List GraphPart → Bool
+is_named n parts = list_any (λ part. names_child n part.by) parts
+
+-- a node with its state
+unfoldable pub whole_node : List (List ℕ) → Reader GraphPart
+whole_node names here = do
+  listed ← only (codes "by state") here
+  by ← field (codes "by") by_of here
+  state ← field (codes "state") (state_of names) here
+  Ok (record { state = Some state; by = by })
+
+-- a node whose state another one gives
+unfoldable pub named_node : Reader GraphPart
+named_node here = do
+  listed ← only (codes "by") here
+  by ← field (codes "by") by_of here
+  Ok (record { state = None; by = by })
+
+-- whether the node behind these has no state
+abbrev pub lacks_state : Bool → List GraphPart → Bool
+lacks_state second front = second && is_named (length front) front
+
+unfoldable pub node_in : List (List ℕ) → Bool → List GraphPart → Reader GraphPart
+node_in names second front here = if lacks_state second front then named_node here else whole_node names here
+
+unfoldable pub nodes_of : List (List ℕ) → Bool → Reader (List GraphPart)
+nodes_of names second here = at_most 20000 (entries_of (node_in names second)) here
+
+-- ---- the whole
+
+abbrev pub is_second : ℤ → Bool
+is_second form = int_eq form (pos 2)
+
+unfoldable pub form_of : Reader Bool
+form_of here = json (int_of (pos 1) (pos 2) here) >>= λ form. Ok (is_second form)
+
+unfoldable pub cert_of : List (List ℕ) → Reader CertContent
+cert_of names here = do
+  listed ← only (codes "cuts form nodes proof") here
+  second ← field (codes "form") form_of here
+  cuts ← field (codes "cuts") numbers_of here
+  parts ← field (codes "nodes") (nodes_of names second) here
+  proof ← field (codes "proof") proof_of here
+  Ok (record { cuts = cuts; parts = parts; proof = proof })
+
+-- `serde_json` reads a value of the bytes, of which the reader says this
+abbrev pub SaysOf : {A : Type 0} → Reader A → List ℕ → Result A CertFault → Type 0
+SaysOf reader bytes said = (value : Data) × (Reads bytes value × (reader (root_of value) ≡ said))
+
+-- The answer for a whole text: `serde_json` reads a value of it of which the reader says the answer; or it reads none.
+abbrev pub AnswersText : {A : Type 0} → Reader A → List ℕ → Result A CertFault → Type 0
+AnswersText reader bytes (Ok content) = SaysOf reader bytes (Ok content)
+AnswersText reader bytes (Err (Json faults.NotJson)) = (value : Data) → ¬ Reads bytes value
+AnswersText reader bytes (Err (Json faults.Memory)) = ⊥
+AnswersText reader bytes (Err (Json fault)) = SaysOf reader bytes (Err (Json fault))
+AnswersText reader bytes (Err (Limit place)) = SaysOf reader bytes (Err (Limit place))
+AnswersText reader bytes (Err Memory) = Unit {0}

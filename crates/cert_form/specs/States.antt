@@ -1,0 +1,76 @@
+-- States: objects with exactly the fields `cells`, `eq`, `frames`, `share` and `throw`, read in this order.
+--
+-- A frame is `[method,place,[locals],[stack]]`, the bottom frame first, with -1 for an unset local and the stack's top
+-- last; `throw` is -1 or an id; pairs are `[a,b]` with a below b, rising.
+use Rattle.std.specs.Prelude.{ℕ, ◌==◌, ◌&&◌, ◌||◌, nat_lt, Bool, true, if◌then◌else◌, List, [], ◌∷◌, reverse, Option, Some, None, codes, Result, Ok, Err}
+use Rattle.std.specs.Option.{option_map_or}
+use Rattle.abs_cells.specs.AbstractStates.{AbstractFrame, AbstractState}
+use Rattle.abs_cells.specs.declared.cells.Cell.{Cell}
+use Rattle.cert_form.specs.Answers.{Reader}
+use Rattle.cert_form.specs.Fields.{◌>>=◌, only, field, entries_of, at_most, of_length, nth, in_order, last_of, a_number, a_place, an_id, maybe_id}
+use Rattle.cert_form.specs.Cells.{cell_in, ids_of}
+
+-- ---- pairs
+
+-- the first pair stands before the second one
+abbrev pub is_before_pair : ℕ × ℕ → ℕ × ℕ → Bool
+is_before_pair p q = nat_lt p.0 q.0 || ((p.0 == q.0) && nat_lt p.1 q.1)
+
+-- a pair may come behind these
+abbrev pub is_next_pair : List (ℕ × ℕ) → ℕ × ℕ → Bool
+is_next_pair front q = option_map_or (λ p. is_before_pair p q) (last_of front) true
+
+unfoldable pub two_ids : Reader (ℕ × ℕ)
+two_ids here = do
+  a ← nth 0 an_id here
+  b ← nth 1 an_id here
+  Ok (a, b)
+
+unfoldable pub ordered_pair : List (ℕ × ℕ) → Reader (ℕ × ℕ)
+ordered_pair front here = do
+  pair ← two_ids here
+  order ← in_order (nat_lt pair.0 pair.1 && is_next_pair front pair) here
+  Ok pair
+
+unfoldable pub pair_in : List (ℕ × ℕ) → Reader (ℕ × ℕ)
+pair_in front here = of_length 2 (ordered_pair front) here
+
+-- ---- frames
+
+unfoldable pub locals_of : Reader (List (Option ℕ))
+locals_of here = entries_of (λ _. maybe_id) here
+
+unfoldable pub frame_parts : Reader AbstractFrame
+frame_parts here = do
+  method ← nth 0 a_number here
+  pc ← nth 1 a_place here
+  locals ← nth 2 locals_of here
+  stack ← nth 3 ids_of here
+  Ok (record { method = method; pc = pc; locals = locals; stack = reverse stack })
+
+unfoldable pub frame_of : Reader AbstractFrame
+frame_of here = of_length 4 frame_parts here
+
+-- ---- states
+
+abbrev pub state_names : List ℕ
+state_names = codes "cells eq frames share throw"
+
+unfoldable pub cells_of : List (List ℕ) → Reader (List (ℕ × Cell))
+cells_of names here = at_most 512 (entries_of (cell_in names)) here
+
+unfoldable pub frames_of : Reader (List AbstractFrame)
+frames_of here = entries_of (λ _. frame_of) here
+
+unfoldable pub pairs_of : Reader (List (ℕ × ℕ))
+pairs_of here = entries_of pair_in here
+
+unfoldable pub state_of : List (List ℕ) → Reader AbstractState
+state_of names here = do
+  listed ← only state_names here
+  cells ← field (codes "cells") (cells_of names) here
+  eq ← field (codes "eq") pairs_of here
+  frames ← field (codes "frames") frames_of here
+  share ← field (codes "share") pairs_of here
+  throwing ← field (codes "throw") maybe_id here
+  Ok (record { frames = reverse frames; throwing = throwing; cells = cells; eq = eq; share = share })
