@@ -1,10 +1,13 @@
 pub mod Answers
 pub mod BadStates
+pub mod Building
 pub mod Children
 pub mod Expansions
+pub mod IntForms
 pub mod Laws
 pub mod Needs
 pub mod Plans
+pub mod PlansSeen
 pub mod Switches
 pub mod Table
 pub mod Throwing

@@ -1,0 +1,44 @@
+-- Programs whose instructions are about ints alone, and the states that they meet: what the expansion is built for so far.
+use Rattle.std.specs.Prelude.{◌≡◌, ℕ, Bool, true, false, List, [], Option, Some, None}
+use Rattle.std.specs.Option.{option_map_or}
+use Rattle.abs_cells.specs.declared.cells.Cell.{Cell}
+use Rattle.abs_cells.specs.AbstractStates.{AbstractState}
+use Rattle.abs_cells.specs.Cells.{is_int, cell_at}
+use Rattle.class_program.specs.declared.op.Op.{Op}
+use Rattle.class_program.specs.Programs.{Program, op_at}
+use Rattle.op_forms.specs.Forms.{Form, form_of}
+use Rattle.op_forms.specs.Forms.Form.{Nop, AconstNull, Iconst, Iload, Aload, Istore, Astore, Iinc, Shuffle, Arith, Ineg, Narrow, If, IfIcmp, IfAcmpeq, IfAcmpne, Ifnull, Ifnonnull, Goto, Tableswitch, Lookupswitch, Ireturn, Areturn, Return, Getstatic, Putstatic, Getfield, Putfield, Invokevirtual, Invokespecial, Invokestatic, Invokeinterface, New, Newarray, Anewarray, Arraylength, NumberLoad, Aaload, NumberStore, Aastore, Athrow, Checkcast, Instanceof}
+
+-- an instruction that moves ints, computes with them, compares them, jumps or returns
+abbrev pub is_int_form : Form → Bool
+is_int_form Nop = true
+is_int_form (Iconst n) = true
+is_int_form (Iload n) = true
+is_int_form (Istore n) = true
+is_int_form (Iinc n by) = true
+is_int_form (Shuffle shuffle) = true
+is_int_form (Arith op) = true
+is_int_form Ineg = true
+is_int_form (Narrow kind) = true
+is_int_form (If cond place) = true
+is_int_form (IfIcmp cond place) = true
+is_int_form (Goto place) = true
+is_int_form (Tableswitch default low targets) = true
+is_int_form (Lookupswitch default cases) = true
+is_int_form Ireturn = true
+is_int_form Return = true
+is_int_form _ = false
+
+abbrev pub has_int_form : Op → Bool
+has_int_form op = option_map_or is_int_form (form_of op) false
+
+-- each instruction of the program is one of these
+abbrev pub HasIntForms : Program → Type 0
+HasIntForms p = (number pc : ℕ) (op : Op) → op_at p.methods number pc ≡ Some op → has_int_form op ≡ true
+
+-- a state with cells of ints alone, no pairs and no thrown id
+pub record IsIntState (state : AbstractState) : Type 0 where
+  pub cells : (id : ℕ) (cell : Cell) → cell_at state id ≡ Some cell → is_int cell ≡ true
+  pub no_eq : state.eq ≡ []
+  pub no_share : state.share ≡ []
+  pub unthrown : state.throwing ≡ None
