@@ -16,7 +16,8 @@ ARRAY = ('class A;method f ()V static stack 4 locals 2;sipush 1000;newarray int;
 # the counting loop in a method beside others that it does not run but reaches, and with many objects
 MANY = ('class A;method f ()V static stack 2 locals 2;iconst_0;ifne others;sipush %d;anewarray java/lang/Object;pop;'
         'iconst_0;istore_0;again: iinc 0 1;iload_0;ldc int 2147483647;if_icmplt again;return;'
-        'others: %s return;end;%s')
+        'others: invokestatic A all ()V;return;end;'
+        'method all ()V static stack 0 locals 0;%s return;end;%s')
 
 
 def many(methods, objects):
