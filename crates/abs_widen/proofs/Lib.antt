@@ -1,0 +1,7 @@
+mod Bounds
+mod Frames
+mod Merging
+mod Rising
+mod Sides
+mod Visiting
+mod Zips

@@ -1,0 +1,27 @@
+-- What holds of every widening.
+use Rattle.std.specs.Prelude.{ℕ, List}
+use Rattle.jvm_values.specs.Subtyping.{SubtypeLaws}
+use Rattle.jvm_values.specs.TypedHeaps.{WorldTypes}
+use Rattle.abs_cells.specs.AbstractStates.{AbstractState}
+use Rattle.abs_cells.specs.Sound.{IsSound}
+use Rattle.abs_reach.specs.Instances.{InstanceOf}
+use Rattle.abs_widen.specs.Widening.{AreAlike, IsWidening}
+
+abbrev pub AreLawful : WorldTypes → Type 0
+AreLawful types = SubtypeLaws types.sub types.erase types.classes types.fields types.can_be_made
+
+-- one state is an instance of another one by some map
+abbrev pub IsInstance : WorldTypes → AbstractState → AbstractState → Type 0
+IsInstance types state target = (entries : List (ℕ × ℕ)) × InstanceOf types.sub state target entries
+
+-- Both states are instances of the one's widening by the other.
+abbrev pub WideningsAreWider : Type 0
+WideningsAreWider =
+    (types : WorldTypes) (a b result : AbstractState) → AreLawful types → IsSound types a → IsSound types b → AreAlike a b
+    → IsWidening types a b result → IsInstance types a result × IsInstance types b result
+
+-- A widening of two sound states is sound.
+abbrev pub WideningsAreSound : Type 0
+WideningsAreSound =
+    (types : WorldTypes) (a b result : AbstractState) → AreLawful types → IsSound types a → IsSound types b → AreAlike a b
+    → IsWidening types a b result → IsSound types result

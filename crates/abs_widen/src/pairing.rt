@@ -1,0 +1,118 @@
+//! Which ids of a widening may have one object, and which share.
+ghost use Rattle.std.specs.Prelude.{◌≡◌, ◌⊎◌, ◌↔◌, ◌<◌, true, IsTrue};
+ghost use Rattle.abs_cells.specs.Cells.{is_reference, HasCell, AreEqual};
+ghost use Rattle.abs_cells.specs.Closures.{MayMeet, MayBeIn};
+ghost use Rattle.abs_cells.specs.Sound.{AreIdsRising, IsWellFormed};
+ghost use Rattle.abs_reach.specs.Instances.{MayBeOne};
+ghost use Rattle.abs_widen.specs.Pairing.{IsWithin, may_join_cells, IsPairedAs};
+
+use abs_cells::{AbsState, Cell, Id, Pairs};
+use abs_reach::{Marks, cell_of, may_be_in, may_meet};
+
+/// Whether an id's cell is that of a reference that is not null.
+fn counts<P: Pairs>(state: &AbsState<P>, id: Id) -> bool
+    requires { AreIdsRising 0 state.now.cells }
+    ensures { IsTrue result ↔ HasCell is_reference state.now id }
+{
+    match cell_of(state.cells(), id) {
+        Some(cell) => cell.is_reference(),
+        None => false,
+    }
+}
+
+/// Whether two ids are a pair with one object. The pairs rise, so that no id is one with itself.
+fn are_equal<P: Pairs>(state: &AbsState<P>, x: Id, y: Id) -> bool
+    requires low { (x < 2048) × (y < 2048) }
+    ensures { IsTrue result ↔ AreEqual state.now x y }
+{
+    let pairs = state.eq();
+    let _first = pairs.nth(0);
+    x != y && pairs.has(x, y)
+}
+
+/// Whether two ids may stand for one object.
+fn may_be_one<P: Pairs>(state: &AbsState<P>, x: Id, y: Id) -> bool
+    requires good { IsWellFormed state.now }
+    requires low { (x < 2048) × (y < 2048) }
+    ensures { IsTrue result ↔ MayBeOne state.now x y }
+{
+    (x == y && counts(state, x)) || are_equal(state, x, y)
+}
+
+/// Whether two pairs may stand for one object on one side.
+fn are_one<P: Pairs>(a: &AbsState<P>, b: &AbsState<P>, p: (Id, Id), q: (Id, Id)) -> bool
+    requires first { IsWellFormed a.now }
+    requires second { IsWellFormed b.now }
+    requires p_within { IsWithin a.now b.now p }
+    requires q_within { IsWithin a.now b.now q }
+    ensures { IsTrue result ↔ (MayBeOne a.now p.0 q.0 ⊎ MayBeOne b.now p.1 q.1) }
+{
+    may_be_one(a, p.0, q.0) || may_be_one(b, p.1, q.1)
+}
+
+/// Whether two pairs may meet on one side.
+fn meet<P: Pairs>(
+    a: &AbsState<P>,
+    b: &AbsState<P>,
+    p: (Id, Id),
+    q: (Id, Id),
+    marks: &mut Marks,
+) -> bool
+    requires first { IsWellFormed a.now }
+    requires second { IsWellFormed b.now }
+    requires p_within { IsWithin a.now b.now p }
+    requires q_within { IsWithin a.now b.now q }
+    ensures { IsTrue result ↔ (MayMeet a.now p.0 q.0 ⊎ MayMeet b.now p.1 q.1) }
+{
+    may_meet(a, p.0, q.0, marks) || may_meet(b, p.1, q.1, marks)
+}
+
+/// Whether a pair may be in another one's region on one side.
+fn is_in<P: Pairs>(
+    a: &AbsState<P>,
+    b: &AbsState<P>,
+    p: (Id, Id),
+    q: (Id, Id),
+    marks: &mut Marks,
+) -> bool
+    requires first { IsWellFormed a.now }
+    requires second { IsWellFormed b.now }
+    requires p_within { IsWithin a.now b.now p }
+    requires q_within { IsWithin a.now b.now q }
+    ensures { IsTrue result ↔ (MayBeIn a.now p.0 q.0 ⊎ MayBeIn b.now p.1 q.1) }
+{
+    may_be_in(a, p.0, q.0, marks) || may_be_in(b, p.1, q.1, marks)
+}
+
+/// Whether two cells are those of references, and not both known.
+fn may_join_cells(first: &Cell, second: &Cell) -> bool
+    ensures { result ≡ may_join_cells first.now second.now }
+{
+    first.is_reference() && second.is_reference() && !(first.is_known() && second.is_known())
+}
+
+/// Whether two pairs share, beside those that may be one: two hazy ones may meet, a known one may be in a hazy one's region.
+fn share<P: Pairs>(
+    a: &AbsState<P>,
+    b: &AbsState<P>,
+    p: (Id, Id),
+    q: (Id, Id),
+    first: &Cell,
+    second: &Cell,
+    marks: &mut Marks,
+) -> bool
+    requires first { IsWellFormed a.now }
+    requires second { IsWellFormed b.now }
+    requires p_within { IsWithin a.now b.now p }
+    requires q_within { IsWithin a.now b.now q }
+    requires joins { may_join_cells first.now second.now ≡ true }
+    ensures { IsTrue result ↔ IsPairedAs a.now b.now p q first.now second.now }
+{
+    if first.is_known() {
+        is_in(a, b, p, q, marks)
+    } else if second.is_known() {
+        is_in(a, b, q, p, marks)
+    } else {
+        meet(a, b, p, q, marks)
+    }
+}
