@@ -12,7 +12,7 @@ use Rattle.input_desc.specs.declared.desc.Input.{Input}
 use Rattle.input_desc.specs.declared.desc.Desc.{Desc}
 use Rattle.input_desc.specs.Due.{IsDue, fault_if, IsMemoryOr}
 use Rattle.input_desc.specs.Given.{params_of, statics_of, slots_of}
-use Rattle.input_desc.specs.Descs.{inputs_from, later_fault, desc_fault, Finds, IsMade, Fitted, Describes, IsGoodDesc}
+use Rattle.input_desc.specs.Descs.{inputs_from, later_fault, desc_fault, Finds, IsMade, Fitted, Describes, IsGoodDesc, IsOwnDesc}
 use Rattle.input_desc.proofs.Faultless.{memory_due}
 use Rattle.input_desc.proofs.GoodDescs.{made_is_good}
 
@@ -41,3 +41,7 @@ fitted_describes p text texts' (Err fault) l m e h =
 pub fitted_is_good : (p : Program) (texts' : List InputText) (same share : List (ℕ × ℕ)) (result : Result Desc DescFault) → length texts' ≡ length (slots_of p) → Fitted p texts' same share result → IfOk result (IsGoodDesc p)
 fitted_is_good p texts' same share (Ok desc) l h = made_is_good p texts' same share (inputs_from p.world (slots_of p) texts') desc l (h.0, refl) h.1
 fitted_is_good p texts' same share (Err fault) l h = tt
+
+pub own_if : (p : Program) (text : DescText) (result : Result Desc DescFault) → Describes p text result → IfOk result (IsGoodDesc p) → IfOk result (IsOwnDesc p)
+own_if p text (Ok desc) is good = record { text = text; faultless = is.0; described = is.1; good = good }
+own_if p text (Err fault) is good = tt

@@ -19,7 +19,7 @@ use Rattle.input_desc.specs.declared.desc.Desc.{Desc}
 use Rattle.input_desc.specs.Given.{params_of, statics_of, field_slot, argument_slot, slots_of}
 use Rattle.input_desc.specs.Pairs.{is_reference_slot, is_reference_at, is_pair, is_no_pair, IsPairBelow}
 use Rattle.input_desc.specs.Typed.{first_unfit}
-use Rattle.input_desc.specs.Descs.{inputs_from, has_ints, has_a_type, found_fault, later_fault, Finds, IsMade, IsGoodDesc}
+use Rattle.input_desc.specs.Descs.{inputs_from, has_ints, has_a_type, found_fault, later_fault, desc_fault, Finds, IsMade, IsGoodDesc}
 use Rattle.input_desc.proofs.Faultless.{neither, not_mapped}
 
 -- ---- each input is there
@@ -108,7 +108,22 @@ made_is_good p texts' same share found desc l h made =
       pairs = subst (λ xs. All (IsPairBelow (length desc.inputs)) xs) (sym pairs) (subst (λ n. All (IsPairBelow n) (same ++ share)) (sym count) below);
     }
 
-pub few_made : (inputs : List Input) (found : List (Option Input)) → map Some inputs ≡ found → length found ≤ 2048 → length inputs ≤ 2048
+-- each pair of a description without a fault is one of two different reference inputs
+references : (wanted : List Slot) (n : ℕ) (pairs : List (ℕ × ℕ)) → position_from (is_no_pair wanted) n pairs ≡ None → All (λ pair. is_pair wanted pair ≡ true) pairs
+references wanted n [] e = All-nil (λ (pair : ℕ × ℕ). is_pair wanted pair ≡ true)
+references wanted n (pair ∷ pairs) e = go (references wanted (n + 1) pairs) (is_no_pair wanted pair) refl e
+  where
+    go : (position_from (is_no_pair wanted) (n + 1) pairs ≡ None → All (λ pair. is_pair wanted pair ≡ true) pairs) → (b : Bool) → is_no_pair wanted pair ≡ b → cond b (Some n) (position_from (is_no_pair wanted) (n + 1) pairs) ≡ None → All (λ pair. is_pair wanted pair ≡ true) (pair ∷ pairs)
+    go rest true q f = absurd (let h : Some n ≡ None = f in cc)
+    go rest false q f = All-cons (λ (pair : ℕ × ℕ). is_pair wanted pair ≡ true) pair pairs (not-false (is_pair wanted pair) q) (rest f)
+
+pub pairs_are : (p : Program) (text : DescText) → desc_fault p text ≡ None → All (λ pair. is_pair (slots_of p) pair ≡ true) (text.same ++ text.share)
+unfolding desc_fault
+pairs_are p text e =
+    let later = (neither _ _ (neither _ _ e).1).1 in
+    references (slots_of p) 0 (text.same ++ text.share) (later_clean p (text.params ++ text.statics) (text.same ++ text.share) later).good
+
+pub few_made : (inputs : List Input) (found : List (Option Input)) → map Some inputs ≡ found → length found ≤ 512 → length inputs ≤ 512
 few_made inputs found e l = let same : length found ≡ length inputs = ap length (sym e) ∙ length-map inputs Some in omega (arith, same)
 
 -- ---- what the initial state needs
@@ -121,7 +136,7 @@ all_back : {A : Type 0} (P : A → Type 0) (xs ys : List A) → All P (xs ++ ys)
 all_back P [] ys h = h
 all_back P (x ∷ xs) ys h = all_back P xs ys (All-tail P x (xs ++ ys) h)
 
-lower : (n : ℕ) (pair : ℕ × ℕ) → n ≤ 2048 → IsPairBelow n pair → IsPairBelow 2048 pair
+lower : (n : ℕ) (pair : ℕ × ℕ) → n ≤ 512 → IsPairBelow n pair → IsPairBelow 2048 pair
 lower n pair l h =
     let first = h.1.0 in
     let second = h.1.1 in

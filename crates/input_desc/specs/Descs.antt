@@ -110,12 +110,12 @@ abbrev pub Finds : Program → List InputText → List (ℕ × ℕ) → Result (
 Finds p texts' pairs (Ok found) = (later_fault p texts' pairs ≡ None) × (found ≡ inputs_from p.world (slots_of p) texts')
 Finds p texts' pairs (Err fault) = IsDue fault (later_fault p texts' pairs)
 
--- a description of at most 2,048 inputs, each of which is there
+-- a description of at most 512 inputs, each of which is there
 pub record IsMade (found : List (Option Input)) (same share : List (ℕ × ℕ)) (desc : Desc) : Type 0 where
   pub inputs_are : map Some desc.inputs ≡ found
   pub same_is : desc.same ≡ same
   pub share_is : desc.share ≡ share
-  pub few : length desc.inputs ≤ 2048
+  pub few : length desc.inputs ≤ 512
 
 -- what is made of texts and pairs without a fault, or the first fault
 abbrev pub Fitted : Program → List InputText → List (ℕ × ℕ) → List (ℕ × ℕ) → Result Desc DescFault → Type 0
@@ -133,8 +133,15 @@ abbrev pub Describes : Program → DescText → Result Desc DescFault → Type 0
 Describes p text (Ok desc) = (desc_fault p text ≡ None) × IsDescribed p text desc
 Describes p text (Err fault) = IsDue fault (desc_fault p text)
 
--- As many inputs as the program has, at most 2,048; and pairs of two different ones.
+-- As many inputs as the program has, at most 512; and pairs of two different ones.
 pub record IsGoodDesc (p : Program) (desc : Desc) : Type 0 where
   pub count : length desc.inputs ≡ length (slots_of p)
-  pub few : length desc.inputs ≤ 2048
+  pub few : length desc.inputs ≤ 512
   pub pairs : All (IsPairBelow (length desc.inputs)) (desc.same ++ desc.share)
+
+-- The description is this program's method's: a text that has no fault against the program describes it.
+pub record IsOwnDesc (p : Program) (desc : Desc) : Type 0 where
+  pub text : DescText
+  pub faultless : desc_fault p text ≡ None
+  pub described : IsDescribed p text desc
+  pub good : IsGoodDesc p desc

@@ -7,7 +7,7 @@ ghost use Rattle.input_desc.specs.Due.{IsMemoryOr};
 ghost use Rattle.input_desc.specs.Given.{slots_of};
 ghost use Rattle.input_desc.specs.Typed.{first_unfit};
 ghost use Rattle.input_desc.specs.Pairs.{is_reference_slot, is_reference_at, is_no_pair};
-ghost use Rattle.input_desc.specs.Descs.{has_receiver, is_alike, begins_null, first_of_other_kind, ints_of, erased_below, type_for, input_of, inputs_from, has_ints, has_a_type, found_fault, Finds, IsMade, Fitted, IsGoodDesc, Describes};
+ghost use Rattle.input_desc.specs.Descs.{has_receiver, is_alike, begins_null, first_of_other_kind, ints_of, erased_below, type_for, input_of, inputs_from, has_ints, has_a_type, found_fault, Finds, IsMade, Fitted, IsGoodDesc, IsOwnDesc, Describes};
 
 use crate::desc::{Desc, Input};
 use crate::given::inputs;
@@ -309,8 +309,8 @@ fn described(
     }
 }
 
-/// The most inputs that a description speaks of: each is an id of abstract states.
-const MOST_INPUTS: usize = 2048;
+/// The most inputs that a description speaks of: each is an id of abstract states, which have at most as many.
+const MOST_INPUTS: usize = 512;
 
 /// A description of inputs all of which are there.
 #[tactic(auto, using(crate::proofs::GoodDescs::few_made))]
@@ -367,6 +367,23 @@ fn fitted(
     fitting(alloc, program, texts, same, share)
 }
 
+/// What a text describes of a program's inputs; it is a good description.
+#[tactic(auto, using(crate::proofs::GoodDescs::texts_count, crate::proofs::Fitted::fitted_describes), unfolding(crate::specs::Descs::desc_fault))]
+fn of_text(alloc: Global, text: DescText, program: &Program<'_>) -> Result<Desc, DescFault>
+    ensures described { Describes (program_of program.now) text result }
+    ensures good { IfOk result (IsGoodDesc (program_of program.now)) }
+{
+    program.is_good();
+    if text.params.len() != program.methods.at(0).params.len() {
+        return Err(DescFault::ParamCount);
+    }
+    if text.statics.len() != program.statics.len() {
+        return Err(DescFault::StaticCount);
+    }
+    let texts = texts_of(text.params, text.statics)?;
+    fitted(alloc, program, texts.as_slice(), text.same, text.share)
+}
+
 impl Desc {
     /// What a text describes of a program's inputs.
     ///
@@ -375,20 +392,12 @@ impl Desc {
     /// `ParamCount`, `StaticCount`; `ParamKind` of the first input of another kind, a receiver that may be null included;
     /// `EmptyInterval` of the first number that has no int; `UnknownType` of the first reference whose type is none of the
     /// world, or not below the declared one; `BadPair` of the first pair; in this order. Want of memory, of which more than
-    /// 2,048 inputs are one case.
-    #[tactic(auto, using(crate::proofs::GoodDescs::texts_count, crate::proofs::Fitted::fitted_describes), unfolding(crate::specs::Descs::desc_fault))]
+    /// 512 inputs are one case.
     pub fn fit(alloc: Global, text: DescText, program: &Program<'_>) -> Result<Desc, DescFault>
         ensures described { Describes (program_of program.now) text result }
         ensures good { IfOk result (IsGoodDesc (program_of program.now)) }
+        ensures own { IfOk result (IsOwnDesc (program_of program.now)) }
     {
-        program.is_good();
-        if text.params.len() != program.methods.at(0).params.len() {
-            return Err(DescFault::ParamCount);
-        }
-        if text.statics.len() != program.statics.len() {
-            return Err(DescFault::StaticCount);
-        }
-        let texts = texts_of(text.params, text.statics)?;
-        fitted(alloc, program, texts.as_slice(), text.same, text.share)
+        of_text(alloc, text, program)
     }
 }
