@@ -3,3 +3,4 @@ pub mod Holding
 pub mod Listed
 pub mod Rooted
 pub mod Shown
+pub mod SoundRoots

@@ -171,9 +171,9 @@ running p text desc typing state laws types_are e is fits =
     }
 
 pub typed : FittingStatesAreTyped
-typed p text desc typing state closed types_are e is fits =
+typed p desc typing state closed types_are own fits =
     let laws = world_laws p.world closed.known.linked in
-    let run = running p text desc typing state laws types_are e is fits in
+    let run = running p own.text desc typing state laws types_are own.faultless own.described fits in
     let frames : AreTypedFrames p typing state.heap Normal (fits.frame ∷ []) = (run, tt) in
     record {
       heap = fits.typed;
@@ -218,7 +218,7 @@ shaped types heap (Int interval) value shape h e = absurd cc
 shaped types heap (Ref ty null own) value shape h e = let same : own ≡ shape = cc in subst (λ s. HasShape s heap value) same h.1.1
 
 -- an input that is never of a known class
-not_known : (input : Input) → is_known (cell_of input) ≡ false
+pub not_known : (input : Input) → is_known (cell_of input) ≡ false
 not_known (Int interval) = refl
 not_known (Ref ty null shape) = refl
 
@@ -301,7 +301,7 @@ shown p desc state fits =
 
 pub described : FittingStatesAreDescribed
 unfolding initial_of
-described p text desc state closed e is fits =
+described p desc state closed own fits =
     let types = types_of p.world in
     let given = fits.args ++ state.statics in
     let laws = world_laws p.world closed.known.linked in
@@ -311,7 +311,7 @@ described p text desc state closed e is fits =
       cells = λ id cell f.
           let known = meant types state.heap desc.inputs given id cell fits.inputs f in
           subst (λ c. Describes types state.heap (input_values given) c (input_values given id)) (sym known.cell_is) (describes types state.heap (input_values given) known.input (input_values given id) known.fits);
-      aliases = aliased p text desc state laws is fits;
+      aliases = aliased p own.text desc state laws own.described fits;
       meeting = λ a b o has_a has_b apart at_a at_b.
           let first = meant types state.heap desc.inputs given a has_a.cell fits.inputs has_a.is in
           let second = meant types state.heap desc.inputs given b has_b.cell fits.inputs has_b.is in

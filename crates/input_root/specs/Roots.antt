@@ -1,5 +1,5 @@
 -- The states that a description fits, and what is known of them.
-use Rattle.std.specs.Prelude.{◌≡◌, ℕ, List, ◌++◌, slice_get, None}
+use Rattle.std.specs.Prelude.{◌≤◌, ℕ, List, ◌++◌, length, slice_get}
 use Rattle.std.specs.Option.{unwrap_or}
 use Rattle.jvm_values.specs.declared.heap.Value.{Value}
 use Rattle.jvm_values.specs.declared.heap.Value.TheVariants.{Null}
@@ -7,12 +7,12 @@ use Rattle.jvm_values.specs.States.{MachineState}
 use Rattle.class_world.specs.WorldTypes.{types_of}
 use Rattle.class_program.specs.Programs.{Program, IsClosed}
 use Rattle.abs_cells.specs.Fits.{Meaning, Fits}
+use Rattle.abs_cells.specs.Sound.{IsSound}
 use Rattle.frame_types.specs.Tables.{CodeTypes}
 use Rattle.code_verify.specs.Typings.{IsTypingOf}
 use Rattle.code_verify.specs.TypedStates.{IsTypedState}
-use Rattle.input_text.specs.declared.texts.DescText.{DescText}
 use Rattle.input_desc.specs.declared.desc.Desc.{Desc}
-use Rattle.input_desc.specs.Descs.{desc_fault, IsDescribed}
+use Rattle.input_desc.specs.Descs.{IsOwnDesc}
 use Rattle.input_desc.specs.Fitting.{FitsDescription}
 use Rattle.input_desc.specs.Initial.{initial_of}
 
@@ -20,17 +20,25 @@ use Rattle.input_desc.specs.Initial.{initial_of}
 abbrev pub input_values : List Value → Meaning
 input_values values id = unwrap_or (slice_get values id) Null
 
--- A state that fits a description of a program has the types of the program's typing.
+-- A state that fits a program's own description has the types of the program's typing.
 abbrev pub FittingStatesAreTyped : Type 0
 FittingStatesAreTyped =
-    (p : Program) (text : DescText) (desc : Desc) (typing : ℕ → CodeTypes) (state : MachineState)
-    → IsClosed p → IsTypingOf p typing → desc_fault p text ≡ None → IsDescribed p text desc
+    (p : Program) (desc : Desc) (typing : ℕ → CodeTypes) (state : MachineState)
+    → IsClosed p → IsTypingOf p typing → IsOwnDesc p desc
     → FitsDescription p desc state → IsTypedState p typing state
 
 -- The initial abstract state of a description describes each state that fits it.
 abbrev pub FittingStatesAreDescribed : Type 0
 FittingStatesAreDescribed =
-    (p : Program) (text : DescText) (desc : Desc) (state : MachineState)
-    → IsClosed p → desc_fault p text ≡ None → IsDescribed p text desc
+    (p : Program) (desc : Desc) (state : MachineState)
+    → IsClosed p → IsOwnDesc p desc
     → (fits : FitsDescription p desc state)
     → Fits (types_of p.world) (initial_of p desc) state (input_values (fits.args ++ state.statics))
+
+-- That state is sound for the program's types: it is well-formed, and what its cells say is of the world.
+abbrev pub RootsAreSound : Type 0
+RootsAreSound = (p : Program) (desc : Desc) → IsClosed p → IsOwnDesc p desc → IsSound (types_of p.world) (initial_of p desc)
+
+-- It has at most as many ids as an abstract state may have.
+abbrev pub RootsHaveFewIds : Type 0
+RootsHaveFewIds = (p : Program) (desc : Desc) → IsOwnDesc p desc → length (initial_of p desc).cells ≤ 512
