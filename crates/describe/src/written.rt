@@ -1,0 +1,43 @@
+//! The text of a description that leaves no input out.
+use crate::inputs::{Listed, put_inputs, put_pairs};
+use crate::json::{put, put_string};
+use class_program::Program;
+use input_desc::{has_receiver, inputs};
+use jvm_values::Types;
+use std::alloc::{AllocError, Global};
+
+/// Puts the names of the entry method behind a text.
+fn put_entry(text: &mut Vec<u8>, program: &Program<'_>) -> Result<(), AllocError> {
+    program.is_good();
+    let method = program.methods.at(0);
+    put(text, b"\"class\":")?;
+    if method.class < program.world.classes() {
+        put_string(text, program.world.name_of(method.class))?;
+    }
+    put(text, b",\"method\":")?;
+    put_string(text, method.name.as_slice())?;
+    put(text, b",\"desc\":")?;
+    put_string(text, method.desc.as_slice())
+}
+
+/// The text of a description that leaves no input of a program out, in form 2, if each name is UTF-8.
+pub(crate) fn text_of(alloc: Global, program: &Program<'_>) -> Result<Vec<u8>, AllocError> {
+    let world = &program.world;
+    let inputs = inputs(alloc, program)?;
+    let inputs = inputs.as_slice();
+    program.is_good();
+    let (params, statics) = inputs.split_at(program.methods.at(0).params.len().min(inputs.len()));
+    let mut text = Vec::new(alloc);
+    put(&mut text, b"{\"form\":2,\n ")?;
+    put_entry(&mut text, program)?;
+    put(&mut text, b",\n \"params\":")?;
+    put_inputs(&mut text, alloc, world, has_receiver(program), params)?;
+    put(&mut text, b",\n \"same\":")?;
+    put_pairs(&mut text, alloc, world, Listed::Same, inputs)?;
+    put(&mut text, b",\n \"share\":")?;
+    put_pairs(&mut text, alloc, world, Listed::Share, inputs)?;
+    put(&mut text, b",\n \"statics\":")?;
+    put_inputs(&mut text, alloc, world, false, statics)?;
+    put(&mut text, b"}\n")?;
+    Ok(text)
+}
