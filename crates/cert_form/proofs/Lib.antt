@@ -1,2 +1,12 @@
+pub mod Binds
+pub mod Clean
 pub mod Entries
+pub mod GoodSteps
+pub mod Keeping
+pub mod Known
+pub mod Lacking
+pub mod Marking
+pub mod Parts
+pub mod ReadingNodes
+pub mod RisingPairs
 pub mod Whole

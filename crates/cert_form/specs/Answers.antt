@@ -1,5 +1,5 @@
 -- What a reader of a certificate's JSON answers: what the value says, or the first fault, or want of memory.
-use Rattle.std.specs.Prelude.{◌≡◌, List, ℕ, Result, Ok, Err}
+use Rattle.std.specs.Prelude.{◌≡◌, List, ℕ, length, Result, Ok, Err}
 use Rattle.json_view.specs.Located.{Located}
 use Rattle.json_view.specs.declared.fault.JsonFault.{JsonFault}
 use Rattle.json_view.specs.declared.fault.JsonFault.TheVariants as faults
@@ -41,3 +41,13 @@ out_of_range here = Err (Json (faults.OutOfRange here.place))
 
 abbrev pub past_limit : {A : Type 0} → Located → Result A CertFault
 past_limit here = Err (Limit here.place)
+
+-- whether something is read, or its first fault
+abbrev pub done : {A : Type 0} → Result A CertFault → Result (Unit {0}) CertFault
+done (Ok value) = Ok tt
+done (Err fault) = Err fault
+
+-- how many entries are read, or the first fault
+abbrev pub counted : {A : Type 0} → Result (List A) CertFault → Result ℕ CertFault
+counted (Ok entries) = Ok (length entries)
+counted (Err fault) = Err fault

@@ -3,12 +3,12 @@
 --
 -- In form 1 each node is `{"by":B,"state":S}`. In form 2 a node that an `expand` node with a lower number names as a child
 -- has no state, since it has the child's: it is `{"by":B}`.
-use Rattle.std.specs.Prelude.{◌≡◌, ℕ, ℤ, pos, ◌==◌, ◌||◌, ◌&&◌, Bool, true, false, if◌then◌else◌, List, [], ◌∷◌, Option, Some, None, codes, length, Result, Ok, Err}
+use Rattle.std.specs.Prelude.{◌≡◌, ℕ, ℤ, pos, ◌==◌, ◌||◌, ◌&&◌, Bool, true, false, if◌then◌else◌, List, [], ◌∷◌, Option, Some, None, codes, length, take, slice_get, Result, Ok, Err}
 use Rattle.std.specs.List.{list_any}
 use Rattle.std.specs.Ordering.{int_eq}
 use Rattle.json_view.specs.Answers.{Reads}
 use Rattle.json_view.specs.Located.{Located, root_of}
-use Rattle.json_view.specs.Reading.{int_of}
+use Rattle.json_view.specs.Reading.{int_of, has_field}
 use Rattle.json_view.specs.declared.fault.JsonFault.TheVariants as faults
 use Rattle.serde_json.specs.Data.{Data}
 use Rattle.abs_cells.specs.AbstractStates.{AbstractState}
@@ -18,8 +18,9 @@ use Rattle.term_graph.specs.declared.nodes.By.TheVariants.{Expand, Instance, End
 use Rattle.descent.specs.declared.proof.ProofStep.{ProofStep}
 use Rattle.cert_form.specs.declared.fault.CertFault.{CertFault}
 use Rattle.cert_form.specs.declared.fault.CertFault.TheVariants.{Json, Limit, Memory}
+use Rattle.cert_form.specs.declared.certs.Kept.{Kept}
 use Rattle.cert_form.specs.Answers.{Reader, json}
-use Rattle.cert_form.specs.Fields.{◌>>=◌, only, field, entries_of, at_most, a_number}
+use Rattle.cert_form.specs.Fields.{◌>>=◌, only, field, entries_of, at_most, longer_than, nth}
 use Rattle.cert_form.specs.States.{state_of}
 use Rattle.cert_form.specs.Ways.{by_of, numbers_of}
 use Rattle.cert_form.specs.Steps.{proof_of}
@@ -62,8 +63,12 @@ named_node here = do
 abbrev pub lacks_state : Bool → List GraphPart → Bool
 lacks_state second front = second && is_named (length front) front
 
+-- a node that lacks its state or has it
+abbrev pub node_with : List (List ℕ) → Bool → Reader GraphPart
+node_with names lacks here = if lacks then named_node here else whole_node names here
+
 unfoldable pub node_in : List (List ℕ) → Bool → List GraphPart → Reader GraphPart
-node_in names second front here = if lacks_state second front then named_node here else whole_node names here
+node_in names second front here = node_with names (lacks_state second front) here
 
 unfoldable pub nodes_of : List (List ℕ) → Bool → Reader (List GraphPart)
 nodes_of names second here = at_most 20000 (entries_of (node_in names second)) here
@@ -84,6 +89,35 @@ cert_of names here = do
   parts ← field (codes "nodes") (nodes_of names second) here
   proof ← field (codes "proof") proof_of here
   Ok (record { cuts = cuts; parts = parts; proof = proof })
+
+-- ---- nodes by number
+
+-- a node's state, where it has one
+unfoldable pub maybe_state : List (List ℕ) → Reader (Option AbstractState)
+maybe_state names here = if has_field (codes "state") here then (field (codes "state") (state_of names) here >>= λ state. Ok (Some state)) else Ok None
+
+-- what a reader says of node n of a certificate
+unfoldable pub of_node : {A : Type 0} → ℕ → Reader A → Reader A
+of_node n reader here = field (codes "nodes") (longer_than n (nth n reader)) here
+
+-- ---- what is kept
+
+-- what a certificate says beside its nodes, and how many these are
+abbrev pub kept_of : CertContent → Kept
+kept_of content = record { cuts = content.cuts; count = length content.parts; proof = content.proof }
+
+abbrev pub kept : Result CertContent CertFault → Result Kept CertFault
+kept (Ok content) = Ok (kept_of content)
+kept (Err fault) = Err fault
+
+-- the nodes of what is read; none where nothing is
+abbrev pub parts_or_none : Result CertContent CertFault → List GraphPart
+parts_or_none (Ok content) = content.parts
+parts_or_none (Err fault) = []
+
+-- a node without a state is named as a child by an `expand` node with a lower number
+abbrev pub LackingAreNamed : List GraphPart → Type 0
+LackingAreNamed parts = (n : ℕ) (by : By) → slice_get parts n ≡ Some (record { state = None; by = by }) → is_named n (take n parts) ≡ true
 
 -- `serde_json` reads a value of the bytes, of which the reader says this
 abbrev pub SaysOf : {A : Type 0} → Reader A → List ℕ → Result A CertFault → Type 0

@@ -6,3 +6,5 @@ pub mod States
 pub mod Ways
 pub mod Steps
 pub mod Certificates
+pub mod Marks
+pub mod Faults

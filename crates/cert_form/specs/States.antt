@@ -2,23 +2,20 @@
 --
 -- A frame is `[method,place,[locals],[stack]]`, the bottom frame first, with -1 for an unset local and the stack's top
 -- last; `throw` is -1 or an id; pairs are `[a,b]` with a below b, rising.
-use Rattle.std.specs.Prelude.{ℕ, ◌==◌, ◌&&◌, ◌||◌, nat_lt, Bool, true, if◌then◌else◌, List, [], ◌∷◌, reverse, Option, Some, None, codes, Result, Ok, Err}
+use Rattle.std.specs.Prelude.{ℕ, ◌&&◌, nat_lt, Bool, true, if◌then◌else◌, List, [], ◌∷◌, reverse, Option, Some, None, codes, Result, Ok, Err}
 use Rattle.std.specs.Option.{option_map_or}
 use Rattle.abs_cells.specs.AbstractStates.{AbstractFrame, AbstractState}
 use Rattle.abs_cells.specs.declared.cells.Cell.{Cell}
+use Rattle.abs_cells.specs.PairLists.{is_before}
 use Rattle.cert_form.specs.Answers.{Reader}
 use Rattle.cert_form.specs.Fields.{◌>>=◌, only, field, entries_of, at_most, of_length, nth, in_order, last_of, a_number, a_place, an_id, maybe_id}
 use Rattle.cert_form.specs.Cells.{cell_in, ids_of}
 
 -- ---- pairs
 
--- the first pair stands before the second one
-abbrev pub is_before_pair : ℕ × ℕ → ℕ × ℕ → Bool
-is_before_pair p q = nat_lt p.0 q.0 || ((p.0 == q.0) && nat_lt p.1 q.1)
-
 -- a pair may come behind these
 abbrev pub is_next_pair : List (ℕ × ℕ) → ℕ × ℕ → Bool
-is_next_pair front q = option_map_or (λ p. is_before_pair p q) (last_of front) true
+is_next_pair front q = option_map_or (λ p. is_before p q) (last_of front) true
 
 unfoldable pub two_ids : Reader (ℕ × ℕ)
 two_ids here = do

@@ -2,9 +2,13 @@
 #![tactic(auto)]
 
 mod cells;
+mod certs;
 mod fault;
+mod fault_text;
 mod lists;
+mod marks;
 mod names;
+mod nodes;
 mod numbers;
 mod states;
 mod steps;
@@ -12,5 +16,7 @@ mod types;
 mod values;
 mod ways;
 
+pub use certs::CertText;
 pub use fault::CertFault;
+pub use marks::NamedNodes;
 pub use names::ClassNames;

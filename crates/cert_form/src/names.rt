@@ -1,5 +1,6 @@
 //! The names of a world's classes.
-ghost use Rattle.std.specs.Prelude.{◌≡◌, ◌++◌, ◌∷◌, [], ◌<◌, ◌≤◌, length, OnOk, OnErr};
+ghost use Rattle.std.specs.Prelude.{◌≡◌, ◌++◌, ◌∷◌, [], ◌<◌, ◌≤◌, length, slice_get, option_map, OnOk, OnErr};
+ghost use Rattle.json_view.specs.Answers.{now_of};
 ghost use Rattle.cert_form.specs.Types.{class_named};
 
 use list_views::Seq;
@@ -58,6 +59,16 @@ impl ClassNames {
         let name = Seq::from_slice(alloc, name)?;
         self.names.push(name)?;
         Ok(())
+    }
+
+    /// The name of the class of a number, or None past the names.
+    pub fn name_of(&self, class: u32) -> Option<&[u8]>
+        ensures { option_map now_of result ≡ slice_get self.now class }
+    {
+        match self.names.get(class as usize) {
+            Some(name) => Some(name.as_slice()),
+            None => None,
+        }
     }
 
     /// The number of the class of a name.

@@ -1,10 +1,11 @@
 //! Abstract states.
-ghost use Rattle.std.specs.Prelude.{◌≡◌, ◌<◌, ◌≤◌, codes};
+ghost use Rattle.std.specs.Prelude.{◌≡◌, ◌<◌, ◌≤◌, codes, IfOk};
+ghost use Rattle.abs_cells.specs.PairLists.{IsRising, is_before};
 ghost use Rattle.json_view.specs.Located.{located};
 ghost use Rattle.json_view.specs.Reading.{item_count};
 ghost use Rattle.cert_form.specs.Answers.{Says};
 ghost use Rattle.cert_form.specs.Fields.{nth, of_length, field, maybe_id};
-ghost use Rattle.cert_form.specs.States.{is_before_pair, is_next_pair, two_ids, ordered_pair, locals_of, frame_parts, frame_of, state_names, cells_of, frames_of, pairs_of, state_of};
+ghost use Rattle.cert_form.specs.States.{is_next_pair, two_ids, ordered_pair, locals_of, frame_parts, frame_of, state_names, cells_of, frames_of, pairs_of, state_of};
 
 use crate::cells::nth_ids;
 use crate::fault::CertFault;
@@ -16,16 +17,17 @@ use crate::{numbers, values};
 use abs_cells::{AbsFrame, AbsState, Cell, Id, Pairs};
 use json_view::View;
 use list_views::Seq;
-use std::alloc::Global;
+use std::alloc::{AllocError, Global};
+use std::marker::Model;
 
 /// Lists whose pairs rise.
 pub(crate) struct Rising;
 
 /// Whether the first pair stands before the second one.
-fn is_before_pair(p: &(Id, Id), q: &(Id, Id)) -> bool
-    ensures { result ≡ is_before_pair p.now q.now }
+fn is_before(p: &(Id, Id), q: &(Id, Id)) -> bool
+    ensures { result ≡ is_before p.now q.now }
 {
-    p.0 < q.0 || (p.0 == q.0 && p.1 < q.1)
+    if p.0 == q.0 { p.1 < q.1 } else { p.0 < q.0 }
 }
 
 /// Whether a pair may come behind these.
@@ -33,7 +35,7 @@ fn is_next_pair(front: &[(Id, Id)], pair: &(Id, Id)) -> bool
     ensures { result ≡ is_next_pair front.now pair.now }
 {
     match front.get(front.len().saturating_sub(1)) {
-        Some(last) => is_before_pair(last, pair),
+        Some(last) => is_before(last, pair),
         None => true,
     }
 }
@@ -167,7 +169,8 @@ fn frames_field(alloc: Global, view: &View<'_, '_>) -> Result<Seq<AbsFrame>, Cer
 /// The pairs of a field.
 #[tactic(auto, unfolding(crate::specs::Fields::field, crate::specs::States::pairs_of))]
 fn listed_field(alloc: Global, view: &View<'_, '_>, name: &str) -> Result<Seq<(Id, Id)>, CertFault>
-    ensures { Says result (field name.now pairs_of (located view.now)) }
+    ensures said { Says result (field name.now pairs_of (located view.now)) }
+    ensures rising { IfOk result IsRising }
 {
     let field = values::field(alloc, view, name)?;
     list(alloc, &Rising, &field)
@@ -180,4 +183,73 @@ fn throw_field(alloc: Global, view: &View<'_, '_>) -> Result<Option<Id>, CertFau
 {
     let field = values::field(alloc, view, "throw")?;
     maybe_id(alloc, &field)
+}
+
+/// The parts of a state, its pairs as lists. It is seen as an abstract state.
+#[derive(Debug, Drop)]
+pub(crate) struct StateParts {
+    frames: Seq<AbsFrame>,
+    throwing: Option<Id>,
+    cells: Seq<(Id, Cell)>,
+    eq: Seq<(Id, Id)>,
+    share: Seq<(Id, Id)>,
+}
+
+impl Model for StateParts {
+    ghost use Rattle.std.specs.Prelude.{reverse};
+    ghost use Rattle.abs_cells.specs.AbstractStates.{AbstractState};
+    ghost use Rattle.abs_cells.specs.PairLists.{IsRising};
+
+    ghost Value = { AbstractState };
+
+    ghost view = { λ s. record { frames = reverse s.frames; throwing = s.throwing; cells = s.cells; eq = s.eq; share = s.share } };
+
+    ghost invariant = { λ s. IsRising s.eq × IsRising s.share };
+}
+
+impl StateParts {
+    /// The state of the parts.
+    pub(crate) fn into_state<P: Pairs>(self, alloc: Global) -> Result<AbsState<P>, AllocError>
+        ensures { IfOk result (λ state. state ≡ self) }
+    {
+        let eq = pairs(alloc, self.eq.as_slice())?;
+        let share = pairs(alloc, self.share.as_slice())?;
+        Ok(AbsState::new(self.frames, self.throwing, self.cells, eq, share))
+    }
+}
+
+/// The set of rising pairs.
+fn pairs<P: Pairs>(alloc: Global, rising: &[(Id, Id)]) -> Result<P, AllocError>
+    requires { IsRising rising.now }
+    ensures { IfOk result (λ set. P.pairs set ≡ rising.now) }
+{
+    let mut set = P::empty(alloc);
+    for pair in rising {
+        set.add(pair.0, pair.1)?;
+    }
+    Ok(set)
+}
+
+/// The parts of a state.
+#[tactic(auto, unfolding(crate::specs::States::state_of, crate::specs::Fields::only))]
+pub(crate) fn state(
+    alloc: Global,
+    names: &ClassNames,
+    view: &View<'_, '_>,
+) -> Result<StateParts, CertFault>
+    ensures { Says result (state_of names.now (located view.now)) }
+{
+    only(alloc, view, "cells eq frames share throw")?;
+    let cells = cells_field(alloc, names, view)?;
+    let eq = listed_field(alloc, view, "eq")?;
+    let frames = frames_field(alloc, view)?;
+    let share = listed_field(alloc, view, "share")?;
+    let throwing = throw_field(alloc, view)?;
+    Ok(StateParts {
+        frames,
+        throwing,
+        cells,
+        eq,
+        share,
+    })
 }
