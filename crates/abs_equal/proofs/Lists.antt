@@ -1,0 +1,20 @@
+-- Lists that are compared item by item.
+use Rattle.std.proofs.Common.{◌≡◌, ◌≢◌, ◌<◌, ◌≤◌, ◌+◌, ◌∙◌, ◌↔◌, ℕ, zero, suc, Bool, true, false, IsTrue, List, [], ◌∷◌, length, get_or, slice_index_or, take, refl, sym, ap, subst, arith}
+use Rattle.std.proofs.lemmas.Bool.{false≢true}
+use Rattle.std.proofs.lemmas.List.{take_all, take_more_same}
+
+any_default : {X : Type 0} (xs : List X) (k : ℕ) (d e : X) → k < length xs → slice_index_or xs k d ≡ slice_index_or xs k e
+any_default [] k d e l = absurd (omega (arith, l))
+any_default (x ∷ xs) zero d e l = refl
+any_default (x ∷ xs) (suc k) d e l = any_default xs k d e (omega (arith, l))
+
+pub more_same : {X : Type 0} (xs ys : List X) (n : ℕ) (x y : X) → n < length xs → length xs ≡ length ys → x ≡ slice_index_or xs n x → y ≡ slice_index_or ys n y → x ≡ y → take n xs ≡ take n ys → take (n + 1) xs ≡ take (n + 1) ys
+more_same xs ys n x y l same is there e front =
+    take_more_same xs ys n x l (omega (arith, l, same)) front (sym is ∙ e ∙ there ∙ any_default ys n y x (omega (arith, l, same)))
+
+pub one_differs : {X : Type 0} (xs ys : List X) (n : ℕ) (x y : X) → n < length xs → length xs ≡ length ys → x ≡ slice_index_or xs n x → y ≡ slice_index_or ys n y → x ≢ y → xs ≢ ys
+one_differs xs ys n x y l same is there apart e =
+    apart (is ∙ ap (λ zs. slice_index_or zs n x) e ∙ any_default ys n x y (omega (arith, l, same)) ∙ sym there)
+
+pub all_same : {X : Type 0} (xs ys : List X) (n : ℕ) → length xs ≤ n → length xs ≡ length ys → take n xs ≡ take n ys → xs ≡ ys
+all_same xs ys n l same front = sym (take_all n xs l) ∙ front ∙ take_all n ys (omega (arith, l, same))
