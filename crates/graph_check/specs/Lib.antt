@@ -1,3 +1,4 @@
+pub mod Exclusion
 pub mod Filling
 pub mod Good
 pub mod Laws
