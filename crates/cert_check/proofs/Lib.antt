@@ -1,0 +1,4 @@
+pub mod Ending
+pub mod Running
+pub mod Showing
+pub mod Terms

@@ -1,0 +1,43 @@
+-- Walks and runs end where a certificate shows it, and the expansions of its nodes' states are true of the machine.
+use Rattle.std.specs.Prelude.{◌≡◌, ℕ, List, None}
+use Rattle.jvm_values.specs.States.{MachineState}
+use Rattle.class_program.specs.Programs.{Program, IsClosed}
+use Rattle.frame_types.specs.Tables.{CodeTypes}
+use Rattle.code_verify.specs.Typings.{IsTypingOf}
+use Rattle.jvm_step.specs.Running.{Ends, IsNeverStuck}
+use Rattle.jvm_run.specs.Laws.{HasInts}
+use Rattle.input_text.specs.declared.texts.DescText.{DescText}
+use Rattle.input_desc.specs.declared.desc.Desc.{Desc}
+use Rattle.input_desc.specs.Descs.{desc_fault, IsDescribed}
+use Rattle.input_desc.specs.Fitting.{FitsDescription}
+use Rattle.input_desc.specs.Initial.{initial_of}
+use Rattle.abs_cells.specs.AbstractStates.{AbstractState}
+use Rattle.term_graph.specs.declared.nodes.By.TheVariants.{End}
+use Rattle.term_graph.specs.Graphs.{GraphNode}
+use Rattle.path_rules.specs.Walks.{Spot}
+use Rattle.graph_check.specs.Laws.{ExpansionsHold}
+use Rattle.cert_check.specs.Certified.{IsCertified}
+use Rattle.cert_check.specs.Walks.{Station, IsAt, WalksEnd, IsLast}
+
+-- Every walk of typed states that fit, from node 0 on, is finite; and where one can't be continued, the node says that the run ends.
+abbrev pub CertifiedWalksEnd : Type 0
+CertifiedWalksEnd =
+    (p : Program) (typing : ℕ → CodeTypes) (nodes : List GraphNode) (cuts : List ℕ) (root : AbstractState)
+    → IsClosed p → HasInts p → IsTypingOf p typing → ExpansionsHold p typing nodes
+    → (certified : IsCertified p typing nodes cuts root)
+    → (spot : Spot) → IsAt p typing nodes (record { node = 0; spot = spot }) → WalksEnd p typing nodes certified.links (record { node = 0; spot = spot })
+
+abbrev pub LastNodesEnd : Type 0
+LastNodesEnd =
+    (p : Program) (typing : ℕ → CodeTypes) (nodes : List GraphNode) (cuts : List ℕ) (root : AbstractState)
+    → IsClosed p → HasInts p → IsTypingOf p typing → ExpansionsHold p typing nodes
+    → (certified : IsCertified p typing nodes cuts root)
+    → (station : Station) (at : IsAt p typing nodes station) → IsLast p typing nodes certified.links station → at.node.by ≡ End
+
+-- Every state that the description fits ends, and none of its runs is stuck.
+abbrev pub CertifiedRunsEnd : Type 0
+CertifiedRunsEnd =
+    (p : Program) (typing : ℕ → CodeTypes) (text : DescText) (desc : Desc) (nodes : List GraphNode) (cuts : List ℕ)
+    → IsClosed p → HasInts p → IsTypingOf p typing → desc_fault p text ≡ None → IsDescribed p text desc → ExpansionsHold p typing nodes
+    → IsCertified p typing nodes cuts (initial_of p desc)
+    → (state : MachineState) → FitsDescription p desc state → Ends p state × IsNeverStuck p state

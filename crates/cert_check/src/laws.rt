@@ -1,0 +1,46 @@
+//! That walks and runs end where a certificate shows it. The laws are calls that do nothing when they run.
+ghost use Rattle.cert_check.specs.Laws.{CertifiedWalksEnd, LastNodesEnd, CertifiedRunsEnd};
+ghost use Rattle.cert_check.specs.Ready.{ValidIsCertified};
+
+use descent::closed_proofs_end;
+use graph_check::graphs_hold_runs;
+use input_root::{fitting_states_are_described, fitting_states_are_typed};
+use jvm_run::{runs_are_never_stuck, steps_are_typed};
+use jvm_values::typed_heaps_are_closed;
+use path_rules::walks_meet_rules;
+
+/// Every walk of typed states that fit is finite, if it begins at node 0 and a certificate shows it: a good graph, cuts on all its
+/// cycles, and rules of the paths between them of which no chain is infinite. Where a walk can't be continued, its node says that the
+/// run ends. Both hold wherever the expansions of the nodes' states are true of the machine.
+pub fn certified_walks_end()
+    ensures finite { CertifiedWalksEnd }
+    ensures last { LastNodesEnd }
+{
+    typed_heaps_are_closed();
+    steps_are_typed();
+    walks_meet_rules();
+    graphs_hold_runs();
+}
+
+/// Every state that a description fits ends, and none of its runs is stuck, wherever the expansions of the nodes' states are true of
+/// the machine and a certificate shows it: a good graph with the description's initial state at node 0, cuts on all its cycles, and rules of the
+/// paths between them of which no chain is infinite.
+pub fn certified_runs_end()
+    ensures { CertifiedRunsEnd }
+{
+    typed_heaps_are_closed();
+    steps_are_typed();
+    runs_are_never_stuck();
+    fitting_states_are_typed();
+    fitting_states_are_described();
+    walks_meet_rules();
+    graphs_hold_runs();
+}
+
+/// A valid certificate over ints shows that walks and runs end, where the links of its graph are such as rules take, and its rules and
+/// steps are within the limits of proofs.
+pub fn valid_is_certified()
+    ensures { ValidIsCertified }
+{
+    closed_proofs_end();
+}
