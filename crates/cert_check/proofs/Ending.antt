@@ -1,5 +1,5 @@
 -- Walks through a good graph from cut to cut are turns of a chain, so runs end.
-use Rattle.std.proofs.Common.{◌≡◌, ◌<◌, ◌≤◌, ◌+◌, ◌∙◌, ◌==◌, ℕ, ℤ, zero, suc, Bool, true, false, cond, eqb, IsTrue, List, [], ◌∷◌, ◌++◌, length, map, take, set, replicate, get_or, Option, Some, None, slice_get, ◌⊎◌, inl, inr, refl, sym, ap, subst, arith, eq-eqb}
+use Rattle.std.proofs.Common.{◌≡◌, ◌<◌, ◌≤◌, ◌+◌, ◌∙◌, ◌==◌, ℕ, ℤ, zero, suc, Bool, true, false, cond, eqb, IsTrue, List, [], ◌∷◌, ◌++◌, length, set, replicate, Some, None, slice_get, ◌⊎◌, inl, inr, refl, sym, ap, subst, arith, eq-eqb}
 use Rattle.std.specs.Prelude.{All}
 use Rattle.std.specs.List.{AllZip, list_any}
 use Rattle.std.specs.Option.{option_map, option_and_then}
@@ -11,7 +11,6 @@ use Rattle.std.proofs.lemmas.List.Elements.{All-get_or, All-tail}
 use mathlib.Core.WellFounded.{Acc}
 use Rattle.jvm_values.proofs.Options.{some_is, none_is_not_some}
 use Rattle.jvm_values.specs.declared.heap.Value.{Value}
-use Rattle.jvm_values.specs.declared.heap.Value.TheVariants as values
 use Rattle.jvm_values.specs.declared.heap.Heap.{Heap}
 use Rattle.jvm_values.specs.Heaps.{target, IsInHeap}
 use Rattle.jvm_values.specs.Paths.{Steps, follow}
@@ -25,7 +24,7 @@ use Rattle.jvm_heaps.proofs.TermLaws.{ComesTo, one_step, step_more, fewer_open}
 use Rattle.abs_cells.specs.declared.cells.Cell.{Cell}
 use Rattle.abs_cells.specs.declared.cells.Cell.TheVariants.{Int, Null, Obj, Nums, Refs, Unk}
 use Rattle.abs_cells.specs.AbstractStates.{AbstractState}
-use Rattle.abs_cells.specs.Cells.{is_int, cell_in, HasCell}
+use Rattle.abs_cells.specs.Cells.{is_int, cell_in}
 use Rattle.abs_cells.specs.Fits.{Meaning, Fits, Describes}
 use Rattle.abs_cells.specs.Patterns.{Pattern}
 use Rattle.abs_cells.proofs.PairLaws.{bool_cases, or_true}
@@ -35,33 +34,29 @@ use Rattle.class_program.proofs.GoodPrograms.{good_program}
 use Rattle.frame_types.specs.Tables.{CodeTypes}
 use Rattle.code_verify.specs.Typings.{IsTypingOf}
 use Rattle.code_verify.specs.TypedStates.{IsTypedState}
-use Rattle.jvm_step.specs.Running.{Step, step, IsEnd, Ends, IsNeverStuck}
-use Rattle.jvm_step.specs.Running.Step.{Going}
+use Rattle.jvm_step.specs.Running.{step, Ends}
 use Rattle.jvm_run.specs.Laws.{HasInts, GoesTyped, StepsAreTyped, RunsAreNeverStuck}
-use Rattle.input_text.specs.declared.texts.DescText.{DescText}
-use Rattle.input_desc.specs.declared.desc.Desc.{Desc}
-use Rattle.input_desc.specs.Fitting.{FitsDescription}
 use Rattle.input_desc.specs.Initial.{initial_of}
 use Rattle.input_root.specs.Roots.{input_values, FittingStatesAreTyped, FittingStatesAreDescribed}
 use Rattle.descent.specs.declared.rules.PathRule.{PathRule}
 use Rattle.descent.specs.declared.rules.SlotForm.{SlotForm}
 use Rattle.descent.specs.Valuations.{Valuation, IsWeighing, slot_value}
-use Rattle.descent.specs.Chains.{Turn, IsTurn, Agree, Follows}
+use Rattle.descent.specs.Chains.{Turn, IsTurn, Follows}
 use Rattle.term_graph.specs.declared.links.Link.{Link}
 use Rattle.term_graph.specs.declared.nodes.By.{By}
 use Rattle.term_graph.specs.declared.nodes.By.TheVariants as ways
 use Rattle.term_graph.specs.Graphs.{GraphNode, successors}
 use Rattle.term_graph.specs.Edges.{number_of}
-use Rattle.path_rules.specs.Paths.{Path, edges, is_cut, inner_edges, only_last, end_of, IsPath}
+use Rattle.path_rules.specs.Paths.{Path, edges, is_cut, inner_edges, only_last, end_of}
 use Rattle.path_rules.specs.Stops.{Stop, Leg, child, instance, AreSizes, LinkedGraph, leg_by, stop_at, leg_at, ride_at, rides_from}
 use Rattle.path_rules.specs.Rules.{IsRuleOf}
 use Rattle.path_rules.specs.Conditions.{HasIntsAlone}
-use Rattle.path_rules.specs.Walks.{Spot, IsClosedSpot, FitsStop, Crosses, IsWalk, last_of, weight_of, SlotIs, SlotsAre, WalksMeetRules}
+use Rattle.path_rules.specs.Walks.{Spot, FitsStop, Crosses, IsWalk, last_of, weight_of, SlotIs, SlotsAre, WalksMeetRules}
 use Rattle.abs_expand.specs.BadStates.{IsGoodState}
 use Rattle.abs_expand.specs.Laws.{IsAfter, IsMet}
 use Rattle.graph_check.specs.Good.{IsLeftBy, IsGoodNode}
 use Rattle.graph_check.specs.Laws.{GoesBy, EndsHere, ExpansionsHold, GraphsHoldRuns}
-use Rattle.graph_check.proofs.Following.{Beside, beside}
+use Rattle.graph_check.proofs.Following.{beside}
 use Rattle.cert_check.specs.Certified.{IsCertified}
 use Rattle.cert_check.specs.Walks.{Station, IsAt, GoesTo, WalksEnd, IsLast}
 use Rattle.cert_check.specs.Laws.{CertifiedWalksEnd, LastNodesEnd, CertifiedRunsEnd}

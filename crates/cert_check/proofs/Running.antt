@@ -1,8 +1,8 @@
 -- Runs, one step after another.
-use Rattle.std.proofs.Common.{◌≡◌, ◌∙◌, ℕ, zero, suc, Bool, true, false, refl, sym, ap, subst}
+use Rattle.std.proofs.Common.{◌≡◌, ℕ, zero, suc, Bool, true, false, sym, ap, subst}
 use Rattle.jvm_values.specs.States.{MachineState}
 use Rattle.class_program.specs.Programs.{Program}
-use Rattle.jvm_step.specs.Running.{Step, step, step_on, run, IsEnd, Ends}
+use Rattle.jvm_step.specs.Running.{step, step_on, run, IsEnd, Ends}
 use Rattle.jvm_step.specs.Running.Step.{Going}
 use Rattle.abs_expand.specs.Laws.{IsAfter}
 

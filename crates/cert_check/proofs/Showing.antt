@@ -1,5 +1,5 @@
 -- What a valid certificate over ints shows.
-use Rattle.std.proofs.Common.{◌≡◌, ◌<◌, ◌∙◌, ℕ, Bool, true, false, not, IsTrue, List, [], ◌∷◌, length, get_or, Option, Some, None, slice_get, refl, sym, ap, subst, arith}
+use Rattle.std.proofs.Common.{◌≡◌, ℕ, Bool, true, false, not, List, [], ◌∷◌, Some, slice_get, refl, ap, subst}
 use Rattle.std.specs.Prelude.{All}
 use Rattle.std.specs.List.{AllZip, AllByRecursion}
 use Rattle.std.proofs.lemmas.Bool.{false≢true}
@@ -12,7 +12,7 @@ use Rattle.abs_cells.specs.AbstractStates.{AbstractState}
 use Rattle.abs_cells.specs.Cells.{is_int, HasCell}
 use Rattle.abs_cells.specs.Sound.{IsWellFormed}
 use Rattle.jvm_values.specs.declared.types.Ty.{Ty}
-use Rattle.abs_reach.specs.Instances.{image_in, is_no_int, IsOver, InstanceOf, whole_map, cells}
+use Rattle.abs_reach.specs.Instances.{IsOver, InstanceOf, whole_map, cells}
 use Rattle.class_world.specs.WorldTypes.{types_of}
 use Rattle.class_program.specs.Programs.{Program}
 use Rattle.frame_types.specs.Tables.{CodeTypes}
@@ -20,11 +20,10 @@ use Rattle.term_graph.specs.declared.links.Link.{Link}
 use Rattle.term_graph.specs.declared.nodes.By.{By}
 use Rattle.term_graph.specs.declared.nodes.By.TheVariants.{Expand, Instance, End, Todo}
 use Rattle.term_graph.specs.Graphs.{GraphNode}
-use Rattle.path_rules.specs.Conditions.{HasIntsAlone, IsMapBetween, IsGoodBy, IsReady}
+use Rattle.path_rules.specs.Conditions.{HasIntsAlone, IsMapBetween, IsGoodBy}
 use Rattle.abs_expand.specs.BadStates.{IsGoodState}
 use Rattle.graph_check.specs.Good.{IsLeftBy, IsGoodNode}
-use Rattle.cert_check.specs.Valid.{Case, IsValid}
-use Rattle.cert_check.specs.Ready.{AreLinked, IsOverInts, ValidIsCertified}
+use Rattle.cert_check.specs.Ready.{AreLinked, ValidIsCertified}
 use Rattle.cert_check.proofs.Ending.{found_int}
 
 -- ---- lists

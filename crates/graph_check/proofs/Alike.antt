@@ -1,7 +1,6 @@
 -- States with the same frames, thrown id, cells and pairs, in whatever order their pairs are listed; and the children of a step, of which
 -- there is one.
-use Rattle.std.proofs.Common.{◌≡◌, ◌<◌, ◌≤◌, ◌+◌, ◌∙◌, ◌↔◌, ◌++◌, ℕ, zero, suc, Bool, true, false, cond, eqb, List, [], ◌∷◌, map, length, Option, Some, None, slice_get, slice_index_or, ◌⊎◌, inl, inr, refl, sym, ap, subst, arith, eq-eqb}
-use Rattle.std.specs.Prelude.{All}
+use Rattle.std.proofs.Common.{◌≡◌, ◌<◌, ◌+◌, ◌∙◌, ◌↔◌, ◌++◌, ℕ, zero, suc, Bool, true, false, cond, eqb, List, [], ◌∷◌, map, length, Option, Some, None, slice_get, slice_index_or, inl, inr, refl, sym, ap, subst, arith, eq-eqb}
 use Rattle.std.specs.List.{AllZip, AllByRecursion, Contains, flat_map}
 use Rattle.std.specs.Option.{option_and_then}
 use Rattle.std.proofs.lemmas.Bool.{cases_lt, eqb-true, ne_eqb, false≢true}
@@ -11,12 +10,11 @@ use Rattle.jvm_values.specs.Paths.{Reaches}
 use Rattle.jvm_values.specs.TypedHeaps.{WorldTypes}
 use Rattle.abs_cells.specs.declared.cells.Cell.{Cell}
 use Rattle.abs_cells.specs.AbstractStates.{AbstractFrame, AbstractState}
-use Rattle.abs_cells.specs.PairLists.{has}
 use Rattle.abs_cells.specs.Cells.{ids_in, cell_in, cell_at, HasCell, AreEqual, Share}
 use Rattle.abs_cells.specs.Sound.{AreIdsRising, given_ids, ids_of_frame}
 use Rattle.abs_cells.proofs.PairLaws.{bool_cases}
 use Rattle.abs_equal.proofs.Same.{state_same, pairs_same}
-use Rattle.abs_reach.specs.Reached.{IsReached, IsDropped}
+use Rattle.abs_reach.specs.Reached.{IsReached}
 use Rattle.abs_heap.specs.Given.{IsPair, IsGiven, AreFresh, with_cells, first_cell}
 use Rattle.term_graph.specs.Graphs.{GraphChild}
 use Rattle.abs_expand.specs.Plans.{Act, nothing, makes, writes, item, object, array, Goal, nowhere, on_stack, in_local, in_bottom, in_field, is_thrown, Turn}

@@ -1,13 +1,12 @@
 -- A good graph has no fault.
-use Rattle.std.proofs.Common.{◌≡◌, ◌≢◌, ◌<◌, ◌≤◌, ◌∙◌, ℕ, zero, suc, List, [], ◌∷◌, map, length, Option, Some, None, slice_get, ◌⊎◌, inl, inr, refl, sym, ap, subst, arith}
-use Rattle.std.specs.Prelude.{All}
+use Rattle.std.proofs.Common.{◌≡◌, ◌≢◌, ◌≤◌, ◌∙◌, ℕ, zero, suc, List, [], ◌∷◌, map, length, Some, slice_get, inl, inr, refl, sym, ap, subst, arith}
 use Rattle.std.specs.List.{AllZip}
 use Rattle.std.proofs.lemmas.List.{length-map}
 use Rattle.std.proofs.lemmas.List.Elements.{All-get_or}
 use Rattle.std.proofs.lemmas.Option.{slice_get_within, get_or_from_slice_get}
 use Rattle.jvm_values.proofs.Options.{some_is, none_is_not_some}
 use Rattle.abs_cells.specs.AbstractStates.{AbstractState}
-use Rattle.abs_reach.specs.Instances.{InstanceOf, IsFirstFault, FailsAt, Clause}
+use Rattle.abs_reach.specs.Instances.{InstanceOf, IsFirstFault}
 use Rattle.class_world.specs.WorldTypes.{types_of}
 use Rattle.class_program.specs.Programs.{Program}
 use Rattle.frame_types.specs.Tables.{CodeTypes}
@@ -21,10 +20,10 @@ use Rattle.abs_expand.specs.BadStates.{IsGoodState, IsBadState, unsound, misplac
 use Rattle.abs_expand.specs.Expansions.{plan_of, counts_of, AreFew, IsFirstTooMany, AreChildren, AreExpanded}
 use Rattle.graph_check.specs.declared.fault.What.{What}
 use Rattle.graph_check.specs.declared.fault.What.TheVariants as whats
-use Rattle.graph_check.specs.Good.{HasChildren, HasEnded, NamesChild, IsStateAt, IsExpanded, IsLeftBy, IsGoodNode, GraphOk, IsFirstOtherChild, FailsBy, FailsAs, IsFirstBadNode, IsFault}
+use Rattle.graph_check.specs.Good.{HasChildren, NamesChild, IsStateAt, IsLeftBy, IsGoodNode, IsFirstOtherChild, FailsBy, FailsAs, IsFirstBadNode, IsFault}
 use Rattle.graph_check.specs.Exclusion.{IsPlain, GoodGraphsHaveNoFault}
 use Rattle.graph_check.proofs.Alike.{steps_same}
-use Rattle.graph_check.proofs.Following.{Beside, beside}
+use Rattle.graph_check.proofs.Following.{beside}
 
 -- ---- children
 

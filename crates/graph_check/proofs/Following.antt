@@ -1,40 +1,38 @@
 -- A typed state that fits a good node ends with its next step or goes on to a node that this one names.
-use Rattle.std.proofs.Common.{◌≡◌, ◌<◌, ◌≤◌, ◌+◌, ◌∙◌, ◌==◌, ℕ, zero, suc, Bool, true, false, cond, eqb, IsTrue, List, [], ◌∷◌, map, length, Option, Some, None, slice_get, ◌⊎◌, inl, inr, refl, sym, ap, subst, arith, eq-eqb, get_or}
+use Rattle.std.proofs.Common.{◌≡◌, ◌≤◌, ◌+◌, ◌∙◌, ℕ, zero, suc, cond, List, [], ◌∷◌, map, Some, slice_get, ◌⊎◌, inl, inr, refl, sym, ap, subst, arith, eq-eqb}
 use Rattle.std.specs.Prelude.{All}
 use Rattle.std.proofs.lemmas.Bool.{ne_eqb}
 use Rattle.std.proofs.lemmas.Option.{slice_get_within, get_or_from_slice_get}
 use Rattle.std.proofs.lemmas.List.Elements.{All-get_or, All-from_recursion}
 use Rattle.std.specs.List.{AllZip, AllByRecursion}
 use Rattle.jvm_values.proofs.Options.{some_is, none_is_not_some}
-use Rattle.jvm_values.specs.declared.heap.Value.{Value}
 use Rattle.jvm_values.specs.declared.heap.Heap.{Heap}
 use Rattle.jvm_values.specs.declared.heap.Object.{Object}
 use Rattle.jvm_values.specs.declared.heap.Object.TheVariants as objects
-use Rattle.jvm_values.specs.declared.types.Ty.{Ty}
 use Rattle.jvm_values.specs.declared.types.Base.{Base}
 use Rattle.jvm_values.specs.declared.types.Base.TheVariants as bases
-use Rattle.jvm_values.specs.Subtyping.{array_of, IsReference, IsReferenceBase}
+use Rattle.jvm_values.specs.Subtyping.{IsReferenceBase}
 use Rattle.jvm_values.specs.States.{MachineState}
 use Rattle.jvm_values.specs.TypedHeaps.{WorldTypes, IsTypedObject, IsTypedHeap}
 use Rattle.abs_cells.specs.declared.cells.Cell.{Cell}
 use Rattle.abs_cells.specs.AbstractStates.{AbstractState}
 use Rattle.abs_cells.specs.Fits.{Meaning, Fits}
 use Rattle.abs_cells.specs.Sound.{AreIdsRising}
-use Rattle.abs_reach.specs.Instances.{image_in, InstanceOf, ListsIds, whole_map}
-use Rattle.abs_match.specs.Laws.{AreLawful, HasArraysOfWorld, MatchesCarryFitting, value_of_image, after}
+use Rattle.abs_reach.specs.Instances.{image_in, ListsIds, whole_map}
+use Rattle.abs_match.specs.Laws.{HasArraysOfWorld, MatchesCarryFitting, value_of_image, after}
 use Rattle.class_world.specs.WorldTypes.{types_of}
 use Rattle.class_world.specs.WorldLaws.{world_laws}
 use Rattle.class_program.specs.Programs.{Program, IsClosed}
 use Rattle.frame_types.specs.Tables.{CodeTypes}
-use Rattle.jvm_step.specs.Running.{step, IsEnd}
+use Rattle.jvm_step.specs.Running.{step}
 use Rattle.term_graph.specs.declared.links.Link.{Link}
 use Rattle.term_graph.specs.declared.nodes.By.{By}
 use Rattle.term_graph.specs.declared.nodes.By.TheVariants.{Expand, Instance, End, Todo}
 use Rattle.term_graph.specs.Graphs.{GraphNode, GraphChild}
-use Rattle.term_graph.specs.Edges.{Edge, InstanceEdge}
-use Rattle.abs_expand.specs.Laws.{IsAfter, GoesToChild, IsMet}
+use Rattle.term_graph.specs.Edges.{Edge}
+use Rattle.abs_expand.specs.Laws.{IsMet}
 use Rattle.graph_check.specs.Good.{NamesChild, IsExpanded, IsInstance, IsLeftBy, IsGoodNode, GraphOk}
-use Rattle.graph_check.specs.Laws.{GoesByChild, GoesByInstance, GoesBy, GoesOn, EndsHere, KeepsPromise, GraphsHoldRuns}
+use Rattle.graph_check.specs.Laws.{GoesOn, EndsHere, KeepsPromise, GraphsHoldRuns}
 
 -- ---- lists
 
