@@ -17,7 +17,7 @@ pub enum What {
     },
     /// A child of its state has more than 512 ids.
     TooManyIds,
-    /// It names as many nodes as its state has no children, or its state has none because the run ends.
+    /// It names more or fewer nodes than its state has children, or the run ends with its state's next step.
     ChildCount,
     /// A number that it names is no node's, or that node's state isn't the child.
     Child {
