@@ -91,7 +91,7 @@ int_ids state (c ∷ cells) s = rw (s.ints 0 c (omega arith)) (suffix_int state 
 pub ints_of : (state : AbstractState) → IsOfInts state → AllByRecursion (HasCell is_int state) (ids_with is_int state)
 ints_of state of = int_ids state state.cells (whole_suffix state of.rising of.ints)
 
-of_sort : (state : AbstractState) (id : ℕ) (found : Option Cell) → cell_at state id ≡ found → is_of_sort is_int found ≡ true → HasCell is_int state id
+pub of_sort : (state : AbstractState) (id : ℕ) (found : Option Cell) → cell_at state id ≡ found → is_of_sort is_int found ≡ true → HasCell is_int state id
 of_sort state id None e t = absurd (false≢true t)
 of_sort state id (Some cell) e t = record { cell = cell; is = e; sort_is = t }
 
@@ -158,7 +158,7 @@ images_true numbers first next stop target entries (id ∷ ids) a same =
     (image_true numbers first stop (variable_of next target.state id) (image_in entries id) (λ image e. same id image a.0 e))
     (images_true numbers first next stop target entries ids a.1 same)
 
-some_is : (a b : ℕ) → Some a ≡ Some b → a ≡ b
+pub some_is : (a b : ℕ) → Some a ≡ Some b → a ≡ b
 some_is a b e = cc
 
 instance_true : (numbers : ℕ → ℤ) (first next : ℕ) (stop target : Stop) (spot then : Spot) (entries : List (ℕ × ℕ)) → IsOfInts target.state → IsMapBetween stop.state target.state entries → Looks numbers first stop.state spot.meaning → Looks numbers next target.state then.meaning → InstanceEdge entries spot.machine spot.meaning then.machine then.meaning → AreTrueBy numbers (rows_of_instance first stop entries next target)

@@ -22,7 +22,7 @@ abbrev pub IdsRise : ℕ → List (ℕ × Pattern) → Type 0
 IdsRise low [] = Unit {0}
 IdsRise low (entry ∷ entries) = (low ≤ entry.0) × IdsRise (suc entry.0) entries
 
--- a list has exactly the linked reference ids of a state, rising, each with its pattern
+-- a list has exactly the sized ids of a state, rising, each with its pattern
 pub record AreSizes (state : AbstractState) (sizes : List (ℕ × Pattern)) : Type 0 where
   pub rise : IdsRise 0 sizes
   pub each : (id : ℕ) (pattern : Pattern) → pattern_in sizes id ≡ Some pattern → HasCell (λ cell. not (is_int cell)) state id × (IsSized state id × IsPattern state id pattern)

@@ -1,8 +1,18 @@
 //! The rules of a termination graph's paths from cut to cut.
 #![tactic(auto)]
 
+mod answers;
+mod counts;
 mod fault;
 mod laws;
+mod legs;
+mod slots;
+mod stops;
+mod successors;
+mod terms;
+mod walks;
+mod ways;
 
+pub use answers::paths;
 pub use fault::PathFault;
 pub use laws::walks_meet_rules;
