@@ -1,3 +1,5 @@
+pub mod Answers
+pub mod Building
 pub mod Counts
 pub mod Given
 pub mod Laws

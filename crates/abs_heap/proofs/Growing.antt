@@ -1,0 +1,116 @@
+-- A heap with one more object at its end: what was there keeps its steps, regions, shapes and terms.
+use Rattle.std.proofs.Common.{◌≡◌, ℕ, zero, suc, ◌+◌, ◌<◌, ◌≤◌, List, [], ◌∷◌, ◌++◌, length, get_or, Option, Some, None, ◌⊎◌, inl, inr, refl, sym, ap, subst, ◌∙◌, arith, All}
+use Rattle.std.specs.Prelude.{slice_get}
+use Rattle.std.specs.Option.{option_map, option_and_then}
+use Rattle.std.proofs.lemmas.Option.{slice_get_within, slice_get-get_or}
+use Rattle.jvm_values.specs.declared.heap.Value.{Value}
+use Rattle.jvm_values.specs.declared.heap.Value.TheVariants as values
+use Rattle.jvm_values.specs.declared.heap.Object.{Object}
+use Rattle.jvm_values.specs.declared.heap.Object.TheVariants.{Instance, Nums, Refs}
+use Rattle.jvm_values.specs.declared.heap.Heap.{Heap}
+use Rattle.jvm_values.specs.declared.shape.Shape.{Shape}
+use Rattle.jvm_values.specs.declared.shape.Shape.TheVariants.{Tree, Dag, Any}
+use Rattle.jvm_values.specs.Paths.{follow, Reaches}
+use Rattle.jvm_values.specs.Heaps.{target, values_of, value_at, heap_steps, Region, HasShape, IsInHeap, IsClosed}
+use Rattle.jvm_values.specs.Terms.{HeapTerm, HeapTerms, term_within, term_of_object, terms_by, IsTerm}
+use Rattle.jvm_values.specs.Terms.HeapTerm.{null, node}
+use Rattle.jvm_values.specs.Terms.HeapTerms.{more}
+use Rattle.jvm_values.proofs.Options.{given, some_is, none_is_not_some}
+use Rattle.jvm_values.proofs.PathLaws.{joined, rest_of}
+use Rattle.abs_heap.specs.Laws.{heap_with}
+
+-- ---- lists
+
+pub got_front : {X : Type 0} (xs ys : List X) (k : ℕ) → k < length xs → slice_get (xs ++ ys) k ≡ slice_get xs k
+got_front [] ys k l = absurd (omega (arith, l))
+got_front (x ∷ xs) ys zero l = refl
+got_front (x ∷ xs) ys (suc k) l = got_front xs ys k (omega (arith, l))
+
+pub got_last : {X : Type 0} (xs : List X) (y : X) → slice_get (xs ++ y ∷ []) (length xs) ≡ Some y
+got_last [] y = refl
+got_last (x ∷ xs) y = got_last xs y
+
+pub all_got : {X : Type 0} (P : X → Type 0) (xs : List X) (k : ℕ) (x : X) → All P xs → slice_get xs k ≡ Some x → P x
+all_got P xs k x a e =
+    let l = slice_get_within xs k x e in
+    subst P (some_is (sym (slice_get-get_or xs k x l) ∙ e)) (a k x l)
+
+same_answer : {A B : Type 0} (f g : A → Option B) (x : Option A) → ((c : A) → x ≡ Some c → f c ≡ g c) → option_and_then f x ≡ option_and_then g x
+same_answer f g None h = refl
+same_answer f g (Some c) h = h c refl
+
+-- the same paths give the same shapes
+pub same_shape : (one two : Heap) (x : Value) → ((a : ℕ) → target x ≡ Some a → (p : List ℕ) (b : ℕ) → follow (heap_steps two) p a ≡ Some b → follow (heap_steps one) p a ≡ Some b) → (shape : Shape) → HasShape shape one x → HasShape shape two x
+same_shape one two x back Tree h = λ a t p q b e f. h a t p q b (back a t p b e) (back a t q b f)
+same_shape one two x back Dag h = λ a t p b e q f.
+    let start = back a t p b e in
+    h a t p b start q (rest_of (heap_steps one) p q a b b start (back a t (p ++ q) b (joined (heap_steps two) p q a b b e f)))
+same_shape one two x back Any h = tt
+
+module _ (heap : Heap) (object : Object) (closed : IsClosed heap) where
+  pub stays : (r : ℕ) (ob : Object) → slice_get heap.objects r ≡ Some ob → slice_get (heap_with heap object).objects r ≡ Some ob
+  stays r ob e = got_front heap.objects (object ∷ []) r (slice_get_within heap.objects r ob e) ∙ e
+
+  same_object : (a : ℕ) → a < length heap.objects → slice_get (heap_with heap object).objects a ≡ slice_get heap.objects a
+  same_object a l = got_front heap.objects (object ∷ []) a l
+
+  same_step : (a j : ℕ) → a < length heap.objects → heap_steps (heap_with heap object) a j ≡ heap_steps heap a j
+  same_step a j l = ap (λ (x : Option Object). option_and_then target (option_and_then (λ (ob : Object). slice_get (values_of ob) j) x)) (same_object a l)
+
+  value_low : (a : ℕ) (ob : Object) (j : ℕ) (y : Value) → slice_get heap.objects a ≡ Some ob → slice_get (values_of ob) j ≡ Some y → IsInHeap (length heap.objects) y
+  value_low a ob j y e f = all_got (IsInHeap (length heap.objects)) (values_of ob) j y (all_got (λ (x : Object). All (IsInHeap (length heap.objects)) (values_of x)) heap.objects a ob closed e) f
+
+  step_low : (a j c : ℕ) → heap_steps heap a j ≡ Some c → c < length heap.objects
+  step_low a j c e =
+      let p = given target (value_at heap a j) c e in
+      let q = given (λ (ob : Object). slice_get (values_of ob) j) (slice_get heap.objects a) p.0 p.1.0 in
+      value_low a q.0 j p.0 q.1.0 q.1.1 c p.1.1
+
+  pub same_follow : (p : List ℕ) (a : ℕ) → a < length heap.objects → follow (heap_steps (heap_with heap object)) p a ≡ follow (heap_steps heap) p a
+  same_follow [] a l = refl
+  same_follow (i ∷ p) a l =
+      ap (option_and_then (follow (heap_steps (heap_with heap object)) p)) (same_step a i l)
+      ∙ same_answer (follow (heap_steps (heap_with heap object)) p) (follow (heap_steps heap) p) (heap_steps heap a i) (λ c e. same_follow p c (step_low a i c e))
+
+  pub follow_low : (p : List ℕ) (a b : ℕ) → a < length heap.objects → follow (heap_steps heap) p a ≡ Some b → b < length heap.objects
+  follow_low [] a b l e = subst (λ (n : ℕ). n < length heap.objects) (some_is e) l
+  follow_low (i ∷ p) a b l e = let q = given (follow (heap_steps heap) p) (heap_steps heap a i) b e in follow_low p q.0 b (step_low a i q.0 q.1.0) q.1.1
+
+  pub region_back : (v : Value) (o : ℕ) → IsInHeap (length heap.objects) v → Region (heap_with heap object) v o → Region heap v o
+  region_back v o l r = record { start = r.start; names = r.names; reaches = record { path = r.reaches.path; leads = sym (same_follow r.reaches.path r.start (l r.start r.names)) ∙ r.reaches.leads } }
+
+  pub region_low : (v : Value) (o : ℕ) → IsInHeap (length heap.objects) v → Region (heap_with heap object) v o → o < length heap.objects
+  region_low v o l r = let q = region_back v o l r in follow_low q.reaches.path q.start o (l q.start q.names) q.reaches.leads
+
+  pub shape_stays : (v : Value) (shape : Shape) → IsInHeap (length heap.objects) v → HasShape shape heap v → HasShape shape (heap_with heap object) v
+  shape_stays v shape l = same_shape heap (heap_with heap object) v (λ a t p b e. sym (same_follow p a (l a t)) ∙ e) shape
+
+  -- terms
+  values_same : (f g : Value → Option HeapTerm) (vs : List Value) → ((j : ℕ) (y : Value) → slice_get vs j ≡ Some y → f y ≡ g y) → terms_by f vs ≡ terms_by g vs
+  values_same f g [] h = refl
+  values_same f g (values.Int n ∷ vs) h = values_same f g vs (λ j y e. h (suc j) y e)
+  values_same f g (values.Null ∷ vs) h = ap (option_map (more null)) (values_same f g vs (λ j y e. h (suc j) y e))
+  values_same f g (values.Ref r ∷ vs) h =
+      ap (option_and_then (λ (first : HeapTerm). option_map (more first) (terms_by f vs))) (h 0 (values.Ref r) refl)
+      ∙ ap (λ (rest : Option HeapTerms). option_and_then (λ (first : HeapTerm). option_map (more first) rest) (g (values.Ref r))) (values_same f g vs (λ j y e. h (suc j) y e))
+
+  objects_same : (f g : Value → Option HeapTerm) (ob : Object) → ((j : ℕ) (y : Value) → slice_get (values_of ob) j ≡ Some y → f y ≡ g y) → term_of_object f ob ≡ term_of_object g ob
+  objects_same f g (Instance class fields) h = ap (option_map (node class)) (values_same f g fields h)
+  objects_same f g (Nums kind items) h = refl
+  objects_same f g (Refs element items) h = refl
+
+  same_within : (depth : ℕ) (v : Value) → IsInHeap (length heap.objects) v → term_within depth (heap_with heap object) v ≡ term_within depth heap v
+  same_within depth (values.Int n) l = refl
+  same_within depth values.Null l = refl
+  same_within zero (values.Ref r) l = refl
+  same_within (suc depth) (values.Ref r) l =
+      ap (option_and_then (term_of_object (term_within depth (heap_with heap object)))) (same_object r (l r refl))
+      ∙ same_answer (term_of_object (term_within depth (heap_with heap object))) (term_of_object (term_within depth heap)) (slice_get heap.objects r)
+      (λ ob e. objects_same (term_within depth (heap_with heap object)) (term_within depth heap) ob (λ j y f. same_within depth y (value_low r ob j y e f)))
+
+  pub term_back : (v : Value) (t : HeapTerm) → IsInHeap (length heap.objects) v → IsTerm (heap_with heap object) v t → IsTerm heap v t
+  term_back v t l is = record {
+    acyclic = same_shape (heap_with heap object) heap v (λ a n p b e. same_follow p a (l a n) ∙ e) Dag is.acyclic;
+    depth = is.depth;
+    is = sym (same_within is.depth v l) ∙ is.is;
+  }

@@ -1,0 +1,10 @@
+use Rattle.std.proofs.Common.{◌≡◌, ◌-◌, ℕ, take, length}
+use Rattle.abs_cells.specs.PairLists.{has}
+use Rattle.abs_cells.specs.IdSets.{has_id}
+use Rattle.abs_heap.proofs.gaining.partners.Given as goal
+
+abbrev pub invariant-loop-a : goal.invariant-loop-a
+invariant-loop-a g l = (m : ℕ) → has_id l.set m ≡ has l.id m (take l.n (g.P.Pairs.pairs l.pairs))
+
+abbrev pub decreases-loop-a : goal.decreases-loop-a
+decreases-loop-a g l = length (g.P.Pairs.pairs l.pairs) - l.n

@@ -1,0 +1,30 @@
+//! Why a call on the abstract heap gives no children.
+ghost use Rattle.std.specs.Prelude.{◌≡◌};
+ghost use Rattle.abs_heap.specs.declared.fault.HeapFault.TheVariants.{Memory};
+
+use std::alloc::{AllocError, AllocFailed};
+
+/// Why a call on the abstract heap gives no children.
+#[derive(Clone, Copy, Debug, PartialEq, Eq)]
+pub enum HeapFault {
+    /// A child has more than 512 ids.
+    TooManyIds,
+    /// Want of memory.
+    Memory,
+}
+
+impl From<AllocError> for HeapFault {
+    ghost from_gives = { λ _ e. e ≡ Memory };
+
+    fn from(_e: AllocError) -> HeapFault {
+        HeapFault::Memory
+    }
+}
+
+impl<T: Drop> From<AllocFailed<T>> for HeapFault {
+    ghost from_gives = { λ _ e. e ≡ Memory };
+
+    fn from(_e: AllocFailed<T>) -> HeapFault {
+        HeapFault::Memory
+    }
+}

@@ -1,0 +1,33 @@
+//! What the calls promise of the machine's states, for the proofs of other crates. They run nothing.
+ghost use Rattle.abs_heap.specs.Laws.{NullSplits, EqualSplits, ItemsGoOn, ObjectsGoOn, ArraysGoOn, WritesGoOn};
+
+/// Whatever fits a state in which an id's object may be null fits one of the two children of that split.
+pub fn null_splits()
+    ensures { NullSplits }
+{}
+
+/// Whatever fits a state fits, with a new object at its heap's end, the child in which that object is made.
+pub fn objects_go_on()
+    ensures { ObjectsGoOn }
+{}
+
+/// Whatever fits a state fits, with a new array at its heap's end, the child in which that array is made.
+pub fn arrays_go_on()
+    ensures { ArraysGoOn }
+{}
+
+/// Whatever fits a state fits the child in which an item of an array of references is read, with the item's id standing for it.
+pub fn items_go_on()
+    ensures { ItemsGoOn }
+{}
+
+/// Whatever fits a state in which two ids may stand for one object fits the child in which they are one, or the one in which they
+/// are two.
+pub fn equal_splits()
+    ensures { EqualSplits }
+{}
+
+/// Whatever fits a state fits, after a write of a reference into a field or an item of an array, the child of that write.
+pub fn writes_go_on()
+    ensures { WritesGoOn }
+{}
