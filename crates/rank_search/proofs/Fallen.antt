@@ -157,7 +157,7 @@ pub falls_complete : (negative : Bool) (rows : List WRow) (ties sorted : List Ti
 falls_complete negative rows ties sorted moves e link is = moved_in ties sorted link moves (subst (λ (l : List Tie). InTies l link) (sym e) (from_in negative 0 is.among.0 rows is.row link is.among.1 (λ m. row_in negative is.row m link is.greater is.says)))
 
 -- and the other way round: each tie is a fall link
-there_says : (negative : Bool) (row : WRow) (link : Link) (order : ℕ × ℕ) → AreOrdered row.terms order.0 order.1 → link.from ≡ leading negative order → link.to ≡ led negative order → row.constant +ℤ link.by ≡ pos 0 → row.weights ≡ [] → SaysFall negative row link link.by
+pub there_says : (negative : Bool) (row : WRow) (link : Link) (order : ℕ × ℕ) → AreOrdered row.terms order.0 order.1 → link.from ≡ leading negative order → link.to ≡ led negative order → row.constant +ℤ link.by ≡ pos 0 → row.weights ≡ [] → SaysFall negative row link link.by
 there_says true row link order h from to by weights = record { terms = subst (λ (x : ℕ). AreOrdered row.terms x link.from) (sym to) (subst (λ (x : ℕ). AreOrdered row.terms order.0 x) (sym from) h); constant = by; weights = weights }
 there_says false row link order h from to by weights = record { terms = subst (λ (x : ℕ). AreOrdered row.terms x link.to) (sym from) (subst (λ (x : ℕ). AreOrdered row.terms order.0 x) (sym to) h); constant = by; weights = weights }
 
@@ -167,7 +167,7 @@ unswapped terms plus minus h = elim h as (λ o. (terms ≡ (minus, negsuc 0) ∷
   | inr f ↦ inl f
 ]
 
-again_says : (negative : Bool) (row : WRow) (link : Link) (order : ℕ × ℕ) → row.kind ≡ IsZero → AreOrdered row.terms order.0 order.1 → link.from ≡ led negative order → link.to ≡ leading negative order → row.constant ≡ link.by → row.weights ≡ [] → SaysBack negative row link link.by
+pub again_says : (negative : Bool) (row : WRow) (link : Link) (order : ℕ × ℕ) → row.kind ≡ IsZero → AreOrdered row.terms order.0 order.1 → link.from ≡ led negative order → link.to ≡ leading negative order → row.constant ≡ link.by → row.weights ≡ [] → SaysBack negative row link link.by
 again_says true row link order kind h from to by weights = record { equation = kind; terms = unswapped row.terms link.from link.to (subst (λ (x : ℕ). AreOrdered row.terms link.from x) (sym to) (subst (λ (x : ℕ). AreOrdered row.terms x order.1) (sym from) h)); constant = by; weights = weights }
 again_says false row link order kind h from to by weights = record { equation = kind; terms = unswapped row.terms link.to link.from (subst (λ (x : ℕ). AreOrdered row.terms x link.from) (sym to) (subst (λ (x : ℕ). AreOrdered row.terms order.0 x) (sym from) h)); constant = by; weights = weights }
 
@@ -175,11 +175,11 @@ record IsFallOf (negative : Bool) (row : WRow) (link : Link) : Type 0 where
   pub less : link.from < link.to
   pub says : SaysFall negative row link link.by ⊎ SaysBack negative row link link.by
 
-kind_is : (kind : RowKind) → is_inequality kind ≡ false → kind ≡ IsZero
+pub kind_is : (kind : RowKind) → is_inequality kind ≡ false → kind ≡ IsZero
 kind_is AtLeastZero e = absurd (cc)
 kind_is IsZero e = refl
 
-none_is : (list : List (ℕ × ℤ)) → has_none list ≡ true → list ≡ []
+pub none_is : (list : List (ℕ × ℤ)) → has_none list ≡ true → list ≡ []
 none_is [] e = refl
 none_is (one ∷ rest) e = absurd (cc)
 

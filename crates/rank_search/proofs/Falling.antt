@@ -97,7 +97,7 @@ both false b e f = absurd (cc)
 alone_same : (variable : ℕ) (times : ℤ) → is_alone variable times ((variable, times) ∷ []) ≡ true
 alone_same variable times = both _ _ (eq-eqb variable variable refl) ((Decides-int_eq times times).1 refl)
 
-bound_found : (negative : Bool) (rule : PathRule) (start : ℕ) → IsBounded negative rule start → has_bound negative start rule.rows ≡ true
+pub bound_found : (negative : Bool) (rule : PathRule) (start : ℕ) → IsBounded negative rule start → has_bound negative start rule.rows ≡ true
 bound_found negative rule start is = any_row (bounds negative start) rule.rows is.among.0 is.row is.among.1 (both (is_inequality is.row.kind) (is_alone start (sign negative) is.row.terms) (ap is_inequality is.inequality) (ap (is_alone start (sign negative)) is.alone ∙ alone_same start (sign negative)))
 
 counted : (test : Bool) (fall : Option ℤ) → test ≡ true → cond test fall None ≡ fall

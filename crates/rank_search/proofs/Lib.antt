@@ -1,6 +1,13 @@
+pub mod Along
+pub mod Bases
 pub mod Changed
+pub mod Counted
+pub mod Cut
+pub mod FallRows
 pub mod Fallen
 pub mod Falling
+pub mod Headed
+pub mod Lined
 pub mod Listed
 pub mod Lowered
 pub mod Pairs
@@ -9,5 +16,9 @@ pub mod Raised
 pub mod Ranked
 pub mod Reached
 pub mod Sized
+pub mod Slotted
+pub mod StepRanked
+pub mod Stepped
 pub mod Tied
 pub mod Told
+pub mod Trailed

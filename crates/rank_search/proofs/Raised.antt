@@ -12,7 +12,7 @@ use Rattle.rank_search.specs.declared.links.Come.{Come}
 use Rattle.rank_search.specs.declared.links.Link.{Link}
 use Rattle.rank_search.specs.declared.links.Tie.{Tie}
 use Rattle.rank_search.specs.Links.{IsWay, total}
-use Rattle.rank_search.specs.Rising.{is_more, raised_by, raised, AreRising, IsAtLeast, IsGreatest, IsLongest}
+use Rattle.rank_search.specs.Rising.{is_more, raised_by, raised, AreRising, ComesBy, IsAtLeast, IsGreatest, IsLongest}
 use Rattle.rank_search.specs.Searching.{InTies, IsReached, Known, AreBelow}
 use Rattle.rank_search.proofs.Reached.{AreReached, reached_more, none_before}
 
@@ -69,11 +69,20 @@ no_more (Some come) sum low l e = no_more_cases (int_lt come.by sum) low come.by
 abbrev Closes : Tie → Known → Type 0
 Closes tie known = (come : Come) → get_or known tie.link.from None ≡ Some come → IsAtLeast (get_or known tie.link.to None) (come.by +ℤ tie.link.by)
 
+-- how a variable was come to by the first n of the ties
+abbrev ComesIn : List Tie → ℕ → ℕ → Known → ℕ → ℤ → Option Tie → Type 0
+ComesIn ties first n known v by None = (v ≡ first) × (by ≡ pos 0)
+ComesIn ties first n known v by (Some tie) = (k : ℕ) × (k < n) × (slice_get ties k ≡ Some tie) × (tie.link.to ≡ v) × (come : Come) × (get_or known tie.link.from None ≡ Some come) × (by ≡ come.by +ℤ tie.link.by)
+
+abbrev AreLinkedIn : List Tie → ℕ → ℕ → Known → Type 0
+AreLinkedIn ties first n known = (v : ℕ) (come : Come) → get_or known v None ≡ Some come → ComesIn ties first n known v come.by come.last
+
 pub record IsRaising (ties : List Tie) (first n : ℕ) (known : Known) : Type 0 where
   pub below : AreBelow ties (length known)
   pub start : IsAtLeast (get_or known first None) (pos 0)
   pub closed : (k : ℕ) (tie : Tie) → k < n → slice_get ties k ≡ Some tie → Closes tie known
   pub reached : AreReached ties first known
+  pub linked : AreLinkedIn ties first n known
 
 -- one tie more
 record IsRaised (tie : Tie) (old new : Known) : Type 0 where
@@ -154,6 +163,45 @@ in_order ties k n one other sorted low e f =
     let h = sorted k n one low (slice_get_within ties n other f) in
     subst (λ (x : Tie). x.link.from ≤ other.link.from) a (subst (λ (y : Tie). (get_or ties k one).link.from ≤ y.link.from) b h)
 
+-- how what was known was come to stays so
+comes_still : (ties : List Tie) (first n : ℕ) (known new : Known) (v : ℕ) (by : ℤ) (last : Option Tie) → ((k : ℕ) (tie : Tie) → k < n → slice_get ties k ≡ Some tie → get_or new tie.link.from None ≡ get_or known tie.link.from None) → ComesIn ties first n known v by last → ComesIn ties first (n + 1) new v by last
+comes_still ties first n known new v by None same h = h
+comes_still ties first n known new v by (Some tie) same h = (h.0, longer h.0 n h.1, h.2, h.3, h.4, same h.0 tie h.1 h.2 ∙ h.5, h.6)
+  where
+    longer : (k n : ℕ) → k < n → k < n + 1
+    longer k n less = omega (arith, less)
+
+linked_gone : (ties : List Tie) (first n : ℕ) (come : Come) (tie : Tie) (known : Known) → slice_get ties n ≡ Some tie → tie.link.from < tie.link.to → tie.link.to < length known → get_or known tie.link.from None ≡ Some come → ((k : ℕ) (other : Tie) → k < n → slice_get ties k ≡ Some other → other.link.from ≤ tie.link.from) → AreLinkedIn ties first n known → AreLinkedIn ties first (n + 1) (gone come tie known)
+linked_gone ties first n come tie known at rise low from before h v found e = elim (cases_eq v tie.link.to) as (λ o. ComesIn ties first (n + 1) (gone come tie known) v found.by found.last) [
+  | inl s ↦
+      let same = one_come (new_of come tie) found (sym (get_or-set_same known tie.link.to (Some (new_of come tie)) None low) ∙ ap (λ (x : ℕ). get_or (gone come tie known) x None) (sym s) ∙ e) in
+      subst (λ (c : Come). ComesIn ties first (n + 1) (gone come tie known) v c.by c.last) same (n, one_longer n, at, sym s, come, other_than tie.link.from (apart tie.link.from tie.link.to rise) ∙ from, refl)
+  | inr d ↦ comes_still ties first n known (gone come tie known) v found.by found.last (λ k other less is. other_than other.link.from (under other.link.from tie.link.from tie.link.to (before k other less is) rise)) (h v found (sym (other_than v d) ∙ e))
+]
+  where
+    other_than : (x : ℕ) → (x ≡ tie.link.to → ⊥) → get_or (gone come tie known) x None ≡ get_or known x None
+    other_than x d = get_or-set_other known tie.link.to x (Some (new_of come tie)) None d
+
+    one_longer : (n : ℕ) → n < n + 1
+    one_longer n = omega arith
+
+    apart : (a b : ℕ) → a < b → a ≡ b → ⊥
+    apart a b h e = absurd (omega (arith, h, e))
+
+    under : (a b c : ℕ) → a ≤ b → b < c → a ≡ c → ⊥
+    under a b c h k e = absurd (omega (arith, h, k, e))
+
+linked_still : (ties : List Tie) (first n : ℕ) (known : Known) → AreLinkedIn ties first n known → AreLinkedIn ties first (n + 1) known
+linked_still ties first n known h v come e = comes_still ties first n known known v come.by come.last (λ k tie less is. refl) (h v come e)
+
+linked_cases : (more : Bool) (ties : List Tie) (first n : ℕ) (come : Come) (tie : Tie) (known : Known) → slice_get ties n ≡ Some tie → tie.link.from < tie.link.to → tie.link.to < length known → get_or known tie.link.from None ≡ Some come → ((k : ℕ) (other : Tie) → k < n → slice_get ties k ≡ Some other → other.link.from ≤ tie.link.from) → AreLinkedIn ties first n known → AreLinkedIn ties first (n + 1) (cond more (gone come tie known) known)
+linked_cases true ties first n come tie known at rise low from before h = linked_gone ties first n come tie known at rise low from before h
+linked_cases false ties first n come tie known at rise low from before h = linked_still ties first n known h
+
+linked_more : (found : Option Come) (ties : List Tie) (first n : ℕ) (tie : Tie) (known : Known) → slice_get ties n ≡ Some tie → tie.link.from < tie.link.to → tie.link.to < length known → get_or known tie.link.from None ≡ found → ((k : ℕ) (other : Tie) → k < n → slice_get ties k ≡ Some other → other.link.from ≤ tie.link.from) → AreLinkedIn ties first n known → AreLinkedIn ties first (n + 1) (raised_by found tie known)
+linked_more None ties first n tie known at rise low from before h = linked_still ties first n known h
+linked_more (Some come) ties first n tie known at rise low from before h = linked_cases (is_more (get_or known tie.link.to None) (come.by +ℤ tie.link.by) (nat_lt tie.link.to (length known))) ties first n come tie known at rise low from before h
+
 pub raising_more : (ties : List Tie) (first n : ℕ) (known new : Known) (tie : Tie) → IsNonDecreasingBy (λ (tie : Tie). tie.link.from) ties → AreRising ties → slice_get ties n ≡ Some tie → new ≡ raised tie known → IsRaising ties first n known → IsRaising ties first (n + 1) new
 raising_more ties first n known new tie sorted rising at e h =
     let rise = kth (λ (tie : Tie). tie.link.from < tie.link.to) ties n tie rising at in
@@ -171,6 +219,7 @@ raising_more ties first n known new tie sorted rising at e h =
             r.grown other.link.to (come.by +ℤ other.link.by) (h.closed k other before is come (sym same ∙ f))
       ];
       reached = found_reached (get_or known tie.link.from None) ties first tie known (in_list ties n tie at) low refl h.reached;
+      linked = linked_more (get_or known tie.link.from None) ties first n tie known at rise low refl (λ k other less is. in_order ties k n other tie sorted (under_too k n less) is at) h.linked;
     })
   where
     under : (a b : ℕ) → a < b + 1 → (a ≡ b → ⊥) → a < b
@@ -194,6 +243,12 @@ raising_first ties first span before b low below =
         | inl s ↦
             let same = one_come begun come (sym (get_or-set_same before first (Some begun) None (subst (λ (k : ℕ). first < k) (sym n) low)) ∙ ap (λ (x : ℕ). get_or (set before first (Some begun)) x None) (sym s) ∙ e) in
             ([], sym s, ap (λ (c : Come). c.by) same)
+        | inr d ↦ absurd (none_before span v come (ap (λ (l : Known). get_or l v None) (sym b) ∙ sym (get_or-set_other before first v (Some begun) None d) ∙ e))
+      ];
+      linked = λ v come e. elim (cases_eq v first) as (λ o. ComesIn ties first 0 (set before first (Some begun)) v come.by come.last) [
+        | inl s ↦
+            let same = one_come begun come (sym (get_or-set_same before first (Some begun) None (subst (λ (k : ℕ). first < k) (sym n) low)) ∙ ap (λ (x : ℕ). get_or (set before first (Some begun)) x None) (sym s) ∙ e) in
+            subst (λ (c : Come). ComesIn ties first 0 (set before first (Some begun)) v c.by c.last) same (s, refl)
         | inr d ↦ absurd (none_before span v come (ap (λ (l : Known). get_or l v None) (sym b) ∙ sym (get_or-set_other before first v (Some begun) None d) ∙ e))
       ];
     }
@@ -237,5 +292,9 @@ raised_greatest ties first n known past h links variable way =
     below : {a b c : ℕ} → a < b → b ≤ c → a < c
     below h k = omega (arith, h, k)
 
+comes_by : (ties : List Tie) (first n : ℕ) (known : Known) (v : ℕ) (by : ℤ) (last : Option Tie) → ComesIn ties first n known v by last → ComesBy ties first known v by last
+comes_by ties first n known v by None h = h
+comes_by ties first n known v by (Some tie) h = (h.0, h.2, h.3, h.4, h.5, h.6)
+
 pub raising_last : (ties : List Tie) (first n : ℕ) (known : Known) → length ties ≤ n → IsRaising ties first n known → IsLongest ties first known
-raising_last ties first n known past h = record { greatest = raised_greatest ties first n known past h; reached = h.reached }
+raising_last ties first n known past h = record { greatest = raised_greatest ties first n known past h; reached = h.reached; linked = λ v come e. comes_by ties first n known v come.by come.last (h.linked v come e) }

@@ -4,5 +4,10 @@ pub mod Plain
 pub mod Stepwise
 pub mod Found
 pub mod RankSteps
+pub mod Graphs
 pub mod Searching
 pub mod Rising
+pub mod Counting
+pub mod Following
+pub mod Forms
+pub mod Heads

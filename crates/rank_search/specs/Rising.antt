@@ -41,10 +41,19 @@ IsAtLeast (Some come) by = by ≤ℤ come.by
 abbrev pub IsGreatest : List Tie → ℕ → Known → Type 0
 IsGreatest ties first known = (links : List Link) (variable : ℕ) → IsWay (InTies ties) first links variable → IsAtLeast (get_or known variable None) (total links)
 
+-- by the last of the ties that lead to a variable, if there is one, it is as much more as the one before says
+abbrev pub ComesBy : List Tie → ℕ → Known → ℕ → ℤ → Option Tie → Type 0
+ComesBy ties first known variable by None = (variable ≡ first) × (by ≡ pos 0)
+ComesBy ties first known variable by (Some tie) = (k : ℕ) × (slice_get ties k ≡ Some tie) × (tie.link.to ≡ variable) × (come : Come) × (get_or known tie.link.from None ≡ Some come) × (by ≡ come.by +ℤ tie.link.by)
+
+abbrev pub AreLinked : List Tie → ℕ → Known → Type 0
+AreLinked ties first known = (variable : ℕ) (come : Come) → get_or known variable None ≡ Some come → ComesBy ties first known variable come.by come.last
+
 -- and what is known of a variable is what links add up to
 pub record IsLongest (ties : List Tie) (first : ℕ) (known : Known) : Type 0 where
   pub greatest : IsGreatest ties first known
   pub reached : (variable : ℕ) (come : Come) → get_or known variable None ≡ Some come → IsReached ties first variable come.by
+  pub linked : AreLinked ties first known
 
 -- a link to a variable of a greater number
 abbrev pub rising_tie : ℕ → ℕ → ℤ → ℕ → Bool → List Tie

@@ -1,19 +1,20 @@
 //! The rank steps of plain forms and of linear ones.
-ghost use Rattle.std.specs.Prelude.{◌≡◌, Bool, None, IfOk, IfSome, IfErr};
+ghost use Rattle.std.specs.Prelude.{◌≡◌, None, IfOk, IfSome, IfErr};
 ghost use Rattle.descent.specs.Conditions.{AreRules};
-ghost use Rattle.descent.specs.declared.rules.Place.{Place};
 ghost use Rattle.rank_search.specs.declared.searching.PlainForm.{PlainForm};
 ghost use Rattle.rank_search.specs.Found.{IfUnshown, IsFound};
+ghost use Rattle.rank_search.specs.Graphs.{ArePathRules};
 ghost use Rattle.rank_search.specs.Plain.{NoPlainForm};
 ghost use Rattle.rank_search.specs.RankSteps.{IsRankStep};
-ghost use Rattle.rank_search.specs.Stepwise.{NoStepwiseForm, StepwiseRanks};
+ghost use Rattle.rank_search.specs.Stepwise.{NoStepwiseForm};
 
 use crate::building::build;
 use crate::errors::RankError;
 use crate::limits::is_rank_step;
 use crate::parts::{Course, Part};
-use crate::searching::{PlainForm, StepwiseForm, plain_form, stepwise_form};
+use crate::searching::{PlainForm, plain_form, stepwise_form};
 use crate::several::several;
+use crate::stepping::step_rank;
 use descent::{PathRule, RankStep};
 use list_views::Seq;
 use std::alloc::{AllocError, Global};
@@ -37,17 +38,6 @@ fn plain_parts(alloc: Global, form: &PlainForm) -> Result<Seq<Part>, AllocError>
             course: Course::Sizes,
         })?,
     }
-    Ok(parts)
-}
-
-/// The parts of a stepwise form.
-fn stepwise_parts(alloc: Global, form: &StepwiseForm) -> Result<Seq<Part>, AllocError> {
-    let mut parts = Seq::new(alloc);
-    parts.push(Part {
-        place: form.place,
-        times: if form.negative { -1 } else { 1 },
-        course: Course::Steps,
-    })?;
     Ok(parts)
 }
 
@@ -80,19 +70,6 @@ fn plain_step(
     ensures { IfOk result (λ found. IfSome found (λ step. IsRankStep rules.now step)) }
 {
     let parts = plain_parts(alloc, form)?;
-    shown(alloc, rules, parts.as_slice())
-}
-
-/// The step of a stepwise form.
-fn stepwise_step(
-    alloc: Global,
-    rules: &[PathRule],
-    form: &StepwiseForm,
-) -> Result<Option<RankStep>, AllocError>
-    requires { AreRules rules.now }
-    ensures { IfOk result (λ found. IfSome found (λ step. IsRankStep rules.now step)) }
-{
-    let parts = stepwise_parts(alloc, form)?;
     shown(alloc, rules, parts.as_slice())
 }
 
@@ -133,36 +110,14 @@ pub fn plain(alloc: Global, rules: &[PathRule]) -> Result<Option<RankStep>, Rank
     }
 }
 
-/// The step of a stepwise form that ranks the rules.
-fn told_stepwise(
-    alloc: Global,
-    rules: &[PathRule],
-    form: &StepwiseForm,
-) -> Result<Option<RankStep>, RankError>
-    requires rules { AreRules rules.now }
-    requires form { StepwiseRanks rules.now form.now.negative form.now.place }
-    ensures found { IfOk result (λ found. IfSome found (λ step. IsRankStep rules.now step)) }
-    ensures none { IfOk result (λ found. found ≡ None → NoStepwiseForm rules.now) }
-    ensures unshown { IfErr result (λ e. IfUnshown e ((negative : Bool) × (place : Place) × StepwiseRanks rules.now negative place)) }
-{
-    match stepwise_step(alloc, rules, form)? {
-        Some(step) => Ok(Some(step)),
-        None => Err(RankError::Unshown),
-    }
-}
-
 /// A step of a form over several places, where no stepwise form ranks the rules.
-fn told_several(alloc: Global, rules: &[PathRule]) -> Result<Option<RankStep>, RankError>
+fn told_several(alloc: Global, rules: &[PathRule]) -> Result<Option<RankStep>, AllocError>
     requires rules { AreRules rules.now }
     requires none { NoStepwiseForm rules.now }
     ensures found { IfOk result (λ found. IfSome found (λ step. IsRankStep rules.now step)) }
     ensures none { IfOk result (λ found. found ≡ None → NoStepwiseForm rules.now) }
-    ensures unshown { IfErr result (λ e. IfUnshown e ((negative : Bool) × (place : Place) × StepwiseRanks rules.now negative place)) }
 {
-    match several(alloc, rules)? {
-        Some(step) => Ok(Some(step)),
-        None => Ok(None),
-    }
+    several(alloc, rules)
 }
 
 /// A rank step that a closed proof takes for all of the rules, and which removes at least one of them: of a stepwise form, or, where
@@ -171,16 +126,14 @@ fn told_several(alloc: Global, rules: &[PathRule]) -> Result<Option<RankStep>, R
 ///
 /// # Errors
 ///
-/// [`RankError::Unshown`] where a stepwise form ranks the rules, and the step that was made of it isn't taken. Want of memory,
-/// which also answers a number of more than 64 bits.
-pub fn linear(alloc: Global, rules: &[PathRule]) -> Result<Option<RankStep>, RankError>
-    requires rules { AreRules rules.now }
+/// Want of memory, which also answers a number of more than 64 bits.
+pub fn linear(alloc: Global, rules: &[PathRule]) -> Result<Option<RankStep>, AllocError>
+    requires rules { ArePathRules rules.now }
     ensures found { IfOk result (λ found. IfSome found (λ step. IsRankStep rules.now step)) }
     ensures none { IfOk result (λ found. found ≡ None → NoStepwiseForm rules.now) }
-    ensures unshown { IfErr result (λ e. IfUnshown e ((negative : Bool) × (place : Place) × StepwiseRanks rules.now negative place)) }
 {
     match stepwise_form(alloc, rules)? {
-        Some(form) => told_stepwise(alloc, rules, &form),
+        Some(form) => step_rank(alloc, rules, &form),
         None => told_several(alloc, rules),
     }
 }

@@ -16,7 +16,7 @@ pub(crate) fn same(one: bool, other: bool) -> bool
 }
 
 /// Whether two places are one.
-fn is_place(one: &Place, other: &Place) -> bool
+pub(crate) fn is_place(one: &Place, other: &Place) -> bool
     ensures { result ≡ is_place one.now other.now }
 {
     one.frame == other.frame && (same(one.stack, other.stack) && one.index == other.index)

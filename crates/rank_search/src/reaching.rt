@@ -45,7 +45,7 @@ fn moves(tie: &Tie, known: &[Option<Come>]) -> bool
 }
 
 /// What a variable has more, if it is known.
-fn by_of(come: Option<Come>) -> i64
+pub(crate) fn by_of(come: Option<Come>) -> i64
     ensures { result ≡ by_of come }
 {
     match come {

@@ -1,8 +1,9 @@
 //! Fall links: what the rows of a path say of an int, or of its negative, step by step.
-ghost use Rattle.std.specs.Prelude.{◌≡◌, ◌++◌, ◌-ℤ◌, pos, ℤ, [], true, false, None, Some, IfOk, OnOk, if◌then◌else◌};
+ghost use Rattle.std.specs.Prelude.{All, ◌≡◌, ◌++◌, ◌-ℤ◌, pos, ℤ, [], true, false, None, Some, IfOk, OnOk, if◌then◌else◌};
 ghost use Rattle.std.specs.List.Sorted.{IsNonDecreasingBy};
 ghost use Rattle.rank_search.specs.declared.links.Link.{Link};
 ghost use Rattle.rank_search.specs.declared.links.Tie.{Tie};
+ghost use Rattle.rank_search.specs.Following.{IsFallTie};
 ghost use Rattle.rank_search.specs.Rising.{AreRising, bounds, fall_links, fall_row_ties, fall_ties_from, has_bound, leading, led, rising_tie};
 ghost use Rattle.rank_search.specs.Searching.{InTies};
 ghost use Rattle.rank_search.specs.Stepwise.{IsFallLink};
@@ -124,6 +125,7 @@ pub(crate) fn fall_ties(
     ensures rising { IfOk result (λ ties. AreRising ties.items) }
     ensures sound { IfOk result (λ ties. (link : Link) → InTies ties.items link → IsFallLink negative rows.now link) }
     ensures complete { IfOk result (λ ties. (link : Link) → IsFallLink negative rows.now link → InTies ties.items link) }
+    ensures rows { IfOk result (λ ties. All (IsFallTie negative rows.now) ties.items) }
 {
     let mut ties = all_falls(alloc, negative, rows)?.into_vec();
     sort_ties(&mut ties)?;

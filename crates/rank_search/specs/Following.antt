@@ -1,0 +1,110 @@
+-- Words for this crate's own functions: how what stands at a place is followed along a rule, and what shows that it falls.
+use Rattle.std.specs.Prelude.{ℕ, zero, suc, ℤ, pos, negsuc, ◌≡◌, ◌≤◌, ◌<◌, ◌^◌, ◌+ℤ◌, ◌-ℤ◌, ◌*ℤ◌, ◌≤ℤ◌, Bool, true, false, List, [], ◌∷◌, ◌++◌, Option, Some, None, if◌then◌else◌, slice_get, get_or, length, unsigned_abs}
+use Rattle.std.specs.List.{All}
+use Rattle.lin_core.specs.declared.rows.RowKind.TheVariants.{AtLeastZero}
+use Rattle.lin_core.specs.declared.rows.WRow.{WRow}
+use Rattle.lin_core.specs.Combination.{summed_coefficient, summed_constant, first_fault}
+use Rattle.lin_core.specs.Rows.{Row, coefficient_of}
+use Rattle.lin_core.specs.Weights.{row_under, rows_under, unweighed}
+use Rattle.descent.specs.declared.rules.PathRule.{PathRule}
+use Rattle.descent.specs.declared.rules.Place.{Place}
+use Rattle.rank_search.specs.declared.links.Come.{Come}
+use Rattle.rank_search.specs.declared.links.Link.{Link}
+use Rattle.rank_search.specs.declared.links.Tie.{Tie}
+use Rattle.rank_search.specs.declared.following.Bound.{Bound}
+use Rattle.rank_search.specs.declared.following.Followed.{Followed}
+use Rattle.rank_search.specs.Links.{IsWay, total}
+use Rattle.rank_search.specs.Positions.{AreEnds}
+use Rattle.rank_search.specs.Rising.{bounds, has_bound}
+use Rattle.rank_search.specs.Searching.{Known}
+use Rattle.rank_search.specs.Stepwise.{IsFallLink, SaysBack, SaysFall, StepsDown, sign}
+
+-- the ties by which a variable was come to, the last first
+abbrev pub last_of : Option Come → Option Tie
+last_of None = None
+last_of (Some come) = come.last
+
+abbrev pub trail_by : Option Tie → (ℕ → List Tie) → List Tie
+trail_by None more = []
+trail_by (Some tie) more = tie ∷ more tie.link.from
+
+abbrev pub trail_from : ℕ → Known → ℕ → List Tie
+trail_from zero known variable = []
+trail_from (suc n) known variable = trail_by (last_of (get_or known variable None)) (trail_from n known)
+
+-- how often the row of a fall link counts
+abbrev pub step_times : Tie → ℤ
+step_times tie = if tie.back then negsuc 0 else pos 1
+
+abbrev pub step_entries : List Tie → List (ℕ × ℤ)
+step_entries [] = []
+step_entries (tie ∷ rest) = (tie.row, step_times tie) ∷ step_entries rest
+
+abbrev pub made : ℤ → List (ℕ × ℤ) → Option Bound → Followed
+made falls fall bound = record { falls = falls; fall = fall; bound = bound }
+
+-- one variable alone
+abbrev pub unit : ℕ → ℕ → ℤ
+unit variable other = coefficient_of variable ((other, pos 1) ∷ [])
+
+-- the row says that so many times the start, and a number, is at least 0
+pub record IsBoundAt (rows : List Row) (times : ℤ) (start : ℕ) (bound : Bound) : Type 0 where
+  pub row : Row
+  pub at : slice_get rows bound.row ≡ Some row
+  pub inequality : row.kind ≡ AtLeastZero
+  pub coefficients : (variable : ℕ) → coefficient_of variable row.terms ≡ times *ℤ unit variable start
+  pub constant : row.constant ≡ bound.base
+  pub small : unsigned_abs bound.base ≤ 2 ^ 40
+
+-- the multipliers show what so many times a variable falls by
+pub record IsFollowed (rows : List Row) (times : ℤ) (start finish : ℕ) (followed : Followed) : Type 0 where
+  pub fault : first_fault rows followed.fall ≡ None
+  pub few : length followed.fall ≤ length rows
+  pub coefficients : (variable : ℕ) → summed_coefficient rows followed.fall variable ≡ times *ℤ (unit variable start -ℤ unit variable finish)
+  pub constant : summed_constant rows followed.fall +ℤ followed.falls ≡ pos 0
+  pub bound : (bound : Bound) → followed.bound ≡ Some bound → IsBoundAt rows times start bound
+
+-- the first row that bounds a start; the rows are counted from n
+abbrev pub bound_from : Bool → ℕ → ℕ → List WRow → Option Bound
+bound_from negative start n [] = None
+bound_from negative start n (row ∷ rest) = if bounds negative start row then Some (record { row = n; base = row.constant }) else bound_from negative start (suc n) rest
+
+-- a tie with its row
+abbrev pub SaysAt : Bool → Bool → WRow → Link → Type 0
+SaysAt negative false row link = SaysFall negative row link link.by
+SaysAt negative true row link = SaysBack negative row link link.by
+
+pub record IsFallTie (negative : Bool) (rows : List WRow) (tie : Tie) : Type 0 where
+  pub row : WRow
+  pub at : slice_get rows tie.row ≡ Some row
+  pub says : SaysAt negative tie.back row tie.link
+
+-- step by step from one variable to another one, where nothing falls by more
+pub record AreSteps (negative : Bool) (rows : List WRow) (start finish : ℕ) (followed : Followed) : Type 0 where
+  pub shown : IsFollowed (rows_under unweighed rows) (sign negative) start finish followed
+  pub most : (links : List Link) → IsWay (IsFallLink negative rows) start links finish → total links ≤ℤ followed.falls
+  pub unbounded : followed.bound ≡ None → has_bound negative start rows ≡ false
+
+abbrev pub TellsBetween : Bool → List WRow → ℕ → ℕ → Option Followed → Type 0
+TellsBetween negative rows start finish None = (links : List Link) → IsWay (IsFallLink negative rows) start links finish → ⊥
+TellsBetween negative rows start finish (Some followed) = AreSteps negative rows start finish followed
+
+-- the same along a rule: nothing only where no steps lead along it
+pub record IsAlong (negative : Bool) (rule : PathRule) (place : Place) (followed : Followed) : Type 0 where
+  pub start : ℕ
+  pub finish : ℕ
+  pub ends : AreEnds rule false place start finish
+  pub steps : AreSteps negative rule.rows start finish followed
+
+abbrev pub TellsFollowed : Bool → PathRule → Place → Option Followed → Type 0
+TellsFollowed negative rule place None = (c : ℤ) → StepsDown negative rule place c → ⊥
+TellsFollowed negative rule place (Some followed) = IsAlong negative rule place followed
+
+-- constants are at most 2^40 in size
+abbrev pub SmallConstants : List WRow → Type 0
+SmallConstants rows = All (λ (row : WRow). unsigned_abs row.constant ≤ 2 ^ 40) rows
+
+-- so few rows and variables as a rule of a graph has
+pub record IsFew (rule : PathRule) : Type 0 where
+  pub rows : length rule.rows ≤ 65536
+  pub variables : rule.vars ≤ 65536
