@@ -1,5 +1,5 @@
-//! Answers the cases of the tables `plain` and `stepwise`, and one `linear`: each line of the input is the name of a table, a tab and
-//! the rules of a case. The answer to each comes on a line of its own: Some where a rank step of a form is found, else None.
+//! Answers the cases of the tables `plain` and `stepwise`: each line of the input is the name of a table, a tab and the rules of
+//! a case. The answer to each comes on a line of its own: Some where a form ranks the rules, None where none does.
 #![tactic(auto)]
 
 mod answers;
