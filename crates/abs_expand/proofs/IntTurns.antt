@@ -12,8 +12,8 @@ use Rattle.jvm_values.specs.declared.types.Kind.{Kind}
 use Rattle.jvm_values.proofs.Options.{given, some_is, none_is_not_some}
 use Rattle.abs_cells.specs.declared.cells.Cell.{Cell}
 use Rattle.abs_cells.specs.declared.cells.Cell.TheVariants as cells
-use Rattle.abs_cells.specs.AbstractStates.{AbstractFrame, AbstractState}
-use Rattle.abs_cells.specs.Cells.{is_int, HasCell}
+use Rattle.abs_cells.specs.AbstractStates.{AbstractFrame}
+use Rattle.abs_cells.specs.Cells.{HasCell}
 use Rattle.abs_cells.specs.Sound.{given_ids}
 use Rattle.abs_ints.specs.Parts.{just, meet_of}
 use Rattle.abs_ints.specs.Comparing.{compared}
@@ -24,12 +24,12 @@ use Rattle.op_forms.specs.declared.form.Shuffle.TheVariants.{Pop, Pop2, Dup, Dup
 use Rattle.op_forms.specs.Forms.{Form, shuffled}
 use Rattle.op_forms.specs.Forms.Form.{Nop, AconstNull, Iconst, Iload, Aload, Istore, Astore, Iinc, Shuffle, Arith, Ineg, Narrow, If, IfIcmp, IfAcmpeq, IfAcmpne, Ifnull, Ifnonnull, Goto, Tableswitch, Lookupswitch, Ireturn, Areturn, Return, Getstatic, Putstatic, Getfield, Putfield, Invokevirtual, Invokespecial, Invokestatic, Invokeinterface, New, Newarray, Anewarray, Arraylength, NumberLoad, Aaload, NumberStore, Aastore, Athrow, Checkcast, Instanceof}
 use Rattle.term_graph.specs.declared.links.LinkRow.{LinkRow}
-use Rattle.abs_expand.specs.Plans.{Goal, on_stack, in_local, Turn, Plan, ends, steps, by_null, by_class, by_equal, makes, no_rows}
-use Rattle.abs_expand.specs.Turns.{Here, Operand, known, id, frames_at, with_stack, emptied, moves, goes_on, pushes, throws_after, interval_at, interval_of_id, are_one, narrowings, rows_over, turn_of_result, turn_of_case, turns_of, turn_narrowing, turns_narrowing, narrows, rows_if, place_of_way, branch_of_case, branches, switch_turn}
+use Rattle.abs_expand.specs.Plans.{Goal, on_stack, in_local, Turn, Plan, steps, makes, no_rows}
+use Rattle.abs_expand.specs.Turns.{Here, Operand, known, id, frames_at, with_stack, moves, goes_on, pushes, interval_at, interval_of_id, are_one, narrowings, rows_over, turn_of_result, turn_of_case, turns_of, turn_narrowing, turns_narrowing, narrows, rows_if, place_of_way, branch_of_case, branches, switch_turn}
 use Rattle.abs_expand.specs.Switches.{table_keys, lookup_keys, parts_of}
 use Rattle.abs_expand.specs.Table.{local_here, load_plan, store_plan, increment_plan, negation_plan, narrow_plan, switch_plan, unary, binary, value_plan, returned_to, row_of}
 use Rattle.abs_expand.specs.IntForms.{is_int_form, IsIntState}
-use Rattle.abs_expand.specs.Building.{HoldsIds, IsNarrowed, MakesOneAtMost, IsIntTurn}
+use Rattle.abs_expand.specs.Building.{HoldsIds, IsNarrowed, MakesOneAtMost, IsIntTurn, AreIntTurns}
 
 -- ---- lists
 
@@ -55,14 +55,14 @@ if_there P (Some y) h = (h y refl, tt)
 
 -- ---- locals
 
-local_held : (P : ℕ → Type 0) (locals : List (Option ℕ)) (n x : ℕ) → AllByRecursion P (given_ids locals) → slice_get locals n ≡ Some (Some x) → P x
+pub local_held : (P : ℕ → Type 0) (locals : List (Option ℕ)) (n x : ℕ) → AllByRecursion P (given_ids locals) → slice_get locals n ≡ Some (Some x) → P x
 local_held P [] n x h e = absurd (none_is_not_some (Some x) e)
 local_held P (None ∷ locals) zero x h e = absurd (none_is_not_some x (some_is e))
 local_held P (Some y ∷ locals) zero x h e = subst P (some_is (some_is e)) h.0
 local_held P (None ∷ locals) (suc n) x h e = local_held P locals n x h e
 local_held P (Some y ∷ locals) (suc n) x h e = local_held P locals n x h.1 e
 
-set_held : (P : ℕ → Type 0) (locals : List (Option ℕ)) (n x : ℕ) → AllByRecursion P (given_ids locals) → P x → AllByRecursion P (given_ids (slice_set locals n (Some x)))
+pub set_held : (P : ℕ → Type 0) (locals : List (Option ℕ)) (n x : ℕ) → AllByRecursion P (given_ids locals) → P x → AllByRecursion P (given_ids (slice_set locals n (Some x)))
 set_held P [] n x h p = tt
 set_held P (None ∷ locals) zero x h p = (p, h)
 set_held P (Some y ∷ locals) zero x h p = (p, h.1)
@@ -187,12 +187,8 @@ module _ (here : Here) (ints : IsIntState here.state) (below_held : AllByRecursi
 
   -- ---- rows
 
-  abbrev pub ArePlanned : Plan → Type 0
-  ArePlanned ends = Unit {0}
-  ArePlanned (steps turns) = AllByRecursion Sound turns
-  ArePlanned (by_null x) = ⊥
-  ArePlanned (by_class x t) = ⊥
-  ArePlanned (by_equal x y) = ⊥
+  abbrev ArePlanned : Plan → Type 0
+  ArePlanned = AreIntTurns here.state
 
   found_local : (n x : ℕ) → local_here here n ≡ Some x → Holds x
   found_local n x e =
@@ -250,7 +246,7 @@ module _ (here : Here) (ints : IsIntState here.state) (below_held : AllByRecursi
   value_sound (x ∷ stack) e = returned_sound (Some x) here.below e
 
   -- every step of an instruction that is about ints, in a state with one frame
-  pub row_sound : here.below ≡ [] → (form : Form) → is_int_form form ≡ true → ArePlanned (row_of here form)
+  pub row_sound : here.below ≡ [] → (form : Form) → is_int_form form ≡ true → AreIntTurns here.state (row_of here form)
   row_sound alone Nop e = (goes_sound here.next here.frame.stack held.stack, tt)
   row_sound alone (Iconst n) e = (int_pushed (just n) here.frame.stack held.stack, tt)
   row_sound alone (Iload n) e = load_sound n

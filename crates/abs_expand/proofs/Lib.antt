@@ -1,1 +1,9 @@
+pub mod CellLists
+pub mod ChildLists
+pub mod Grown
+pub mod IntPrograms
+pub mod IntStates
 pub mod IntTurns
+pub mod Placed
+pub mod ShortRows
+pub mod SwitchLists

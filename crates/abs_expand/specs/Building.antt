@@ -1,20 +1,16 @@
 -- Words for the calls that make the children of a state of ints.
-use Rattle.std.specs.Prelude.{◌≡◌, ◌⊎◌, ℕ, ℤ, pos, negsuc, ◌<◌, ◌≤ℤ◌, ◌++◌, List, [], ◌∷◌, All, map, take, drop, slice_set, Option, Some, None, unwrap_or, true}
+use Rattle.std.specs.Prelude.{◌≡◌, ℕ, ◌+◌, ◌<◌, ◌++◌, List, [], ◌∷◌, map, take, drop, slice_set, Option, Some, None, unwrap_or, true}
 use Rattle.std.specs.List.{AllByRecursion}
 use Rattle.jvm_values.specs.TypedHeaps.{WorldTypes}
 use Rattle.abs_cells.specs.declared.cells.Cell.{Cell}
-use Rattle.abs_cells.specs.declared.cells.Cell.TheVariants as cells
 use Rattle.abs_cells.specs.AbstractStates.{AbstractFrame, AbstractState}
 use Rattle.abs_cells.specs.Cells.{is_int, ids_in, cell_in, HasCell}
-use Rattle.abs_cells.specs.Sound.{given_ids}
-use Rattle.abs_ints.specs.declared.cases.ShortRow.{ShortRow}
+use Rattle.abs_cells.specs.PairLists.{IsRising}
+use Rattle.abs_cells.specs.Sound.{AreIdsRising, given_ids}
+use Rattle.abs_reach.specs.Reached.{IsDropped}
 use Rattle.term_graph.specs.Graphs.{GraphChild}
-use Rattle.abs_expand.specs.Plans.{Act, nothing, makes, writes, item, object, array, Goal, nowhere, on_stack, in_local, in_bottom, in_field, is_thrown, Turn}
-use Rattle.abs_expand.specs.Turns.{Operand, known, id}
+use Rattle.abs_expand.specs.Plans.{Act, nothing, makes, Goal, nowhere, on_stack, in_local, is_thrown, Turn, Plan, ends, steps, by_null, by_class, by_equal, ids_made}
 use Rattle.abs_expand.specs.Children.{IsTurnChild, IsLean, top_with}
-use Rattle.abs_expand.specs.declared.plans.Rows.{Rows}
-use Rattle.abs_expand.specs.declared.plans.Rows.TheVariants.{Nothing, Over}
-use Rattle.abs_expand.specs.PlansSeen.{operand_seen}
 
 -- the least number that no cell is of
 pub record IsLeastFree (listed : List (ℕ × Cell)) (free : ℕ) : Type 0 where
@@ -43,6 +39,13 @@ abbrev pub thrown_by : Goal → ℕ → Option ℕ
 thrown_by is_thrown fresh = Some fresh
 thrown_by _ fresh = None
 
+-- a state without pairs, and the state of a step before ids are dropped
+abbrev pub bare : List AbstractFrame → Option ℕ → List (ℕ × Cell) → AbstractState
+bare frames thrown listed = record { frames = frames; throwing = thrown; cells = listed; eq = []; share = [] }
+
+abbrev pub grown : AbstractState → List (ℕ × Cell) → List AbstractFrame → Act → Goal → ℕ → AbstractState
+grown state changed frames act goal fresh = bare (frames_to goal fresh frames) (thrown_by goal fresh) (cells_after changed act fresh state.cells)
+
 -- a step of a state of ints: it narrows ints, its frames hold ids of the state, and it makes an id whose cell names none, or no id
 abbrev pub MakesOneAtMost : Act → Goal → Type 0
 MakesOneAtMost nothing nowhere = Unit {0}
@@ -65,20 +68,24 @@ pub record IsIntTurn (state : AbstractState) (turn : Turn) : Type 0 where
   pub held : AllByRecursion (HoldsIds state) turn.frames
   pub makes : MakesOneAtMost turn.act turn.goal
 
--- numbers of instructions stand once in a row, or minus once
-abbrev pub IsSmallFactor : Operand → ℤ → Type 0
-IsSmallFactor (known n) times = (negsuc 0 ≤ℤ times) × (times ≤ℤ pos 1)
-IsSmallFactor (id x) times = Unit {0}
+-- each step of a plan is one, and no state is split
+abbrev pub AreIntTurns : AbstractState → Plan → Type 0
+AreIntTurns state ends = Unit {0}
+AreIntTurns state (steps turns) = AllByRecursion (IsIntTurn state) turns
+AreIntTurns state (by_null x) = ⊥
+AreIntTurns state (by_class x wanted) = ⊥
+AreIntTurns state (by_equal x y) = ⊥
 
-pub record IsSmallRow (left right : Operand) (row : ShortRow) : Type 0 where
-  pub left_small : IsSmallFactor left row.left
-  pub right_small : IsSmallFactor right row.right
-  pub low : negsuc 1099511627775 ≤ℤ row.constant
-  pub high : row.constant ≤ℤ pos 1099511627776
+-- a state after ids are dropped: its ids and pairs rise
+pub record IsLeanState (whole part : AbstractState) : Type 0 where
+  pub rising : AreIdsRising 0 part.cells
+  pub eq_rise : IsRising part.eq
+  pub share_rise : IsRising part.share
+  pub dropped : IsDropped whole part
 
-abbrev pub AreSmallRows : Rows → Type 0
-AreSmallRows Nothing = Unit {0}
-AreSmallRows (Over left right rows) = All (IsSmallRow (operand_seen left) (operand_seen right)) rows
+-- how many ids the children of steps have before ids are dropped
+abbrev pub turn_counts : WorldTypes → ℕ → List Turn → List ℕ
+turn_counts types count turns = map (λ (turn : Turn). count + ids_made types turn.act) turns
 
 -- a child of a step, without the ids that nothing reaches
 pub record IsChildOf (types : WorldTypes) (state : AbstractState) (turn : Turn) (child : GraphChild) : Type 0 where

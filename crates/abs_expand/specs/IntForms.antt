@@ -1,5 +1,5 @@
 -- Programs whose instructions are about ints alone, and the states that they meet: what the expansion is built for so far.
-use Rattle.std.specs.Prelude.{◌≡◌, ℕ, Bool, true, false, List, [], Option, Some, None}
+use Rattle.std.specs.Prelude.{◌≡◌, ℕ, Bool, true, false, [], Some, None}
 use Rattle.std.specs.Option.{option_map_or}
 use Rattle.abs_cells.specs.declared.cells.Cell.{Cell}
 use Rattle.abs_cells.specs.AbstractStates.{AbstractState}
@@ -7,7 +7,7 @@ use Rattle.abs_cells.specs.Cells.{is_int, cell_at}
 use Rattle.class_program.specs.declared.op.Op.{Op}
 use Rattle.class_program.specs.Programs.{Program, op_at}
 use Rattle.op_forms.specs.Forms.{Form, form_of}
-use Rattle.op_forms.specs.Forms.Form.{Nop, AconstNull, Iconst, Iload, Aload, Istore, Astore, Iinc, Shuffle, Arith, Ineg, Narrow, If, IfIcmp, IfAcmpeq, IfAcmpne, Ifnull, Ifnonnull, Goto, Tableswitch, Lookupswitch, Ireturn, Areturn, Return, Getstatic, Putstatic, Getfield, Putfield, Invokevirtual, Invokespecial, Invokestatic, Invokeinterface, New, Newarray, Anewarray, Arraylength, NumberLoad, Aaload, NumberStore, Aastore, Athrow, Checkcast, Instanceof}
+use Rattle.op_forms.specs.Forms.Form.{Nop, Iconst, Iload, Istore, Iinc, Shuffle, Arith, Ineg, Narrow, If, IfIcmp, Goto, Tableswitch, Lookupswitch, Ireturn, Return}
 
 -- an instruction that moves ints, computes with them, compares them, jumps or returns
 abbrev pub is_int_form : Form → Bool

@@ -6,8 +6,11 @@ pub mod Expansions
 pub mod IntForms
 pub mod Laws
 pub mod Needs
+pub mod PlaceTests
 pub mod Plans
+pub mod OperandsSeen
 pub mod PlansSeen
+pub mod ShortRows
 pub mod Switches
 pub mod Table
 pub mod Throwing

@@ -1,8 +1,6 @@
 -- Plans of the code, seen as the definitions' plans.
-use Rattle.std.specs.Prelude.{ℕ, List, [], map, reverse, Option, None}
+use Rattle.std.specs.Prelude.{ℕ, List, map, reverse, None}
 use Rattle.term_graph.specs.declared.links.LinkRow.{LinkRow}
-use Rattle.abs_expand.specs.declared.plans.Operand.{Operand as OperandSeen}
-use Rattle.abs_expand.specs.declared.plans.Operand.TheVariants as operands
 use Rattle.abs_expand.specs.declared.plans.Act.{Act as ActSeen}
 use Rattle.abs_expand.specs.declared.plans.Act.TheVariants as acts
 use Rattle.abs_expand.specs.declared.plans.Goal.{Goal as GoalSeen}
@@ -13,11 +11,8 @@ use Rattle.abs_expand.specs.declared.plans.Turn.{Turn as TurnSeen}
 use Rattle.abs_expand.specs.declared.plans.Plan.{Plan as PlanSeen}
 use Rattle.abs_expand.specs.declared.plans.Plan.TheVariants as plans
 use Rattle.abs_expand.specs.Plans.{Act, nothing, makes, Goal, nowhere, on_stack, in_local, is_thrown, Turn, Plan, ends, steps, no_rows}
-use Rattle.abs_expand.specs.Turns.{Operand, known, id, rows_over}
-
-abbrev pub operand_seen : OperandSeen → Operand
-operand_seen (operands.Known n) = known n
-operand_seen (operands.Id x) = id x
+use Rattle.abs_expand.specs.Turns.{rows_over}
+use Rattle.abs_expand.specs.OperandsSeen.{operand_seen}
 
 abbrev pub act_seen : ActSeen → Act
 act_seen acts.Nothing = nothing
@@ -31,7 +26,7 @@ goal_seen goals.Thrown = is_thrown
 
 abbrev pub rows_seen : RowsSeen → ℕ → List LinkRow
 rows_seen link_rows.Nothing = no_rows
-rows_seen (link_rows.Over left right rows) = rows_over (operand_seen left) (operand_seen right) rows
+rows_seen (link_rows.Over over) = rows_over (operand_seen over.left) (operand_seen over.right) over.rows
 
 abbrev pub turn_seen : TurnSeen → Turn
 turn_seen turn = record { changed = turn.changed; frames = reverse turn.frames; throwing = None; act = act_seen turn.act; goal = goal_seen turn.goal; rows = rows_seen turn.rows }

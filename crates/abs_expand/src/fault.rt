@@ -15,7 +15,7 @@ pub enum ExpandFault {
     /// A child has more than 512 ids, counted before those go that nothing reaches.
     TooManyIds {
         /// The first such child.
-        child: u32,
+        child: usize,
     },
     /// Want of memory.
     Memory,

@@ -1,16 +1,7 @@
 //! What becomes of an abstract state, as data.
+use crate::short_rows::RowsOver;
 use abs_cells::{AbsFrame, Cell, Id};
-use abs_ints::{Few, ShortRow};
 use list_views::Seq;
-
-/// An operand of an operation on ints.
-#[derive(Clone, Copy, Debug)]
-pub(crate) enum Operand {
-    /// A number that the instruction names.
-    Known(i32),
-    /// The int of an id.
-    Id(Id),
-}
 
 /// What a step does to ids.
 #[derive(Debug, Drop)]
@@ -40,7 +31,7 @@ pub(crate) enum Rows {
     /// None.
     Nothing,
     /// These, over the operands and the fresh id.
-    Over(Operand, Operand, Few<ShortRow>),
+    Over(RowsOver),
 }
 
 /// One step.

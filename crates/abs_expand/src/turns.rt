@@ -1,13 +1,18 @@
 //! Steps, and the cases of ints.
-ghost use Rattle.std.specs.Prelude.{◌≡◌, ◌++◌, ◌∷◌, [], map, reverse, IfOk, Some, None};
+ghost use Rattle.std.specs.Prelude.{◌≡◌, ◌++◌, ◌∷◌, [], map, reverse, IfOk, IsTrue, Some, None};
 ghost use Rattle.std.specs.Option.{option_map, option_to_list};
 ghost use Rattle.abs_cells.specs.declared.cells.Cell.TheVariants as cells;
 ghost use Rattle.abs_ints.specs.Parts.{just};
+ghost use Rattle.abs_ints.specs.Operating.{operated};
 ghost use Rattle.abs_expand.specs.Plans.{on_stack};
 ghost use Rattle.abs_expand.specs.Turns.{id, with_stack, moves, goes_on, pushes, throws_after, are_one, interval_at, narrowings, rows_over, turn_of_result, turn_of_case, turns_of, turn_narrowing, turns_narrowing, is_taken, rows_if, narrows, branch_of_case, branches};
-ghost use Rattle.abs_expand.specs.PlansSeen.{operand_seen, goal_seen, rows_seen, turn_seen};
+ghost use Rattle.abs_expand.specs.ShortRows.{are_short, have_short_rows, takes_operands, are_ids_if};
+ghost use Rattle.abs_expand.specs.OperandsSeen.{operand_seen};
+ghost use Rattle.abs_expand.specs.PlansSeen.{goal_seen, rows_seen, turn_seen};
 
-use crate::plans::{Act, Goal, Operand, Rows, Turn};
+use crate::operands::Operand;
+use crate::plans::{Act, Goal, Rows, Turn};
+use crate::short_rows::RowsOver;
 use crate::spot::{Spot, stacked};
 use abs_cells::{AbsFrame, Cell, Id, Ids, Pairs};
 use abs_ints::{Few, IntCase, ShortRow, Way, compare, operate};
@@ -204,6 +209,7 @@ fn turn_of_case<P: Pairs>(
     goal: Goal,
     case: IntCase,
 ) -> Result<Option<Turn>, AllocError>
+    requires { IsTrue (are_short (operand_seen left) (operand_seen right) case.rows) }
     ensures { IfOk result (λ turn. option_map turn_seen turn ≡ turn_of_case spot.now (operand_seen left) (operand_seen right) (with_stack spot.now spot.now.next stack.now.0) (goal_seen goal) case) }
 {
     let IntCase {
@@ -216,7 +222,7 @@ fn turn_of_case<P: Pairs>(
     let Some(narrowed) = narrowings(alloc, left, left_ints, right, right_ints)? else {
         return Ok(None);
     };
-    let rows = Rows::Over(left, right, rows);
+    let rows = Rows::Over(RowsOver { left, right, rows });
     let turn = turn_of_result(alloc, spot, stack, goal, narrowed, rows, ints)?;
     Ok(Some(turn))
 }
@@ -231,6 +237,21 @@ pub(crate) fn put(turns: &mut Seq<Turn>, turn: Option<Turn>) -> Result<(), Alloc
     Ok(())
 }
 
+/// The cases of an operator, whose rows are short.
+fn short_cases(
+    op: IntOp,
+    left: Operand,
+    right: Operand,
+    left_ints: Interval,
+    right_ints: Interval,
+) -> Few<IntCase>
+    requires { IsTrue (takes_operands op (operand_seen left) (operand_seen right)) }
+    ensures cases { result ≡ operated op left_ints right_ints }
+    ensures short { IsTrue (have_short_rows (operand_seen left) (operand_seen right) result) }
+{
+    operate(op, left_ints, right_ints)
+}
+
 /// The steps of an operator in the order of its cases. The result goes to a goal of the frames at the next instruction.
 pub(crate) fn turns_of<P: Pairs>(
     alloc: Global,
@@ -241,10 +262,17 @@ pub(crate) fn turns_of<P: Pairs>(
     stack: &Stack<Id>,
     goal: Goal,
 ) -> Result<Seq<Turn>, AllocError>
+    requires { IsTrue (takes_operands op (operand_seen left) (operand_seen right)) }
     ensures { IfOk result (λ turns. map turn_seen turns ≡ turns_of spot.now op (operand_seen left) (operand_seen right) (with_stack spot.now spot.now.next stack.now.0) (goal_seen goal)) }
 {
     let mut turns = Seq::new(alloc);
-    let mut cases = operate(op, interval_at(spot, left), interval_at(spot, right));
+    let mut cases = short_cases(
+        op,
+        left,
+        right,
+        interval_at(spot, left),
+        interval_at(spot, right),
+    );
     while let Some(case) = cases.take_first() {
         let turn = turn_of_case(alloc, spot, left, right, stack, goal, case)?;
         put(&mut turns, turn)?;
@@ -320,10 +348,11 @@ pub(crate) fn narrows(narrowed: Seq<(Id, Cell)>, frames: Seq<AbsFrame>, rows: Ro
 
 /// The rows of a case over its operands, where they are wanted.
 fn rows_if(with_rows: bool, left: Operand, right: Operand, rows: Few<ShortRow>) -> Rows
+    requires { IsTrue (are_ids_if with_rows (operand_seen left) (operand_seen right)) }
     ensures { rows_seen result ≡ rows_if with_rows (rows_over (operand_seen left) (operand_seen right) rows) }
 {
     if with_rows {
-        Rows::Over(left, right, rows)
+        Rows::Over(RowsOver { left, right, rows })
     } else {
         Rows::Nothing
     }
@@ -340,6 +369,7 @@ fn branch_of_case<P: Pairs>(
     with_rows: bool,
     case: IntCase,
 ) -> Result<Option<Turn>, AllocError>
+    requires { IsTrue (are_ids_if with_rows (operand_seen left) (operand_seen right)) }
     ensures { IfOk result (λ turn. option_map turn_seen turn ≡ branch_of_case spot.now (operand_seen left) (operand_seen right) place stack.now.0 with_rows case) }
 {
     let IntCase {
@@ -369,6 +399,7 @@ pub(crate) fn branches<P: Pairs>(
     stack: &Stack<Id>,
     with_rows: bool,
 ) -> Result<Seq<Turn>, AllocError>
+    requires { IsTrue (are_ids_if with_rows (operand_seen left) (operand_seen right)) }
     ensures { IfOk result (λ turns. map turn_seen turns ≡ branches spot.now cond (operand_seen left) (operand_seen right) place stack.now.0 with_rows) }
 {
     let mut turns = Seq::new(alloc);

@@ -1,7 +1,8 @@
 use Rattle.std.proofs.Common.{◌≡◌, ◌++◌, map, length}
 use Rattle.std.specs.List.{filter_map}
 use Rattle.abs_expand.specs.Turns.{branch_of_case, branches}
-use Rattle.abs_expand.specs.PlansSeen.{operand_seen, turn_seen}
+use Rattle.abs_expand.specs.OperandsSeen.{operand_seen}
+use Rattle.abs_expand.specs.PlansSeen.{turn_seen}
 use Rattle.abs_expand.proofs.turns.branches.Given as goal
 
 abbrev pub invariant-loop-case : goal.invariant-loop-case

@@ -1,0 +1,115 @@
+//! Which programs and states expansion is built for so far.
+ghost use Rattle.std.specs.Prelude.{◌≡◌, IsTrue, slice_get};
+ghost use Rattle.std.specs.Option.{is_none};
+ghost use Rattle.std.specs.List.{list_all};
+ghost use Rattle.abs_cells.specs.Cells.{is_int};
+ghost use Rattle.class_program.specs.declared.program.Method.{Method};
+ghost use Rattle.class_program.specs.Views.{program_of};
+ghost use Rattle.op_forms.specs.Forms.{form_seen};
+ghost use Rattle.abs_expand.specs.IntForms.{is_int_form, has_int_form, HasIntForms, IsIntState};
+
+use abs_cells::{AbsState, Cell, Id, Pairs};
+use class_program::{Method, Op, Program};
+use op_forms::{Form, form_of};
+
+/// Whether a form is about ints alone.
+fn is_int_form(form: &Form<'_>) -> bool
+    ensures { result ≡ is_int_form (form_seen form.now) }
+{
+    match form {
+        Form::Nop => true,
+        Form::Iconst(_) => true,
+        Form::Iload(_) => true,
+        Form::Istore(_) => true,
+        Form::Iinc(_, _) => true,
+        Form::Shuffle(_) => true,
+        Form::Arith(_) => true,
+        Form::Ineg => true,
+        Form::Narrow(_) => true,
+        Form::If(_, _) => true,
+        Form::IfIcmp(_, _) => true,
+        Form::Goto(_) => true,
+        Form::Tableswitch { .. } => true,
+        Form::Lookupswitch { .. } => true,
+        Form::Ireturn => true,
+        Form::Return => true,
+        _ => false,
+    }
+}
+
+/// Whether an instruction is about ints alone.
+fn has_int_form(op: &Op) -> bool
+    ensures { result ≡ has_int_form op.now }
+{
+    match form_of(op) {
+        Some(form) => is_int_form(&form),
+        None => false,
+    }
+}
+
+/// Whether each instruction of a method is about ints alone.
+fn are_int_forms(method: &Method<'_>) -> bool
+    ensures { result ≡ list_all (λ x. has_int_form x.1) method.now.insns }
+{
+    let insns = method.insns.as_slice();
+    for item in insns {
+        if !has_int_form(&item.1) {
+            return false;
+        }
+    }
+    true
+}
+
+/// Whether each instruction of some methods is about ints alone.
+fn are_int_methods(methods: &[Method<'_>]) -> bool
+    ensures { result ≡ list_all (λ (m : Method). list_all (λ x. has_int_form x.1) m.insns) methods.now }
+{
+    for method in methods {
+        if !are_int_forms(method) {
+            return false;
+        }
+    }
+    true
+}
+
+/// Whether each instruction of a program is about ints alone: it moves them, computes with them, compares them, jumps or returns.
+pub fn has_int_forms(program: &Program<'_>) -> bool
+    ensures { IsTrue result → HasIntForms (program_of program.now) }
+{
+    are_int_methods(program.methods.as_slice())
+}
+
+/// Whether each cell is an int's.
+fn are_ints(cells: &[(Id, Cell)]) -> bool
+    ensures { result ≡ list_all (λ c. is_int c.1) cells.now }
+{
+    for item in cells {
+        if !item.1.is_int() {
+            return false;
+        }
+    }
+    true
+}
+
+/// Whether there are no pairs.
+fn are_none<P: Pairs>(pairs: &P) -> bool
+    ensures { result ≡ is_none (slice_get (P.pairs pairs.now) 0) }
+{
+    pairs.nth(0).is_none()
+}
+
+/// Whether a state has cells of ints alone, no pairs and no thrown id.
+pub fn is_int_state<P: Pairs>(state: &AbsState<P>) -> bool
+    ensures { IsTrue result → IsIntState state.now }
+{
+    if !are_none(state.eq()) {
+        return false;
+    }
+    if !are_none(state.share()) {
+        return false;
+    }
+    if state.throwing().is_some() {
+        return false;
+    }
+    are_ints(state.cells())
+}
