@@ -14,11 +14,11 @@ use Rattle.jterm.specs.Words.{IsCommand}
 use Rattle.jterm.specs.Stop.{AreOfCommand, IsAnswered, HasCause}
 
 -- as many contents as names
-contents_length : (request : Request) (place : ℕ) (held : List ℕ → Told) (names contents : List (List ℕ)) → AreContents request place held names contents → length contents ≡ length names
-contents_length request place held [] [] are = refl
-contents_length request place held (n ∷ names) (c ∷ contents) are = let rest = contents_length request (place + 1) held names contents are.2 in omega arith
-contents_length request place held [] (c ∷ contents) are = absurd are
-contents_length request place held (n ∷ names) [] are = absurd are
+contents_length : (limit : ℕ) (held : List ℕ → Told) (names contents : List (List ℕ)) → AreContents limit held names contents → length contents ≡ length names
+contents_length limit held [] [] are = refl
+contents_length limit held (n ∷ names) (c ∷ contents) are = let rest = contents_length limit held names contents are.2 in omega arith
+contents_length limit held [] (c ∷ contents) are = absurd are
+contents_length limit held (n ∷ names) [] are = absurd are
 
 -- as many files as a command names are what its request takes
 takes_as_many : (words : List (List ℕ)) (request : Request) (names given : List (List ℕ)) → length given ≡ length names → IsCommand words request names → Takes request given
@@ -32,8 +32,8 @@ takes_as_many words request names given many (inr row) =
     subst (λ (r : Request). Takes r given) (sym row.asked) (many ∙ one)
 
 -- what was read for a command is what its request takes
-pub takes_read : (request : Request) (names : List (List ℕ)) (held : List ℕ → Told) (contents given : List (List ℕ)) → given ≡ contents → AreOfCommand request names → AreContents request 0 held names contents → Takes request given
-takes_read request names held contents given same of are = takes_as_many of.0 request names given (ap length same ∙ contents_length request 0 held names contents are) of.1
+pub takes_read : (limit : ℕ) (request : Request) (names : List (List ℕ)) (held : List ℕ → Told) (contents given : List (List ℕ)) → given ≡ contents → AreOfCommand request names → AreContents limit held names contents → Takes request given
+takes_read limit request names held contents given same of are = takes_as_many of.0 request names given (ap length same ∙ contents_length limit held names contents are) of.1
 
 -- a verdict's status is 0
 done_of : (request : Request) (files : List (List ℕ)) (verdict : Verdict) → IsAnswer request files (Ok verdict) → verdict.status ≡ 0
@@ -43,11 +43,11 @@ done_of Asm [] verdict answer = absurd answer
 done_of Asm (listing ∷ []) verdict answer = answer.0
 done_of Asm (listing ∷ more ∷ files) verdict answer = absurd answer
 
-pub is_answered : (request : Request) (names : List (List ℕ)) (held : List ℕ → Told) (contents given : List (List ℕ)) (verdict : Verdict) → given ≡ contents
-    → AreContents request 0 held names contents → IsAnswer request given (Ok verdict) → IsAnswered request names held verdict
-is_answered request names held contents given verdict same are answer =
-    record { contents = given; read = subst (AreContents request 0 held names) (sym same) are; answer = answer; done = done_of request given verdict answer }
+pub is_answered : (limit : ℕ) (request : Request) (names : List (List ℕ)) (held : List ℕ → Told) (contents given : List (List ℕ)) (verdict : Verdict) → given ≡ contents
+    → AreContents limit held names contents → IsAnswer request given (Ok verdict) → IsAnswered limit request names held verdict
+is_answered limit request names held contents given verdict same are answer =
+    record { contents = given; read = subst (AreContents limit held names) (sym same) are; answer = answer; done = done_of request given verdict answer }
 
-pub is_broken : {F : Type 0} (held : F → List ℕ → Told) (faults : F → ℕ) (leaves : F → List ℕ → F → Type 0) (request : Request) (names : List (List ℕ)) (old new : F) (contents given : List (List ℕ)) (place : Place) (fault : Fault) → given ≡ contents
-    → AreContents request 0 (held old) names contents → IsAnswer request given (Err (At place fault)) → HasCause held faults leaves request names old new (Broken place fault)
-is_broken held faults leaves request names old new contents given place fault same are answer = (given, subst (AreContents request 0 (held old) names) (sym same) are, answer)
+pub is_broken : {F : Type 0} (held : F → List ℕ → Told) (faults : F → ℕ) (leaves : F → List ℕ → F → Type 0) (limit : ℕ) (request : Request) (names : List (List ℕ)) (old new : F) (contents given : List (List ℕ)) (place : Place) (fault : Fault) → given ≡ contents
+    → AreContents limit (held old) names contents → IsAnswer request given (Err (At place fault)) → HasCause held faults leaves limit request names old new (Broken place fault)
+is_broken held faults leaves limit request names old new contents given place fault same are answer = (given, subst (AreContents limit (held old) names) (sym same) are, answer)

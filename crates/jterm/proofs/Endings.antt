@@ -21,7 +21,7 @@ use Rattle.jterm.specs.Words.{IsProve, IsCommand}
 use Rattle.jterm.specs.Lines.{memory_line, read_line, refusal_line}
 use Rattle.jterm.specs.Decision.{Answers, IsAnswer, SaysYes, yes_line}
 use Rattle.jterm.specs.Headline.{AllEnd}
-use Rattle.jterm.specs.Outside.{AreTold, AreContents, AreWithin, AreHanded, AreRead, IsUnread, ReadFails, Decided, Claims, IsWritten, limit_of}
+use Rattle.jterm.specs.Outside.{AreTold, AreContents, AreWithin, AreHanded, AreRead, IsUnread, ReadFails, Decided, Claims, IsWritten, file_limit}
 use Rattle.jterm.specs.Stop.{IsAnswered, HasCause, HasLine, status_of, line_of}
 use Rattle.jterm.proofs.Deciding.{headline_of}
 use Rattle.jterm.proofs.OneAnswer.{answers_one}
@@ -41,7 +41,7 @@ Reports Puts stop status = ((status ≡ status_of stop) × HasLine stop × Puts 
 
 -- status 3 comes where the input is refused
 pub refused : {F : Type 0} (held : F → List ℕ → Told) (faults : F → ℕ) (leaves : F → List ℕ → F → Type 0) (words : List (List ℕ)) (request : Request) (names : List (List ℕ)) (old new : F) (stop : Stop) (status : ℕ) (Puts : List ℕ → Type 0)
-    → IsCommand words request names → HasCause held faults leaves request names old new stop → Reports Puts stop status
+    → IsCommand words request names → HasCause held faults leaves file_limit request names old new stop → Reports Puts stop status
     → status ≡ 3 → (place : Place) × (fault : Fault) × Decided words (held old) (Err (At place fault)) × Puts (refusal_line place fault)
 refused held faults leaves words request names old new (Unread name fault) status Puts command cause (inl said) three = absurd (omega (arith, said.0, three))
 refused held faults leaves words request names old new (Broken place fault) status Puts command cause (inl said) three =
@@ -51,9 +51,9 @@ refused held faults leaves words request names old new stop status Puts command 
 
 -- status 5 comes where a file was not read
 pub unread : {F : Type 0} (held : F → List ℕ → Told) (faults : F → ℕ) (leaves : F → List ℕ → F → Type 0) (words : List (List ℕ)) (request : Request) (names : List (List ℕ)) (old new : F) (stop : Stop) (status : ℕ) (Puts : List ℕ → Type 0)
-    → IsCommand words request names → HasCause held faults leaves request names old new stop → Reports Puts stop status
+    → IsCommand words request names → HasCause held faults leaves file_limit request names old new stop → Reports Puts stop status
     → status ≡ 5 → (request : Request) × (names : List (List ℕ)) × (name : List ℕ) × (fault : FileFault) × IsCommand words request names
-    × IsUnread held faults leaves request names old new name fault × Puts (read_line name fault)
+    × IsUnread held faults leaves file_limit names old new name fault × Puts (read_line name fault)
 unread held faults leaves words request names old new (Unread name fault) status Puts command cause (inl said) five = (request, names, name, fault, command, cause, said.2)
 unread held faults leaves words request names old new (Broken place fault) status Puts command cause (inl said) five = absurd (omega (arith, said.0, five))
 unread held faults leaves words request names old new NoMemory status Puts command cause (inl said) five = absurd said.1
@@ -86,16 +86,16 @@ not_zero NoMemory status P Q R says none = elim says [ inl said ↦ omega arith 
 -- ---- told contents
 
 -- the contents that were read are the told ones
-pub told_contents : (request : Request) (place : ℕ) (held : List ℕ → Told) (names contents told : List (List ℕ)) → AreContents request place held names contents → AreTold held names told → contents ≡ told
-told_contents request place held [] [] [] are e = refl
-told_contents request place held [] [] (t ∷ told) are e = cc
-told_contents request place held [] (c ∷ contents) told are e = absurd are
-told_contents request place held (n ∷ names) [] told are e = absurd are
-told_contents request place held (n ∷ names) (c ∷ contents) [] are e = cc
-told_contents request place held (n ∷ names) (c ∷ contents) (t ∷ told) are e =
+pub told_contents : (limit : ℕ) (held : List ℕ → Told) (names contents told : List (List ℕ)) → AreContents limit held names contents → AreTold held names told → contents ≡ told
+told_contents limit held [] [] [] are e = refl
+told_contents limit held [] [] (t ∷ told) are e = cc
+told_contents limit held [] (c ∷ contents) told are e = absurd are
+told_contents limit held (n ∷ names) [] told are e = absurd are
+told_contents limit held (n ∷ names) (c ∷ contents) [] are e = cc
+told_contents limit held (n ∷ names) (c ∷ contents) (t ∷ told) are e =
     let first : held n ≡ Content t = cc in
     let others : map held names ≡ map Content told = cc in
-    let rest : contents ≡ told = told_contents request (place + 1) held names contents told are.2 others in
+    let rest : contents ≡ told = told_contents limit held names contents told are.2 others in
     let same : c ≡ t = subst (λ h. IsContent h c) first are.0 in
     cc
 
@@ -116,10 +116,10 @@ commands_one words r s m n (inr a) (inr b) =
 
 -- an answer for what was read under the names of a command is one for what is told under them
 told_answer : (words : List (List ℕ)) (held : List ℕ → Told) (r s : Request) (m n contents told : List (List ℕ)) (result : Result Verdict Refused)
-    → IsCommand words r m → IsCommand words s n → AreContents r 0 held m contents → AreTold held n told → IsAnswer r contents result → IsAnswer s told result
+    → IsCommand words r m → IsCommand words s n → AreContents file_limit held m contents → AreTold held n told → IsAnswer r contents result → IsAnswer s told result
 told_answer words held r s m n contents told result here there are tells answer =
     let one = commands_one words r s m n here there in
-    let same : contents ≡ told = told_contents r 0 held m contents told are (subst (λ (names : List (List ℕ)). AreTold held names told) (sym one.1) tells) in
+    let same : contents ≡ told = told_contents file_limit held m contents told are (subst (λ (names : List (List ℕ)). AreTold held names told) (sym one.1) tells) in
     subst (λ (q : Request). IsAnswer q told result) one.0 (subst (λ (fs : List (List ℕ)). IsAnswer r fs result) same answer)
 
 -- the words of a `prove` are a command
@@ -131,7 +131,7 @@ says_yes desc classes verdict answer = ([], ap (λ v. v.out) answer.0 ∙ sym (a
 
 -- what YES says of the contents of a `prove`
 pub headline : (words : List (List ℕ)) (request : Request) (names : List (List ℕ)) (held : List ℕ → Told) (verdict : Verdict) (d : List ℕ) (cs : List (List ℕ)) (desc : List ℕ) (classes : List (List ℕ))
-    → IsCommand words request names → IsAnswered request names held verdict → IsProve words d cs → AreTold held (d ∷ cs) (desc ∷ classes) → AllEnd classes desc
+    → IsCommand words request names → IsAnswered file_limit request names held verdict → IsProve words d cs → AreTold held (d ∷ cs) (desc ∷ classes) → AllEnd classes desc
 headline words request names held verdict d cs desc classes command answered prove tells =
     let answer : Answers desc classes (Ok verdict) =
     told_answer words held request (Prove 4000) names (d ∷ cs) answered.contents (desc ∷ classes) (Ok verdict) command (prove_is_command words d cs prove) answered.read tells answered.answer in
@@ -145,21 +145,16 @@ record IsHeld (held : List ℕ → Told) (name : List ℕ) (limit : ℕ) : Type 
   is_told : held name ≡ Content content
   is_within : length content ≤ limit
 
-held_name : (request : Request) (held : List ℕ → Told) (names told : List (List ℕ)) (name : List ℕ) (at place : ℕ) → slice_get names place ≡ Some name → AreTold held names told → AreWithin request at told → IsHeld held name (limit_of request (at + place))
-held_name request held [] told name at place e tells within = absurd (cc)
-held_name request held (n ∷ names) [] name at place e tells within = absurd (cc)
-held_name request held (n ∷ names) (t ∷ told) name at zero e tells within =
+held_name : (limit : ℕ) (held : List ℕ → Told) (names told : List (List ℕ)) (name : List ℕ) (place : ℕ) → slice_get names place ≡ Some name → AreTold held names told → AreWithin limit told → IsHeld held name limit
+held_name limit held [] told name place e tells within = absurd (cc)
+held_name limit held (n ∷ names) [] name place e tells within = absurd (cc)
+held_name limit held (n ∷ names) (t ∷ told) name zero e tells within =
     let first : held n ≡ Content t = cc in
     let named : n ≡ name = cc in
-    record {
-      content = t;
-      is_told = ap held (sym named) ∙ first;
-      is_within = subst (λ (k : ℕ). length t ≤ limit_of request k) (let here : at ≡ at + 0 = omega arith in here) within.0;
-    }
-held_name request held (n ∷ names) (t ∷ told) name at (suc place) e tells within =
+    record { content = t; is_told = ap held (sym named) ∙ first; is_within = within.0 }
+held_name limit held (n ∷ names) (t ∷ told) name (suc place) e tells within =
     let others : map held names ≡ map Content told = cc in
-    subst (λ (k : ℕ). IsHeld held name (limit_of request k)) (let next : at + 1 + place ≡ at + suc place = omega arith in next)
-    (held_name request held names told name (at + 1) place e others within.1)
+    held_name limit held names told name place e others within.1
 
 -- what is held within its limit is read, where the count did not rise
 held_is_read : (held : Told) (limit before after : ℕ) (fault : FileFault) (content : List ℕ) → held ≡ Content content → length content ≤ limit → (Rose before after → ⊥) → ReadFails fault held limit before after → ⊥
@@ -172,14 +167,12 @@ held_is_read held limit before after Memory content told within none fails = fai
 
 -- the files of a command that are told within their limits are read
 all_read : {F : Type 0} (held : F → List ℕ → Told) (faults : F → ℕ) (leaves : F → List ℕ → F → Type 0) (words : List (List ℕ)) (r s : Request) (m n told : List (List ℕ)) (old new : F) (name : List ℕ) (fault : FileFault)
-    → IsCommand words r m → IsUnread held faults leaves r m old new name fault → AreHanded words (held old) s n told → (Rose (faults old) (faults new) → ⊥) → ⊥
+    → IsCommand words r m → IsUnread held faults leaves file_limit m old new name fault → AreHanded words (held old) s n told → (Rose (faults old) (faults new) → ⊥) → ⊥
 all_read held faults leaves words r s m n told old new name fault command unread handed none =
     let one = commands_one words r s m n command handed.is_command in
     let named : slice_get n unread.place ≡ Some name = subst (λ (names : List (List ℕ)). slice_get names unread.place ≡ Some name) one.1 unread.is_named in
-    let here : 0 + unread.place ≡ unread.place = omega arith in
-    let is : IsHeld (held old) name (limit_of s unread.place) = subst (λ (k : ℕ). IsHeld (held old) name (limit_of s k)) here (held_name s (held old) n told name 0 unread.place named handed.told handed.within) in
-    let within : length is.content ≤ limit_of r unread.place = subst (λ (q : Request). length is.content ≤ limit_of q unread.place) (sym one.0) is.is_within in
-    held_is_read (held old name) (limit_of r unread.place) (faults unread.between) (faults new) fault is.content is.is_told within
+    let is : IsHeld (held old) name file_limit = held_name file_limit (held old) n told name unread.place named handed.told handed.within in
+    held_is_read (held old name) file_limit (faults unread.between) (faults new) fault is.content is.is_told is.is_within
     (λ rose. none (subst (λ (count : ℕ). Rose count (faults new)) unread.still rose)) unread.cause
 
 abbrev no_memory : Refused
@@ -196,7 +189,7 @@ some_refusal place fault e = cc
 
 -- the verdict of a call is the one that the contents have
 pub complete_written : {S : Type 0} (faults : S → ℕ) (taken : S → Option (List ℕ)) (old new : S) (words : List (List ℕ)) (r s : Request) (m n told : List (List ℕ)) (held : List ℕ → Told) (given verdict : Verdict) (status : ℕ)
-    → IsCommand words r m → IsAnswered r m held given → IsWritten faults taken old new given status → AreHanded words held s n told → IsAnswer s told (Ok verdict)
+    → IsCommand words r m → IsAnswered file_limit r m held given → IsWritten faults taken old new given status → AreHanded words held s n told → IsAnswer s told (Ok verdict)
     → (Rose (faults old) (faults new) → ⊥) → ((status ≡ verdict.status) × Appends (taken old) (taken new) verdict.out) ⊎ (status ≡ 7)
 complete_written faults taken old new words r s m n told held given verdict status command answered (inl put) handed answer none =
     let here : IsAnswer s told (Ok given) = told_answer words held r s m n answered.contents told (Ok given) command handed.is_command answered.read handed.told answered.answer in
@@ -206,7 +199,7 @@ complete_written faults taken old new words r s m n told held given verdict stat
 
 -- where the contents have a verdict, a call without one wants memory
 pub complete : {F : Type 0} (held : F → List ℕ → Told) (faults : F → ℕ) (leaves : F → List ℕ → F → Type 0) (words : List (List ℕ)) (r s : Request) (m n told : List (List ℕ)) (old new : F) (stop : Stop) (status : ℕ) (verdict : Verdict) (Puts : List ℕ → Type 0) (R : Type 0)
-    → IsCommand words r m → HasCause held faults leaves r m old new stop → Reports Puts stop status → AreHanded words (held old) s n told → IsAnswer s told (Ok verdict)
+    → IsCommand words r m → HasCause held faults leaves file_limit r m old new stop → Reports Puts stop status → AreHanded words (held old) s n told → IsAnswer s told (Ok verdict)
     → (Rose (faults old) (faults new) → ⊥) → R ⊎ (status ≡ 7)
 complete held faults leaves words r s m n told old new (Unread name fault) status verdict Puts R command cause says handed answer none =
     absurd (all_read held faults leaves words r s m n told old new name fault command cause handed none)
@@ -219,7 +212,7 @@ complete held faults leaves words r s m n told old new NoMemory status verdict P
 
 -- where the contents have a cause of refusal, a call has no verdict
 pub never_answered : (words : List (List ℕ)) (r s : Request) (m n told : List (List ℕ)) (held : List ℕ → Told) (given : Verdict) (place : Place) (fault : Fault)
-    → IsCommand words r m → IsAnswered r m held given → AreHanded words held s n told → IsAnswer s told (Err (At place fault)) → ⊥
+    → IsCommand words r m → IsAnswered file_limit r m held given → AreHanded words held s n told → IsAnswer s told (Err (At place fault)) → ⊥
 never_answered words r s m n told held given place fault command answered handed answer =
     let here : IsAnswer s told (Ok given) = told_answer words held r s m n answered.contents told (Ok given) command handed.is_command answered.read handed.told answered.answer in
     let same : (let result : Result Verdict Refused = Ok given in result) ≡ Err (At place fault) = answers_one s told (Ok given) (Err (At place fault)) here answer (some_answer given) (some_refusal place fault) in
@@ -230,7 +223,7 @@ at_is place fault p f e = (cc, cc)
 
 -- and is refused for it, or memory is wanting
 pub refuses : {F : Type 0} (held : F → List ℕ → Told) (faults : F → ℕ) (leaves : F → List ℕ → F → Type 0) (words : List (List ℕ)) (r s : Request) (m n told : List (List ℕ)) (old new : F) (stop : Stop) (status : ℕ) (p : Place) (f : Fault) (Puts : List ℕ → Type 0)
-    → IsCommand words r m → HasCause held faults leaves r m old new stop → Reports Puts stop status → AreHanded words (held old) s n told → IsAnswer s told (Err (At p f))
+    → IsCommand words r m → HasCause held faults leaves file_limit r m old new stop → Reports Puts stop status → AreHanded words (held old) s n told → IsAnswer s told (Err (At p f))
     → (Rose (faults old) (faults new) → ⊥) → ((status ≡ 3) × Puts (refusal_line p f)) ⊎ (status ≡ 7)
 refuses held faults leaves words r s m n told old new (Unread name fault) status p f Puts command cause says handed answer none =
     absurd (all_read held faults leaves words r s m n told old new name fault command cause handed none)
@@ -245,7 +238,7 @@ refuses held faults leaves words r s m n told old new NoMemory status p f Puts c
 -- ---- verdicts
 
 -- a verdict that was written is the answer for the contents of the files that the words name
-pub decided : (words : List (List ℕ)) (request : Request) (names : List (List ℕ)) (held : List ℕ → Told) (verdict : Verdict) (told : Option Verdict) → IsCommand words request names → IsAnswered request names held verdict → told ≡ Some verdict → IfSome told (λ v. Decided words held (Ok v))
+pub decided : (words : List (List ℕ)) (request : Request) (names : List (List ℕ)) (held : List ℕ → Told) (verdict : Verdict) (told : Option Verdict) → IsCommand words request names → IsAnswered file_limit request names held verdict → told ≡ Some verdict → IfSome told (λ v. Decided words held (Ok v))
 decided words request names held verdict told is answered same =
     let P : Option Verdict → Type 0 = λ o. IfSome o (λ v. Decided words held (Ok v)) in
     subst P (sym same) (record {

@@ -6,8 +6,7 @@ use Rattle.io_ports.specs.Told.{Told, IsContent, IsPastLimit, IsNotHeld}
 use Rattle.io_ports.specs.declared.files.FileFault.{FileFault}
 use Rattle.io_ports.specs.declared.files.FileFault.TheVariants.{Failed, TooLong, Missing, Memory}
 use Rattle.jterm.specs.declared.verdict.Request.{Request}
-use Rattle.jterm.specs.declared.verdict.Request.TheVariants.{Prove, Asm}
-use Rattle.jterm.specs.Outside.{AreContents, AreRead, limit_of}
+use Rattle.jterm.specs.Outside.{AreContents, AreRead}
 use Rattle.jterm.specs.Stop.{HasCause, stopped_at}
 
 -- the first k + 1 words
@@ -39,44 +38,37 @@ pub first_read_more : {F : Type 0} (leaves : F → List ℕ → F → Type 0) (n
 first_read_more leaves names k name a b c more read left =
     subst (λ l. AreRead leaves l a c) (sym more) (read_more leaves (take k names) name a b c read left)
 
-limit_anywhere : (request : Request) (p q : ℕ) → limit_of request p ≡ limit_of request q
-limit_anywhere (Prove nodes) p q = refl
-limit_anywhere Asm p q = refl
-
-pub contents_more : (request : Request) (place : ℕ) (held : List ℕ → Told) (names contents : List (List ℕ)) (name content : List ℕ) (limit at : ℕ)
-    → AreContents request place held names contents → IsContent (held name) content → length content ≤ limit → limit ≡ limit_of request at
-    → AreContents request place held (names ++ name ∷ []) (contents ++ content ∷ [])
-contents_more request place held [] [] name content limit at are is within e =
-    (is, subst (λ l. length content ≤ l) (e ∙ limit_anywhere request at place) within, tt)
-contents_more request place held (n ∷ names) (c ∷ contents) name content limit at are is within e =
-    (are.0, are.1, contents_more request (place + 1) held names contents name content limit at are.2 is within e)
-contents_more request place held [] (c ∷ contents) name content limit at are is within e = absurd are
-contents_more request place held (n ∷ names) [] name content limit at are is within e = absurd are
+pub contents_more : (limit : ℕ) (held : List ℕ → Told) (names contents : List (List ℕ)) (name content : List ℕ)
+    → AreContents limit held names contents → IsContent (held name) content → length content ≤ limit → AreContents limit held (names ++ name ∷ []) (contents ++ content ∷ [])
+contents_more limit held [] [] name content are is within = (is, within, tt)
+contents_more limit held (n ∷ names) (c ∷ contents) name content are is within = (are.0, are.1, contents_more limit held names contents name content are.2 is within)
+contents_more limit held [] (c ∷ contents) name content are is within = absurd are
+contents_more limit held (n ∷ names) [] name content are is within = absurd are
 
 -- the contents read so far, and one more
-pub first_contents_more : (request : Request) (held between : List ℕ → Told) (names contents all : List (List ℕ)) (k : ℕ) (name content : List ℕ) (limit at : ℕ)
+pub first_contents_more : (limit : ℕ) (held between : List ℕ → Told) (names contents all : List (List ℕ)) (k : ℕ) (name content : List ℕ)
     → take (suc k) names ≡ take k names ++ name ∷ [] → all ≡ contents ++ content ∷ []
-    → AreContents request 0 held (take k names) contents → between ≡ held → IsContent (between name) content → length content ≤ limit → limit ≡ limit_of request at
-    → AreContents request 0 held (take (suc k) names) all
-first_contents_more request held between names contents all k name content limit at more grown are same is within e =
+    → AreContents limit held (take k names) contents → between ≡ held → IsContent (between name) content → length content ≤ limit
+    → AreContents limit held (take (suc k) names) all
+first_contents_more limit held between names contents all k name content more grown are same is within =
     let is' = subst (λ h. IsContent (h name) content) same is in
-    let both = contents_more request 0 held (take k names) contents name content limit at are is' within e in
-    subst (λ n. AreContents request 0 held n all) (sym more) (subst (AreContents request 0 held (take k names ++ name ∷ [])) (sym grown) both)
+    let both = contents_more limit held (take k names) contents name content are is' within in
+    subst (λ n. AreContents limit held n all) (sym more) (subst (AreContents limit held (take k names ++ name ∷ [])) (sym grown) both)
 
 -- why the file at this place was not read
-pub has_cause : {T F : Type 0} (held : F → List ℕ → Told) (faults : F → ℕ) (leaves : F → List ℕ → F → Type 0) (request : Request) (names : List (List ℕ)) (old between new : F) (place : ℕ) (name : List ℕ) (contents : List (List ℕ)) (fault : FileFault) (limit : ℕ)
-    → held between ≡ held old → limit ≡ limit_of request place → faults between ≡ faults old
-    → slice_get names place ≡ Some name → AreContents request 0 (held old) (take place names) contents
+pub has_cause : {T F : Type 0} (held : F → List ℕ → Told) (faults : F → ℕ) (leaves : F → List ℕ → F → Type 0) (limit : ℕ) (request : Request) (names : List (List ℕ)) (old between new : F) (place : ℕ) (name : List ℕ) (contents : List (List ℕ)) (fault : FileFault)
+    → held between ≡ held old → faults between ≡ faults old
+    → slice_get names place ≡ Some name → AreContents limit (held old) (take place names) contents
     → AreRead leaves (take place names) old between → leaves between name new
     → (IsErrOf {T = T} (Err fault) Failed → Rose (faults between) (faults new))
     → (IsErrOf {T = T} (Err fault) TooLong → IsPastLimit (held between name) limit)
     → (IsErrOf {T = T} (Err fault) Missing → IsNotHeld (held between name))
     → (IsErrOf {T = T} (Err fault) TooLong → faults new ≡ faults between)
     → (IsErrOf {T = T} (Err fault) Missing → faults new ≡ faults between)
-    → HasCause held faults leaves request names old new (stopped_at name fault)
-has_cause held faults leaves request names old between new place name contents Failed limit same e stood named earlier led last failed too_long missing long_still missing_still =
+    → HasCause held faults leaves limit request names old new (stopped_at name fault)
+has_cause held faults leaves limit request names old between new place name contents Failed same stood named earlier led last failed too_long missing long_still missing_still =
     record { place = place; is_named = named; contents = contents; earlier = earlier; between = between; led = led; still = stood; last = last; cause = failed refl }
-has_cause held faults leaves request names old between new place name contents TooLong limit same e stood named earlier led last failed too_long missing long_still missing_still =
+has_cause held faults leaves limit request names old between new place name contents TooLong same stood named earlier led last failed too_long missing long_still missing_still =
     record {
       place = place;
       is_named = named;
@@ -86,8 +78,8 @@ has_cause held faults leaves request names old between new place name contents T
       led = led;
       still = stood;
       last = last;
-      cause = (subst (λ h. IsPastLimit (h name) (limit_of request place)) same (subst (IsPastLimit (held between name)) e (too_long refl)), long_still refl);
+      cause = (subst (λ h. IsPastLimit (h name) limit) same (too_long refl), long_still refl);
     }
-has_cause held faults leaves request names old between new place name contents Missing limit same e stood named earlier led last failed too_long missing long_still missing_still =
+has_cause held faults leaves limit request names old between new place name contents Missing same stood named earlier led last failed too_long missing long_still missing_still =
     record { place = place; is_named = named; contents = contents; earlier = earlier; between = between; led = led; still = stood; last = last; cause = (subst (λ h. IsNotHeld (h name)) same (missing refl), missing_still refl) }
-has_cause held faults leaves request names old between new place name contents Memory limit same e stood named earlier led last failed too_long missing long_still missing_still = tt
+has_cause held faults leaves limit request names old between new place name contents Memory same stood named earlier led last failed too_long missing long_still missing_still = tt

@@ -1,5 +1,5 @@
 -- What a call of the program comes to: the words, the files that they name, the output and the line of errors.
-use Rattle.std.specs.Prelude.{◌≡◌, ◌⊎◌, ℕ, ◌+◌, ◌≤◌, List, [], ◌∷◌, ◌++◌, length, map, take, slice_get, Option, Some, Result, ⊤}
+use Rattle.std.specs.Prelude.{◌≡◌, ◌⊎◌, ℕ, ◌≤◌, List, [], ◌∷◌, ◌++◌, length, map, take, slice_get, Option, Some, Result, ⊤}
 use Rattle.std.specs.Io.KnownBytes.{Appends}
 use Rattle.io_ports.specs.Count.{Rose}
 use Rattle.io_ports.specs.Taken.{AppendsPrefix}
@@ -8,7 +8,6 @@ use Rattle.io_ports.specs.Told.Told.{Content}
 use Rattle.io_ports.specs.declared.files.FileFault.{FileFault}
 use Rattle.io_ports.specs.declared.files.FileFault.TheVariants.{Failed, TooLong, Missing, Memory}
 use Rattle.jterm.specs.declared.verdict.Request.{Request}
-use Rattle.jterm.specs.declared.verdict.Request.TheVariants.{Prove, Asm}
 use Rattle.jterm.specs.declared.verdict.Verdict.{Verdict}
 use Rattle.jterm.specs.declared.verdict.Refused.{Refused}
 use Rattle.jterm.specs.Words.{IsCommand}
@@ -20,24 +19,21 @@ use Rattle.jterm.specs.Decision.{IsAnswer, yes_line}
 abbrev pub AreTold : (List ℕ → Told) → List (List ℕ) → List (List ℕ) → Type 0
 AreTold held names contents = map held names ≡ map Content contents
 
--- how many bytes the file at this place among the file words may have: 1 MiB
-abbrev pub limit_of : Request → ℕ → ℕ
-limit_of (Prove nodes) place = 1048576
-limit_of Asm place = 1048576
+-- how many bytes a file that the words name may have: 1 MiB
+abbrev pub file_limit : ℕ
+file_limit = 1048576
 
--- The contents under these names, each within its limit, are no others than those that are told. The first name
--- stands at `place` among the file words.
-abbrev pub AreContents : Request → ℕ → (List ℕ → Told) → List (List ℕ) → List (List ℕ) → Type 0
-AreContents request place held [] [] = ⊤
-AreContents request place held (name ∷ names) (content ∷ contents) =
-    IsContent (held name) content × (length content ≤ limit_of request place) × AreContents request (place + 1) held names contents
-AreContents request place held [] (content ∷ contents) = ⊥
-AreContents request place held (name ∷ names) [] = ⊥
+-- the contents under these names, each within the limit, are no others than those that are told
+abbrev pub AreContents : ℕ → (List ℕ → Told) → List (List ℕ) → List (List ℕ) → Type 0
+AreContents limit held [] [] = ⊤
+AreContents limit held (name ∷ names) (content ∷ contents) = IsContent (held name) content × (length content ≤ limit) × AreContents limit held names contents
+AreContents limit held [] (content ∷ contents) = ⊥
+AreContents limit held (name ∷ names) [] = ⊥
 
--- the contents are within their limits; the first stands at `place` among the file words
-abbrev pub AreWithin : Request → ℕ → List (List ℕ) → Type 0
-AreWithin request place [] = ⊤
-AreWithin request place (content ∷ contents) = (length content ≤ limit_of request place) × AreWithin request (place + 1) contents
+-- the contents are within the limit
+abbrev pub AreWithin : ℕ → List (List ℕ) → Type 0
+AreWithin limit [] = ⊤
+AreWithin limit (content ∷ contents) = (length content ≤ limit) × AreWithin limit contents
 
 -- why a file was not read: the read failed, and the count of the files' faults rose in it; or it stood still, and the content,
 -- where one is told, is past its limit; or it stood still, and none is held, where that is told
@@ -55,16 +51,16 @@ AreRead {F} leaves (name ∷ names) old new = (between : F) × leaves old name b
 -- The file of this name is the first of the named ones that was not read, for this cause. The files before it were read, one
 -- after the other, which led from the old files to those between, and none of them failed: the count of faults stood still.
 -- The read of this very file led on from there to the new ones, and is the one that failed.
-pub record IsUnread {F : Type 0} (held : F → List ℕ → Told) (faults : F → ℕ) (leaves : F → List ℕ → F → Type 0) (request : Request) (names : List (List ℕ)) (old new : F) (name : List ℕ) (fault : FileFault) : Type 0 where
+pub record IsUnread {F : Type 0} (held : F → List ℕ → Told) (faults : F → ℕ) (leaves : F → List ℕ → F → Type 0) (limit : ℕ) (names : List (List ℕ)) (old new : F) (name : List ℕ) (fault : FileFault) : Type 0 where
   pub place : ℕ
   pub is_named : slice_get names place ≡ Some name
   pub contents : List (List ℕ)
-  pub earlier : AreContents request 0 (held old) (take place names) contents
+  pub earlier : AreContents limit (held old) (take place names) contents
   pub between : F
   pub led : AreRead leaves (take place names) old between
   pub still : faults between ≡ faults old
   pub last : leaves between name new
-  pub cause : ReadFails fault (held old name) (limit_of request place) (faults between) (faults new)
+  pub cause : ReadFails fault (held old name) limit (faults between) (faults new)
 
 -- nothing but reads of the first of these names, in their order, changed the files
 abbrev pub FirstAreRead : {F : Type 0} → (F → List ℕ → F → Type 0) → List (List ℕ) → F → F → Type 0
@@ -72,11 +68,11 @@ FirstAreRead leaves names old new = (count : ℕ) × AreRead leaves (take count 
 
 -- ---- the answer
 
--- the words are this command, and what the files tell under the names that it has are these contents, within their limits
+-- the words are this command, and what the files tell under the names that it has are these contents, within the limit
 pub record AreHanded (words : List (List ℕ)) (held : List ℕ → Told) (request : Request) (names contents : List (List ℕ)) : Type 0 where
   pub is_command : IsCommand words request names
   pub told : AreTold held names contents
-  pub within : AreWithin request 0 contents
+  pub within : AreWithin file_limit contents
 
 -- this is the answer for the contents of the files that the words of a command name
 pub record Decided (words : List (List ℕ)) (held : List ℕ → Told) (result : Result Verdict Refused) : Type 0 where
@@ -84,7 +80,7 @@ pub record Decided (words : List (List ℕ)) (held : List ℕ → Told) (result 
   pub names : List (List ℕ)
   pub is_command : IsCommand words request names
   pub contents : List (List ℕ)
-  pub read : AreContents request 0 held names contents
+  pub read : AreContents file_limit held names contents
   pub answer : IsAnswer request contents result
 
 -- ---- outputs

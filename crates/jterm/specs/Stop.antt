@@ -13,12 +13,12 @@ use Rattle.jterm.specs.Words.{IsCommand}
 use Rattle.jterm.specs.Lines.{read_line, refusal_line, memory_line}
 use Rattle.jterm.specs.Outside.{AreContents, IsUnread}
 
--- a call with this request and these file words, which led from old files to new ones, has this cause to stop
-abbrev pub HasCause : {F : Type 0} → (F → List ℕ → Told) → (F → ℕ) → (F → List ℕ → F → Type 0) → Request → List (List ℕ) → F → F → Stop → Type 0
-HasCause held faults leaves request names old new (Unread name fault) = IsUnread held faults leaves request names old new name fault
-HasCause held faults leaves request names old new (Broken place fault) =
-    (contents : List (List ℕ)) × AreContents request 0 (held old) names contents × IsAnswer request contents (Err (At place fault))
-HasCause held faults leaves request names old new NoMemory = ⊤
+-- a call with this limit on files, this request and these file words, which led from old files to new ones, has this cause to stop
+abbrev pub HasCause : {F : Type 0} → (F → List ℕ → Told) → (F → ℕ) → (F → List ℕ → F → Type 0) → ℕ → Request → List (List ℕ) → F → F → Stop → Type 0
+HasCause held faults leaves limit request names old new (Unread name fault) = IsUnread held faults leaves limit names old new name fault
+HasCause held faults leaves limit request names old new (Broken place fault) =
+    (contents : List (List ℕ)) × AreContents limit (held old) names contents × IsAnswer request contents (Err (At place fault))
+HasCause held faults leaves limit request names old new NoMemory = ⊤
 
 -- the exit status
 abbrev pub status_of : Stop → ℕ
@@ -44,9 +44,9 @@ abbrev pub AreOfCommand : Request → List (List ℕ) → Type 0
 AreOfCommand request names = (words : List (List ℕ)) × IsCommand words request names
 
 -- the verdict is the answer for the contents of the files, and its status is 0
-pub record IsAnswered (request : Request) (names : List (List ℕ)) (held : List ℕ → Told) (verdict : Verdict) : Type 0 where
+pub record IsAnswered (limit : ℕ) (request : Request) (names : List (List ℕ)) (held : List ℕ → Told) (verdict : Verdict) : Type 0 where
   pub contents : List (List ℕ)
-  pub read : AreContents request 0 held names contents
+  pub read : AreContents limit held names contents
   pub answer : IsAnswer request contents (Ok verdict)
   pub done : verdict.status ≡ 0
 

@@ -1,11 +1,11 @@
 //! The files that a command names, read in the order of its words.
 ghost use Rattle.std.specs.Prelude.{◌≡◌, ◌≤◌, ◌^◌, map, string_bytes, IfOk, IfErr};
-ghost use Rattle.jterm.specs.Outside.{AreContents, FirstAreRead, limit_of};
+ghost use Rattle.jterm.specs.Outside.{AreContents, FirstAreRead};
 ghost use Rattle.jterm.specs.Stop.{HasCause, stopped_at};
 ghost use Rattle.jterm.specs.declared.inputs.Stop.TheVariants.{NoMemory};
 
 use crate::commands::Command;
-use crate::{Fault, Place, Request};
+use crate::{Fault, Place};
 use io_ports::{FileFault, Files};
 use list_views::Bytes;
 use std::alloc::{AllocError, AllocFailed, Global};
@@ -47,16 +47,6 @@ impl<'a, T: Drop> From<AllocFailed<T>> for Stop<'a> {
     }
 }
 
-// How many bytes the file at this place among the file words may have.
-fn limit(request: &Request, _place: usize) -> usize
-    ensures value { result ≡ limit_of request.now _place }
-    ensures small { result ≤ 2 ^ 31 }
-{
-    match request {
-        Request::Prove { nodes: _ } | Request::Asm => 1 << 20,
-    }
-}
-
 // The call stops where the file of this name was not read.
 fn stop_at(name: &str, fault: FileFault) -> Stop<'_>
     ensures { result ≡ stopped_at name.now fault }
@@ -70,22 +60,23 @@ fn stop_at(name: &str, fault: FileFault) -> Stop<'_>
     }
 }
 
-/// The contents of the files that a command names, in their order.
+/// The contents of the files that a command names, each of at most `limit` bytes, in their order.
 pub(crate) fn read_inputs<'a, F: Files>(
     alloc: Global,
     command: &Command<'a>,
     files: &mut F,
+    limit: usize,
 ) -> Result<Vec<Vec<u8>>, Stop<'a>>
-    ensures contents { IfOk result (λ inputs. AreContents command.now.request 0 (F.held files.old)
+    requires { limit ≤ 2 ^ 31 }
+    ensures contents { IfOk result (λ inputs. AreContents limit (F.held files.old)
         (map string_bytes command.now.files.now) (map (λ file. file.items) inputs.items)) }
-    ensures cause { IfErr result (λ stop. HasCause F.held F.faults F.leaves command.now.request
+    ensures cause { IfErr result (λ stop. HasCause F.held F.faults F.leaves limit command.now.request
         (map string_bytes command.now.files.now) files.old files.new stop) }
     ensures reads { FirstAreRead F.leaves (map string_bytes command.now.files.now) files.old files.new }
 {
     let mut inputs = Vec::new(alloc);
-    for (place, name) in command.files.iter().enumerate() {
-        let name = name.as_str();
-        let limit = limit(&command.request, place);
+    for word in command.files {
+        let name = word.as_str();
         match files.read(alloc, name, limit) {
             Ok(content) => inputs.push(content)?,
             Err(fault) => return Err(stop_at(name, fault)),

@@ -1,5 +1,5 @@
 //! The call behind the program: from the words of the command line to the exit status.
-ghost use Rattle.std.specs.Prelude.{◌≡◌, ◌↔◌, ◌⊎◌, ℕ, List, [], ◌∷◌, map, string_bytes, Some, Ok, Err, IfOk, IfErr, IfSome, IfNone};
+ghost use Rattle.std.specs.Prelude.{◌≡◌, ◌↔◌, ◌⊎◌, ◌≤◌, ◌^◌, ℕ, List, [], ◌∷◌, map, string_bytes, Some, Ok, Err, IfOk, IfErr, IfSome, IfNone};
 ghost use Rattle.std.specs.Io.KnownBytes.{Appends};
 ghost use Rattle.io_ports.specs.Count.{Rose};
 ghost use Rattle.io_ports.specs.declared.files.FileFault.{FileFault};
@@ -12,7 +12,7 @@ ghost use Rattle.jterm.specs.Words.{IsProve, IsCommand};
 ghost use Rattle.jterm.specs.Decision.{IsAnswer};
 ghost use Rattle.jterm.specs.Headline.{AllEnd};
 ghost use Rattle.jterm.specs.Lines.{usage_lines, memory_line, write_line, read_line, refusal_line};
-ghost use Rattle.jterm.specs.Outside.{AreTold, AreHanded, IsUnread, FirstAreRead, Decided, Puts, Claims, IsWithoutVerdict, IsWritten};
+ghost use Rattle.jterm.specs.Outside.{AreTold, AreHanded, IsUnread, FirstAreRead, Decided, Puts, Claims, IsWithoutVerdict, IsWritten, file_limit};
 ghost use Rattle.jterm.specs.Stop.{HasCause, AreOfCommand, IsAnswered, HasLine, status_of, line_of};
 
 use crate::commands::Command;
@@ -32,19 +32,21 @@ pub struct Done {
     pub verdict: Option<Verdict>,
 }
 
-// Reads the files of a command and decides over their contents.
+// Reads the files of a command, each of at most `limit` bytes, and decides over their contents.
 fn answer<'a, F: Files>(
     alloc: Global,
     command: &Command<'a>,
     files: &mut F,
+    limit: usize,
 ) -> Result<Verdict, Stop<'a>>
-    requires { AreOfCommand command.now.request (map string_bytes command.now.files.now) }
-    ensures answered { IfOk result (λ verdict. IsAnswered command.now.request (map string_bytes command.now.files.now) (F.held files.old) verdict) }
-    ensures cause { IfErr result (λ stop. HasCause F.held F.faults F.leaves command.now.request
+    requires small { limit ≤ 2 ^ 31 }
+    requires command { AreOfCommand command.now.request (map string_bytes command.now.files.now) }
+    ensures answered { IfOk result (λ verdict. IsAnswered limit command.now.request (map string_bytes command.now.files.now) (F.held files.old) verdict) }
+    ensures cause { IfErr result (λ stop. HasCause F.held F.faults F.leaves limit command.now.request
         (map string_bytes command.now.files.now) files.old files.new stop) }
     ensures reads { FirstAreRead F.leaves (map string_bytes command.now.files.now) files.old files.new }
 {
-    let inputs = read_inputs(alloc, command, files)?;
+    let inputs = read_inputs(alloc, command, files, limit)?;
     match decide(alloc, &command.request, &inputs) {
         Ok(verdict) => Ok(verdict),
         Err(Refused::At { place, fault }) => Err(Stop::Broken { place, fault }),
@@ -158,7 +160,7 @@ pub fn jterm<F: Files, O: Sink, E: Sink>(
     // Status 5: a file was not read. It is the first that was not, and its own read is what failed.
     ensures read { result.status ≡ 5 → (request : Request) × (names : List (List ℕ)) × (name : List ℕ) × (fault : FileFault)
         × IsCommand (map string_bytes words.now) request names
-        × IsUnread F.held F.faults F.leaves request names files.old files.new name fault
+        × IsUnread F.held F.faults F.leaves file_limit names files.old files.new name fault
         × Puts E.faults E.taken err.old err.new (read_line name fault) }
 
     // Status 6: the output was not taken.
@@ -171,7 +173,7 @@ pub fn jterm<F: Files, O: Sink, E: Sink>(
     // Status 0: nothing is said on `err`.
     ensures says_nothing { result.status ≡ 0 → err.new ≡ err.old }
 
-    // Where the contents of the named files are told and within their limits, and no count rose: what has a verdict
+    // Where the contents of the named files are told and within the limit, and no count rose: what has a verdict
     // gives it, and what has a cause of refusal is refused for it; or memory is wanting.
     ensures complete { (request : Request) (names contents : List (List ℕ)) (verdict : Verdict)
         → AreHanded (map string_bytes words.now) (F.held files.old) request names contents → IsAnswer request contents (Ok verdict)
@@ -194,7 +196,7 @@ pub fn jterm<F: Files, O: Sink, E: Sink>(
             verdict: None,
         };
     };
-    match answer(alloc, &command, files) {
+    match answer(alloc, &command, files, 1_048_576) {
         Ok(verdict) => write_out(verdict, out, err),
         Err(stop) => Done {
             status: report(alloc, &stop, err),

@@ -5,35 +5,35 @@ use Rattle.jterm.proofs.inputs.read_inputs.Goals as goal
 
 pub returns-in_err-push-in-Ok-clause-reads : goal.returns-in_err-push-in-Ok-clause-reads
 returns-in_err-push-in-Ok-clause-reads g c =
-    let more = take_words_more string_bytes c.args.command.now.files.now c.loop-place.place c.name-item.result c.as_str-name.result.now (omega arith) c.name-item.is c.as_str-name.ensures.value in
-    (suc c.loop-place.place, first_read_more _ _ _ _ _ _ _ more c.loop-place.invariant.reads c.read.ensures.leaves)
+    let more = take_words_more string_bytes c.args.command.now.files.now c.loop-word.word-index c.word-item.result c.as_str-name.result.now (omega arith) c.word-item.is c.as_str-name.ensures.value in
+    (suc c.loop-word.word-index, first_read_more _ _ _ _ _ _ _ more c.loop-word.invariant.reads c.read.ensures.leaves)
 
 pub returns-in-Err : goal.returns-in-Err
 returns-in-Err g c =
     let files = c.args.command.now.files.now in
-    let more = take_words_more string_bytes files c.loop-place.place c.name-item.result c.as_str-name.result.now (omega arith) c.name-item.is c.as_str-name.ensures.value in
-    let named = get_word string_bytes files c.loop-place.place c.name-item.result c.as_str-name.result.now (omega arith) c.name-item.is c.as_str-name.ensures.value in
-    let cause = has_cause g.F.Files.held g.F.Files.faults g.F.Files.leaves c.args.command.now.request (map string_bytes files)
-    c.args.files.now c.loop-place.files c.read.new.self c.loop-place.place c.as_str-name.result.now _ c.in-Err.fault c.limit-limit.result
-    c.loop-place.invariant.held c.limit-limit.ensures.value c.loop-place.invariant.still named c.loop-place.invariant.contents
-    c.loop-place.invariant.reads c.read.ensures.leaves
+    let more = take_words_more string_bytes files c.loop-word.word-index c.word-item.result c.as_str-name.result.now (omega arith) c.word-item.is c.as_str-name.ensures.value in
+    let named = get_word string_bytes files c.loop-word.word-index c.word-item.result c.as_str-name.result.now (omega arith) c.word-item.is c.as_str-name.ensures.value in
+    let cause = has_cause g.F.Files.held g.F.Files.faults g.F.Files.leaves c.args.limit c.args.command.now.request (map string_bytes files)
+    c.args.files.now c.loop-word.files c.read.new.self c.loop-word.word-index c.as_str-name.result.now _ c.in-Err.fault
+    c.loop-word.invariant.held c.loop-word.invariant.still named c.loop-word.invariant.contents
+    c.loop-word.invariant.reads c.read.ensures.leaves
     c.in-Err.ensures.failed c.in-Err.ensures.too_long c.in-Err.ensures.missing c.in-Err.ensures.too_long_is_no_fault c.in-Err.ensures.missing_is_no_fault in
     record {
       contents = tt;
-      cause = subst (HasCause _ _ _ _ _ _ _) (sym c.stop_at.ensures) cause;
-      reads = (suc c.loop-place.place, first_read_more _ _ _ _ _ _ _ more c.loop-place.invariant.reads c.read.ensures.leaves);
+      cause = subst (HasCause _ _ _ _ _ _ _ _) (sym c.stop_at.ensures) cause;
+      reads = (suc c.loop-word.word-index, first_read_more _ _ _ _ _ _ _ more c.loop-word.invariant.reads c.read.ensures.leaves);
     }
 
-pub loop-place-preserved : goal.loop-place-preserved
-loop-place-preserved g c =
+pub loop-word-preserved : goal.loop-word-preserved
+loop-word-preserved g c =
     let files = c.args.command.now.files.now in
-    let more = take_words_more string_bytes files c.loop-place.place c.name-item.result c.as_str-name.result.now (omega arith) c.name-item.is c.as_str-name.ensures.value in
-    let grown = map_more (λ file. file.items) c.loop-place.inputs.items c.push.new.self.items c.in-Ok.content c.in_ok-push-in-Ok.ensures.items in
+    let more = take_words_more string_bytes files c.loop-word.word-index c.word-item.result c.as_str-name.result.now (omega arith) c.word-item.is c.as_str-name.ensures.value in
+    let grown = map_more (λ file. file.items) c.loop-word.inputs.items c.push.new.self.items c.in-Ok.content c.in_ok-push-in-Ok.ensures.items in
     rw add-one (record {
-      contents = first_contents_more c.args.command.now.request (g.F.Files.held c.args.files.now) (g.F.Files.held c.loop-place.files) (map string_bytes files) _ _ c.loop-place.place
-          c.as_str-name.result.now c.in-Ok.content.items c.limit-limit.result c.loop-place.place more grown c.loop-place.invariant.contents c.loop-place.invariant.held
-          c.in-Ok.ensures.content c.in-Ok.ensures.within c.limit-limit.ensures.value;
-      held = c.in-Ok.ensures.keeps ∙ c.loop-place.invariant.held;
-      still = c.in-Ok.ensures.read_is_no_fault refl ∙ c.loop-place.invariant.still;
-      reads = first_read_more _ _ _ _ _ _ _ more c.loop-place.invariant.reads c.read.ensures.leaves;
+      contents = first_contents_more c.args.limit (g.F.Files.held c.args.files.now) (g.F.Files.held c.loop-word.files) (map string_bytes files) _ _ c.loop-word.word-index
+          c.as_str-name.result.now c.in-Ok.content.items more grown c.loop-word.invariant.contents c.loop-word.invariant.held
+          c.in-Ok.ensures.content c.in-Ok.ensures.within;
+      held = c.in-Ok.ensures.keeps ∙ c.loop-word.invariant.held;
+      still = c.in-Ok.ensures.read_is_no_fault refl ∙ c.loop-word.invariant.still;
+      reads = first_read_more _ _ _ _ _ _ _ more c.loop-word.invariant.reads c.read.ensures.leaves;
     })

@@ -4,13 +4,13 @@ use Rattle.jterm.proofs.top.answer.Goals as goal
 
 pub returns-in-Ok-clause-answered : goal.returns-in-Ok-clause-answered
 returns-in-Ok-clause-answered g c =
-    is_answered _ _ _ _ _ _ (ap (map (λ file. file.items)) c.deref.ensures.value) c.in_ok-inputs.ensures.contents c.in-Ok.ensures.answer
+    is_answered _ _ _ _ _ _ _ (ap (map (λ file. file.items)) c.deref.ensures.value) c.in_ok-inputs.ensures.contents c.in-Ok.ensures.answer
 
 pub returns-in-Err-At-clause-cause : goal.returns-in-Err-At-clause-cause
 returns-in-Err-At-clause-cause g c =
-    is_broken g.F.Files.held g.F.Files.faults g.F.Files.leaves _ _ c.args.files.now c.args.files.now _ _ _ _ (ap (map (λ file. file.items)) c.deref.ensures.value) c.in_ok-inputs.ensures.contents
+    is_broken g.F.Files.held g.F.Files.faults g.F.Files.leaves _ _ _ c.args.files.now c.args.files.now _ _ _ _ (ap (map (λ file. file.items)) c.deref.ensures.value) c.in_ok-inputs.ensures.contents
     (rw c.in-Err-At.field-0-is at c.in-Err-At.ensures.answer)
 
 pub decide-requires : goal.decide-requires
 decide-requires g c =
-    takes_read _ _ _ _ _ (ap (map (λ file. file.items)) c.deref.ensures.value) c.requires c.in_ok-inputs.ensures.contents
+    takes_read _ _ _ _ _ _ (ap (map (λ file. file.items)) c.deref.ensures.value) c.requires.command c.in_ok-inputs.ensures.contents
