@@ -1,5 +1,5 @@
 -- From what stopped a call, or the verdict that it has, to what the call says.
-use Rattle.std.proofs.Common.{◌≡◌, ◌⊎◌, ◌≤◌, ◌<◌, ◌+◌, ◌++◌, ℕ, suc, zero, List, [], ◌∷◌, length, map, Option, Some, None, Ok, Err, refl, sym, ap, ◌∙◌, subst, arith, inl, inr, IfSome, slice_get, append-nil, length-append}
+use Rattle.std.proofs.Common.{◌≡◌, ◌⊎◌, ◌≤◌, ◌++◌, ℕ, suc, zero, List, [], ◌∷◌, length, map, Option, Some, Ok, Err, refl, sym, ap, ◌∙◌, subst, arith, inl, inr, IfSome, slice_get, length-append}
 use Rattle.std.specs.Prelude.{◌≢◌, ◌↔◌, Result}
 use Rattle.std.specs.Io.KnownBytes.{Appends}
 use Rattle.io_ports.specs.Count.{Rose}
@@ -10,22 +10,24 @@ use Rattle.io_ports.specs.declared.files.FileFault.TheVariants.{Failed, TooLong,
 use Rattle.jterm.specs.declared.inputs.Stop.{Stop}
 use Rattle.jterm.specs.declared.inputs.Stop.TheVariants.{Unread, Broken, NoMemory}
 use Rattle.jterm.specs.declared.verdict.Request.{Request}
-use Rattle.jterm.specs.declared.verdict.Request.TheVariants.{Prove, Asm}
+use Rattle.jterm.specs.declared.verdict.Request.TheVariants.{Prove}
 use Rattle.jterm.specs.declared.verdict.Verdict.{Verdict}
-use Rattle.jterm.specs.declared.verdict.Place.{Place}
-use Rattle.jterm.specs.declared.verdict.Fault.{Fault}
-use Rattle.jterm.specs.declared.verdict.Refused.{Refused}
-use Rattle.jterm.specs.declared.verdict.Refused.TheVariants as answers
-use Rattle.jterm.specs.declared.verdict.Refused.TheVariants.{At}
+use Rattle.input_steps.specs.declared.refused.Place.{Place}
+use Rattle.input_steps.specs.declared.refused.Fault.{Fault}
+use Rattle.input_steps.specs.declared.refused.Refused.{Refused}
+use Rattle.input_steps.specs.declared.refused.Refused.TheVariants as answers
+use Rattle.input_steps.specs.declared.refused.Refused.TheVariants.{At}
 use Rattle.jterm.specs.Words.{IsProve, IsCommand}
-use Rattle.jterm.specs.Lines.{memory_line, read_line, refusal_line}
-use Rattle.jterm.specs.Decision.{Answers, IsAnswer, SaysYes, yes_line}
-use Rattle.jterm.specs.Headline.{AllEnd}
-use Rattle.jterm.specs.Outside.{AreTold, AreContents, AreWithin, AreHanded, AreRead, IsUnread, ReadFails, Decided, Claims, IsWritten, file_limit}
+use Rattle.input_steps.specs.Lines.{refusal_line}
+use Rattle.jterm.specs.Lines.{memory_line, read_line}
+use Rattle.prove_call.specs.Answers.{yes_line}
+use Rattle.prove_call.proofs.Good.{yes_true}
+use Rattle.jterm.specs.Decision.{IsAnswer}
+use Rattle.prove_call.specs.Headline.{AllEnd}
+use Rattle.jterm.specs.Outside.{AreTold, AreContents, AreWithin, AreHanded, IsUnread, ReadFails, Decided, Claims, IsWritten, file_limit}
 use Rattle.jterm.specs.Stop.{IsAnswered, HasCause, HasLine, status_of, line_of}
-use Rattle.jterm.proofs.Deciding.{headline_of}
 use Rattle.jterm.proofs.OneAnswer.{answers_one}
-use Rattle.jterm.proofs.WordsLemmas.{other_verbs}
+use Rattle.jterm.proofs.WordsLemmas.{commands_one}
 
 -- nothing is claimed where nothing is put
 pub unclaimed : {S : Type 0} (taken : S → Option (List ℕ)) (sink : S) (status : ℕ) → (status ≡ 0 → ⊥) → Claims taken sink sink status → ⊥
@@ -77,6 +79,15 @@ not_four words r m stop status Puts command says = (λ four. absurd (never stop 
     never NoMemory (inl said) four = said.1
     never stop (inr said) four = omega (arith, said.0, four)
 
+-- nor does one with a verdict
+pub done_is_no_usage : {P Q : Type 0} (words : List (List ℕ)) (r : Request) (m : List (List ℕ)) (own status : ℕ) → IsCommand words r m → own ≡ 0 → ((status ≡ own) × P) ⊎ ((status ≡ 6) × Q)
+    → (status ≡ 4) ↔ ((request : Request) (names : List (List ℕ)) → IsCommand words request names → ⊥)
+done_is_no_usage {P = P} {Q = Q} words r m own status command none line = (λ four. absurd (never line four), λ no_row. absurd (no_row r m command))
+  where
+    never : ((status ≡ own) × P) ⊎ ((status ≡ 6) × Q) → status ≡ 4 → ⊥
+    never (inl said) four = omega (arith, said.0, none, four)
+    never (inr said) four = omega (arith, said.0, four)
+
 -- a call without a verdict does not end with 0
 pub not_zero : (stop : Stop) (status : ℕ) (P Q R : Type 0) → ((status ≡ status_of stop) × P × Q) ⊎ ((status ≡ 7) × R) → status ≡ 0 → ⊥
 not_zero (Unread name fault) status P Q R says none = elim says [ inl said ↦ omega arith | inr said ↦ omega arith ]
@@ -99,21 +110,6 @@ told_contents limit held (n ∷ names) (c ∷ contents) (t ∷ told) are e =
     let same : c ≡ t = subst (λ h. IsContent h c) first are.0 in
     cc
 
--- words are one command
-commands_one : (words : List (List ℕ)) (r s : Request) (m n : List (List ℕ)) → IsCommand words r m → IsCommand words s n → (r ≡ s) × (m ≡ n)
-commands_one words r s m n (inl a) (inl b) =
-    let here : words ≡ _ = a.is_prove.spelled in
-    let there : words ≡ _ = b.is_prove.spelled in
-    let same : a.desc ∷ a.classes ≡ b.desc ∷ b.classes = cc in
-    (a.asked ∙ sym b.asked, a.named ∙ same ∙ sym b.named)
-commands_one words r s m n (inl a) (inr b) = absurd (other_verbs (b.listing ∷ []) (a.desc ∷ a.classes) (sym b.is_asm.spelled ∙ a.is_prove.spelled))
-commands_one words r s m n (inr a) (inl b) = absurd (other_verbs (a.listing ∷ []) (b.desc ∷ b.classes) (sym a.is_asm.spelled ∙ b.is_prove.spelled))
-commands_one words r s m n (inr a) (inr b) =
-    let here : words ≡ _ = a.is_asm.spelled in
-    let there : words ≡ _ = b.is_asm.spelled in
-    let same : a.listing ∷ [] ≡ b.listing ∷ [] = cc in
-    (a.asked ∙ sym b.asked, a.named ∙ same ∙ sym b.named)
-
 -- an answer for what was read under the names of a command is one for what is told under them
 told_answer : (words : List (List ℕ)) (held : List ℕ → Told) (r s : Request) (m n contents told : List (List ℕ)) (result : Result Verdict Refused)
     → IsCommand words r m → IsCommand words s n → AreContents file_limit held m contents → AreTold held n told → IsAnswer r contents result → IsAnswer s told result
@@ -126,16 +122,13 @@ told_answer words held r s m n contents told result here there are tells answer 
 pub prove_is_command : (words : List (List ℕ)) (d : List ℕ) (cs : List (List ℕ)) → IsProve words d cs → IsCommand words (Prove 4000) (d ∷ cs)
 prove_is_command words d cs prove = inl (record { desc = d; classes = cs; is_prove = prove; asked = refl; named = refl })
 
-says_yes : (desc : List ℕ) (classes : List (List ℕ)) (verdict : Verdict) → Answers desc classes (Ok verdict) → SaysYes verdict
-says_yes desc classes verdict answer = ([], ap (λ v. v.out) answer.0 ∙ sym (append-nil yes_line))
-
 -- what YES says of the contents of a `prove`
 pub headline : (words : List (List ℕ)) (request : Request) (names : List (List ℕ)) (held : List ℕ → Told) (verdict : Verdict) (d : List ℕ) (cs : List (List ℕ)) (desc : List ℕ) (classes : List (List ℕ))
     → IsCommand words request names → IsAnswered file_limit request names held verdict → IsProve words d cs → AreTold held (d ∷ cs) (desc ∷ classes) → AllEnd classes desc
 headline words request names held verdict d cs desc classes command answered prove tells =
-    let answer : Answers desc classes (Ok verdict) =
+    let answer : IsAnswer (Prove 4000) (desc ∷ classes) (Ok verdict) =
     told_answer words held request (Prove 4000) names (d ∷ cs) answered.contents (desc ∷ classes) (Ok verdict) command (prove_is_command words d cs prove) answered.read tells answered.answer in
-    headline_of desc classes (Ok verdict) answer (says_yes desc classes verdict answer)
+    yes_true desc classes verdict.out answer.1
 
 -- ---- completeness
 

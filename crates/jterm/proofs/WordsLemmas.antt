@@ -1,13 +1,14 @@
 -- Lists of words.
 use Rattle.std.proofs.Common.{◌≡◌, ℕ, ◌≤◌, Bool, true, false, ◌&&◌, List, [], ◌∷◌, length, map, refl, arith, ap, sym, ◌∙◌, subst, inl, inr, IsTrue}
 use Rattle.std.proofs.lemmas.List.{length-map}
-use Rattle.std.specs.Prelude.{◌↔◌, codes, Option, None, MatchOption}
+use Rattle.std.specs.Prelude.{◌↔◌, not, codes, Option, Some, None, MatchOption}
 use Rattle.std.specs.List.{list_all}
 use Rattle.jterm.specs.declared.verdict.Request.{Request}
-use Rattle.jterm.specs.declared.verdict.Request.TheVariants.{Prove, Asm}
-use Rattle.jterm.specs.Words.{is_file_word, AreFiles, IsListing, IsProveRow, IsAsmRow, IsCommand}
+use Rattle.jterm.specs.declared.verdict.Request.TheVariants.{Prove, Run, Asm}
+use Rattle.jterm.specs.Words.{is_file_word, AreFiles, IsListing, IsFuel, IsProveRow, IsRunRow, IsAsmRow, IsCommand}
 use Rattle.std.specs.Cmp.Lexicographic.{bytes_decides}
 use Rattle.std.specs.Str.{bytes_eq}
+use Rattle.std.proofs.lemmas.Fmt.{decimal_injective}
 
 -- a test of each item is one of each word
 all-map : {A : Type 0} (f : A → List ℕ) (p : List ℕ → Bool) (xs : List A) → list_all (λ x. p (f x)) xs ≡ list_all p (map f xs)
@@ -59,43 +60,95 @@ of_asm_row verb names request files row =
     let rest : names ≡ row.listing ∷ [] = cc in
     (first, subst IsListing (sym rest) row.is_asm.file, row.asked, row.named ∙ sym rest)
 
--- where neither row is there, the words are no command
+-- of a `run` and what follows it
+pub of_run_row : (verb : List ℕ) (names : List (List ℕ)) (request : Request) (files : List (List ℕ)) → IsRunRow (verb ∷ names) request files → (verb ≡ codes "run") × ((word : List ℕ) × ((fuel : ℕ) × ((names ≡ word ∷ files) × IsFuel word fuel × AreFiles files × (request ≡ Run fuel))))
+of_run_row verb names request files row =
+    let run = row.is_run in
+    let same : verb ∷ names ≡ codes "run" ∷ run.word ∷ row.state ∷ row.classes = run.spelled in
+    let first : verb ≡ codes "run" = cc in
+    let rest : names ≡ run.word ∷ row.state ∷ row.classes = cc in
+    (first, (run.word, (row.fuel, (rest ∙ ap (λ (fs : List (List ℕ)). run.word ∷ fs) (sym row.named), run.is_fuel, subst AreFiles (sym row.named) run.files, row.asked))))
+
+pub run_row : (verb word : List ℕ) (names : List (List ℕ)) (fuel : ℕ) → verb ≡ codes "run" → IsFuel word fuel → AreFiles names → IsRunRow (verb ∷ word ∷ names) (Run fuel) names
+run_row verb word [] fuel v f r = absurd (let some = r.some in omega arith)
+run_row verb word (state ∷ classes) fuel v f r = record {
+  fuel = fuel;
+  state = state;
+  classes = classes;
+  is_run = record { word = word; is_fuel = f; spelled = ap (λ (w : List ℕ). w ∷ word ∷ state ∷ classes) v; files = r };
+  asked = refl;
+  named = refl;
+}
+
+-- where no row is there, the words are no command
 pub no_row : (verb : List ℕ) (names : List (List ℕ)) → (IsProveRow (verb ∷ names) (Prove 4000) names → ⊥) → (IsAsmRow (verb ∷ names) Asm names → ⊥)
-    → (request : Request) (files : List (List ℕ)) → IsCommand (verb ∷ names) request files → ⊥
-no_row verb names p a request files (inl row) = let r = of_prove_row verb names request files row in p (prove_row verb names r.0 r.1)
-no_row verb names p a request files (inr row) = let r = of_asm_row verb names request files row in a (asm_row verb names r.0 r.1)
+    → ((request : Request) (files : List (List ℕ)) → IsRunRow (verb ∷ names) request files → ⊥) → (request : Request) (files : List (List ℕ)) → IsCommand (verb ∷ names) request files → ⊥
+no_row verb names p a run request files (inl row) = let r = of_prove_row verb names request files row in p (prove_row verb names r.0 r.1)
+no_row verb names p a run request files (inr (inl row)) = run request files row
+no_row verb names p a run request files (inr (inr row)) = let r = of_asm_row verb names request files row in a (asm_row verb names r.0 r.1)
+
+-- no command of the rows above it, or a `run`
+pub run_or_none : {C : Type 0} (run : Option C) (asked : C → Request) (named : C → List (List ℕ)) (verb : List ℕ) (names : List (List ℕ))
+    → (IsProveRow (verb ∷ names) (Prove 4000) names → ⊥) → (IsAsmRow (verb ∷ names) Asm names → ⊥)
+    → MatchOption run ((request : Request) (files : List (List ℕ)) → IsRunRow (verb ∷ names) request files → ⊥) (λ c. IsRunRow (verb ∷ names) (asked c) (named c))
+    → MatchOption run ((request : Request) (files : List (List ℕ)) → IsCommand (verb ∷ names) request files → ⊥) (λ c. IsCommand (verb ∷ names) (asked c) (named c))
+run_or_none None asked named verb names p a h = no_row verb names p a h
+run_or_none (Some c) asked named verb names p a h = inr (inl h)
+
+-- ---- the words of a `run`
+
+pub other_verb : (verb : List ℕ) (names : List (List ℕ)) → (verb ≡ codes "run" → ⊥) → (request : Request) (files : List (List ℕ)) → IsRunRow (verb ∷ names) request files → ⊥
+other_verb verb names other request files row = other (of_run_row verb names request files row).0
+
+pub no_number : (verb : List ℕ) (request : Request) (files : List (List ℕ)) → IsRunRow (verb ∷ []) request files → ⊥
+no_number verb request files row = let r = of_run_row verb [] request files row in let e = r.1.1.1.0 in cc
+
+-- the word behind `run` is no number of steps
+pub no_fuel : (verb word : List ℕ) (names : List (List ℕ)) → ((fuel : ℕ) → IsFuel word fuel → ⊥) → (request : Request) (files : List (List ℕ)) → IsRunRow (verb ∷ word ∷ names) request files → ⊥
+no_fuel verb word names none request files row =
+    let r = of_run_row verb (word ∷ names) request files row in
+    let e : word ∷ names ≡ r.1.0 ∷ files = r.1.1.1.0 in
+    let same : r.1.0 ≡ word = cc in
+    none r.1.1.0 (subst (λ (w : List ℕ). IsFuel w r.1.1.0) same r.1.1.1.1)
+
+-- the words behind it name no files
+pub no_run_files : (verb word : List ℕ) (names : List (List ℕ)) → (AreFiles names → ⊥) → (request : Request) (files : List (List ℕ)) → IsRunRow (verb ∷ word ∷ names) request files → ⊥
+no_run_files verb word names none request files row =
+    let r = of_run_row verb (word ∷ names) request files row in
+    let e : word ∷ names ≡ r.1.0 ∷ files = r.1.1.1.0 in
+    let same : files ≡ names = cc in
+    none (subst AreFiles same r.1.1.1.2)
 
 -- a command's words are not empty
 pub no_words : (request : Request) (files : List (List ℕ)) → IsCommand [] request files → ⊥
 no_words request files (inl row) = let e = row.is_prove.spelled in cc
-no_words request files (inr row) = let e = row.is_asm.spelled in cc
+no_words request files (inr (inl row)) = let e = row.is_run.spelled in cc
+no_words request files (inr (inr row)) = let e = row.is_asm.spelled in cc
 
 -- words that a test does not tell apart are one
 pub same_word : (xs ys : List ℕ) → true ≡ bytes_eq xs ys → xs ≡ ys
 same_word xs ys e = (bytes_decides xs ys).0 (sym e)
+
+un_not : (b : Bool) → false ≡ not b → b ≡ true
+un_not true e = refl
+un_not false e = absurd (cc)
+
+-- and those that a test does not keep apart
+pub not_apart : (xs ys : List ℕ) → false ≡ not (bytes_eq xs ys) → xs ≡ ys
+not_apart xs ys e = (bytes_decides xs ys).0 (un_not (bytes_eq xs ys) e)
 
 -- ---- tests of the first word and of the words behind it
 
 pub is_prove : (verb : List ℕ) (names : List (List ℕ)) (answer : Bool) → verb ≡ codes "prove" → (IsTrue answer ↔ AreFiles names) → IsTrue answer ↔ IsProveRow (verb ∷ names) (Prove 4000) names
 is_prove verb names answer v h = (λ t. prove_row verb names v (h.0 t), λ row. h.1 (of_prove_row verb names (Prove 4000) names row).1)
 
-pub no_prove : (verb : List ℕ) (names : List (List ℕ)) → (verb ≡ codes "prove" → ⊥) → IsTrue false ↔ IsProveRow (verb ∷ names) (Prove 4000) names
-no_prove verb names other = (λ t. absurd (let e : false ≡ true = t in cc), λ row. absurd (other (of_prove_row verb names (Prove 4000) names row).0))
-
 pub is_asm : (verb : List ℕ) (names : List (List ℕ)) (answer : Bool) → verb ≡ codes "asm" → (IsTrue answer ↔ IsListing names) → IsTrue answer ↔ IsAsmRow (verb ∷ names) Asm names
 is_asm verb names answer v h = (λ t. asm_row verb names v (h.0 t), λ row. h.1 (of_asm_row verb names Asm names row).1)
 
-pub no_asm : (verb : List ℕ) (names : List (List ℕ)) → (verb ≡ codes "asm" → ⊥) → IsTrue false ↔ IsAsmRow (verb ∷ names) Asm names
-no_asm verb names other = (λ t. absurd (let e : false ≡ true = t in cc), λ row. absurd (other (of_asm_row verb names Asm names row).0))
-
 -- ---- all words
 
-words_are : {A : Type 0} (f : A → List ℕ) (words : List A) (verb : A) (files : List A) (first : List ℕ) → words ≡ verb ∷ files → first ≡ f verb → map f words ≡ first ∷ map f files
+pub words_are : {A : Type 0} (f : A → List ℕ) (words : List A) (verb : A) (files : List A) (first : List ℕ) → words ≡ verb ∷ files → first ≡ f verb → map f words ≡ first ∷ map f files
 words_are f words verb files first e v = ap (map f) e ∙ ap (λ (w : List ℕ). w ∷ map f files) (sym v)
-
-pub command_of : {A : Type 0} (f : A → List ℕ) (words : List A) (verb : A) (files : List A) (first : List ℕ) (request : Request) → words ≡ verb ∷ files → first ≡ f verb
-    → IsCommand (first ∷ map f files) request (map f files) → IsCommand (map f words) request (map f files)
-command_of f words verb files first request e v is = subst (λ (ws : List (List ℕ)). IsCommand ws request (map f files)) (sym (words_are f words verb files first e v)) is
 
 pub no_command_of : {A : Type 0} (f : A → List ℕ) (words : List A) (verb : A) (files : List A) (first : List ℕ) → words ≡ verb ∷ files → first ≡ f verb
     → ((request : Request) (names : List (List ℕ)) → IsCommand (first ∷ map f files) request names → ⊥) → (request : Request) (names : List (List ℕ)) → IsCommand (map f words) request names → ⊥
@@ -105,11 +158,41 @@ no_command_of f words verb files first e v none request names is = none request 
 pub none_says : {A P : Type 0} (Q : A → Type 0) (answer : Option A) → answer ≡ None → P → MatchOption answer P Q
 none_says {A} {P} Q answer e p = subst (λ (o : Option A). MatchOption o P Q) (sym e) p
 
--- ---- the commands have different first words
+-- ---- words are one command
 
-abbrev first_length : List (List ℕ) → ℕ
-first_length [] = 0
-first_length (word ∷ words) = length word
+-- the first letter of the first word
+abbrev first_letter : List (List ℕ) → ℕ
+first_letter [] = 0
+first_letter ([] ∷ words) = 0
+first_letter ((letter ∷ word) ∷ words) = letter
 
-pub other_verbs : (listings files : List (List ℕ)) → codes "asm" ∷ listings ≡ codes "prove" ∷ files → ⊥
-other_verbs listings files same = let e : (let three : ℕ = 3 in three) ≡ 5 = ap first_length same in omega (arith, e)
+other_letter : (words verbs others : List (List ℕ)) (a b : ℕ) → words ≡ verbs → words ≡ others → first_letter verbs ≡ a → first_letter others ≡ b → (a ≡ b → ⊥) → ⊥
+other_letter words verbs others a b e f first second other = other (sym first ∙ ap first_letter (sym e ∙ f) ∙ second)
+
+fuel_one : (word : List ℕ) (a b : ℕ) → IsFuel word a → IsFuel word b → a ≡ b
+fuel_one word a b h k = decimal_injective a b (let few = h.few in omega (arith, few)) (let few = k.few in omega (arith, few)) (sym h.spelled ∙ k.spelled)
+
+pub commands_one : (words : List (List ℕ)) (r s : Request) (m n : List (List ℕ)) → IsCommand words r m → IsCommand words s n → (r ≡ s) × (m ≡ n)
+commands_one words r s m n (inl a) (inl b) =
+    let here : words ≡ _ = a.is_prove.spelled in
+    let there : words ≡ _ = b.is_prove.spelled in
+    let same : a.desc ∷ a.classes ≡ b.desc ∷ b.classes = cc in
+    (a.asked ∙ sym b.asked, a.named ∙ same ∙ sym b.named)
+commands_one words r s m n (inl a) (inr (inl b)) = absurd (other_letter words _ _ 112 114 a.is_prove.spelled b.is_run.spelled refl refl (λ e. omega (arith, e)))
+commands_one words r s m n (inl a) (inr (inr b)) = absurd (other_letter words _ _ 112 97 a.is_prove.spelled b.is_asm.spelled refl refl (λ e. omega (arith, e)))
+commands_one words r s m n (inr (inl a)) (inl b) = absurd (other_letter words _ _ 114 112 a.is_run.spelled b.is_prove.spelled refl refl (λ e. omega (arith, e)))
+commands_one words r s m n (inr (inl a)) (inr (inl b)) =
+    let here : words ≡ codes "run" ∷ a.is_run.word ∷ a.state ∷ a.classes = a.is_run.spelled in
+    let there : words ≡ codes "run" ∷ b.is_run.word ∷ b.state ∷ b.classes = b.is_run.spelled in
+    let word : a.is_run.word ≡ b.is_run.word = cc in
+    let same : a.state ∷ a.classes ≡ b.state ∷ b.classes = cc in
+    let fuel : a.fuel ≡ b.fuel = fuel_one b.is_run.word a.fuel b.fuel (subst (λ (w : List ℕ). IsFuel w a.fuel) word a.is_run.is_fuel) b.is_run.is_fuel in
+    (a.asked ∙ ap Run fuel ∙ sym b.asked, a.named ∙ same ∙ sym b.named)
+commands_one words r s m n (inr (inl a)) (inr (inr b)) = absurd (other_letter words _ _ 114 97 a.is_run.spelled b.is_asm.spelled refl refl (λ e. omega (arith, e)))
+commands_one words r s m n (inr (inr a)) (inl b) = absurd (other_letter words _ _ 97 112 a.is_asm.spelled b.is_prove.spelled refl refl (λ e. omega (arith, e)))
+commands_one words r s m n (inr (inr a)) (inr (inl b)) = absurd (other_letter words _ _ 97 114 a.is_asm.spelled b.is_run.spelled refl refl (λ e. omega (arith, e)))
+commands_one words r s m n (inr (inr a)) (inr (inr b)) =
+    let here : words ≡ _ = a.is_asm.spelled in
+    let there : words ≡ _ = b.is_asm.spelled in
+    let same : a.listing ∷ [] ≡ b.listing ∷ [] = cc in
+    (a.asked ∙ sym b.asked, a.named ∙ same ∙ sym b.named)

@@ -1,14 +1,6 @@
-pub mod Options
-pub mod Forms
-pub mod Description
-pub mod Headline
-pub mod FirstPath
 pub mod Decision
 pub mod Laws
 pub mod Words
-pub mod Faults
 pub mod Lines
 pub mod Outside
 pub mod Stop
-pub mod Refusals
-pub mod Pass

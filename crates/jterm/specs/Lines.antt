@@ -1,20 +1,8 @@
 -- The lines that say why a call has no output.
-use Rattle.std.specs.Prelude.{ℕ, List, [], ◌∷◌, ◌++◌, codes}
-use Rattle.std.specs.Fmt.{decimal}
+use Rattle.std.specs.Prelude.{ℕ, List, [], ◌∷◌, codes}
 use Rattle.fault_words.specs.Words.{joined}
 use Rattle.io_ports.specs.declared.files.FileFault.{FileFault}
 use Rattle.io_ports.specs.declared.files.FileFault.TheVariants.{Failed, TooLong, Missing, Memory}
-use Rattle.jterm.specs.declared.verdict.Place.{Place}
-use Rattle.jterm.specs.declared.verdict.Place.TheVariants.{Class, Listing, Description, Link}
-use Rattle.jterm.specs.declared.verdict.Fault.{Fault}
-use Rattle.jterm.specs.Faults.{fault_text}
-
--- the file or the step that has a fault
-abbrev pub place_text : Place → List ℕ
-place_text (Class number) = codes "class " ++ decimal number
-place_text Listing = codes "listing"
-place_text Description = codes "description"
-place_text Link = codes "link"
 
 abbrev pub file_fault_text : FileFault → List ℕ
 file_fault_text Failed = codes "Failed"
@@ -24,7 +12,7 @@ file_fault_text Memory = codes "Memory"
 
 -- the words are no command; each command that is built follows, with its words
 abbrev pub usage_lines : List ℕ
-usage_lines = codes "jterm: usage\nprove DESC CLASS..\nasm LISTING\n"
+usage_lines = codes "jterm: usage\nprove DESC CLASS..\nrun FUEL STATE CLASS..\nasm LISTING\n"
 
 -- want of memory
 abbrev pub memory_line : List ℕ
@@ -40,7 +28,3 @@ file_line name cause = joined (codes "jterm: read " ∷ name ∷ codes ": " ∷ 
 
 abbrev pub read_line : List ℕ → FileFault → List ℕ
 read_line name fault = file_line name (file_fault_text fault)
-
--- the input has this fault at this place
-abbrev pub refusal_line : Place → Fault → List ℕ
-refusal_line place fault = joined (codes "jterm: " ∷ place_text place ∷ codes ": " ∷ fault_text fault ∷ codes "\n" ∷ [])

@@ -9,9 +9,10 @@ use Rattle.io_ports.specs.declared.files.FileFault.{FileFault}
 use Rattle.io_ports.specs.declared.files.FileFault.TheVariants.{Failed, TooLong, Missing, Memory}
 use Rattle.jterm.specs.declared.verdict.Request.{Request}
 use Rattle.jterm.specs.declared.verdict.Verdict.{Verdict}
-use Rattle.jterm.specs.declared.verdict.Refused.{Refused}
+use Rattle.input_steps.specs.declared.refused.Refused.{Refused}
 use Rattle.jterm.specs.Words.{IsCommand}
-use Rattle.jterm.specs.Decision.{IsAnswer, yes_line}
+use Rattle.prove_call.specs.Answers.{yes_line}
+use Rattle.jterm.specs.Decision.{IsAnswer}
 
 -- ---- files
 

@@ -1,16 +1,17 @@
--- Why a call ends without a verdict.
-use Rattle.std.specs.Prelude.{◌≡◌, ℕ, List, Ok, Err, ⊤}
+-- Why a call ends without a verdict, and words of numbers.
+use Rattle.std.specs.Prelude.{◌≡◌, ℕ, ◌==◌, Bool, true, false, if◌then◌else◌, List, [], ◌∷◌, length, Ok, Err, ⊤}
 use Rattle.io_ports.specs.Told.{Told}
 use Rattle.io_ports.specs.declared.files.FileFault.{FileFault}
 use Rattle.io_ports.specs.declared.files.FileFault.TheVariants.{Failed, TooLong, Missing, Memory}
 use Rattle.jterm.specs.declared.inputs.Stop.{Stop}
 use Rattle.jterm.specs.declared.inputs.Stop.TheVariants.{Unread, Broken, NoMemory}
 use Rattle.jterm.specs.declared.verdict.Request.{Request}
-use Rattle.jterm.specs.declared.verdict.Refused.TheVariants.{At}
+use Rattle.input_steps.specs.declared.refused.Refused.TheVariants.{At}
 use Rattle.jterm.specs.declared.verdict.Verdict.{Verdict}
 use Rattle.jterm.specs.Decision.{IsAnswer}
 use Rattle.jterm.specs.Words.{IsCommand}
-use Rattle.jterm.specs.Lines.{read_line, refusal_line, memory_line}
+use Rattle.input_steps.specs.Lines.{refusal_line}
+use Rattle.jterm.specs.Lines.{read_line, memory_line}
 use Rattle.jterm.specs.Outside.{AreContents, IsUnread}
 
 -- a call with this limit on files, this request and these file words, which led from old files to new ones, has this cause to stop
@@ -49,6 +50,11 @@ pub record IsAnswered (limit : ℕ) (request : Request) (names : List (List ℕ)
   pub read : AreContents limit held names contents
   pub answer : IsAnswer request contents (Ok verdict)
   pub done : verdict.status ≡ 0
+
+-- neither a plus nor a zero stands first, but in `0`
+abbrev pub is_plain : List ℕ → Bool
+is_plain [] = true
+is_plain (first ∷ rest) = if first == 43 then false else (if first == 48 then length (first ∷ rest) == 1 else true)
 
 -- want of memory has no line of its own
 abbrev pub HasLine : Stop → Type 0

@@ -1,15 +1,16 @@
 -- The words of the command line.
 use Rattle.std.specs.Prelude.{◌≡◌, ◌⊎◌, ℕ, ◌≤◌, ◌==◌, not, Bool, true, List, [], ◌∷◌, length, codes, IsTrue}
+use Rattle.std.specs.Fmt.{decimal}
 use Rattle.std.specs.List.{list_all}
 use Rattle.jterm.specs.declared.verdict.Request.{Request}
-use Rattle.jterm.specs.declared.verdict.Request.TheVariants.{Prove, Asm}
+use Rattle.jterm.specs.declared.verdict.Request.TheVariants.{Prove, Run, Asm}
 
 -- a word that names a file does not begin with `-`
 abbrev pub is_file_word : List ℕ → Bool
 is_file_word [] = true
 is_file_word (first ∷ rest) = not (first == 45)
 
--- words that name a description and 1 to 256 classes
+-- words that name a description or a state and 1 to 256 classes
 pub record AreFiles (files : List (List ℕ)) : Type 0 where
   pub some : 2 ≤ length files
   pub few : length files ≤ 257
@@ -28,6 +29,27 @@ pub record IsProveRow (words : List (List ℕ)) (request : Request) (files : Lis
   pub is_prove : IsProve words desc classes
   pub asked : request ≡ Prove 4000
   pub named : files ≡ desc ∷ classes
+
+-- a number of steps, at most 1,000,000,000, in digits without a sign or a leading zero
+pub record IsFuel (word : List ℕ) (fuel : ℕ) : Type 0 where
+  pub spelled : word ≡ decimal fuel
+  pub few : fuel ≤ 1000000000
+
+-- `run FUEL STATE CLASS..`
+pub record IsRun (words : List (List ℕ)) (fuel : ℕ) (state : List ℕ) (classes : List (List ℕ)) : Type 0 where
+  pub word : List ℕ
+  pub is_fuel : IsFuel word fuel
+  pub spelled : words ≡ codes "run" ∷ word ∷ state ∷ classes
+  pub files : AreFiles (state ∷ classes)
+
+-- the same as a row of the table of commands
+pub record IsRunRow (words : List (List ℕ)) (request : Request) (files : List (List ℕ)) : Type 0 where
+  pub fuel : ℕ
+  pub state : List ℕ
+  pub classes : List (List ℕ)
+  pub is_run : IsRun words fuel state classes
+  pub asked : request ≡ Run fuel
+  pub named : files ≡ state ∷ classes
 
 -- a word that names a listing, alone
 pub record IsListing (files : List (List ℕ)) : Type 0 where
@@ -48,4 +70,4 @@ pub record IsAsmRow (words : List (List ℕ)) (request : Request) (files : List 
 
 -- the words are a row of the table of the commands that are built
 abbrev pub IsCommand : List (List ℕ) → Request → List (List ℕ) → Type 0
-IsCommand words request files = IsProveRow words request files ⊎ IsAsmRow words request files
+IsCommand words request files = IsProveRow words request files ⊎ (IsRunRow words request files ⊎ IsAsmRow words request files)

@@ -3,12 +3,16 @@ ghost use Rattle.std.specs.Prelude.{◌≡◌, ◌↔◌, ℕ, List, ◌∷◌, 
 ghost use Rattle.std.specs.List.{list_all};
 ghost use Rattle.jterm.specs.declared.verdict.Request.{Request};
 ghost use Rattle.jterm.specs.declared.verdict.Request.TheVariants.{Prove, Asm};
-ghost use Rattle.jterm.specs.Words.{is_file_word, AreFiles, IsListing, IsProveRow, IsAsmRow, IsCommand};
+ghost use Rattle.jterm.specs.Words.{is_file_word, AreFiles, IsListing, IsFuel, IsProveRow, IsRunRow, IsAsmRow, IsCommand};
+ghost use Rattle.jterm.specs.Stop.{is_plain};
 
 use crate::Request;
 
 /// The limit on the nodes of a graph where the words name none.
 pub const DEFAULT_NODES: u32 = 4000;
+
+/// The greatest number of steps that `run` is asked for.
+pub const GREATEST_FUEL: u64 = 1_000_000_000;
 
 /// What the words of a command ask for.
 #[derive(Drop)]
@@ -30,27 +34,80 @@ impl<'a> Command<'a> {
             ((request : Request) (files : List (List ℕ)) → ¬ IsCommand (map string_bytes words.now) request files)
             (λ c. IsCommand (map string_bytes words.now) c.request (map string_bytes c.files.now)) }
     {
-        let (verb, files) = words.split_first()?;
-        let request = request_of(verb.as_str(), files)?;
-        Some(Command { request, files })
+        let (verb, rest) = words.split_first()?;
+        let command = command_of(verb.as_str(), rest)?;
+        Some(command)
     }
 }
 
-// What a word asks for with these words behind it.
-fn request_of(verb: &str, files: &[String]) -> Option<Request>
+// The command of a word with these words behind it.
+fn command_of<'a>(verb: &str, rest: &'a [String]) -> Option<Command<'a>>
     ensures { MatchOption result
-        ((request : Request) (names : List (List ℕ)) → ¬ IsCommand (verb.now ∷ map string_bytes files.now) request names)
-        (λ request. IsCommand (verb.now ∷ map string_bytes files.now) request (map string_bytes files.now)) }
+        ((request : Request) (files : List (List ℕ)) → ¬ IsCommand (verb.now ∷ map string_bytes rest.now) request files)
+        (λ c. IsCommand (verb.now ∷ map string_bytes rest.now) c.request (map string_bytes c.files.now)) }
 {
-    if is_prove(verb, files) {
-        return Some(Request::Prove {
-            nodes: DEFAULT_NODES,
+    if is_prove(verb, rest) {
+        return Some(Command {
+            request: Request::Prove {
+                nodes: DEFAULT_NODES,
+            },
+            files: rest,
         });
     }
-    if is_asm(verb, files) {
-        return Some(Request::Asm);
+    if is_asm(verb, rest) {
+        return Some(Command {
+            request: Request::Asm,
+            files: rest,
+        });
     }
-    None
+    run_of(verb, rest)
+}
+
+// A `run` with its number of steps.
+fn run_of<'a>(verb: &str, rest: &'a [String]) -> Option<Command<'a>>
+    ensures { MatchOption result
+        ((request : Request) (files : List (List ℕ)) → ¬ IsRunRow (verb.now ∷ map string_bytes rest.now) request files)
+        (λ c. IsRunRow (verb.now ∷ map string_bytes rest.now) c.request (map string_bytes c.files.now)) }
+{
+    if verb != "run" {
+        return None;
+    }
+    let (fuel, files) = rest.split_first()?;
+    let fuel = fuel_of(fuel.as_str())?;
+    if !are_files(files) {
+        return None;
+    }
+    Some(Command {
+        request: Request::Run { fuel },
+        files,
+    })
+}
+
+// The number of steps that a word asks for.
+fn fuel_of(word: &str) -> Option<u64>
+    ensures { MatchOption result ((fuel : ℕ) → ¬ IsFuel word.now fuel) (λ fuel. IsFuel word.now fuel) }
+{
+    if !is_plain(word.as_bytes()) {
+        return None;
+    }
+    let Ok(fuel) = word.parse::<u64>() else {
+        return None;
+    };
+    if fuel > GREATEST_FUEL {
+        return None;
+    }
+    Some(fuel)
+}
+
+// No sign and no leading zero.
+fn is_plain(word: &[u8]) -> bool
+    ensures { result ≡ is_plain word.now }
+{
+    match word.first() {
+        Some(b'+') => false,
+        Some(b'0') => word.len() == 1,
+        _ => true,
+    }
 }
 
 fn is_prove(verb: &str, files: &[String]) -> bool
@@ -72,7 +129,7 @@ fn is_listing(words: &[String]) -> bool
     words.len() == 1 && are_file_words(words)
 }
 
-// A description and 1 to 256 classes, each word one that can name a file.
+// A description or a state and 1 to 256 classes, each word one that can name a file.
 fn are_files(words: &[String]) -> bool
     ensures { IsTrue result ↔ AreFiles (map string_bytes words.now) }
 {

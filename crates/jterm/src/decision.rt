@@ -1,64 +1,28 @@
 //! The decision over the bytes of the input files.
-ghost use Rattle.std.specs.Prelude.{◌≡◌, ◌≤◌, List, ℕ, ◌∷◌, length, map, IfOk};
-ghost use Rattle.jterm.specs.Decision.{Takes, SaysYes, Answers, IsAnswer, YesOrMemory};
-ghost use Rattle.jterm.specs.Headline.{AllEnd};
+ghost use Rattle.std.specs.Prelude.{◌≡◌, List, ℕ, ◌∷◌, map, IfOk};
+ghost use Rattle.prove_call.specs.Headline.{AllEnd};
+ghost use Rattle.jterm.specs.Decision.{Takes, SaysYes, IsAnswer, done_of};
 
-use crate::classes::{close, entry, link, read_classes};
-use crate::first_path::is_first_path;
-use crate::line::read_line;
 use crate::listing::assemble_listing;
-use crate::verdict::{Fault, Place, Refused, Request, Verdict};
+use crate::verdict::{Request, Verdict};
+use input_steps::Refused;
 use list_views::Seq;
+use prove_call::prove_line;
+use run_call::run_line;
 use std::alloc::Global;
 
-/// The answer yes.
-fn yes(alloc: Global) -> Result<Verdict, Refused>
-    ensures { YesOrMemory result }
+/// The verdict of a command that is done, with this output.
+fn done(out: Result<Seq<u8>, Refused>) -> Result<Verdict, Refused>
+    ensures { result ≡ done_of out }
 {
-    Ok(Verdict {
-        status: 0,
-        out: Seq::from_slice(alloc, b"YES\n")?,
-    })
-}
-
-/// The description is refused, or the program: what they ask for is not built yet.
-fn not_built(place: Place) -> Refused
-    ensures { result ≡ Refused.At place Fault.NotBuilt }
-{
-    Refused::At {
-        place,
-        fault: Fault::NotBuilt,
+    match out {
+        Ok(out) => Ok(Verdict { status: 0, out }),
+        Err(refused) => Err(refused),
     }
-}
-
-/// The decision on a description and class files.
-fn decide_classes(alloc: Global, description: &[u8], files: &[Vec<u8>]) -> Result<Verdict, Refused>
-    requires { length files.now ≤ 256 }
-    ensures { Answers description.now (map (λ file. file.items) files.now) result }
-{
-    let classes = read_classes(alloc, files)?;
-    let Some(line) = read_line(description) else {
-        return Err(not_built(Place::Description));
-    };
-    let world = match link(alloc, classes) {
-        Ok(world) => world,
-        Err(refused) => return Err(refused),
-    };
-    let Some(entry) = entry(alloc, &world, &line)? else {
-        return Err(not_built(Place::Description));
-    };
-    let program = match close(alloc, world, entry) {
-        Ok(program) => program,
-        Err(refused) => return Err(refused),
-    };
-    if !is_first_path(alloc, line.params, &program)? {
-        return Err(not_built(Place::Link));
-    }
-    yes(alloc)
 }
 
 /// Does what the request asks for with the bytes of the files that its command names, in the order of the words:
-/// the description, and then the classes; or the listing.
+/// the description or the state, and then the classes; or the listing.
 ///
 /// # Errors
 ///
@@ -74,7 +38,8 @@ pub fn decide(alloc: Global, request: &Request, inputs: &[Vec<u8>]) -> Result<Ve
     ensures answer { IsAnswer request.now (map (λ file. file.items) inputs.now) result }
 {
     match request {
-        Request::Prove { .. } => decide_classes(alloc, inputs[0].as_slice(), &inputs[1..]),
-        Request::Asm => assemble_listing(alloc, inputs[0].as_slice()),
+        Request::Prove { .. } => done(prove_line(alloc, inputs[0].as_slice(), &inputs[1..])),
+        Request::Run { fuel } => done(run_line(alloc, *fuel, inputs[0].as_slice(), &inputs[1..])),
+        Request::Asm => done(assemble_listing(alloc, inputs[0].as_slice())),
     }
 }

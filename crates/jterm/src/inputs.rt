@@ -5,7 +5,7 @@ ghost use Rattle.jterm.specs.Stop.{HasCause, stopped_at};
 ghost use Rattle.jterm.specs.declared.inputs.Stop.TheVariants.{NoMemory};
 
 use crate::commands::Command;
-use crate::{Fault, Place};
+use input_steps::{Fault, Place};
 use io_ports::{FileFault, Files};
 use list_views::Bytes;
 use std::alloc::{AllocError, AllocFailed, Global};

@@ -1,8 +1,7 @@
 //! The lines that say why a call has no output.
-ghost use Rattle.std.specs.Prelude.{◌≡◌, IfOk, string_bytes};
-ghost use Rattle.jterm.specs.Lines.{usage_lines, memory_line, write_line, file_line, read_line, refusal_line, file_fault_text, place_text};
+ghost use Rattle.std.specs.Prelude.{◌≡◌, IfOk};
+ghost use Rattle.jterm.specs.Lines.{usage_lines, memory_line, write_line, file_line, read_line, file_fault_text};
 
-use crate::{Fault, Place};
 use fault_words::joined;
 use io_ports::FileFault;
 use list_views::Seq;
@@ -12,7 +11,7 @@ use std::alloc::{AllocError, Global};
 pub(crate) fn usage_text() -> &'static [u8]
     ensures { result.now ≡ usage_lines }
 {
-    b"jterm: usage\nprove DESC CLASS..\nasm LISTING\n"
+    b"jterm: usage\nprove DESC CLASS..\nrun FUEL STATE CLASS..\nasm LISTING\n"
 }
 
 /// Memory ran out.
@@ -42,22 +41,6 @@ fn file_line(alloc: Global, name: &[u8], cause: &[u8]) -> Result<Seq<u8>, AllocE
     joined(alloc, &[b"jterm: read ", name, b": ", cause, b"\n"])
 }
 
-/// The input has this fault at this place.
-pub(crate) fn refusal_text(
-    alloc: Global,
-    place: Place,
-    fault: &Fault,
-) -> Result<Seq<u8>, AllocError>
-    ensures { IfOk result (λ line. line ≡ refusal_line place fault.now) }
-{
-    let place = place_text(alloc, place)?;
-    let fault = fault.text(alloc)?;
-    joined(
-        alloc,
-        &[b"jterm: ", place.as_bytes(), b": ", fault.as_slice(), b"\n"],
-    )
-}
-
 fn file_fault_name(fault: FileFault) -> &'static [u8]
     ensures { result.now ≡ file_fault_text fault }
 {
@@ -66,16 +49,5 @@ fn file_fault_name(fault: FileFault) -> &'static [u8]
         FileFault::TooLong => b"TooLong",
         FileFault::Missing => b"Missing",
         FileFault::Memory => b"Memory",
-    }
-}
-
-fn place_text(alloc: Global, place: Place) -> Result<String, AllocError>
-    ensures { IfOk result (λ text. string_bytes text ≡ place_text place) }
-{
-    match place {
-        Place::Class(number) => format!(in alloc; "class {number}"),
-        Place::Listing => String::from_str(alloc, "listing"),
-        Place::Description => String::from_str(alloc, "description"),
-        Place::Link => String::from_str(alloc, "link"),
     }
 }

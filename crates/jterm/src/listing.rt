@@ -1,10 +1,10 @@
 //! Listings into class files.
 ghost use Rattle.std.specs.Prelude.{◌≡◌};
-ghost use Rattle.jterm.specs.Decision.{Assembles};
-ghost use Rattle.jterm.specs.Refusals.{listing_refusal};
+ghost use Rattle.jterm.specs.Decision.{Assembles, listing_refusal};
 
-use crate::{Fault, Place, Refused, Verdict};
 use class_asm::{AsmFault, assemble};
+use input_steps::{Fault, Place, Refused};
+use list_views::Seq;
 use std::alloc::Global;
 
 /// What is said of a listing that has this fault.
@@ -21,11 +21,11 @@ fn listing_refusal(fault: AsmFault) -> Refused
 }
 
 /// The bytes of the class file that a listing says.
-pub(crate) fn assemble_listing(alloc: Global, listing: &[u8]) -> Result<Verdict, Refused>
+pub(crate) fn assemble_listing(alloc: Global, listing: &[u8]) -> Result<Seq<u8>, Refused>
     ensures { Assembles listing.now result }
 {
     match assemble(alloc, listing) {
-        Ok(out) => Ok(Verdict { status: 0, out }),
+        Ok(out) => Ok(out),
         Err(fault) => Err(listing_refusal(fault)),
     }
 }

@@ -5,20 +5,22 @@ ghost use Rattle.io_ports.specs.Count.{Rose};
 ghost use Rattle.io_ports.specs.declared.files.FileFault.{FileFault};
 ghost use Rattle.jterm.specs.declared.verdict.Request.{Request};
 ghost use Rattle.jterm.specs.declared.verdict.Verdict.{Verdict};
-ghost use Rattle.jterm.specs.declared.verdict.Place.{Place};
-ghost use Rattle.jterm.specs.declared.verdict.Fault.{Fault};
-ghost use Rattle.jterm.specs.declared.verdict.Refused.TheVariants.{At};
+ghost use Rattle.input_steps.specs.declared.refused.Place.{Place};
+ghost use Rattle.input_steps.specs.declared.refused.Fault.{Fault};
+ghost use Rattle.input_steps.specs.declared.refused.Refused.TheVariants.{At};
 ghost use Rattle.jterm.specs.Words.{IsProve, IsCommand};
 ghost use Rattle.jterm.specs.Decision.{IsAnswer};
-ghost use Rattle.jterm.specs.Headline.{AllEnd};
-ghost use Rattle.jterm.specs.Lines.{usage_lines, memory_line, write_line, read_line, refusal_line};
+ghost use Rattle.prove_call.specs.Headline.{AllEnd};
+ghost use Rattle.input_steps.specs.Lines.{refusal_line};
+ghost use Rattle.jterm.specs.Lines.{usage_lines, memory_line, write_line, read_line};
 ghost use Rattle.jterm.specs.Outside.{AreTold, AreHanded, IsUnread, FirstAreRead, Decided, Puts, Claims, IsWithoutVerdict, IsWritten, file_limit};
 ghost use Rattle.jterm.specs.Stop.{HasCause, AreOfCommand, IsAnswered, HasLine, status_of, line_of};
 
 use crate::commands::Command;
 use crate::inputs::{Stop, read_inputs};
-use crate::lines::{memory_text, read_text, refusal_text, usage_text, write_text};
-use crate::{Refused, Verdict, decide};
+use crate::lines::{memory_text, read_text, usage_text, write_text};
+use crate::{Verdict, decide};
+use input_steps::{Refused, refusal_text};
 use io_ports::{Files, Sink};
 use list_views::Seq;
 use std::alloc::{AllocError, Global};
@@ -123,7 +125,7 @@ fn write_out<O: Sink, E: Sink>(verdict: Verdict, out: &mut O, err: &mut E) -> Do
 /// Reads the words of the command line and the files that they name, decides over their contents, writes the output
 /// to `out` and a line for a call without one to `err`, and gives the exit status:
 ///
-/// - 0: YES, or the class file's bytes;
+/// - 0: YES, how a run ended, or the class file's bytes;
 /// - 3: the input is refused;
 /// - 4: the words are no command;
 /// - 5: a file was not read;

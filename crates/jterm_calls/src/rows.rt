@@ -4,7 +4,13 @@ use jterm::jterm;
 use std::alloc::{AllocError, Global};
 use std::test::Fail;
 
-const LINE: &[u8] = b"A f ()I\n";
+/// A description of a method without parameters.
+const DESC: &[u8] =
+    b"{\"form\":1,\"class\":\"A\",\"method\":\"f\",\"desc\":\"()I\",\"params\":[],\"same\":[],\"share\":[]}";
+
+/// A state of the same method.
+const STATE: &[u8] =
+    b"{\"form\":1,\"class\":\"A\",\"method\":\"f\",\"desc\":\"()I\",\"args\":[],\"heap\":[]}";
 
 /// A static method that returns 7.
 const LISTING: &[u8] = b"class A\nmethod f ()I static stack 1 locals 0\nbipush 7\nireturn\nend\n";
@@ -62,11 +68,38 @@ fn proved(
     failing: &[u64],
     room: usize,
 ) -> Result<Outcome, AllocError> {
+    described(alloc, listing, DESC, failing, room)
+}
+
+// What is said of the class of a listing and this description, where the reads with these numbers fail.
+fn described(
+    alloc: Global,
+    listing: &[u8],
+    desc: &[u8],
+    failing: &[u64],
+    room: usize,
+) -> Result<Outcome, AllocError> {
     let class = assembled(alloc, listing)?;
     let mut held = Vec::new(alloc);
-    held.push(file(alloc, "d", LINE)?)?;
+    held.push(file(alloc, "d", desc)?)?;
     held.push(file(alloc, "a", class.out.bytes())?)?;
     call(alloc, &["prove", "d", "a"], held, failing, room)
+}
+
+// How a run of so many steps from a state ends in the class of a listing, where the reads with these numbers fail.
+fn ran(
+    alloc: Global,
+    fuel: &str,
+    listing: &[u8],
+    state: &[u8],
+    failing: &[u64],
+    room: usize,
+) -> Result<Outcome, AllocError> {
+    let class = assembled(alloc, listing)?;
+    let mut held = Vec::new(alloc);
+    held.push(file(alloc, "s", state)?)?;
+    held.push(file(alloc, "a", class.out.bytes())?)?;
+    call(alloc, &["run", fuel, "s", "a"], held, failing, room)
 }
 
 #[test]
@@ -128,9 +161,24 @@ fn a_static_field_that_no_instruction_names_changes_nothing(rt: HostRuntime) -> 
 fn a_static_field_that_is_read_links_and_is_not_built_yet(rt: HostRuntime) -> Result<(), Fail> {
     let listing =
         b"class A\nfield total I static\nmethod f ()I static stack 1 locals 0\ngetstatic A total I\nireturn\nend\n";
-    let outcome = proved(rt.alloc(), listing, &[], 100)?;
+    let desc =
+        b"{\"form\":2,\"class\":\"A\",\"method\":\"f\",\"desc\":\"()I\",\"params\":[],\"same\":[],\"share\":[],\"statics\":[{\"lo\":0,\"hi\":9}]}";
+    let outcome = described(rt.alloc(), listing, desc, &[], 100)?;
     assert_eq!(rt; outcome.status, 3);
     assert_eq!(rt; outcome.err.bytes(), b"jterm: link: NotBuilt\n".as_slice());
+    Ok(())
+}
+
+#[test]
+fn a_static_field_that_is_not_described_is_refused(rt: HostRuntime) -> Result<(), Fail> {
+    let listing =
+        b"class A\nfield total I static\nmethod f ()I static stack 1 locals 0\ngetstatic A total I\nireturn\nend\n";
+    let outcome = proved(rt.alloc(), listing, &[], 100)?;
+    assert_eq!(rt; outcome.status, 3);
+    assert_eq!(rt;
+        outcome.err.bytes(),
+        b"jterm: description: StaticCount\n".as_slice()
+    );
     Ok(())
 }
 
@@ -146,7 +194,7 @@ fn a_loop_is_not_built_yet(rt: HostRuntime) -> Result<(), Fail> {
 #[test]
 fn a_class_file_is_refused_before_its_description(rt: HostRuntime) -> Result<(), Fail> {
     let mut held = Vec::new(rt.alloc());
-    held.push(file(rt.alloc(), "d", b"no line")?)?;
+    held.push(file(rt.alloc(), "d", b"no text")?)?;
     held.push(file(rt.alloc(), "a", b"no class file")?)?;
     let outcome = call(rt.alloc(), &["prove", "d", "a"], held, &[], 100)?;
     assert_eq!(rt; outcome.status, 3);
@@ -172,7 +220,7 @@ fn a_faulty_line_of_a_listing_is_named(rt: HostRuntime) -> Result<(), Fail> {
 #[test]
 fn a_file_that_is_not_there_is_named(rt: HostRuntime) -> Result<(), Fail> {
     let mut held = Vec::new(rt.alloc());
-    held.push(file(rt.alloc(), "d", LINE)?)?;
+    held.push(file(rt.alloc(), "d", DESC)?)?;
     let outcome = call(rt.alloc(), &["prove", "d", "a"], held, &[], 100)?;
     assert_eq!(rt; outcome.status, 5);
     assert_eq!(rt; outcome.err.bytes(), b"jterm: read a: Missing\n".as_slice());
@@ -200,7 +248,7 @@ fn a_limit_of_no_nodes_is_no_command(rt: HostRuntime) -> Result<(), Fail> {
     assert_eq!(rt; outcome.status, 4);
     assert_eq!(rt;
         outcome.err.bytes(),
-        b"jterm: usage\nprove DESC CLASS..\nasm LISTING\n".as_slice()
+        b"jterm: usage\nprove DESC CLASS..\nrun FUEL STATE CLASS..\nasm LISTING\n".as_slice()
     );
     Ok(())
 }
@@ -219,6 +267,156 @@ fn an_output_without_room_is_told(rt: HostRuntime) -> Result<(), Fail> {
     let outcome = proved(rt.alloc(), LISTING, &[], 3)?;
     assert_eq!(rt; outcome.status, 6);
     assert_eq!(rt; outcome.out.bytes(), b"YES".as_slice());
+    assert_eq!(rt; outcome.err.bytes(), b"jterm: write: Failed\n".as_slice());
+    Ok(())
+}
+
+#[test]
+fn a_cycle_of_calls_is_refused_before_what_is_not_built(rt: HostRuntime) -> Result<(), Fail> {
+    let listing =
+        b"class A\nmethod f ()I static stack 1 locals 0\ninvokestatic A f ()I\nireturn\nend\n";
+    let outcome = proved(rt.alloc(), listing, &[], 100)?;
+    assert_eq!(rt; outcome.status, 3);
+    assert_eq!(rt;
+        outcome.err.bytes(),
+        b"jterm: recursion: Recursive method=A.f()I\n".as_slice()
+    );
+    Ok(())
+}
+
+#[test]
+fn a_method_without_a_typing_is_named(rt: HostRuntime) -> Result<(), Fail> {
+    let listing = b"class A\nmethod f ()I static stack 1 locals 0\naconst_null\nireturn\nend\n";
+    let outcome = proved(rt.alloc(), listing, &[], 100)?;
+    assert_eq!(rt; outcome.status, 3);
+    assert_eq!(rt;
+        outcome.err.bytes(),
+        b"jterm: verify: NoTyping method=A.f()I\n".as_slice()
+    );
+    Ok(())
+}
+
+#[test]
+fn a_description_of_another_method_is_refused(rt: HostRuntime) -> Result<(), Fail> {
+    let desc =
+        b"{\"form\":1,\"class\":\"A\",\"method\":\"g\",\"desc\":\"()I\",\"params\":[],\"same\":[],\"share\":[]}";
+    let outcome = described(rt.alloc(), LISTING, desc, &[], 100)?;
+    assert_eq!(rt; outcome.status, 3);
+    assert_eq!(rt;
+        outcome.err.bytes(),
+        b"jterm: description: NoMethod\n".as_slice()
+    );
+    Ok(())
+}
+
+#[test]
+fn an_interval_without_an_int_is_refused(rt: HostRuntime) -> Result<(), Fail> {
+    let listing = b"class A\nmethod f (I)I static stack 1 locals 1\niload 0\nireturn\nend\n";
+    let desc =
+        b"{\"form\":1,\"class\":\"A\",\"method\":\"f\",\"desc\":\"(I)I\",\"params\":[{\"lo\":5,\"hi\":4}],\"same\":[],\"share\":[]}";
+    let outcome = described(rt.alloc(), listing, desc, &[], 100)?;
+    assert_eq!(rt; outcome.status, 3);
+    assert_eq!(rt;
+        outcome.err.bytes(),
+        b"jterm: description: EmptyInterval i=0\n".as_slice()
+    );
+    Ok(())
+}
+
+#[test]
+fn a_method_over_some_ints_is_proved(rt: HostRuntime) -> Result<(), Fail> {
+    let listing =
+        b"class A\nmethod f (I)I static stack 2 locals 1\niload 0\nbipush -1\niadd\nireturn\nend\n";
+    let desc =
+        b"{\"form\":1,\"class\":\"A\",\"method\":\"f\",\"desc\":\"(I)I\",\"params\":[{\"lo\":0,\"hi\":9}],\"same\":[],\"share\":[]}";
+    let outcome = described(rt.alloc(), listing, desc, &[], 100)?;
+    assert_eq!(rt; outcome.status, 0);
+    assert_eq!(rt; outcome.out.bytes(), b"YES\n".as_slice());
+    Ok(())
+}
+
+#[test]
+fn a_run_returns_an_int(rt: HostRuntime) -> Result<(), Fail> {
+    let outcome = ran(rt.alloc(), "2", LISTING, STATE, &[], 100)?;
+    assert_eq!(rt; outcome.status, 0);
+    assert_eq!(rt; outcome.out.bytes(), b"RETURNED int 7\n".as_slice());
+    assert_eq!(rt; outcome.err.bytes(), b"".as_slice());
+    Ok(())
+}
+
+#[test]
+fn a_run_of_too_few_steps_goes_on(rt: HostRuntime) -> Result<(), Fail> {
+    let outcome = ran(rt.alloc(), "1", LISTING, STATE, &[], 100)?;
+    assert_eq!(rt; outcome.status, 0);
+    assert_eq!(rt; outcome.out.bytes(), b"GOING 1\n".as_slice());
+    Ok(())
+}
+
+#[test]
+fn a_run_that_divides_by_0_throws(rt: HostRuntime) -> Result<(), Fail> {
+    let listing =
+        b"class A\nmethod f ()I static stack 2 locals 0\nbipush 7\niconst_0\nidiv\nireturn\nend\n";
+    let outcome = ran(rt.alloc(), "1000000000", listing, STATE, &[], 100)?;
+    assert_eq!(rt; outcome.status, 0);
+    assert_eq!(rt;
+        outcome.out.bytes(),
+        b"THREW java/lang/ArithmeticException\n".as_slice()
+    );
+    Ok(())
+}
+
+#[test]
+fn an_object_with_a_field_of_another_kind_is_refused(rt: HostRuntime) -> Result<(), Fail> {
+    let listing =
+        b"class N\nfield next LN;\nmethod f (LN;)I static stack 1 locals 1\niconst_0\nireturn\nend\n";
+    let state =
+        b"{\"form\":1,\"class\":\"N\",\"method\":\"f\",\"desc\":\"(LN;)I\",\"args\":[{\"ref\":0}],\"heap\":[{\"class\":\"N\",\"fields\":[0]}]}";
+    let outcome = ran(rt.alloc(), "9", listing, state, &[], 100)?;
+    assert_eq!(rt; outcome.status, 3);
+    assert_eq!(rt; outcome.out.bytes(), b"".as_slice());
+    assert_eq!(rt;
+        outcome.err.bytes(),
+        b"jterm: state: BadObject n=0\n".as_slice()
+    );
+    Ok(())
+}
+
+#[test]
+fn a_number_of_steps_with_a_leading_zero_is_no_command(rt: HostRuntime) -> Result<(), Fail> {
+    let outcome = ran(rt.alloc(), "01", LISTING, STATE, &[], 100)?;
+    assert_eq!(rt; outcome.status, 4);
+    Ok(())
+}
+
+#[test]
+fn a_number_of_steps_past_the_greatest_is_no_command(rt: HostRuntime) -> Result<(), Fail> {
+    let outcome = ran(rt.alloc(), "1000000001", LISTING, STATE, &[], 100)?;
+    assert_eq!(rt; outcome.status, 4);
+    Ok(())
+}
+
+#[test]
+fn a_state_that_is_not_read_is_named(rt: HostRuntime) -> Result<(), Fail> {
+    let outcome = ran(rt.alloc(), "2", LISTING, STATE, &[0], 100)?;
+    assert_eq!(rt; outcome.status, 5);
+    assert_eq!(rt; outcome.out.bytes(), b"".as_slice());
+    assert_eq!(rt; outcome.err.bytes(), b"jterm: read s: Failed\n".as_slice());
+    Ok(())
+}
+
+#[test]
+fn a_class_that_is_not_read_for_a_run_is_named(rt: HostRuntime) -> Result<(), Fail> {
+    let outcome = ran(rt.alloc(), "2", LISTING, STATE, &[1], 100)?;
+    assert_eq!(rt; outcome.status, 5);
+    assert_eq!(rt; outcome.err.bytes(), b"jterm: read a: Failed\n".as_slice());
+    Ok(())
+}
+
+#[test]
+fn a_run_whose_line_is_not_taken_is_told(rt: HostRuntime) -> Result<(), Fail> {
+    let outcome = ran(rt.alloc(), "2", LISTING, STATE, &[], 9)?;
+    assert_eq!(rt; outcome.status, 6);
+    assert_eq!(rt; outcome.out.bytes(), b"RETURNED ".as_slice());
     assert_eq!(rt; outcome.err.bytes(), b"jterm: write: Failed\n".as_slice());
     Ok(())
 }

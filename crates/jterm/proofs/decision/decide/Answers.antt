@@ -1,6 +1,21 @@
-use Rattle.jterm.proofs.Deciding.{headline_at}
+use Rattle.std.proofs.Common.{map}
+use Rattle.jterm.proofs.Deciding.{some_inputs, inputs_are, prove_answer, run_answer, headline_at}
 use Rattle.jterm.proofs.decision.decide.Goals as goal
 
 pub returns-in-Prove-clause-headline : goal.returns-in-Prove-clause-headline
 returns-in-Prove-clause-headline c nodes desc classes asked given =
-    headline_at (λ file. file.items) c.args.inputs.now c.index-inputs-0.result c.as_slice.result.now desc classes c.decide_classes.result c.index-inputs-0.is c.as_slice.ensures.value given c.decide_classes.ensures
+    let some = some_inputs c.args.request.now (map (λ file. file.items) c.args.inputs.now) c.requires in
+    let split = inputs_are (λ file. file.items) c.args.inputs.now c.index-inputs-0.result c.as_slice.result.now some c.index-inputs-0.is c.as_slice.ensures.value in
+    headline_at (map (λ file. file.items) c.args.inputs.now) c.as_slice.result.now _ desc classes c.prove_line.result c.done.result split given c.done.ensures c.prove_line.ensures
+
+pub returns-in-Prove-clause-answer : goal.returns-in-Prove-clause-answer
+returns-in-Prove-clause-answer c =
+    let some = some_inputs c.args.request.now (map (λ file. file.items) c.args.inputs.now) c.requires in
+    let split = inputs_are (λ file. file.items) c.args.inputs.now c.index-inputs-0.result c.as_slice.result.now some c.index-inputs-0.is c.as_slice.ensures.value in
+    prove_answer c.args.request.now _ (map (λ file. file.items) c.args.inputs.now) c.as_slice.result.now _ c.prove_line.result c.done.result c.in-Prove.is split c.done.ensures c.prove_line.ensures
+
+pub returns-in-Run-clause-answer : goal.returns-in-Run-clause-answer
+returns-in-Run-clause-answer c =
+    let some = some_inputs c.args.request.now (map (λ file. file.items) c.args.inputs.now) c.requires in
+    let split = inputs_are (λ file. file.items) c.args.inputs.now c.index-inputs-0-in-Run.result c.as_slice-in-Run.result.now some c.index-inputs-0-in-Run.is c.as_slice-in-Run.ensures.value in
+    run_answer c.args.request.now _ (map (λ file. file.items) c.args.inputs.now) c.as_slice-in-Run.result.now _ c.run_line.result c.done-in-Run.result c.in-Run.is split c.done-in-Run.ensures c.run_line.ensures

@@ -1,6 +1,6 @@
-use Rattle.std.proofs.Common.{◌∷◌, [], arith}
+use Rattle.std.proofs.Common.{arith}
 use Rattle.jterm.specs.Outside.{Puts}
-use Rattle.jterm.proofs.Endings.{unclaimed, refused, unread, not_zero, not_four, says_memory, headline, complete, complete_written, never_answered, refuses, decided, unwritten}
+use Rattle.jterm.proofs.Endings.{unclaimed, refused, unread, not_zero, not_four, says_memory, headline, complete, complete_written, never_answered, refuses, decided, unwritten, done_is_no_usage}
 use Rattle.jterm.proofs.top.jterm.Goals as goal
 
 pub returns-in_default-clause-headline : goal.returns-in_default-clause-headline
@@ -63,3 +63,7 @@ returns-in-Err-clause-usage g c =
 pub returns-in-Err-clause-says_memory : goal.returns-in-Err-clause-says_memory
 returns-in-Err-clause-says_memory g c =
     says_memory c.in-Err.stop c.report.result (Puts g.E.Sink.faults g.E.Sink.taken c.args.err.now c.report.new.err) c.report.ensures
+
+pub returns-in-Ok-clause-usage : goal.returns-in-Ok-clause-usage
+returns-in-Ok-clause-usage g c =
+    done_is_no_usage _ _ _ _ c.write_out.result.status c.in-Some.ensures c.in-Ok.ensures.answered.done c.write_out.ensures.line

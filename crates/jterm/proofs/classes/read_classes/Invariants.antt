@@ -1,6 +1,0 @@
-use Rattle.std.proofs.Common.{map, take}
-use Rattle.jterm.specs.Headline.{AllSpell}
-use Rattle.jterm.proofs.classes.read_classes.Given as goal
-
-abbrev pub invariant-loop-number : goal.invariant-loop-number
-invariant-loop-number l = AllSpell (take l.number (map (λ file. file.items) l.files)) l.classes.items

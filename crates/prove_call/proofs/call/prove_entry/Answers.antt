@@ -1,0 +1,10 @@
+use Rattle.class_world.specs.Worlds.{classes_of}
+use Rattle.class_program.specs.Views.{program_of}
+use Rattle.prove_call.proofs.Answering.{program_refused, entry_goes}
+use Rattle.prove_call.proofs.call.prove_entry.Goals as goal
+
+pub returns-in-Err : goal.returns-in-Err
+returns-in-Err c = program_refused c.args.text (classes_of c.args.world) c.args.entry c.in-Err.refused c.in-Err.ensures.refused
+
+pub returns-in-Ok : goal.returns-in-Ok
+returns-in-Ok c = entry_goes c.args.text (classes_of c.args.world) c.args.entry (program_of c.in-Ok.program) _ c.in-Ok.ensures.program c.prove_program.ensures
