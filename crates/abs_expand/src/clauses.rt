@@ -12,7 +12,7 @@ use code_verify::Typing;
 
 /// The first clause that a state breaks, or None where it has an expansion. It takes no memory, and as many steps as the state
 /// names ids, each with a look-up.
-pub(crate) fn bad_clause<P: Pairs>(
+pub fn bad_clause<P: Pairs>(
     program: &Program<'_>,
     typing: &Typing,
     state: &AbsState<P>,

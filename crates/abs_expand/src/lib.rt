@@ -18,6 +18,7 @@ mod spot;
 mod switches;
 mod turns;
 
+pub use clauses::bad_clause;
 pub use expanding::expand;
 pub use fault::ExpandFault;
 pub use int_forms::{has_int_forms, is_int_state};

@@ -1,3 +1,5 @@
 pub mod Alike
+pub mod Answering
 pub mod Excluding
 pub mod Following
+pub mod Naming

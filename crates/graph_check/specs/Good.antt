@@ -9,6 +9,7 @@ use Rattle.class_world.specs.WorldTypes.{types_of}
 use Rattle.class_program.specs.Programs.{Program}
 use Rattle.frame_types.specs.Tables.{CodeTypes}
 use Rattle.term_graph.specs.declared.links.Link.{Link}
+use Rattle.term_graph.specs.declared.links.Links.{Links}
 use Rattle.term_graph.specs.declared.nodes.By.{By}
 use Rattle.term_graph.specs.declared.nodes.By.TheVariants.{Expand, Instance, End, Todo}
 use Rattle.term_graph.specs.Graphs.{GraphNode, GraphChild}
@@ -135,7 +136,7 @@ IsFault p typing nodes root number whats.Root = (number ≡ 0) × (IsRooted node
 IsFault p typing nodes root number what = IsRooted nodes root × IsFirstBadNode p typing nodes number what
 
 -- the links of a good graph, or its first fault. Want of memory says nothing
-abbrev pub Tells : Program → (ℕ → CodeTypes) → List GraphNode → AbstractState → Result (List (List Link)) CheckFault → Type 0
-Tells p typing nodes root (Ok links) = GraphOk p typing nodes root links
+abbrev pub Tells : Program → (ℕ → CodeTypes) → List GraphNode → AbstractState → Result Links CheckFault → Type 0
+Tells p typing nodes root (Ok links) = GraphOk p typing nodes root links.nodes
 Tells p typing nodes root (Err (At number what)) = IsFault p typing nodes root number what
 Tells p typing nodes root (Err Memory) = Unit {0}

@@ -1,3 +1,5 @@
+pub mod Checked
+pub mod Conditions
 pub mod Exclusion
 pub mod Filling
 pub mod Good

@@ -22,7 +22,7 @@ pub enum What {
     /// A number that it names is no node's, or that node's state isn't the child.
     Child {
         /// The place of the first such number, from 0.
-        n: u32,
+        n: usize,
     },
     /// It says that the run ends, or says nothing, where the run goes on.
     NotEnd,

@@ -1,8 +1,13 @@
-//! Whether a termination graph is a good one: the definitions so far, and what good graphs promise.
+//! Whether a termination graph is a good one, and what good graphs promise.
 #![tactic(auto)]
 
+mod checking;
+mod children;
+mod failure;
 mod fault;
 mod laws;
+mod leaving;
 
+pub use checking::check_graph;
 pub use fault::{CheckFault, What};
 pub use laws::{good_graphs_have_no_fault, graphs_hold_runs};
