@@ -395,14 +395,14 @@ last_nodes_end heaps_closed typed_steps meets holds p typing nodes cuts root clo
     last_ends p typing nodes cuts root c closed ints typing_is keeps holds typed_steps heaps_closed meets station at last
 
 pub runs_end : TypedHeapsAreClosed → StepsAreTyped → RunsAreNeverStuck → FittingStatesAreTyped → FittingStatesAreDescribed → WalksMeetRules → GraphsHoldRuns → CertifiedRunsEnd
-runs_end heaps_closed typed_steps never_stuck are_typed are_described meets holds p typing text desc nodes cuts closed ints typing_is unfaulted described keeps c state fits =
-    let typed = are_typed p text desc typing state closed typing_is unfaulted described fits in
+runs_end heaps_closed typed_steps never_stuck are_typed are_described meets holds p typing desc nodes cuts closed ints typing_is own keeps c state fits =
+    let typed = are_typed p desc typing state closed typing_is own fits in
     let spot : Spot = record { machine = state; meaning = input_values (fits.args ++ state.statics) } in
     let rooted = c.graph.rooted in
     let at : IsAt p typing nodes (record { node = 0; spot = spot }) = record {
       node = rooted.node;
       is = rooted.is;
-      fits = subst (λ (s : AbstractState). Fits (types_of p.world) s state spot.meaning) (sym rooted.state_is) (are_described p text desc state closed unfaulted described fits);
+      fits = subst (λ (s : AbstractState). Fits (types_of p.world) s state spot.meaning) (sym rooted.state_is) (are_described p desc state closed own fits);
       typed = typed;
     } in
     let walks = walks_end_at_root p typing nodes cuts (initial_of p desc) c closed ints typing_is keeps holds typed_steps heaps_closed meets spot at in (

@@ -1,14 +1,13 @@
 -- Walks and runs end where a certificate shows it, and the expansions of its nodes' states are true of the machine.
-use Rattle.std.specs.Prelude.{◌≡◌, ℕ, List, None}
+use Rattle.std.specs.Prelude.{◌≡◌, ℕ, List}
 use Rattle.jvm_values.specs.States.{MachineState}
 use Rattle.class_program.specs.Programs.{Program, IsClosed}
 use Rattle.frame_types.specs.Tables.{CodeTypes}
 use Rattle.code_verify.specs.Typings.{IsTypingOf}
 use Rattle.jvm_step.specs.Running.{Ends, IsNeverStuck}
 use Rattle.jvm_run.specs.Laws.{HasInts}
-use Rattle.input_text.specs.declared.texts.DescText.{DescText}
 use Rattle.input_desc.specs.declared.desc.Desc.{Desc}
-use Rattle.input_desc.specs.Descs.{desc_fault, IsDescribed}
+use Rattle.input_desc.specs.Descs.{IsOwnDesc}
 use Rattle.input_desc.specs.Fitting.{FitsDescription}
 use Rattle.input_desc.specs.Initial.{initial_of}
 use Rattle.abs_cells.specs.AbstractStates.{AbstractState}
@@ -37,7 +36,7 @@ LastNodesEnd =
 -- Every state that the description fits ends, and none of its runs is stuck.
 abbrev pub CertifiedRunsEnd : Type 0
 CertifiedRunsEnd =
-    (p : Program) (typing : ℕ → CodeTypes) (text : DescText) (desc : Desc) (nodes : List GraphNode) (cuts : List ℕ)
-    → IsClosed p → HasInts p → IsTypingOf p typing → desc_fault p text ≡ None → IsDescribed p text desc → ExpansionsHold p typing nodes
+    (p : Program) (typing : ℕ → CodeTypes) (desc : Desc) (nodes : List GraphNode) (cuts : List ℕ)
+    → IsClosed p → HasInts p → IsTypingOf p typing → IsOwnDesc p desc → ExpansionsHold p typing nodes
     → IsCertified p typing nodes cuts (initial_of p desc)
     → (state : MachineState) → FitsDescription p desc state → Ends p state × IsNeverStuck p state
