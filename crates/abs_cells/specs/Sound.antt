@@ -3,6 +3,8 @@ use Rattle.std.specs.Prelude.{◌≡◌, ◌≢◌, ℕ, suc, ◌<◌, ◌≤◌
 use Rattle.std.specs.List.{AllZip, flat_map}
 use Rattle.jvm_values.specs.declared.types.Slot.{Slot}
 use Rattle.jvm_values.specs.declared.types.Slot.TheVariants as slots
+use Rattle.jvm_values.specs.declared.types.Kind.TheVariants as kinds
+use Rattle.jvm_values.specs.Kinds.{IsOfKind}
 use Rattle.jvm_values.specs.Subtyping.{array_of, IsReference, IsErased}
 use Rattle.jvm_values.specs.TypedHeaps.{WorldTypes}
 use Rattle.abs_cells.specs.declared.cells.Cell.{Cell}
@@ -50,10 +52,10 @@ abbrev pub IsOfSlot : AbstractState → Slot → ℕ → Type 0
 IsOfSlot state (slots.Num kind) id = HasCell is_int state id
 IsOfSlot state (slots.Ref t) id = HasCell (λ cell. not (is_int cell)) state id
 
--- what a cell says is of the world: lengths are ints; an instance is of a class that can be made and has an id for each
--- field; types are reference types of the world and their own erasure, those of arrays too
+-- what a cell says is of the world: the ends of an interval are ints of 32 bits; lengths are ints; an instance is of a class that
+-- can be made and has an id for each field; types are reference types of the world and their own erasure, those of arrays too
 abbrev pub IsSoundCell : WorldTypes → AbstractState → Cell → Type 0
-IsSoundCell types state (Int interval) = Unit {0}
+IsSoundCell types state (Int interval) = IsOfKind kinds.Int interval.lo × IsOfKind kinds.Int interval.hi
 IsSoundCell types state Null = Unit {0}
 IsSoundCell types state (Obj class ids) = (class < types.classes) × (IsTrue (types.can_be_made class) × AllZip (IsOfSlot state) (types.fields class) ids)
 IsSoundCell types state (Nums kind len) = HasCell is_int state len

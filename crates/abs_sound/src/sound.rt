@@ -1,6 +1,8 @@
 //! Whether what a state says is of a world.
 ghost use Rattle.std.specs.Prelude.{◌≡◌, ◌<◌, ◌↔◌, ℕ, All, IsTrue, Some};
 ghost use Rattle.std.specs.List.{AllZip};
+ghost use Rattle.jvm_values.specs.declared.types.Kind.TheVariants as kinds;
+ghost use Rattle.jvm_values.specs.Kinds.{IsOfKind};
 ghost use Rattle.jvm_values.specs.Subtyping.{array_of, IsReference, IsErased};
 ghost use Rattle.jvm_values.specs.TypedHeaps.{world_types};
 ghost use Rattle.abs_cells.specs.Cells.{is_int, is_of_sort, cell_in, HasCell};
@@ -12,6 +14,7 @@ ghost use Rattle.abs_sound.specs.Tests.{is_of_slot};
 use abs_cells::{AbsState, Cell, Id, Pairs, well_formed};
 use abs_reach::cell_of;
 use jvm_values::{Base, Slot, Ty, Types};
+use lin_core::Interval;
 
 /// Whether an id has a cell of an int.
 pub fn has_int(cells: &[(Id, Cell)], id: Id) -> bool
@@ -117,13 +120,20 @@ fn is_sound_instance<T: Types, P: Pairs>(
     types.can_be_made(class) && are_fields(state, types.fields(class), ids)
 }
 
+/// Whether both ends of an interval are ints of 32 bits, which they are.
+fn has_int_ends(interval: &Interval) -> bool
+    ensures { IsTrue result ↔ (IsOfKind kinds.Int interval.now.lo × IsOfKind kinds.Int interval.now.hi) }
+{
+    interval.lo() <= interval.hi()
+}
+
 /// Whether what a cell says is of a world.
 fn is_sound_cell<T: Types, P: Pairs>(types: &T, state: &AbsState<P>, cell: &Cell) -> bool
     requires { AreIdsRising 0 state.now.cells }
     ensures { IsTrue result ↔ IsSoundCell (world_types (T.sub types.now) (T.erase types.now) (T.classes types.now) (T.fields types.now) (T.can_be_made types.now)) state.now cell.now }
 {
     match cell {
-        Cell::Int(_) => true,
+        Cell::Int(interval) => has_int_ends(interval),
         Cell::Null => true,
         Cell::Obj(class, ids) => is_sound_instance(types, state, *class, ids.as_slice()),
         Cell::Nums(_, len) => has_int(state.cells(), *len),

@@ -1,9 +1,9 @@
 -- Typings of a method: what each local and each stack entry holds whenever a place is reached, and the least of them (JVM
 -- specification, section 4.10.2).
-use Rattle.std.specs.Prelude.{◌≡◌, ◌↔◌, ℕ, ◌++◌, ◌-◌, ◌≤◌, ◌<◌, List, [], length, map, replicate, slice_get, Option, Some, None, option_and_then, All, IsTrue}
+use Rattle.std.specs.Prelude.{◌≡◌, ◌↔◌, ℕ, ◌≤◌, ◌<◌, List, [], length, slice_get, Option, Some, None, option_and_then, All, IsTrue}
 use Rattle.std.specs.Option.{is_some}
 use Rattle.jvm_values.specs.declared.typing.PlaceType.TheVariants as places
-use Rattle.jvm_values.specs.States.{PlaceTypes}
+use Rattle.jvm_values.specs.States.{PlaceTypes, locals_from}
 use Rattle.jvm_values.specs.TypedHeaps.{WorldTypes}
 use Rattle.class_program.specs.declared.program.Method.{Method}
 use Rattle.class_program.specs.Programs.{Program}
@@ -28,7 +28,7 @@ pub record IsTyped (p : Program) (m : Method) (typing : CodeTypes) (place : ℕ)
 -- What comes to a method's start: its parameters in the first locals, the other locals unset, and an empty stack.
 abbrev pub entry_frame : WorldTypes → Method → PlaceTypes
 entry_frame types m = record {
-  locals = map (place_of types) m.params ++ replicate (m.max_locals - length m.params) places.Unset;
+  locals = locals_from (place_of types) places.Unset m.max_locals m.params;
   stack = [];
 }
 

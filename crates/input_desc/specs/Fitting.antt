@@ -1,5 +1,5 @@
 -- Which states of the machine fit a description.
-use Rattle.std.specs.Prelude.{◌≡◌, ◌≢◌, ◌⊎◌, ℕ, ◌-◌, ℤ, true, List, [], ◌∷◌, ◌++◌, length, map, replicate, slice_get, Some, None, IsTrue}
+use Rattle.std.specs.Prelude.{◌≡◌, ◌≢◌, ◌⊎◌, ℕ, ℤ, true, List, [], ◌∷◌, ◌++◌, length, slice_get, Some, None, IsTrue}
 use Rattle.std.specs.List.{AllZip}
 use Rattle.lin_core.specs.Intervals.{IsIn}
 use Rattle.jvm_values.specs.declared.heap.Value.{Value}
@@ -7,7 +7,7 @@ use Rattle.jvm_values.specs.declared.heap.Value.TheVariants as values
 use Rattle.jvm_values.specs.declared.heap.Object.{Object}
 use Rattle.jvm_values.specs.declared.heap.Heap.{Heap}
 use Rattle.jvm_values.specs.declared.state.Mode.TheVariants.{Normal}
-use Rattle.jvm_values.specs.States.{MachineFrame, MachineState}
+use Rattle.jvm_values.specs.States.{MachineFrame, MachineState, locals_from}
 use Rattle.jvm_values.specs.Heaps.{target, Region, HasShape}
 use Rattle.jvm_values.specs.TypedHeaps.{WorldTypes, HasType, Holds, IsTypedHeap}
 use Rattle.class_world.specs.WorldTypes.{types_of}
@@ -38,7 +38,7 @@ IsListed i j (pair ∷ pairs) = ((pair.0 ≡ i) × (pair.1 ≡ j)) ⊎ (((pair.0
 pub record IsStart (method : Method) (args : List Value) (frame : MachineFrame) : Type 0 where
   pub number : frame.method ≡ 0
   pub place : frame.pc ≡ 0
-  pub locals : frame.locals ≡ map Some args ++ replicate (method.max_locals - length args) None
+  pub locals : frame.locals ≡ locals_from Some None method.max_locals args
   pub room : length frame.locals ≡ method.max_locals
   pub stack : frame.stack ≡ []
 

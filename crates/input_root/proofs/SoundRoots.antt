@@ -1,18 +1,22 @@
 -- The initial abstract state of a description is sound.
 use Rattle.std.proofs.Common.{◌≡◌, ◌≢◌, ℕ, ◌+◌, zero, suc, ◌≤◌, ◌<◌, ◌-◌, Bool, true, false, cond, List, [], ◌∷◌, ◌++◌, length, length-append, get_or, map, replicate, Option, Some, None, ◌⊎◌, inl, inr, sym, refl, ap, subst, ◌∙◌, arith}
-use Rattle.std.specs.Prelude.{All, IfSome, slice_get, int_le, ◌&&◌, option_map}
+use Rattle.std.specs.Prelude.{ℤ, ◌≤ℤ◌, All, IfSome, slice_get, int_le, ◌&&◌, option_map}
 use Rattle.std.specs.List.{range_with_len, flat_map}
 use Rattle.std.specs.Int.{int_max, int_min}
 use Rattle.std.specs.Option.{option_map_or}
 use Rattle.std.proofs.lemmas.Bool.{false≢true, and_parts, eq-eqb, ne_eqb, cases_eq}
+use Rattle.std.proofs.lemmas.Int.{ints, clamps}
 use Rattle.std.proofs.lemmas.List.{length-map}
 use Rattle.std.proofs.lemmas.List.Elements.{All-nil, All-cons, All-head, All-tail, All-append, All-map, All-replicate}
 use Rattle.std.proofs.lemmas.Option.{slice_get_cases}
+use Rattle.lin_core.specs.Intervals.{Bounds}
 use Rattle.jvm_values.specs.declared.types.Ty.{Ty}
 use Rattle.jvm_values.specs.declared.types.Slot.{Slot}
 use Rattle.jvm_values.specs.declared.types.Slot.TheVariants as slots
 use Rattle.jvm_values.specs.declared.shape.Shape.{Shape}
-use Rattle.jvm_values.specs.Kinds.{least_of, greatest_of}
+use Rattle.jvm_values.specs.declared.types.Kind.{Kind}
+use Rattle.jvm_values.specs.declared.types.Kind.TheVariants as kinds
+use Rattle.jvm_values.specs.Kinds.{least_of, greatest_of, IsOfKind}
 use Rattle.jvm_values.specs.Subtyping.{IsReference, IsErased}
 use Rattle.class_world.specs.World.{World}
 use Rattle.class_world.specs.WorldTypes.{types_of}
@@ -90,8 +94,40 @@ of_world world slot (texts.Ref ty null' shape') t null shape laws e =
       ap (erase world) erased ∙ erased_twice world is.named ∙ sym erased,
     )
 
+-- a kind's numbers are ints
+kind_within : (kind : Kind) → (least_of kinds.Int ≤ℤ least_of kind) × (greatest_of kind ≤ℤ greatest_of kinds.Int)
+kind_within kinds.Boolean = (omega (arith, ints), omega (arith, ints))
+kind_within kinds.Char = (omega (arith, ints), omega (arith, ints))
+kind_within kinds.Byte = (omega (arith, ints), omega (arith, ints))
+kind_within kinds.Short = (omega (arith, ints), omega (arith, ints))
+kind_within kinds.Int = (omega (arith, ints), omega (arith, ints))
+
+-- ends of an interval that are no less and no greater than a kind's are ints
+ends_within : (kind : Kind) (lo hi : ℤ) → int_le (int_max (least_of kind) lo) (int_min (greatest_of kind) hi) ≡ true → IsOfKind kinds.Int (int_max (least_of kind) lo) × IsOfKind kinds.Int (int_min (greatest_of kind) hi)
+ends_within kind lo hi l =
+    let w = kind_within kind in
+    within (least_of kind) (greatest_of kind) lo hi w.0 w.1 l
+  where
+    within : (a b lo hi : ℤ) → least_of kinds.Int ≤ℤ a → b ≤ℤ greatest_of kinds.Int → int_le (int_max a lo) (int_min b hi) ≡ true → IsOfKind kinds.Int (int_max a lo) × IsOfKind kinds.Int (int_min b hi)
+    within a b lo hi p q l = ((omega (arith, ints, clamps, p), omega (arith, ints, clamps, q, l)), (omega (arith, ints, clamps, p, l), omega (arith, ints, clamps, q)))
+
+-- the ends of an int input are ints
+int_ends : (world : World) (slot : Slot) (text : InputText) (interval : Bounds) → Some (Int interval) ≡ input_of world slot text → IsOfKind kinds.Int interval.lo × IsOfKind kinds.Int interval.hi
+int_ends world (slots.Num kind) (texts.Int lo hi) interval e = go (int_le (int_max (least_of kind) lo) (int_min (greatest_of kind) hi)) refl e
+  where
+    go : (b : Bool) → int_le (int_max (least_of kind) lo) (int_min (greatest_of kind) hi) ≡ b → Some (Int interval) ≡ option_map Int (cond b (Some (record { lo = int_max (least_of kind) lo; hi = int_min (greatest_of kind) hi })) None) → IsOfKind kinds.Int interval.lo × IsOfKind kinds.Int interval.hi
+    go true l f =
+        let same : interval ≡ record { lo = int_max (least_of kind) lo; hi = int_min (greatest_of kind) hi } = cc in
+        subst (λ (x : Bounds). IsOfKind kinds.Int x.lo × IsOfKind kinds.Int x.hi) (sym same) (ends_within kind lo hi l)
+    go false l f = absurd cc
+int_ends world (slots.Ref s) (texts.Int lo hi) interval e = absurd cc
+int_ends world slot (texts.Ref ty null shape) interval e =
+    let is = reference_is world slot ty null shape (Int interval) e in
+    let j : Int interval ≡ Ref is.own null shape = is.input_is in
+    absurd cc
+
 sound_cell : (world : World) (state : AbstractState) (slot : Slot) (text : InputText) (input : Input) → Laws world → Some input ≡ input_of world slot text → IsSoundCell (types_of world) state (cell_of input)
-sound_cell world state slot text (Int interval) laws e = tt
+sound_cell world state slot text (Int interval) laws e = int_ends world slot text interval e
 sound_cell world state slot text (Ref t null shape) laws e = of_world world slot text t null shape laws e
 
 sound_cells : (world : World) (state : AbstractState) (n : ℕ) (wanted : List Slot) (texts' : List InputText) (inputs : List Input) → Laws world → map Some inputs ≡ inputs_from world wanted texts' → All (λ c. IsSoundCell (types_of world) state c.1) (cells_from n inputs)

@@ -1,5 +1,5 @@
 -- One step of the machine, and the run of many (JVM specification, sections 2.6, 2.10 and 2.11).
-use Rattle.std.specs.Prelude.{◌≡◌, ℕ, zero, suc, ◌-◌, ◌&&◌, nat_le, nat_lt, Bool, true, List, [], ◌∷◌, ◌++◌, length, map, reverse, take, drop, replicate, slice_get, Option, Some, None, unwrap_or}
+use Rattle.std.specs.Prelude.{◌≡◌, ℕ, zero, suc, ◌&&◌, nat_le, nat_lt, Bool, true, List, [], ◌∷◌, ◌++◌, length, reverse, take, drop, slice_get, Option, Some, None, unwrap_or}
 use Rattle.std.specs.List.{find}
 use Rattle.std.specs.Option.{option_map, option_map_or}
 use Rattle.list_views.specs.Options.{◌>>=◌}
@@ -9,7 +9,7 @@ use Rattle.jvm_values.specs.declared.heap.Object.{Object}
 use Rattle.jvm_values.specs.declared.heap.Heap.{Heap}
 use Rattle.jvm_values.specs.declared.state.Mode.{Mode}
 use Rattle.jvm_values.specs.declared.state.Mode.TheVariants.{Normal, Throwing}
-use Rattle.jvm_values.specs.States.{MachineFrame, MachineState}
+use Rattle.jvm_values.specs.States.{MachineFrame, MachineState, locals_from}
 use Rattle.jvm_values.specs.Subtyping.{class_type}
 use Rattle.jvm_values.specs.TypedHeaps.{type_of}
 use Rattle.class_world.specs.World.{World}
@@ -50,7 +50,7 @@ abbrev pub new_frame : ℕ → Method → List Value → MachineFrame
 new_frame number m arguments = record {
   method = number;
   pc = 0;
-  locals = map Some arguments ++ replicate (m.max_locals - length arguments) None;
+  locals = locals_from Some None m.max_locals arguments;
   stack = [];
 }
 

@@ -1,6 +1,6 @@
 //! Frames of methods that begin.
-ghost use Rattle.std.specs.Prelude.{◌≡◌, ◌-◌, ◌++◌, ◌≤◌, length, map, reverse, take, replicate, Some, None, OnOk, IfOk};
-ghost use Rattle.jvm_values.specs.States.{frame_of};
+ghost use Rattle.std.specs.Prelude.{◌≡◌, ◌-◌, ◌++◌, ◌≤◌, map, reverse, take, replicate, Some, None, OnOk, IfOk};
+ghost use Rattle.jvm_values.specs.States.{frame_of, locals_from};
 ghost use Rattle.jvm_step.specs.Running.{new_frame};
 
 use class_program::Method;
@@ -41,7 +41,7 @@ fn first_locals(
     arguments: &[Value],
     most: u16,
 ) -> Result<Seq<Option<Value>>, AllocError>
-    ensures { IfOk result (λ locals. locals ≡ map Some arguments.now ++ replicate (most - length arguments.now) None) }
+    ensures { IfOk result (λ locals. locals ≡ locals_from Some None most arguments.now) }
 {
     let mut locals = Seq::with_capacity(alloc, most as usize)?;
     add_set(&mut locals, arguments)?;

@@ -1,5 +1,5 @@
 -- The states of the written machine, whose stacks are lists: the room of a stack is no part of them.
-use Rattle.std.specs.Prelude.{ℕ, List, map, Option}
+use Rattle.std.specs.Prelude.{ℕ, ◌-◌, List, ◌++◌, length, map, replicate, Option}
 use Rattle.jvm_values.specs.declared.heap.Value.{Value}
 use Rattle.jvm_values.specs.declared.heap.Heap.{Heap}
 use Rattle.jvm_values.specs.declared.state.Frame.{Frame}
@@ -22,6 +22,10 @@ pub record MachineState : Type 0 where
   pub heap : Heap
   pub mode : Mode
   pub statics : List Value
+
+-- the local variables of a method that begins (JVM specification, section 2.6.1): its arguments in the first ones, the others unset
+abbrev pub locals_from : {A B : Type 0} → (A → B) → B → ℕ → List A → List B
+locals_from set unset room arguments = map set arguments ++ replicate (room - length arguments) unset
 
 -- what a frame and a state of the code are to the written machine
 abbrev pub frame_of : Frame → MachineFrame
