@@ -5,20 +5,19 @@
 use anyhow::{Result, bail};
 use class_asm::{AsmFault, assemble};
 use std::alloc::Global;
-use std::io;
-use std::io::{BufRead, BufReader, BufWriter, Write};
-use table_cases::{Case, ascii};
+use table_cases::{Answers, Case, answer_all, ascii};
+
+/// The cases of this program.
+struct Cases;
+
+impl Answers for Cases {
+    fn answer(alloc: Global, case: &Case<'_>) -> Result<String> {
+        crate::answer(alloc, case)
+    }
+}
 
 fn main(rt: HostRuntime) -> Result<()> {
-    let mut output = BufWriter::new(rt.alloc(), io::writer(&rt))?;
-    for line in BufReader::new(rt.alloc(), rt.reader())?.lines(rt.alloc()) {
-        let line = line?;
-        let case = Case::read(rt.alloc(), line.as_str())?;
-        let answer = answer(rt.alloc(), &case)?;
-        writeln!(output, "{answer}")?;
-    }
-    output.flush()?;
-    Ok(())
+    answer_all::<Cases>(rt)
 }
 
 /// The class of the case's listing, or its fault.

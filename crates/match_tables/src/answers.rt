@@ -2,24 +2,25 @@
 //! doesn't hold. `find`: two states; the answer is a map that passes, or None.
 ghost use Rattle.abs_cells.specs.Sound.{IsWellFormed};
 
-use crate::reading::{count, id, item};
-use crate::{states, worlds};
 use abs_cells::{AbsState, Id, ListPairs, PackedPairs, Pairs, well_formed};
 use abs_match::{MatchFault, dropped_states_reach_all, find_map, instance};
 use abs_reach::{Marks, drop_unreached};
-use anyhow::{Context, Result, bail};
+use anyhow::{Result, bail};
 use class_world::World;
-use json_view::{View, parse};
+use entry_cases::{class_files, linked};
+use json_cases::{count, id, item, value};
+use json_view::View;
 use list_views::Seq;
 use serde_json::Value;
+use state_cases::state;
 use std::alloc::Global;
 use std::fmt::Write;
 use table_cases::Case;
 
 /// The answer to a case, which both forms of pairs give.
 pub fn answer(alloc: Global, case: &Case<'_>) -> Result<String> {
-    let files = worlds::files(alloc, case, 3)?;
-    let world = worlds::world(alloc, files.as_slice())?;
+    let files = class_files(alloc, case, 3)?;
+    let world = linked(alloc, files.as_slice())?;
     let listed = answer_by::<ListPairs>(alloc, &world, case)?;
     let packed = answer_by::<PackedPairs>(alloc, &world, case)?;
     if listed != packed {
@@ -28,24 +29,17 @@ pub fn answer(alloc: Global, case: &Case<'_>) -> Result<String> {
     Ok(listed)
 }
 
-/// The input field `n` as JSON.
-fn value(alloc: Global, case: &Case<'_>, n: usize) -> Result<Value> {
-    parse(alloc, case.text(n)?.as_bytes())
-        .ok()
-        .context("JSON is wanted")
-}
-
 fn answer_by<P: Pairs>(alloc: Global, world: &World<'_>, case: &Case<'_>) -> Result<String> {
-    let first = value(alloc, case, 0)?;
-    let second = value(alloc, case, 1)?;
-    let a = states::state::<P>(alloc, world, &View::root(&first))?;
-    let b = states::state::<P>(alloc, world, &View::root(&second))?;
+    let first = value(alloc, case.text(0)?)?;
+    let second = value(alloc, case.text(1)?)?;
+    let a = state::<P>(alloc, world, &View::root(&first))?;
+    let b = state::<P>(alloc, world, &View::root(&second))?;
     if !well_formed(&a) {
         bail!("the first state is not well-formed");
     }
     match case.table() {
         "instance" => {
-            let entries = entries(alloc, &value(alloc, case, 2)?)?;
+            let entries = entries(alloc, &value(alloc, case.text(2)?)?)?;
             let mut marks = Marks::new(alloc)?;
             told(
                 alloc,

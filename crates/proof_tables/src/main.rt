@@ -8,18 +8,18 @@ mod orders;
 mod proofs;
 
 use anyhow::Result;
-use std::io;
-use std::io::{BufRead, BufReader, BufWriter, Write};
-use table_cases::Case;
+use std::alloc::Global;
+use table_cases::{Answers, Case, answer_all};
+
+/// The cases of this program.
+struct Cases;
+
+impl Answers for Cases {
+    fn answer(alloc: Global, case: &Case<'_>) -> Result<String> {
+        answers::answer(alloc, case)
+    }
+}
 
 fn main(rt: HostRuntime) -> Result<()> {
-    let mut output = BufWriter::new(rt.alloc(), io::writer(&rt))?;
-    for line in BufReader::new(rt.alloc(), rt.reader())?.lines(rt.alloc()) {
-        let line = line?;
-        let case = Case::read(rt.alloc(), line.as_str())?;
-        let answer = answers::answer(rt.alloc(), &case)?;
-        writeln!(output, "{answer}")?;
-    }
-    output.flush()?;
-    Ok(())
+    answer_all::<Cases>(rt)
 }

@@ -4,8 +4,9 @@ use crate::limits::{are_few, are_forms};
 use crate::proofs::forms;
 use anyhow::{Result, bail};
 use descent::{DescentFault, LinearOrder, Order, Scratch, SizeOrder};
+use json_cases::item;
 use json_view::View;
-use rule_cases::{is_rule, item, pairs, rules};
+use rule_cases::{is_rule, pairs, rules};
 use serde_json::Value;
 use std::alloc::Global;
 

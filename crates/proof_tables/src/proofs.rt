@@ -1,9 +1,10 @@
 //! Proofs as they stand in a case.
 use anyhow::{Result, bail};
 use descent::{CutForm, Proof, ProofStep, RankRule, RankStep};
+use json_cases::{count, integer, item, natural, naturals, word};
 use json_view::View;
 use list_views::Seq;
-use rule_cases::{count, integer, item, multiples, natural, naturals, pairs, word};
+use rule_cases::{multiples, pairs};
 use std::alloc::Global;
 
 /// A proof: a list of steps.

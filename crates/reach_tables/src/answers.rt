@@ -3,30 +3,33 @@ ghost use Rattle.std.specs.Prelude.{IfOk, true};
 ghost use Rattle.abs_cells.specs.Cells.{HasCell};
 ghost use Rattle.abs_cells.specs.Sound.{IsWellFormed};
 
-use crate::states;
 use abs_cells::{AbsState, Id, ListPairs, PackedPairs, Pairs, well_formed};
 use abs_reach::{Marks, has_cell, is_finite, is_tree, known_from, may_be_in, may_meet};
 use anyhow::{Context, Result, bail};
-use json_view::{View, parse};
+use class_world::World;
+use entry_cases::{class_files, linked};
+use json_cases::value;
+use json_view::View;
+use state_cases::state;
 use std::alloc::Global;
 use std::fmt::Write;
 use table_cases::Case;
 
 /// The answer to a case, which both forms of pairs give.
 pub fn answer(alloc: Global, case: &Case<'_>) -> Result<String> {
-    let listed = answer_by::<ListPairs>(alloc, case)?;
-    let packed = answer_by::<PackedPairs>(alloc, case)?;
+    let files = class_files(alloc, case, 2)?;
+    let world = linked(alloc, files.as_slice())?;
+    let listed = answer_by::<ListPairs>(alloc, &world, case)?;
+    let packed = answer_by::<PackedPairs>(alloc, &world, case)?;
     if listed != packed {
         bail!("the two forms of pairs answer differently");
     }
     Ok(listed)
 }
 
-fn answer_by<P: Pairs>(alloc: Global, case: &Case<'_>) -> Result<String> {
-    let value = parse(alloc, case.text(1)?.as_bytes())
-        .ok()
-        .context("JSON is wanted")?;
-    let state = states::state::<P>(alloc, &View::root(&value))?;
+fn answer_by<P: Pairs>(alloc: Global, world: &World<'_>, case: &Case<'_>) -> Result<String> {
+    let value = value(alloc, case.text(1)?)?;
+    let state = state::<P>(alloc, world, &View::root(&value))?;
     if !well_formed(&state) {
         bail!("the state is not well-formed");
     }

@@ -7,4 +7,4 @@ mod reading;
 
 pub use limits::{are_rules, is_rule};
 pub use listed::{ends, rules};
-pub use reading::{count, id, integer, item, multiples, natural, naturals, pairs, word};
+pub use reading::{multiples, pairs};

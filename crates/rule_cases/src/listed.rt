@@ -1,7 +1,8 @@
 //! Rules as they stand in a case.
-use crate::reading::{count, id, integer, item, natural, pairs, word};
+use crate::reading::pairs;
 use anyhow::{Result, bail};
 use descent::{PathRule, Place, RowKind, SlotForm, WRow};
+use json_cases::{count, id, integer, item, natural, word};
 use json_view::View;
 use list_views::Seq;
 use std::alloc::Global;

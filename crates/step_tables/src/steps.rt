@@ -1,5 +1,5 @@
 //! A step of a program, told.
-use crate::entry::Entry;
+use crate::programs::{entry, program};
 use crate::states::{put_state, put_value};
 use anyhow::{Result, bail};
 use class_program::{Program, StaticField};
@@ -11,8 +11,8 @@ use table_cases::Case;
 
 pub fn answer(alloc: Global, case: &Case<'_>) -> Result<String> {
     let count = case.text(0)?.parse::<u32>()?;
-    let entry = Entry::read(alloc, case)?;
-    let program = entry.close(alloc)?;
+    let entry = entry(alloc, case)?;
+    let program = program(alloc, &entry)?;
     let state = after(alloc, &program, count)?;
     Ok(told(alloc, &program, state)?)
 }

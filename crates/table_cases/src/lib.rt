@@ -3,6 +3,8 @@
 
 use anyhow::{Context, Result};
 use std::alloc::{AllocError, Global};
+use std::io;
+use std::io::{BufRead, BufReader, BufWriter, Write};
 
 /// A case of a table: the table's name and the input fields.
 #[derive(Drop)]
@@ -49,4 +51,23 @@ impl<'a> Case<'a> {
 pub fn ascii(alloc: Global, words: &[u8]) -> Result<String> {
     let text = str::from_utf8(words).ok().context("the words are no text")?;
     Ok(String::from_str(alloc, text)?)
+}
+
+/// What answers the cases of a table.
+pub trait Answers {
+    /// The answer to a case.
+    fn answer(alloc: Global, case: &Case<'_>) -> Result<String>;
+}
+
+/// Answers the cases on the lines of the input, one a line. Each answer comes on a line of its own.
+pub fn answer_all<A: Answers>(rt: HostRuntime) -> Result<()> {
+    let mut output = BufWriter::new(rt.alloc(), io::writer(&rt))?;
+    for line in BufReader::new(rt.alloc(), rt.reader())?.lines(rt.alloc()) {
+        let line = line?;
+        let case = Case::read(rt.alloc(), line.as_str())?;
+        let answer = A::answer(rt.alloc(), &case)?;
+        writeln!(output, "{answer}")?;
+    }
+    output.flush()?;
+    Ok(())
 }

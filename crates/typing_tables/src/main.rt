@@ -7,26 +7,22 @@ mod typings;
 
 use anyhow::{Result, bail};
 use std::alloc::Global;
-use std::io;
-use std::io::{BufRead, BufReader, BufWriter, Write};
-use table_cases::Case;
+use table_cases::{Answers, Case, answer_all};
 
-fn main(rt: HostRuntime) -> Result<()> {
-    let mut output = BufWriter::new(rt.alloc(), io::writer(&rt))?;
-    for line in BufReader::new(rt.alloc(), rt.reader())?.lines(rt.alloc()) {
-        let answer = answer(rt.alloc(), line?.as_str())?;
-        writeln!(output, "{answer}")?;
+/// The cases of this program.
+struct Cases;
+
+impl Answers for Cases {
+    /// The answer to the case, as its table writes it.
+    fn answer(alloc: Global, case: &Case<'_>) -> Result<String> {
+        match case.table() {
+            "link-52" => links::answer(alloc, case),
+            "typing" => typings::answer(alloc, case),
+            table => bail!("there is no table {table}"),
+        }
     }
-    output.flush()?;
-    Ok(())
 }
 
-/// The answer to the case on `line`, as its table writes it.
-fn answer(alloc: Global, line: &str) -> Result<String> {
-    let case = Case::read(alloc, line)?;
-    match case.table() {
-        "link-52" => links::answer(alloc, &case),
-        "typing" => typings::answer(alloc, &case),
-        table => bail!("there is no table {table}"),
-    }
+fn main(rt: HostRuntime) -> Result<()> {
+    answer_all::<Cases>(rt)
 }

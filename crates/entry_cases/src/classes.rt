@@ -1,30 +1,22 @@
-//! The world of a case's class files.
+//! The class files of a case, and the world that they give.
 ghost use Rattle.std.specs.Prelude.{◌≡◌, ◌<◌, ◌≤◌, length, IfOk};
 ghost use Rattle.std.specs.List.{AllByRecursion};
 ghost use Rattle.class_world.specs.Linking.{CanBeRead};
-ghost use Rattle.match_tables.specs.ReadClasses.{AreRead};
+ghost use Rattle.entry_cases.specs.ReadClasses.{AreRead};
 
 use anyhow::{Result, bail};
 use class_read::ClassView;
-use class_world::World;
+use class_world::{LinkFault, World};
 use std::alloc::Global;
 use table_cases::Case;
 
 /// The contents of the class files in all fields from `first` on.
-pub fn files(alloc: Global, case: &Case<'_>, first: usize) -> Result<Vec<Vec<u8>>> {
+pub fn class_files(alloc: Global, case: &Case<'_>, first: usize) -> Result<Vec<Vec<u8>>> {
     let mut files = Vec::new(alloc);
     for n in first..case.field_count() {
         files.push(case.bytes(alloc, n)?)?;
     }
     Ok(files)
-}
-
-/// The world that the classes of files give.
-pub fn world(alloc: Global, files: &[Vec<u8>]) -> Result<World<'_>> {
-    match World::link(alloc, read_all(alloc, files)?) {
-        Ok(world) => Ok(world),
-        Err(_) => bail!("the classes can't be linked"),
-    }
 }
 
 fn read(alloc: Global, bytes: &[u8]) -> Result<ClassView<'_>>
@@ -48,4 +40,17 @@ fn read_all(alloc: Global, files: &[Vec<u8>]) -> Result<Vec<ClassView<'_>>>
         classes.push(read(alloc, file.as_slice())?)?;
     }
     Ok(classes)
+}
+
+/// The world that the classes of files give, or the first fault of linking.
+pub fn link(alloc: Global, files: &[Vec<u8>]) -> Result<Result<World<'_>, LinkFault>> {
+    Ok(World::link(alloc, read_all(alloc, files)?))
+}
+
+/// The world that the classes of files give.
+pub fn linked(alloc: Global, files: &[Vec<u8>]) -> Result<World<'_>> {
+    match link(alloc, files)? {
+        Ok(world) => Ok(world),
+        Err(_) => bail!("the classes can't be linked"),
+    }
 }

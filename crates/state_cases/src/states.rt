@@ -1,9 +1,9 @@
 //! States as they stand in a case.
-use crate::reading::{count, field, flag, id, int, integer, item, natural, number, word};
 use crate::types::ty;
 use abs_cells::{AbsFrame, AbsState, Cell, Id, Ids, Pairs};
 use anyhow::{Context, Result, bail};
 use class_world::World;
+use json_cases::{count, field, flag, id, int, integer, item, natural, number, word};
 use json_view::View;
 use jvm_values::{Kind, Shape};
 use lin_core::Interval;

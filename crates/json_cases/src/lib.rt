@@ -1,8 +1,16 @@
-//! Numbers and words as they stand in a case.
-use abs_cells::Id;
+//! Numbers, words and flags of JSON values as they stand in the cases of tables.
+#![tactic(auto)]
+
 use anyhow::{Context, Result, bail};
-use json_view::View;
+use json_view::{View, parse};
+use list_views::Seq;
+use serde_json::Value;
 use std::alloc::Global;
+
+/// The value that a text of JSON says.
+pub fn value(alloc: Global, text: &str) -> Result<Value> {
+    parse(alloc, text.as_bytes()).ok().context("JSON is wanted")
+}
 
 /// The number of items of a list.
 pub fn count(alloc: Global, list: &View<'_, '_>) -> Result<usize> {
@@ -41,8 +49,8 @@ pub fn natural(alloc: Global, list: &View<'_, '_>, n: usize) -> Result<u32> {
 }
 
 /// The item `n` of a list as an id.
-pub fn id(alloc: Global, list: &View<'_, '_>, n: usize) -> Result<Id> {
-    Id::try_from(integer(alloc, list, n)?)
+pub fn id(alloc: Global, list: &View<'_, '_>, n: usize) -> Result<u16> {
+    u16::try_from(integer(alloc, list, n)?)
         .ok()
         .context("the id is too large")
 }
@@ -66,4 +74,23 @@ pub fn field<'v, 'q>(
     name: &'q str,
 ) -> Result<View<'v, 'q>> {
     object.field(alloc, name).ok().context("a field is wanted")
+}
+
+/// The field `name` of an object as a number.
+pub fn number(alloc: Global, object: &View<'_, '_>, name: &str) -> Result<i64> {
+    let inner = field(alloc, object, name)?;
+    inner
+        .int(alloc, i64::MIN, i64::MAX)
+        .ok()
+        .context("a number is wanted")
+}
+
+/// The item `n` of a list as a list of numbers.
+pub fn naturals(alloc: Global, list: &View<'_, '_>, n: usize) -> Result<Seq<u32>> {
+    let inner = item(alloc, list, n)?;
+    let mut numbers = Seq::new(alloc);
+    for k in 0..count(alloc, &inner)? {
+        numbers.push(natural(alloc, &inner, k)?)?;
+    }
+    Ok(numbers)
 }
