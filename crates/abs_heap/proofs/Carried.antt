@@ -1,26 +1,23 @@
 -- What a state describes it describes still where the ids have the same values, in the same heap or one that has grown.
-use Rattle.std.proofs.Common.{◌≡◌, ◌≢◌, ℕ, zero, suc, ◌<◌, Bool, true, false, List, [], ◌∷◌, ◌++◌, length, map, get_or, Option, Some, None, ◌⊎◌, inl, inr, refl, sym, ap, subst, ◌∙◌, arith, All, append_assoc}
+use Rattle.std.proofs.Common.{◌≡◌, ℕ, zero, suc, true, List, [], ◌∷◌, ◌++◌, map, get_or, Option, Some, None, inl, inr, refl, sym, ap, subst, ◌∙◌, All}
 use Rattle.std.specs.Prelude.{slice_get}
 use Rattle.std.specs.List.{AllZip, flat_map}
-use Rattle.std.specs.Option.{option_and_then}
-use Rattle.std.proofs.lemmas.List.Elements.{All-get_or, All-head, All-tail, All-nil, All-cons}
-use Rattle.std.proofs.lemmas.Option.{slice_get_within, slice_get-get_or}
+use Rattle.std.proofs.lemmas.List.Elements.{All-head, All-tail}
 use Rattle.jvm_values.specs.declared.heap.Value.{Value}
-use Rattle.jvm_values.specs.declared.heap.Value.TheVariants as values
 use Rattle.jvm_values.specs.declared.heap.Object.{Object}
 use Rattle.jvm_values.specs.declared.heap.Object.TheVariants as objects
 use Rattle.jvm_values.specs.declared.heap.Heap.{Heap}
 use Rattle.jvm_values.specs.declared.state.Mode.{Mode}
 use Rattle.jvm_values.specs.declared.state.Mode.TheVariants.{Normal, Throwing}
-use Rattle.jvm_values.specs.States.{MachineFrame, MachineState}
-use Rattle.jvm_values.specs.TypedHeaps.{WorldTypes, type_of}
+use Rattle.jvm_values.specs.States.{MachineFrame}
+use Rattle.jvm_values.specs.TypedHeaps.{WorldTypes}
 use Rattle.jvm_values.proofs.Options.{some_is, none_is_not_some}
 use Rattle.abs_cells.specs.declared.cells.Cell.{Cell}
 use Rattle.abs_cells.specs.declared.cells.Cell.TheVariants as cells
 use Rattle.abs_cells.specs.AbstractStates.{AbstractFrame, AbstractState}
 use Rattle.abs_cells.specs.Cells.{ids_in, cell_at, HasCell}
 use Rattle.abs_cells.specs.Sound.{IsWellFormed, ids_used, ids_of_frame, given_ids}
-use Rattle.abs_cells.specs.Fits.{Meaning, FitsFrame, FitsMode, with_statics, IsObject, IsArrayBelow, IsArrayOfNumbers, Describes, Fits}
+use Rattle.abs_cells.specs.Fits.{Meaning, FitsFrame, FitsMode, Describes}
 use Rattle.abs_reach.proofs.Walks.{named_has_cell, all_at, all_front, all_behind}
 
 -- two maps agree on a state's ids

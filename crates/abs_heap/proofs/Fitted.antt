@@ -1,9 +1,8 @@
 -- A child that is given by its cells and by the pairs that are wanted fits where those hold.
-use Rattle.std.proofs.Common.{◌≡◌, ◌≢◌, ℕ, ◌&&◌, Bool, true, false, not, List, Option, Some, None, ◌⊎◌, inl, inr, refl, sym, ap, subst, ◌∙◌}
+use Rattle.std.proofs.Common.{◌≡◌, ◌≢◌, ℕ, ◌&&◌, Bool, true, false, not, List, Option, Some, ◌⊎◌, refl, sym, ap, subst, ◌∙◌}
 use Rattle.std.specs.List.{AllZip}
 use Rattle.std.proofs.lemmas.Bool.{false≢true, and_from}
 use Rattle.jvm_values.specs.declared.heap.Value.{Value}
-use Rattle.jvm_values.specs.declared.heap.Value.TheVariants as values
 use Rattle.jvm_values.specs.declared.shape.Shape.{Shape}
 use Rattle.jvm_values.specs.States.{MachineState}
 use Rattle.jvm_values.specs.Heaps.{target, Region, HasShape}
@@ -12,10 +11,10 @@ use Rattle.jvm_values.proofs.Options.{some_is, none_is_not_some}
 use Rattle.abs_cells.specs.declared.cells.Cell.{Cell}
 use Rattle.abs_cells.specs.declared.cells.Cell.TheVariants as cells
 use Rattle.abs_cells.specs.AbstractStates.{AbstractFrame, AbstractState}
-use Rattle.abs_cells.specs.Cells.{is_known, is_hazy, is_reference, is_of_sort, shape_of, cell_in, cell_at, HasCell}
+use Rattle.abs_cells.specs.Cells.{is_known, is_hazy, is_reference, is_of_sort, shape_of, cell_in, HasCell}
 use Rattle.abs_cells.specs.Sound.{may_join}
 use Rattle.abs_cells.specs.Fits.{Meaning, FitsFrame, FitsMode, with_statics, Describes, Fits}
-use Rattle.abs_heap.specs.Given.{IsPair, IsGiven}
+use Rattle.abs_heap.specs.Given.{IsGiven}
 
 -- what a child must be for the machine's state
 pub record FitsBy (types : WorldTypes) (frames : List AbstractFrame) (throwing : Option ℕ) (cell : ℕ → Option Cell) (equal sharing : ℕ → ℕ → Type 0) (machine : MachineState) (m : Meaning) : Type 0 where

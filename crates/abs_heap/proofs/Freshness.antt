@@ -1,15 +1,14 @@
 -- The least numbers without a cell, as they are found.
-use Rattle.std.proofs.Common.{◌≡◌, ℕ, zero, suc, ◌+◌, ◌<◌, ◌≤◌, Bool, true, false, eqb, List, [], ◌∷◌, ◌++◌, length, get_or, drop, Option, Some, None, ◌⊎◌, inl, inr, refl, sym, ap, subst, ◌∙◌, arith, add-one, length-append}
+use Rattle.std.proofs.Common.{◌≡◌, ℕ, zero, suc, ◌+◌, ◌<◌, ◌≤◌, true, List, [], ◌∷◌, ◌++◌, length, get_or, drop, Some, None, ◌⊎◌, inl, inr, refl, sym, ap, subst, ◌∙◌, arith, add-one, length-append}
 use Rattle.std.specs.Prelude.{slice_get, All, Contains}
-use Rattle.std.proofs.lemmas.Bool.{false≢true}
 use Rattle.std.proofs.lemmas.List.Elements.{All-nil, All-head, All-tail, All-push, All-weaker, All-contains, Contains-append_left, Contains-push}
 use Rattle.jvm_values.proofs.Options.{some_is, none_is_not_some}
 use Rattle.abs_cells.specs.declared.cells.Cell.{Cell}
 use Rattle.abs_cells.specs.AbstractStates.{AbstractState}
-use Rattle.abs_cells.specs.Cells.{is_of_sort, cell_in, cell_at, HasCell}
+use Rattle.abs_cells.specs.Cells.{is_of_sort, cell_in}
 use Rattle.abs_cells.specs.Sound.{AreIdsRising}
 use Rattle.abs_cells.proofs.Checking.{has_cell_from}
-use Rattle.abs_heap.specs.Given.{IsBelowFirst, AreRising, AreFresh}
+use Rattle.abs_heap.specs.Given.{AreRising, AreFresh}
 use Rattle.abs_heap.specs.Building.{IsIdAt}
 use Rattle.abs_heap.proofs.Placing.{cell_here, cell_later, same_or_not, absent}
 
@@ -117,7 +116,7 @@ found_here state ids passed next f = record {
 pub found_all : (state : AbstractState) (cells : List (ℕ × Cell)) (ids : List ℕ) (passed next : ℕ) → cells ≡ state.cells → AreFound cells ids passed next → AreFresh state ids
 found_all state cells ids passed next e f = found_here state ids passed next (subst (λ (cs : List (ℕ × Cell)). AreFound cs ids passed next) e f)
 
-pub found_low : (cells : List (ℕ × Cell)) (ids : List ℕ) (passed next count : ℕ) → AreFound cells ids passed next → length ids ≤ count → length cells + count ≤ 512 → All (λ id. id < 2048) ids
+pub found_low : (cells : List (ℕ × Cell)) (ids : List ℕ) (passed next count : ℕ) → AreFound cells ids passed next → length ids ≤ count → length cells + count ≤ 2048 → All (λ id. id < 2048) ids
 found_low cells ids passed next count f l m = All-weaker (λ id. id < next) (λ id. id < 2048) (λ id h. omega (arith, h, f.sum, f.within, l, m)) ids f.low
 
 pub only_one : (state : AbstractState) (ids : List ℕ) (id : ℕ) → AreFresh state ids → length ids ≡ 1 → id ≡ get_or ids 0 id → AreFresh state (id ∷ [])

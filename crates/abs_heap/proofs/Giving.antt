@@ -1,5 +1,5 @@
 -- Children given by their cells and by the pairs that are wanted.
-use Rattle.std.proofs.Common.{◌≡◌, ℕ, true, List, [], ◌∷◌, ◌++◌, map, reverse, Result, Ok, Err, IfOk, OnOk, Option, Some, None, ◌⊎◌, inl, inr, refl, sym, ap, subst, ◌∙◌}
+use Rattle.std.proofs.Common.{◌≡◌, ℕ, true, List, [], ◌∷◌, ◌++◌, map, reverse, Result, Ok, Err, IfOk, OnOk, Option, Some, None, inl, inr, refl, sym, ap, subst, ◌∙◌}
 use Rattle.std.specs.Prelude.{◌↔◌}
 use Rattle.std.specs.Option.{option_map}
 use Rattle.std.proofs.lemmas.Bool.{false≢true}
@@ -9,7 +9,7 @@ use Rattle.abs_cells.specs.declared.cells.Cell.TheVariants as cells
 use Rattle.abs_cells.specs.AbstractStates.{AbstractFrame, AbstractState}
 use Rattle.abs_cells.specs.Cells.{cell_in, cell_at, AreEqual, Share}
 use Rattle.abs_cells.specs.PairLists.{has}
-use Rattle.abs_cells.specs.Sound.{AreIdsRising, may_join}
+use Rattle.abs_cells.specs.Sound.{AreIdsRising}
 use Rattle.abs_heap.specs.Given.{IsPair, IsGiven, first_cell, with_cells}
 use Rattle.abs_heap.specs.Names.{name_in, frame_named, cell_named, IsImage}
 use Rattle.abs_heap.specs.Building.{Gains, IsOver, named_entry}

@@ -1,5 +1,5 @@
 -- A heap with one more object at its end: what was there keeps its steps, regions, shapes and terms.
-use Rattle.std.proofs.Common.{◌≡◌, ℕ, zero, suc, ◌+◌, ◌<◌, ◌≤◌, List, [], ◌∷◌, ◌++◌, length, get_or, Option, Some, None, ◌⊎◌, inl, inr, refl, sym, ap, subst, ◌∙◌, arith, All}
+use Rattle.std.proofs.Common.{◌≡◌, ℕ, zero, suc, ◌<◌, List, [], ◌∷◌, ◌++◌, length, Option, Some, None, refl, sym, ap, subst, ◌∙◌, arith, All}
 use Rattle.std.specs.Prelude.{slice_get}
 use Rattle.std.specs.Option.{option_map, option_and_then}
 use Rattle.std.proofs.lemmas.Option.{slice_get_within, slice_get-get_or}
@@ -10,12 +10,12 @@ use Rattle.jvm_values.specs.declared.heap.Object.TheVariants.{Instance, Nums, Re
 use Rattle.jvm_values.specs.declared.heap.Heap.{Heap}
 use Rattle.jvm_values.specs.declared.shape.Shape.{Shape}
 use Rattle.jvm_values.specs.declared.shape.Shape.TheVariants.{Tree, Dag, Any}
-use Rattle.jvm_values.specs.Paths.{follow, Reaches}
+use Rattle.jvm_values.specs.Paths.{follow}
 use Rattle.jvm_values.specs.Heaps.{target, values_of, value_at, heap_steps, Region, HasShape, IsInHeap, IsClosed}
 use Rattle.jvm_values.specs.Terms.{HeapTerm, HeapTerms, term_within, term_of_object, terms_by, IsTerm}
 use Rattle.jvm_values.specs.Terms.HeapTerm.{null, node}
 use Rattle.jvm_values.specs.Terms.HeapTerms.{more}
-use Rattle.jvm_values.proofs.Options.{given, some_is, none_is_not_some}
+use Rattle.jvm_values.proofs.Options.{given, some_is}
 use Rattle.jvm_values.proofs.PathLaws.{joined, rest_of}
 use Rattle.abs_heap.specs.Laws.{heap_with}
 

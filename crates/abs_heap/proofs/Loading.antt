@@ -1,9 +1,9 @@
 -- An item of an array of references.
-use Rattle.std.proofs.Common.{◌≡◌, ◌≢◌, ℕ, ◌&&◌, ◌||◌, Bool, true, false, List, [], ◌∷◌, length, Option, Some, None, ◌⊎◌, inl, inr, refl, sym, ap, subst, ◌∙◌, arith, All, IsTrue}
+use Rattle.std.proofs.Common.{◌≡◌, ◌≢◌, ℕ, true, List, [], ◌∷◌, Option, Some, ◌⊎◌, inl, inr, refl, sym, ap, subst, ◌∙◌, IsTrue}
 use Rattle.std.specs.Prelude.{slice_get}
 use Rattle.std.specs.Option.{option_and_then}
-use Rattle.std.proofs.lemmas.Bool.{false≢true, cases_Bool}
-use Rattle.std.proofs.lemmas.List.Elements.{All-nil, All-head}
+use Rattle.std.proofs.lemmas.Bool.{false≢true}
+use Rattle.std.proofs.lemmas.List.Elements.{All-nil}
 use Rattle.jvm_values.specs.declared.heap.Value.{Value}
 use Rattle.jvm_values.specs.declared.heap.Value.TheVariants as values
 use Rattle.jvm_values.specs.declared.heap.Object.{Object}
@@ -12,25 +12,25 @@ use Rattle.jvm_values.specs.declared.heap.Heap.{Heap}
 use Rattle.jvm_values.specs.declared.types.Ty.{Ty}
 use Rattle.jvm_values.specs.declared.shape.Shape.{Shape}
 use Rattle.jvm_values.specs.declared.shape.Shape.TheVariants.{Tree, Dag, Any}
-use Rattle.jvm_values.specs.Paths.{follow, Reaches}
+use Rattle.jvm_values.specs.Paths.{follow}
 use Rattle.jvm_values.specs.States.{MachineState}
-use Rattle.jvm_values.specs.Heaps.{target, values_of, value_at, heap_steps, Region, HasShape, IsInHeap}
+use Rattle.jvm_values.specs.Heaps.{target, values_of, heap_steps, Region, HasShape}
 use Rattle.jvm_values.specs.TypedHeaps.{WorldTypes, HasType, IsTypedHeap, type_of}
-use Rattle.jvm_values.proofs.Options.{given, some_is, none_is_not_some}
+use Rattle.jvm_values.proofs.Options.{some_is, none_is_not_some}
 use Rattle.jvm_values.proofs.Lists.{same_or_not}
 use Rattle.abs_cells.specs.declared.cells.Cell.{Cell}
 use Rattle.abs_cells.specs.declared.cells.Cell.TheVariants as cells
 use Rattle.abs_cells.specs.AbstractStates.{AbstractState}
-use Rattle.abs_cells.specs.Cells.{is_known, is_hazy, is_reference, is_int, shape_of, cell_in, cell_at, HasCell, AreEqual, Share, are_compatible}
-use Rattle.abs_cells.specs.Sound.{IsWellFormed, IsSound, IsSoundCell}
+use Rattle.abs_cells.specs.Cells.{is_known, is_hazy, is_reference, shape_of, cell_in, cell_at, HasCell, AreEqual, Share}
+use Rattle.abs_cells.specs.Sound.{IsSound, IsSoundCell}
 use Rattle.abs_cells.specs.Fits.{Meaning, Describes, Fits, with_statics}
 use Rattle.abs_cells.proofs.Fitting.{known_apart}
 use Rattle.abs_cells.proofs.PairLaws.{has_swapped}
 use Rattle.abs_reach.proofs.Walks.{some_cell}
-use Rattle.term_graph.specs.Edges.{Edge, HoldsBetween}
-use Rattle.abs_heap.specs.Given.{first_cell, with_cells, IsGiven, AreFresh, MayBeOne}
+use Rattle.term_graph.specs.Edges.{HoldsBetween}
+use Rattle.abs_heap.specs.Given.{first_cell, with_cells, MayBeOne}
 use Rattle.abs_heap.specs.Writing.{JoinsItem, IsItemChild}
-use Rattle.abs_heap.specs.Laws.{plain_link, AreLawful, IsClosedState, GoesWith, ItemsGoOn}
+use Rattle.abs_heap.specs.Laws.{AreLawful, IsClosedState, GoesWith, ItemsGoOn}
 use Rattle.abs_heap.proofs.Placing.{cell_here, cell_later}
 use Rattle.abs_heap.proofs.Fitted.{FitsBy, fits_given, names_reference}
 use Rattle.abs_heap.proofs.SameTerms.{same_size}

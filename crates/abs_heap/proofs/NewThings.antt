@@ -1,10 +1,9 @@
 -- A new object, and a new array, at the heap's end.
-use Rattle.std.proofs.Common.{◌≡◌, ◌≢◌, ℕ, zero, suc, ◌<◌, Bool, true, false, eqb, List, [], ◌∷◌, ◌++◌, length, map, Option, Some, None, ◌⊎◌, inl, inr, refl, sym, ap, subst, ◌∙◌, arith, All, ℤ, pos, replicate, IsTrue, if◌then◌else◌, ◌==◌}
-use Rattle.std.specs.Prelude.{slice_get, zip, Contains}
+use Rattle.std.proofs.Common.{◌≡◌, ◌≢◌, ℕ, zero, suc, ◌<◌, true, false, eqb, List, [], ◌∷◌, length, map, Option, Some, None, inl, inr, refl, sym, ap, subst, ◌∙◌, arith, All, pos, replicate, if◌then◌else◌, ◌==◌}
+use Rattle.std.specs.Prelude.{slice_get, zip}
 use Rattle.std.proofs.lemmas.Bool.{false≢true, eq-eqb, ne_eqb}
 use Rattle.std.proofs.lemmas.Int.{ints}
 use Rattle.std.proofs.lemmas.List.Elements.{All-nil, All-head, All-tail}
-use Rattle.jvm_values.specs.declared.types.Ty.{Ty}
 use Rattle.jvm_values.specs.declared.types.Slot.{Slot}
 use Rattle.jvm_values.specs.declared.types.Slot.TheVariants as slots
 use Rattle.jvm_values.specs.declared.heap.Value.{Value}
@@ -13,26 +12,26 @@ use Rattle.jvm_values.specs.declared.heap.Object.{Object}
 use Rattle.jvm_values.specs.declared.heap.Object.TheVariants as objects
 use Rattle.jvm_values.specs.declared.heap.Heap.{Heap}
 use Rattle.jvm_values.specs.declared.shape.Shape.{Shape}
-use Rattle.jvm_values.specs.declared.shape.Shape.TheVariants.{Tree, Dag, Any}
-use Rattle.jvm_values.specs.Paths.{follow, Reaches}
+use Rattle.jvm_values.specs.declared.shape.Shape.TheVariants.{Tree}
+use Rattle.jvm_values.specs.Paths.{follow}
 use Rattle.jvm_values.specs.States.{MachineState}
-use Rattle.jvm_values.specs.Heaps.{target, values_of, value_at, heap_steps, Region, HasShape, IsInHeap, IsClosed}
+use Rattle.jvm_values.specs.Heaps.{target, values_of, value_at, heap_steps, Region, HasShape, IsInHeap}
 use Rattle.jvm_values.specs.TypedHeaps.{WorldTypes}
 use Rattle.jvm_values.proofs.Options.{given, some_is, none_is_not_some}
 use Rattle.jvm_values.proofs.Lists.{same_or_not}
 use Rattle.abs_cells.specs.declared.cells.Cell.{Cell}
 use Rattle.abs_cells.specs.declared.cells.Cell.TheVariants as cells
 use Rattle.abs_cells.specs.AbstractStates.{AbstractState}
-use Rattle.abs_cells.specs.Cells.{is_known, is_hazy, is_int, shape_of, cell_in, cell_at, HasCell, AreEqual, Share}
+use Rattle.abs_cells.specs.Cells.{is_known, is_hazy, shape_of, cell_in, cell_at, HasCell, AreEqual, Share}
 use Rattle.abs_cells.specs.Sound.{IsWellFormed}
 use Rattle.abs_cells.specs.Fits.{Meaning, Describes, Fits, with_statics}
 use Rattle.abs_cells.proofs.Fitting.{known_apart}
 use Rattle.abs_cells.proofs.PairLaws.{cond_true, cond_false}
 use Rattle.abs_reach.proofs.Walks.{some_cell}
-use Rattle.term_graph.specs.Edges.{Edge, HoldsBetween}
-use Rattle.abs_heap.specs.Given.{first_cell, with_cells, IsGiven, AreFresh, AreRising, IsBelowFirst}
+use Rattle.term_graph.specs.Edges.{HoldsBetween}
+use Rattle.abs_heap.specs.Given.{first_cell, with_cells, IsGiven, AreFresh, AreRising}
 use Rattle.abs_heap.specs.Writing.{zero_cell, IsObjectChild}
-use Rattle.abs_heap.specs.Laws.{plain_link, heap_with, with_heap, zero_of, zeros_of, IsItemSlot, IsClosedState, GoesWith, ObjectsGoOn, ArraysGoOn}
+use Rattle.abs_heap.specs.Laws.{heap_with, with_heap, zero_of, IsClosedState, GoesWith, ObjectsGoOn, ArraysGoOn}
 use Rattle.abs_heap.proofs.Placing.{cell_here, cell_later}
 use Rattle.abs_heap.proofs.Fitted.{FitsBy, fits_given, hazy_not_known}
 use Rattle.abs_heap.proofs.SameTerms.{size_kept}

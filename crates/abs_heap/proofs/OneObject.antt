@@ -1,5 +1,5 @@
 -- Two ids that may stand for one object: one, or two.
-use Rattle.std.proofs.Common.{◌≡◌, ◌≢◌, ℕ, zero, suc, ◌+◌, ◌<◌, Bool, true, false, cond, eqb, if◌then◌else◌, ◌==◌, List, [], ◌∷◌, map, Option, Some, None, ◌⊎◌, inl, inr, refl, sym, ap, subst, ◌∙◌, arith, IsTrue, eq-eqb, ne_eqb}
+use Rattle.std.proofs.Common.{◌≡◌, ◌≢◌, ℕ, zero, suc, ◌+◌, Bool, true, false, eqb, if◌then◌else◌, ◌==◌, List, [], ◌∷◌, map, Option, Some, None, ◌⊎◌, inl, inr, refl, sym, ap, subst, ◌∙◌, arith, IsTrue, eq-eqb, ne_eqb}
 use Rattle.std.specs.Prelude.{slice_get}
 use Rattle.std.specs.List.{AllZip}
 use Rattle.std.specs.Option.{option_map}
@@ -17,8 +17,7 @@ use Rattle.jvm_values.specs.declared.shape.Shape.{Shape}
 use Rattle.jvm_values.specs.declared.shape.Shape.TheVariants.{Tree, Dag, Any}
 use Rattle.jvm_values.specs.States.{MachineFrame, MachineState}
 use Rattle.jvm_values.specs.Subtyping.{array_of, object_type, IsReference}
-use Rattle.jvm_values.specs.Joins.{item_of}
-use Rattle.jvm_values.specs.Heaps.{target, Region, HasShape}
+use Rattle.jvm_values.specs.Heaps.{target, HasShape}
 use Rattle.jvm_values.specs.TypedHeaps.{WorldTypes, IsTypedHeap, type_of}
 use Rattle.jvm_values.proofs.Joining.{array_of_item, same_type}
 use Rattle.jvm_values.proofs.Options.{some_is, none_is_not_some}
@@ -26,16 +25,16 @@ use Rattle.jvm_values.proofs.Lists.{same_or_not}
 use Rattle.abs_cells.specs.declared.cells.Cell.{Cell}
 use Rattle.abs_cells.specs.declared.cells.Cell.TheVariants as cells
 use Rattle.abs_cells.specs.AbstractStates.{AbstractFrame, AbstractState}
-use Rattle.abs_cells.specs.Cells.{is_known, is_hazy, is_int, shape_of, type_of_cell, cell_in, cell_at, HasCell, AreEqual, Share, are_compatible}
-use Rattle.abs_cells.specs.Sound.{IsWellFormed, IsSound}
+use Rattle.abs_cells.specs.Cells.{is_known, is_hazy, shape_of, type_of_cell, cell_in, cell_at, AreEqual, Share, are_compatible}
+use Rattle.abs_cells.specs.Sound.{IsSound}
 use Rattle.abs_cells.specs.Fits.{Meaning, FitsFrame, FitsMode, Describes, Fits, with_statics}
 use Rattle.abs_cells.proofs.Fitting.{known_apart}
 use Rattle.abs_cells.proofs.PairLaws.{cond_true, cond_false}
-use Rattle.term_graph.specs.Edges.{Edge, HoldsBetween, id_after}
+use Rattle.term_graph.specs.Edges.{HoldsBetween, id_after}
 use Rattle.abs_heap.specs.Given.{IsGiven}
 use Rattle.abs_heap.specs.Names.{one_name, frame_named, cell_named, IsImage, IsPairOf}
-use Rattle.abs_heap.specs.Refining.{Stays, better, better_of, element_told, lower_element, lower_bound, merged_cell, IsMergedChild, IsApartChild, IsEqualChild, both, alone, AreEqualChildren}
-use Rattle.abs_heap.specs.Laws.{plain_link, AreLawful, IsClosedState, Goes, GoesToMerged, EqualSplits}
+use Rattle.abs_heap.specs.Refining.{better, better_of, element_told, lower_element, lower_bound, merged_cell, IsApartChild, IsEqualChild, both, alone, AreEqualChildren}
+use Rattle.abs_heap.specs.Laws.{plain_link, AreLawful, Goes, GoesToMerged, EqualSplits}
 use Rattle.abs_heap.proofs.Placing.{cell_here, cell_later}
 use Rattle.abs_heap.proofs.Fitted.{FitsBy, fits_given}
 use Rattle.abs_heap.proofs.SameTerms.{same_size}

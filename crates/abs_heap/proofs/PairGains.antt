@@ -1,16 +1,16 @@
 -- Pairs put among others.
-use Rattle.std.proofs.Common.{◌≡◌, ◌≢◌, ℕ, zero, suc, ◌+◌, ◌*◌, ◌<◌, ◌≤◌, ◌==◌, ◌&&◌, ◌||◌, min, max, Bool, true, false, not, eqb, List, [], ◌∷◌, ◌++◌, length, get_or, take, Option, Some, None, ◌⊎◌, inl, inr, refl, sym, ap, subst, ◌∙◌, arith, eq-eqb, add-one}
-use Rattle.std.specs.Prelude.{◌↔◌, slice_get}
+use Rattle.std.proofs.Common.{◌≡◌, ◌≢◌, ℕ, zero, suc, ◌+◌, ◌*◌, ◌<◌, ◌≤◌, ◌==◌, ◌&&◌, ◌||◌, min, max, Bool, true, false, not, eqb, List, [], ◌∷◌, ◌++◌, length, get_or, take, Option, Some, None, ◌⊎◌, inl, inr, refl, sym, ap, subst, ◌∙◌, arith, eq-eqb}
+use Rattle.std.specs.Prelude.{slice_get}
 use Rattle.std.specs.List.{list_any}
-use Rattle.std.proofs.lemmas.Bool.{false≢true, eqb-true, cases_lt, and_parts, and_from, or_cases, or_left, or_right}
+use Rattle.std.proofs.lemmas.Bool.{false≢true, eqb-true, cases_lt, and_parts, or_cases, or_left, or_right}
 use Rattle.std.proofs.lemmas.List.{take_more, take_all}
-use Rattle.std.proofs.lemmas.Option.{slice_get_within, slice_get-get_or, slice_get_past}
+use Rattle.std.proofs.lemmas.Option.{slice_get_within, slice_get-get_or}
 use Rattle.jvm_values.proofs.Options.{some_is, none_is_not_some}
 use Rattle.abs_cells.specs.declared.cells.Cell.{Cell}
 use Rattle.abs_cells.specs.Cells.{is_known, is_reference, is_of_sort, cell_in}
-use Rattle.abs_cells.specs.PairLists.{pair_of, is_same, IsFirst, IsRising, has_pair, with_pair, has, added, is_before}
+use Rattle.abs_cells.specs.PairLists.{pair_of, is_same, IsRising, has_pair, with_pair, has, added, is_before}
 use Rattle.abs_cells.specs.Sound.{AreIdsRising, may_join}
-use Rattle.abs_cells.proofs.PairLaws.{has_swapped, cond_true, cond_false, bool_cases, same_is, is_same_from, before_is, Before}
+use Rattle.abs_cells.proofs.PairLaws.{cond_true, cond_false, bool_cases, same_is, is_same_from, before_is}
 use Rattle.abs_cells.proofs.Checking.{low_pair}
 use Rattle.abs_reach.proofs.Room.{has_cell_low}
 use Rattle.abs_heap.specs.Given.{IsPair}
@@ -304,7 +304,7 @@ named_next cells name pairs n p old mid new r e f s =
 pub named_none : (cells : List (ℕ × Cell)) (name : ℕ → ℕ) (old : List (ℕ × ℕ)) → Gains cells (IsImage name (λ x y. has x y [] ≡ true)) old old
 named_none cells name old = gain_nothing cells _ old (λ a b j w. false≢true w.were)
 
-past_end : (pairs : List (ℕ × ℕ)) (n : ℕ) → slice_get pairs n ≡ None → length pairs ≤ n
+pub past_end : (pairs : List (ℕ × ℕ)) (n : ℕ) → slice_get pairs n ≡ None → length pairs ≤ n
 past_end [] n e = omega arith
 past_end (p ∷ pairs) zero e = absurd (none_is_not_some p (sym e))
 past_end (p ∷ pairs) (suc n) e = let h = past_end pairs n e in omega (arith, h)

@@ -1,5 +1,5 @@
 -- Cells put at their places among cells that rise.
-use Rattle.std.proofs.Common.{◌≡◌, ℕ, zero, suc, ◌+◌, ◌<◌, ◌≤◌, Bool, true, false, eqb, ltb, List, [], ◌∷◌, ◌++◌, length, get_or, drop, map, take, Option, Some, None, All, ◌⊎◌, inl, inr, refl, sym, ap, subst, ◌∙◌, arith, eq-eqb, drop-cons, add-one}
+use Rattle.std.proofs.Common.{◌≡◌, ℕ, zero, suc, ◌+◌, ◌<◌, ◌≤◌, true, eqb, ltb, List, [], ◌∷◌, ◌++◌, length, get_or, drop, map, take, Option, Some, None, All, ◌⊎◌, inl, inr, refl, sym, ap, subst, ◌∙◌, arith, eq-eqb, drop-cons, add-one}
 use Rattle.std.specs.Prelude.{slice_get, ◌↔◌, ◌==◌}
 use Rattle.std.specs.List.{insert}
 use Rattle.std.proofs.lemmas.Bool.{false≢true, eqb-true, ltb-true, lt-ltb, ne_eqb}
@@ -13,7 +13,7 @@ use Rattle.abs_cells.proofs.PairLaws.{cond_true, cond_false, bool_cases}
 use Rattle.abs_cells.proofs.Checking.{id_is_low}
 use Rattle.abs_heap.specs.Names.{name_in}
 use Rattle.abs_heap.specs.Given.{first_cell}
-use Rattle.abs_heap.specs.Building.{place_in, IsIdAt, IsOver, named_entry}
+use Rattle.abs_heap.specs.Building.{place_in, IsIdAt, IsOver}
 
 -- ---- looks
 

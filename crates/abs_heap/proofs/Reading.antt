@@ -1,32 +1,31 @@
 -- The child in which an item of an array is read.
-use Rattle.std.proofs.Common.{◌≡◌, ℕ, Bool, true, false, List, [], ◌∷◌, map, Option, Some, None, ◌⊎◌, inl, inr, refl, sym, ap, subst, ◌∙◌}
+use Rattle.std.proofs.Common.{◌≡◌, ℕ, Bool, true, List, [], ◌∷◌, map, Option, Some, None, ◌⊎◌, inl, inr, refl, sym, ap, subst, ◌∙◌}
 use Rattle.std.specs.Prelude.{◌↔◌}
 use Rattle.std.specs.Option.{option_map}
 use Rattle.std.proofs.lemmas.Bool.{false≢true}
 use Rattle.jvm_values.specs.declared.types.Ty.{Ty}
 use Rattle.jvm_values.specs.declared.shape.Shape.{Shape}
 use Rattle.jvm_values.specs.declared.shape.Shape.TheVariants.{Any}
-use Rattle.jvm_values.proofs.Options.{some_is}
 use Rattle.abs_cells.specs.declared.cells.Cell.{Cell}
 use Rattle.abs_cells.specs.declared.cells.Cell.TheVariants as cells
-use Rattle.abs_cells.specs.AbstractStates.{AbstractFrame, AbstractState}
-use Rattle.abs_cells.specs.Cells.{cell_in, cell_at, AreEqual, Share, are_compatible}
+use Rattle.abs_cells.specs.AbstractStates.{AbstractState}
+use Rattle.abs_cells.specs.Cells.{cell_in, AreEqual, Share, are_compatible}
 use Rattle.abs_cells.specs.IdSets.{has_id}
 use Rattle.abs_cells.specs.PairLists.{has}
 use Rattle.abs_cells.specs.Sound.{AreIdsRising}
-use Rattle.abs_heap.specs.Given.{IsPair, IsGiven, MayBeOne, with_cells}
+use Rattle.abs_heap.specs.Given.{MayBeOne}
 use Rattle.abs_heap.specs.Names.{name_in, frame_named, IsImage}
 use Rattle.abs_heap.specs.Writing.{JoinsItem}
 use Rattle.abs_heap.specs.Building.{Gains, IsOver, IsThis, IsGivenItem, may_be_one}
 use Rattle.abs_heap.proofs.PairGains.{gain_both, gain_as, gains_on}
 use Rattle.abs_heap.proofs.Giving.{image_unnamed, pairs_given, over_state, state_of, frames_unnamed, given_unnamed}
 
-one_cells : (sub : Ty → Ty → Bool) (x y : Option Cell) → may_be_one sub x y ≡ true → (c : Cell) × ((x ≡ Some c) × ((d : Cell) × ((y ≡ Some d) × (are_compatible sub c d ≡ true))))
+pub one_cells : (sub : Ty → Ty → Bool) (x y : Option Cell) → may_be_one sub x y ≡ true → (c : Cell) × ((x ≡ Some c) × ((d : Cell) × ((y ≡ Some d) × (are_compatible sub c d ≡ true))))
 one_cells sub None y e = absurd (false≢true e)
 one_cells sub (Some c) None e = absurd (false≢true e)
 one_cells sub (Some c) (Some d) e = (c, (refl, (d, (refl, e))))
 
-cells_one : (sub : Ty → Ty → Bool) (x y : Option Cell) (c d : Cell) → x ≡ Some c → y ≡ Some d → are_compatible sub c d ≡ true → may_be_one sub x y ≡ true
+pub cells_one : (sub : Ty → Ty → Bool) (x y : Option Cell) (c d : Cell) → x ≡ Some c → y ≡ Some d → are_compatible sub c d ≡ true → may_be_one sub x y ≡ true
 cells_one sub x y c d e f h = ap (λ (o : Option Cell). may_be_one sub o y) e ∙ ap (may_be_one sub (Some c)) f ∙ h
 
 module _ (sub : Ty → Ty → Bool) (state : AbstractState) (k item : ℕ) (element : Ty) (shape : Shape) (start some whole list all : List (ℕ × Cell)) (others : List ℕ) (old_eq old_share eq0 eq1 sh0 sh1 sh2 : List (ℕ × ℕ))

@@ -1,11 +1,10 @@
 -- Cells that tell no type, or one that no type has, describe nothing together.
-use Rattle.std.proofs.Common.{◌≡◌, ℕ, ◌<◌, ◌≤◌, ◌&&◌, ◌||◌, Bool, true, false, not, inl, inr, Option, Some, None, refl, sym, ap, ◌∙◌, arith, IsTrue, List}
+use Rattle.std.proofs.Common.{◌≡◌, ℕ, ◌<◌, ◌&&◌, ◌||◌, Bool, false, not, inl, inr, Option, Some, None, refl, ap, ◌∙◌, arith, List}
 use Rattle.std.proofs.lemmas.Bool.{cases_Bool}
 use Rattle.jvm_values.specs.declared.types.Ty.{Ty}
 use Rattle.jvm_values.specs.declared.types.Slot.{Slot}
 use Rattle.jvm_values.specs.Subtyping.{SubtypeLaws}
-use Rattle.abs_cells.specs.declared.cells.Cell.{Cell}
-use Rattle.abs_cells.specs.Cells.{is_known, type_of_cell, are_compatible, are_compatible_types, is_comparable}
+use Rattle.abs_cells.specs.Cells.{are_compatible_types}
 use Rattle.abs_heap.specs.Building.{IsUntold}
 
 module _ (sub : Ty → Ty → Bool) (erase : Ty → Ty) (classes : ℕ) (fields : ℕ → List Slot) (can_be_made : ℕ → Bool) (laws : SubtypeLaws sub erase classes fields can_be_made) where

@@ -1,15 +1,17 @@
 -- What the calls answer, and what they ask.
-use Rattle.std.specs.Prelude.{◌≡◌, ◌⊎◌, ℕ, Bool, true, false, List, [], ◌∷◌, Some, None}
+use Rattle.std.specs.Prelude.{◌≡◌, ℕ, Bool, true, false, List, [], ◌∷◌, map, Option, Some, None}
+use Rattle.std.specs.List.{AllZip}
+use Rattle.jvm_values.specs.TypedHeaps.{WorldTypes}
 use Rattle.jvm_values.specs.declared.types.Ty.{Ty}
 use Rattle.jvm_values.specs.declared.shape.Shape.{Shape}
-use Rattle.abs_cells.specs.declared.cells.Cell.{Cell}
 use Rattle.abs_cells.specs.declared.cells.Cell.TheVariants as cells
 use Rattle.abs_cells.specs.AbstractStates.{AbstractState}
-use Rattle.abs_cells.specs.Cells.{cell_at, AreEqual, Share}
+use Rattle.abs_cells.specs.Cells.{cell_at}
 use Rattle.term_graph.specs.Graphs.{GraphChild}
-use Rattle.abs_heap.specs.Refining.{IsWithCell}
-use Rattle.abs_heap.specs.Given.{IsGiven, MayBeOne, with_cells}
-use Rattle.abs_heap.specs.Writing.{JoinsItem, IsItemChild}
+use Rattle.abs_heap.specs.Counts.{HasTooManyIn}
+use Rattle.abs_heap.specs.Names.{IsPairOf}
+use Rattle.abs_heap.specs.Refining.{IsWithCell, IsCase, cases_of, Stays, IsMergedChild, IsApartChild, AreEqualChildren}
+use Rattle.abs_heap.specs.Writing.{IsItemChild}
 use Rattle.abs_heap.specs.Laws.{plain_link}
 
 -- an id's object may be null or not: its cell is `Unk`, nullable, with this bound and shape
@@ -32,3 +34,45 @@ pub record AreNullChildren (state : AbstractState) (x : ℕ) (children : List Gr
 -- the child in which an item of the array `k` is read
 abbrev pub IsLoaded : (Ty → Ty → Bool) → AbstractState → ℕ → ℕ → AbstractState → Type 0
 IsLoaded sub state k item child = (element : Ty) (len : ℕ) (shape : Shape) → cell_at state k ≡ Some (cells.Refs element len shape) → IsItemChild sub state k element shape item child
+
+-- the child in which two ids are one, with its link
+pub record IsMergedAnswer (sub : Ty → Ty → Bool) (state : AbstractState) (x y : ℕ) (child : GraphChild) : Type 0 where
+  pub stays : ℕ
+  pub goes : ℕ
+  pub pair : IsPairOf x y stays goes
+  pub stay : Stays state stays goes
+  pub is : IsMergedChild sub state stays goes child.state
+  pub link : child.link ≡ plain_link false (Some (goes, stays))
+
+-- the child in which they are two
+pub record IsApartAnswer (state : AbstractState) (x y : ℕ) (child : GraphChild) : Type 0 where
+  pub is : IsApartChild state x y child.state
+  pub link : child.link ≡ plain_link false None
+
+-- the children of two ids that may be one object, each with its link
+pub record AreEqualAnswers (sub : Ty → Ty → Bool) (state : AbstractState) (x y : ℕ) (children : List GraphChild) : Type 0 where
+  pub pairs : List (Option (ℕ × ℕ) × AbstractState)
+  pub are : AreEqualChildren sub state x y pairs
+  pub is : children ≡ map (λ p. record { state = p.1; link = plain_link false p.0 }) pairs
+
+-- an id stands for an object that may be any below a type: its cell is `Unk`, and not nullable
+pub record IsObjectBelow (state : AbstractState) (x : ℕ) : Type 0 where
+  pub bound : Ty
+  pub shape : Shape
+  pub is : cell_at state x ≡ Some (cells.Unk bound false shape)
+
+-- the children of a split by class, in order, of no step
+pub record AreClassChildren (types : WorldTypes) (state : AbstractState) (x : ℕ) (wanted : Ty) (children : List GraphChild) : Type 0 where
+  pub bound : Ty
+  pub shape : Shape
+  pub was : cell_at state x ≡ Some (cells.Unk bound false shape)
+  pub states : List AbstractState
+  pub are : AllZip (IsCase types state x shape) (cases_of types bound wanted) states
+  pub is : children ≡ map (λ s. record { state = s; link = plain_link false None }) states
+
+-- one of them has more than 512 ids
+pub record HasTooManyChildren (types : WorldTypes) (state : AbstractState) (x : ℕ) (wanted : Ty) : Type 0 where
+  pub bound : Ty
+  pub shape : Shape
+  pub was : cell_at state x ≡ Some (cells.Unk bound false shape)
+  pub many : HasTooManyIn types state (cases_of types bound wanted)

@@ -1,5 +1,5 @@
 -- How many ids a child has, which is at most 512: by number, since a chain of classes may have more fields than there are ids.
-use Rattle.std.specs.Prelude.{◌≡◌, ℕ, ◌+◌, ◌<◌, List, length, Contains}
+use Rattle.std.specs.Prelude.{ℕ, ◌+◌, ◌<◌, List, length, Contains}
 use Rattle.jvm_values.specs.TypedHeaps.{WorldTypes}
 use Rattle.abs_cells.specs.AbstractStates.{AbstractState}
 use Rattle.abs_heap.specs.Refining.{Case, instance, numbers, references}

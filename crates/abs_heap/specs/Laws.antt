@@ -1,5 +1,5 @@
 -- What the calls promise: whatever fits a state fits one of its children, by an edge.
-use Rattle.std.specs.Prelude.{◌≡◌, ◌≢◌, ◌⊎◌, ℕ, ◌<◌, Bool, true, false, not, IsTrue, List, [], ◌∷◌, ◌++◌, length, map, All, Contains, Option, Some, None, slice_get, pos, replicate, ℤ}
+use Rattle.std.specs.Prelude.{◌≡◌, ◌≢◌, ◌⊎◌, ℕ, ◌<◌, Bool, true, false, not, IsTrue, List, [], ◌∷◌, ◌++◌, length, map, Option, Some, None, slice_get, pos, replicate}
 use Rattle.jvm_values.specs.declared.types.Ty.{Ty}
 use Rattle.jvm_values.specs.declared.types.Slot.{Slot}
 use Rattle.jvm_values.specs.declared.types.Slot.TheVariants as slots
@@ -23,7 +23,7 @@ use Rattle.abs_cells.specs.Sound.{IsWellFormed, IsSound}
 use Rattle.abs_cells.specs.Fits.{Meaning, Fits}
 use Rattle.term_graph.specs.declared.links.Link.{Link}
 use Rattle.term_graph.specs.Edges.{Edge}
-use Rattle.abs_heap.specs.Refining.{Case, IsCase, cases_of, IsWithCell, AreEqualChildren}
+use Rattle.abs_heap.specs.Refining.{IsCase, cases_of, IsWithCell, AreEqualChildren}
 use Rattle.abs_heap.specs.Writing.{Write, IsWriteChild, IsItemChild, IsObjectChild, IsNewArrayChild}
 
 -- what a world's types obey

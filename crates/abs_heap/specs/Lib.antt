@@ -5,4 +5,6 @@ pub mod Given
 pub mod Laws
 pub mod Names
 pub mod Refining
+pub mod Splitting
+pub mod Renaming
 pub mod Writing

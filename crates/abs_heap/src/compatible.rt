@@ -5,6 +5,7 @@ ghost use Rattle.abs_cells.specs.Cells.{type_of_cell, are_compatible, are_compat
 ghost use Rattle.abs_cells.specs.IdSets.{has_id};
 ghost use Rattle.abs_cells.specs.Sound.{AreIdsRising};
 ghost use Rattle.abs_heap.specs.Building.{Gains, IsUntold, may_be_one};
+ghost use Rattle.abs_heap.specs.Splitting.{WantsOne};
 
 use crate::gaining::put_with;
 use abs_cells::{Cell, Id, IdSet, Pairs};
@@ -46,7 +47,7 @@ fn array_of(element: Ty) -> Option<Ty>
 }
 
 /// The type that a cell tells of its object, if it tells one of at most 255 dimensions.
-fn told_type(cell: &Cell) -> Option<Ty>
+pub(crate) fn told_type(cell: &Cell) -> Option<Ty>
     ensures { MatchOption result (IsUntold (type_of_cell cell.now)) (λ t. type_of_cell cell.now ≡ Some t) }
 {
     match cell {
@@ -138,4 +139,39 @@ pub(crate) fn put_compatible<T: Types, P: Pairs>(
         ),
         None => Ok(()),
     }
+}
+
+/// Adds the pairs of an id with each id of a set that may stand, where the two may be one object, if it is in a set itself.
+fn put_compatible_in<T: Types, P: Pairs>(
+    types: &T,
+    cells: &[(Id, Cell)],
+    id: Id,
+    ids: &IdSet,
+    others: &IdSet,
+    pairs: &mut P,
+) -> Result<(), AllocError>
+    requires { AreIdsRising 0 cells.now }
+    ensures { OnOk result (Gains cells.now (λ c d. (c ≡ id) × WantsOne (T.sub types.now) cells.now ids.now others.now c d) (P.pairs pairs.old) (P.pairs pairs.new)) }
+{
+    if ids.has(id) {
+        put_compatible(types, cells, id, others, pairs)?;
+    }
+    Ok(())
+}
+
+/// Adds the pairs of each id of one set with each of another that may stand, where the two may be one object.
+pub(crate) fn put_compatible_between<T: Types, P: Pairs>(
+    types: &T,
+    cells: &[(Id, Cell)],
+    ids: &IdSet,
+    others: &IdSet,
+    pairs: &mut P,
+) -> Result<(), AllocError>
+    requires { AreIdsRising 0 cells.now }
+    ensures { OnOk result (Gains cells.now (WantsOne (T.sub types.now) cells.now ids.now others.now) (P.pairs pairs.old) (P.pairs pairs.new)) }
+{
+    for (id, _cell) in cells {
+        put_compatible_in(types, cells, *id, ids, others, pairs)?;
+    }
+    Ok(())
 }

@@ -15,7 +15,7 @@ pub(crate) fn fresh_ids<P: Pairs>(
     count: usize,
 ) -> Result<Seq<Id>, AllocError>
     requires rising { AreIdsRising 0 state.now.cells }
-    requires room { length state.now.cells + count ≤ 512 }
+    requires room { length state.now.cells + count ≤ 2048 }
     ensures fresh { IfOk result (λ ids. AreFresh state.now ids) }
     ensures low { IfOk result (λ ids. All (λ id. id < 2048) ids) }
     ensures count { IfOk result (λ ids. length ids ≡ count) }

@@ -26,7 +26,7 @@ use term_graph::Child;
 
 /// The ids that an item of an array joins: those that share with the array, and the array itself where its region may have
 /// cycles.
-fn item_partners<P: Pairs>(state: &AbsState<P>, k: Id, shape: Shape) -> IdSet
+pub(crate) fn item_partners<P: Pairs>(state: &AbsState<P>, k: Id, shape: Shape) -> IdSet
     requires { k < 2048 }
     ensures { (n : ℕ) → (has_id result n ≡ true) ↔ (Share state.now k n ⊎ ((shape ≡ Any) × (n ≡ k))) }
 {

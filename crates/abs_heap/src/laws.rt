@@ -1,5 +1,5 @@
 //! What the calls promise of the machine's states, for the proofs of other crates. They run nothing.
-ghost use Rattle.abs_heap.specs.Laws.{NullSplits, EqualSplits, ItemsGoOn, ObjectsGoOn, ArraysGoOn, WritesGoOn};
+ghost use Rattle.abs_heap.specs.Laws.{NullSplits, ClassesSplit, EqualSplits, ItemsGoOn, ObjectsGoOn, ArraysGoOn, WritesGoOn};
 
 /// Whatever fits a state in which an id's object may be null fits one of the two children of that split.
 pub fn null_splits()
@@ -30,4 +30,10 @@ pub fn equal_splits()
 /// Whatever fits a state fits, after a write of a reference into a field or an item of an array, the child of that write.
 pub fn writes_go_on()
     ensures { WritesGoOn }
+{}
+
+/// Whatever fits a state fits, where an id's object is below a type and no known id stands for it, one of the children of a split of
+/// that object by class.
+pub fn classes_split()
+    ensures { ClassesSplit }
 {}

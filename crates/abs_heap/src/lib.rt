@@ -1,22 +1,34 @@
 //! What abstract states become by refinements of an id, by a write of a reference, and by new ids.
 #![tactic(auto)]
 
+mod cases;
 mod children;
 mod compatible;
+mod equals;
 mod fault;
 mod fresh;
 mod gaining;
+mod instances;
 mod items;
 mod laws;
 mod naming;
 mod nulls;
 mod objects;
 mod putting;
+mod renaming;
+mod rewriting;
 mod shapes;
+mod writes;
 
+pub use cases::refine_class;
+pub use equals::refine_equal;
 pub use fault::HeapFault;
 pub use items::load_ref;
-pub use laws::{arrays_go_on, equal_splits, items_go_on, null_splits, objects_go_on, writes_go_on};
+pub use laws::{
+    arrays_go_on, classes_split, equal_splits, items_go_on, null_splits, objects_go_on,
+    writes_go_on,
+};
 pub use nulls::refine_null;
 pub use objects::{new_array, new_object};
 pub use shapes::{better, shape_after};
+pub use writes::{put_field, store_ref};

@@ -30,7 +30,7 @@ pub(crate) fn name_of_given(names: &[(Id, Id)], given: Option<Id>) -> Option<Id>
 }
 
 /// Ids under their names.
-fn named_ids(alloc: Global, names: &[(Id, Id)], ids: &[Id]) -> Result<Ids, AllocError>
+pub(crate) fn named_ids(alloc: Global, names: &[(Id, Id)], ids: &[Id]) -> Result<Ids, AllocError>
     ensures { IfOk result (λ named. named ≡ map (name_in names.now) ids.now) }
 {
     let mut named = Ids::new(alloc);

@@ -1,4 +1,4 @@
-use Rattle.std.proofs.Common.{◌≡◌, ◌-◌, ◌+◌, ◌≤◌, length}
+use Rattle.std.proofs.Common.{◌-◌, ◌+◌, ◌≤◌, length}
 use Rattle.abs_heap.proofs.Freshness.{AreFound}
 use Rattle.abs_heap.proofs.fresh.fresh_ids.Given as goal
 

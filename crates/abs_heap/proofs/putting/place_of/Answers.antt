@@ -1,4 +1,4 @@
-use Rattle.std.proofs.Common.{◌<◌, ◌≤◌, ℕ, subst, sym, ◌∙◌, ap}
+use Rattle.std.proofs.Common.{◌<◌, ◌≤◌, ℕ, subst}
 use Rattle.abs_cells.specs.declared.cells.Cell.{Cell}
 use Rattle.abs_heap.proofs.Placing.{gone_by, found_place, at_the_end}
 use Rattle.abs_heap.proofs.putting.place_of.Goals as goal

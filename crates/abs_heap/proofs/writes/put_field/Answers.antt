@@ -1,0 +1,4 @@
+use Rattle.abs_heap.proofs.writes.put_field.Goals as goal
+
+pub returns-clause-child : goal.returns-clause-child
+returns-clause-child g c = c.write_child.ensures.child

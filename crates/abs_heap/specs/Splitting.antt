@@ -1,0 +1,75 @@
+-- How the children of a split by class are listed, one case after another. The call's own clauses are over the other files alone.
+use Rattle.std.specs.Prelude.{◌≡◌, ◌⊎◌, ℕ, ◌+◌, ◌<◌, nat_lt, Bool, ◌&&◌, true, false, List, ◌∷◌, ◌++◌, map, filter, zip, length, Some, None, slice_get}
+use Rattle.std.specs.List.{AllZip}
+use Rattle.jvm_values.specs.declared.types.Ty.{Ty}
+use Rattle.jvm_values.specs.declared.types.Kind.{Kind}
+use Rattle.jvm_values.specs.declared.types.Slot.{Slot}
+use Rattle.jvm_values.specs.declared.types.Slot.TheVariants as slots
+use Rattle.jvm_values.specs.declared.shape.Shape.{Shape}
+use Rattle.jvm_values.specs.Subtyping.{class_type, array_of_numbers}
+use Rattle.jvm_values.specs.TypedHeaps.{WorldTypes}
+use Rattle.abs_cells.specs.declared.cells.Cell.{Cell}
+use Rattle.abs_cells.specs.declared.cells.Cell.TheVariants as cells
+use Rattle.abs_cells.specs.AbstractStates.{AbstractState}
+use Rattle.abs_cells.specs.Cells.{cell_in, AreEqual, Share}
+use Rattle.abs_cells.specs.IdSets.{has_id}
+use Rattle.term_graph.specs.Graphs.{GraphChild}
+use Rattle.abs_heap.specs.Building.{may_be_one}
+use Rattle.abs_heap.specs.Counts.{new_ids}
+use Rattle.abs_heap.specs.Given.{IsGiven, MayBeOne, with_cells}
+use Rattle.abs_heap.specs.Laws.{plain_link}
+use Rattle.abs_heap.specs.Refining.{Case, instance, numbers, IsCase, IsArrayChild, cell_of_slot, JoinsFields}
+
+-- the cases of some classes, and of arrays of some kinds
+abbrev pub instances_among : WorldTypes → Ty → List ℕ → List Case
+instances_among types bound classes = map instance (filter (λ class. types.can_be_made class && types.sub (class_type class) bound) classes)
+
+abbrev pub numbers_among : WorldTypes → Ty → List Kind → List Case
+numbers_among types bound kinds = map numbers (filter (λ kind. types.sub (array_of_numbers kind) bound) kinds)
+
+-- the child of a case has more than 512 ids
+abbrev pub crowds : WorldTypes → AbstractState → Case → Bool
+crowds types state case = nat_lt 512 (length state.cells + new_ids types case)
+
+-- the children of some cases, behind others
+abbrev pub plain_child : AbstractState → GraphChild
+plain_child state = record { state = state; link = plain_link false None }
+
+pub record AddsCases (types : WorldTypes) (state : AbstractState) (x : ℕ) (shape : Shape) (cases : List Case) (old new : List GraphChild) : Type 0 where
+  pub states : List AbstractState
+  pub are : AllZip (IsCase types state x shape) cases states
+  pub is : new ≡ old ++ map plain_child states
+
+-- the child of one case
+pub record IsCaseAnswer (types : WorldTypes) (state : AbstractState) (x : ℕ) (shape : Shape) (case : Case) (child : GraphChild) : Type 0 where
+  pub is : IsCase types state x shape case child.state
+  pub link : child.link ≡ plain_link false None
+
+pub record IsArrayAnswer (state : AbstractState) (x : ℕ) (cell : ℕ → Cell) (child : GraphChild) : Type 0 where
+  pub is : IsArrayChild state x cell child.state
+  pub link : child.link ≡ plain_link false None
+
+-- the child of an instance whose fields have these ids
+abbrev pub IsGivenInstance : WorldTypes → AbstractState → ℕ → Shape → ℕ → List ℕ → AbstractState → Type 0
+IsGivenInstance types state x shape class ids child = IsGiven state.frames state.throwing
+    (with_cells ((x, cells.Obj class ids) ∷ zip ids (map (cell_of_slot types.erase shape) (types.fields class))) state)
+    (λ a b. AreEqual state a b ⊎ MayBeOne types.sub (JoinsFields (types.fields class) ids state x shape) child.cells a b)
+    (λ a b. Share state a b ⊎ JoinsFields (types.fields class) ids state x shape a b)
+    child
+
+-- a slot holds references
+abbrev pub is_reference_slot : Slot → Bool
+is_reference_slot (slots.Num kind) = false
+is_reference_slot (slots.Ref t) = true
+
+-- an id stands for a reference field before a place
+pub record IsFieldBefore (fields : List Slot) (ids : List ℕ) (end f : ℕ) : Type 0 where
+  pub place : ℕ
+  pub before : place < end
+  pub t : Ty
+  pub slot_is : slice_get fields place ≡ Some (slots.Ref t)
+  pub id_is : slice_get ids place ≡ Some f
+
+-- an id of one set is wanted as one object with an id of another, where their cells allow it
+abbrev pub WantsOne : (Ty → Ty → Bool) → List (ℕ × Cell) → List ℕ → List ℕ → ℕ → ℕ → Type 0
+WantsOne sub list ids others a b = (has_id ids a ≡ true) × ((has_id others b ≡ true) × (may_be_one sub (cell_in list a) (cell_in list b) ≡ true))
