@@ -1,6 +1,8 @@
 -- Programs whose instructions are about ints alone, and the states that they meet: what the expansion is built for so far.
 use Rattle.std.specs.Prelude.{◌≡◌, ℕ, Bool, true, false, [], Some, None}
 use Rattle.std.specs.Option.{option_map_or}
+use Rattle.jvm_values.specs.declared.ints.IntOp.{IntOp}
+use Rattle.jvm_values.specs.declared.ints.IntOp.TheVariants.{Div, Rem}
 use Rattle.abs_cells.specs.declared.cells.Cell.{Cell}
 use Rattle.abs_cells.specs.AbstractStates.{AbstractState}
 use Rattle.abs_cells.specs.Cells.{is_int, cell_at}
@@ -9,7 +11,13 @@ use Rattle.class_program.specs.Programs.{Program, op_at}
 use Rattle.op_forms.specs.Forms.{Form, form_of}
 use Rattle.op_forms.specs.Forms.Form.{Nop, Iconst, Iload, Istore, Iinc, Shuffle, Arith, Ineg, Narrow, If, IfIcmp, Goto, Tableswitch, Lookupswitch, Ireturn, Return}
 
--- an instruction that moves ints, computes with them, compares them, jumps or returns
+-- an operator that has a result for all ints: each but the two divisions
+abbrev pub is_total : IntOp → Bool
+is_total Div = false
+is_total Rem = false
+is_total _ = true
+
+-- an instruction that moves ints, computes with them and throws nothing, compares them, jumps or returns
 abbrev pub is_int_form : Form → Bool
 is_int_form Nop = true
 is_int_form (Iconst n) = true
@@ -17,7 +25,7 @@ is_int_form (Iload n) = true
 is_int_form (Istore n) = true
 is_int_form (Iinc n by) = true
 is_int_form (Shuffle shuffle) = true
-is_int_form (Arith op) = true
+is_int_form (Arith op) = is_total op
 is_int_form Ineg = true
 is_int_form (Narrow kind) = true
 is_int_form (If cond place) = true

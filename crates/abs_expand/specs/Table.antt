@@ -1,5 +1,5 @@
 -- What becomes of an abstract state at an instruction: one equation for each form (JVM specification, section 6.5).
-use Rattle.std.specs.Prelude.{ℕ, ℤ, pos, negsuc, ◌+◌, ◌-◌, ◌==◌, Bool, true, false, not, ◌&&◌, ◌||◌, if◌then◌else◌, List, [], ◌∷◌, ◌++◌, length, map, reverse, take, drop, replicate, slice_get, slice_set, slice_index_or, Option, Some, None}
+use Rattle.std.specs.Prelude.{ℕ, ℤ, pos, negsuc, ◌+◌, ◌-◌, ◌==◌, Bool, true, false, not, ◌&&◌, ◌||◌, if◌then◌else◌, List, [], ◌∷◌, ◌++◌, length, reverse, take, drop, slice_get, slice_set, slice_index_or, Option, Some, None}
 use Rattle.std.specs.List.{filter_map}
 use Rattle.std.specs.Option.{option_map, option_and_then, option_map_or, option_to_list}
 use Rattle.lin_core.specs.Intervals.{Bounds}
@@ -13,6 +13,7 @@ use Rattle.jvm_values.specs.declared.types.Base.TheVariants as bases
 use Rattle.jvm_values.specs.declared.typing.PlaceType.{PlaceType}
 use Rattle.jvm_values.specs.declared.typing.PlaceType.TheVariants as places
 use Rattle.jvm_values.specs.Kinds.{least_of, greatest_of}
+use Rattle.jvm_values.specs.States.{locals_from}
 use Rattle.jvm_values.specs.TypedHeaps.{WorldTypes}
 use Rattle.abs_cells.specs.declared.cells.Cell.{Cell}
 use Rattle.abs_cells.specs.declared.cells.Cell.TheVariants as cells
@@ -336,7 +337,7 @@ instanceof_plan here t (x ∷ stack) = cast_plan here t x true (instanceof_of he
 
 -- the frame of a call: the arguments in the first locals, the others unset
 abbrev pub called_frame : ℕ → Method → List ℕ → AbstractFrame
-called_frame number m arguments = record { method = number; pc = 0; locals = map Some arguments ++ replicate (m.max_locals - length arguments) None; stack = [] }
+called_frame number m arguments = record { method = number; pc = 0; locals = locals_from Some None m.max_locals arguments; stack = [] }
 
 -- the method of a number runs; so many arguments leave the caller's stack, which stays at the call
 abbrev pub invokes : Here → ℕ → ℕ → Plan

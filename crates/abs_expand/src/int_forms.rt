@@ -6,13 +6,25 @@ ghost use Rattle.abs_cells.specs.Cells.{is_int};
 ghost use Rattle.class_program.specs.declared.program.Method.{Method};
 ghost use Rattle.class_program.specs.Views.{program_of};
 ghost use Rattle.op_forms.specs.Forms.{form_seen};
-ghost use Rattle.abs_expand.specs.IntForms.{is_int_form, has_int_form, HasIntForms, IsIntState};
+ghost use Rattle.abs_expand.specs.IntForms.{is_total, is_int_form, has_int_form, HasIntForms, IsIntState};
 
 use abs_cells::{AbsState, Cell, Id, Pairs};
 use class_program::{Method, Op, Program};
+use jvm_values::IntOp;
 use op_forms::{Form, form_of};
 
-/// Whether a form is about ints alone.
+/// Whether an operator has a result for all ints.
+fn is_total(op: IntOp) -> bool
+    ensures { result ≡ is_total op }
+{
+    match op {
+        IntOp::Div => false,
+        IntOp::Rem => false,
+        _ => true,
+    }
+}
+
+/// Whether a form is about ints alone, and throws nothing.
 fn is_int_form(form: &Form<'_>) -> bool
     ensures { result ≡ is_int_form (form_seen form.now) }
 {
@@ -23,7 +35,7 @@ fn is_int_form(form: &Form<'_>) -> bool
         Form::Istore(_) => true,
         Form::Iinc(_, _) => true,
         Form::Shuffle(_) => true,
-        Form::Arith(_) => true,
+        Form::Arith(op) => is_total(*op),
         Form::Ineg => true,
         Form::Narrow(_) => true,
         Form::If(_, _) => true,
@@ -72,7 +84,8 @@ fn are_int_methods(methods: &[Method<'_>]) -> bool
     true
 }
 
-/// Whether each instruction of a program is about ints alone: it moves them, computes with them, compares them, jumps or returns.
+/// Whether each instruction of a program is about ints alone: it moves them, computes with them but divides none, compares them,
+/// jumps or returns.
 pub fn has_int_forms(program: &Program<'_>) -> bool
     ensures { IsTrue result → HasIntForms (program_of program.now) }
 {

@@ -1,0 +1,11 @@
+pub mod Cases
+pub mod Covering
+pub mod Forms
+pub mod IntFits
+pub mod IntSteps
+pub mod Keys
+pub mod Machine
+pub mod Meeting
+pub mod Operators
+pub mod RowsHold
+pub mod TurnFits
