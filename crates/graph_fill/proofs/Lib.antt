@@ -1,0 +1,7 @@
+pub mod Growing
+pub mod Lists
+pub mod Once
+pub mod Plain
+pub mod Readiness
+pub mod Refusing
+pub mod SlotStates
