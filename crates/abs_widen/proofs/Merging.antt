@@ -1,6 +1,7 @@
 -- Cells with their numbers, one more of them.
-use Rattle.std.proofs.Common.{◌≡◌, ◌⊎◌, ℕ, zero, suc, ◌+◌, ◌≤◌, List, [], ◌∷◌, ◌++◌, length, length-append, Option, Some, refl, sym, ap, subst, ◌∙◌, inl, inr, arith}
+use Rattle.std.proofs.Common.{◌≡◌, ◌⊎◌, ℕ, zero, suc, ◌+◌, ◌<◌, ◌≤◌, List, [], ◌∷◌, ◌++◌, length, get_or, length-append, Option, Some, refl, sym, ap, subst, ◌∙◌, inl, inr, arith}
 use Rattle.std.specs.Prelude.{slice_get, MatchOption}
+use Rattle.std.specs.List.{AllByRecursion}
 use Rattle.jvm_values.proofs.Options.{none_is_not_some, some_is}
 use Rattle.jvm_values.specs.TypedHeaps.{WorldTypes}
 use Rattle.abs_cells.specs.declared.cells.Cell.{Cell}
@@ -16,6 +17,12 @@ slice_last (u ∷ xs) x (suc k) y e = elim (slice_last xs x k y e) [
   | inl h ↦ inl h
   | inr h ↦ inr (ap suc h.0, h.1)
 ]
+
+-- what holds of all items holds at each place
+pub holds_at : {A : Type 0} (P : A → Type 0) (xs : List A) (n : ℕ) (d : A) → AllByRecursion P xs → n < length xs → P (get_or xs n d)
+holds_at P [] n d h l = absurd (omega (arith, l))
+holds_at P (x ∷ xs) zero d h l = h.0
+holds_at P (x ∷ xs) (suc n) d h l = holds_at P xs n d h.1 (omega (arith, l))
 
 module _ (types : WorldTypes) (a b : AbstractState) (pairs : List (ℕ × ℕ)) where
   pub merged_none : AreMergedCells types a b pairs []

@@ -12,7 +12,7 @@ use Rattle.abs_widen.specs.Visiting.{AreCellsOf}
 use Rattle.abs_widen.proofs.Zips.{all_length}
 
 -- an instance of the class
-field_cell : (class : ℕ) (q : Cell) (more : List ℕ) → fields_in class q ≡ Some more → q ≡ Obj class more
+pub field_cell : (class : ℕ) (q : Cell) (more : List ℕ) → fields_in class q ≡ Some more → q ≡ Obj class more
 field_cell class (Int i) more e = absurd (none_is_not_some more e)
 field_cell class Null more e = absurd (none_is_not_some more e)
 field_cell class (Obj other ids) more e = elim (cases_eq class other) [

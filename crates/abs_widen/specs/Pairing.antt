@@ -1,9 +1,15 @@
 -- Words for the calls that pair the ids of a widening. No public clause cites them.
-use Rattle.std.specs.Prelude.{◌⊎◌, ℕ, ◌&&◌, Bool, true, false, not}
+use Rattle.std.specs.Prelude.{◌≡◌, ◌⊎◌, ◌↔◌, ℕ, ◌<◌, ◌≤◌, ◌&&◌, length, Bool, true, false, not, List, Some, slice_get}
 use Rattle.abs_cells.specs.declared.cells.Cell.{Cell}
 use Rattle.abs_cells.specs.AbstractStates.{AbstractState}
+use Rattle.abs_cells.specs.PairLists.{IsRising, has, added}
 use Rattle.abs_cells.specs.Cells.{is_known, is_reference, HasCell}
 use Rattle.abs_cells.specs.Closures.{MayMeet, MayBeIn}
+use Rattle.abs_reach.specs.Instances.{MayBeOne}
+use Rattle.std.specs.Option.{option_map}
+use Rattle.jvm_values.specs.TypedHeaps.{WorldTypes}
+use Rattle.abs_widen.specs.Visits.{thrown_pair}
+use Rattle.abs_widen.specs.Widening.{number_of, merged_frames, AreMergedCells}
 
 -- both ids of a pair have cells
 pub record IsWithin (a b : AbstractState) (pair : ℕ × ℕ) : Type 0 where
@@ -21,3 +27,61 @@ IsPairedBy false false a b p q = MayMeet a p.0 q.0 ⊎ MayMeet b p.1 q.1
 
 abbrev pub IsPairedAs : AbstractState → AbstractState → ℕ × ℕ → ℕ × ℕ → Cell → Cell → Type 0
 IsPairedAs a b p q c d = IsPairedBy (is_known c) (is_known d) a b p q
+
+abbrev pub AreOne : AbstractState → AbstractState → ℕ × ℕ → ℕ × ℕ → Type 0
+AreOne a b p q = MayBeOne a p.0 q.0 ⊎ MayBeOne b p.1 q.1
+
+-- two ids of the widening with their pairs and cells, which may join
+pub record MayJoinAt (pairs : List (ℕ × ℕ)) (cells : List (ℕ × Cell)) (m n : ℕ) (p q : ℕ × ℕ) (c d : Cell) : Type 0 where
+  pub p_is : slice_get pairs m ≡ Some p
+  pub q_is : slice_get pairs n ≡ Some q
+  pub c_is : slice_get cells m ≡ Some (m, c)
+  pub d_is : slice_get cells n ≡ Some (n, d)
+  pub joins : may_join_cells c d ≡ true
+
+-- they are to have one object; they are to share
+pub record WantsOne (a b : AbstractState) (pairs : List (ℕ × ℕ)) (cells : List (ℕ × Cell)) (m n : ℕ) : Type 0 where
+  pub p : ℕ × ℕ
+  pub q : ℕ × ℕ
+  pub c : Cell
+  pub d : Cell
+  pub at : MayJoinAt pairs cells m n p q c d
+  pub one : AreOne a b p q
+
+pub record WantsShare (a b : AbstractState) (pairs : List (ℕ × ℕ)) (cells : List (ℕ × Cell)) (m n : ℕ) : Type 0 where
+  pub p : ℕ × ℕ
+  pub q : ℕ × ℕ
+  pub c : Cell
+  pub d : Cell
+  pub at : MayJoinAt pairs cells m n p q c d
+  pub shares : AreOne a b p q ⊎ IsPairedAs a b p q c d
+
+-- a list has exactly the wanted pairs up to a turn: those whose higher id is lower, and those of this higher id whose lower one is lower
+abbrev pub IsPast : ℕ → ℕ → ℕ → ℕ → Type 0
+IsPast n m i j = (j < n) ⊎ ((j ≡ n) × (i < m))
+
+abbrev pub AreJoinedTo : (ℕ → ℕ → Type 0) → ℕ → ℕ → List (ℕ × ℕ) → Type 0
+AreJoinedTo wants n m list = (i j : ℕ) → i < j → (has i j list ≡ true) ↔ (IsPast n m i j × wants i j)
+
+pub record AreJoined (wants : ℕ → ℕ → Type 0) (list : List (ℕ × ℕ)) : Type 0 where
+  pub each : (i j : ℕ) → i < j → (has i j list ≡ true) ↔ wants i j
+  pub rising : IsRising list
+
+-- two ids are put among others where they are wanted
+abbrev pub IsPut : (ℕ → ℕ → Type 0) → ℕ → ℕ → List (ℕ × ℕ) → List (ℕ × ℕ) → Type 0
+IsPut wants m n old new = (wants m n × (new ≡ added m n old)) ⊎ ((wants m n → ⊥) × (new ≡ old))
+
+-- the cells of pairs, each with its pair's number
+pub record AreNumbered (pairs : List (ℕ × ℕ)) (cells : List (ℕ × Cell)) : Type 0 where
+  pub long : length cells ≡ length pairs
+  pub few : length pairs ≤ 512
+  pub each : (k : ℕ) (entry : ℕ × Cell) → slice_get cells k ≡ Some entry → entry.0 ≡ k
+
+-- the state of all pairs, with the pairs of ids that have one object, and those that share
+pub record IsWhole (types : WorldTypes) (a b : AbstractState) (pairs : List (ℕ × ℕ)) (whole : AbstractState) : Type 0 where
+  pub frames : whole.frames ≡ merged_frames a b pairs a.frames b.frames
+  pub throwing : whole.throwing ≡ option_map (number_of pairs) (thrown_pair a.throwing b.throwing)
+  pub long : length whole.cells ≡ length pairs
+  pub cells : AreMergedCells types a b pairs whole.cells
+  pub eq : AreJoined (WantsOne a b pairs whole.cells) whole.eq
+  pub share : AreJoined (WantsShare a b pairs whole.cells) whole.share

@@ -6,12 +6,18 @@ mod cells;
 mod clashes;
 mod fault;
 mod ints;
+mod laws;
 mod merged;
 mod numbers;
 mod pairing;
 mod positions;
 mod rows;
 mod shapes;
+mod stands;
 mod visits;
+mod widening;
 
 pub use fault::WidenFault;
+pub use laws::{widenings_are_few, widenings_are_sound, widenings_are_wider};
+pub use stands::stand_alike;
+pub use widening::widen;

@@ -1,13 +1,16 @@
 //! Which ids of a widening may have one object, and which share.
-ghost use Rattle.std.specs.Prelude.{◌≡◌, ◌⊎◌, ◌↔◌, ◌<◌, true, IsTrue};
+ghost use Rattle.std.specs.Prelude.{◌≡◌, ◌⊎◌, ◌↔◌, ◌<◌, true, length, if◌then◌else◌, IsTrue, OnOk, IfOk};
+ghost use Rattle.std.specs.List.{AllByRecursion};
+ghost use Rattle.abs_cells.specs.PairLists.{added};
 ghost use Rattle.abs_cells.specs.Cells.{is_reference, HasCell, AreEqual};
 ghost use Rattle.abs_cells.specs.Closures.{MayMeet, MayBeIn};
 ghost use Rattle.abs_cells.specs.Sound.{AreIdsRising, IsWellFormed};
 ghost use Rattle.abs_reach.specs.Instances.{MayBeOne};
-ghost use Rattle.abs_widen.specs.Pairing.{IsWithin, may_join_cells, IsPairedAs};
+ghost use Rattle.abs_widen.specs.Pairing.{IsWithin, AreOne, may_join_cells, IsPairedAs, WantsOne, WantsShare, AreNumbered, IsPut, AreJoined};
 
 use abs_cells::{AbsState, Cell, Id, Pairs};
 use abs_reach::{Marks, cell_of, may_be_in, may_meet};
+use std::alloc::{AllocError, Global};
 
 /// Whether an id's cell is that of a reference that is not null.
 fn counts<P: Pairs>(state: &AbsState<P>, id: Id) -> bool
@@ -115,4 +118,128 @@ fn share<P: Pairs>(
     } else {
         meet(a, b, p, q, marks)
     }
+}
+
+/// Whether two pairs are to have one object.
+fn is_one<P: Pairs>(
+    a: &AbsState<P>,
+    b: &AbsState<P>,
+    p: (Id, Id),
+    q: (Id, Id),
+    first: &Cell,
+    second: &Cell,
+) -> bool
+    requires first { IsWellFormed a.now }
+    requires second { IsWellFormed b.now }
+    requires p_within { IsWithin a.now b.now p }
+    requires q_within { IsWithin a.now b.now q }
+    ensures { IsTrue result ↔ ((may_join_cells first.now second.now ≡ true) × AreOne a.now b.now p q) }
+{
+    may_join_cells(first, second) && are_one(a, b, p, q)
+}
+
+/// Whether two pairs that may join share.
+fn are_sharing<P: Pairs>(
+    a: &AbsState<P>,
+    b: &AbsState<P>,
+    p: (Id, Id),
+    q: (Id, Id),
+    first: &Cell,
+    second: &Cell,
+    marks: &mut Marks,
+) -> bool
+    requires first { IsWellFormed a.now }
+    requires second { IsWellFormed b.now }
+    requires p_within { IsWithin a.now b.now p }
+    requires q_within { IsWithin a.now b.now q }
+    requires joins { may_join_cells first.now second.now ≡ true }
+    ensures { IsTrue result ↔ (AreOne a.now b.now p q ⊎ IsPairedAs a.now b.now p q first.now second.now) }
+{
+    are_one(a, b, p, q) || share(a, b, p, q, first, second, marks)
+}
+
+/// Whether two pairs are to share.
+fn is_shared<P: Pairs>(
+    a: &AbsState<P>,
+    b: &AbsState<P>,
+    p: (Id, Id),
+    q: (Id, Id),
+    first: &Cell,
+    second: &Cell,
+    marks: &mut Marks,
+) -> bool
+    requires first { IsWellFormed a.now }
+    requires second { IsWellFormed b.now }
+    requires p_within { IsWithin a.now b.now p }
+    requires q_within { IsWithin a.now b.now q }
+    ensures { IsTrue result ↔ ((may_join_cells first.now second.now ≡ true) × (AreOne a.now b.now p q ⊎ IsPairedAs a.now b.now p q first.now second.now)) }
+{
+    may_join_cells(first, second) && are_sharing(a, b, p, q, first, second, marks)
+}
+
+/// Puts two ids among others, where that is wanted.
+fn put_if<P: Pairs>(list: &mut P, wanted: bool, m: usize, n: usize) -> Result<(), AllocError>
+    requires order { m < n }
+    requires low { n < 512 }
+    ensures { OnOk result (P.pairs list.new ≡ (if wanted then added m n (P.pairs list.old) else P.pairs list.old)) }
+{
+    if wanted {
+        list.add(m as Id, n as Id)?;
+    }
+    Ok(())
+}
+
+/// Puts two ids among those with one object, and among those that share, where they are to be.
+fn join_one<P: Pairs>(
+    a: &AbsState<P>,
+    b: &AbsState<P>,
+    pairs: &[(Id, Id)],
+    cells: &[(Id, Cell)],
+    m: usize,
+    n: usize,
+    eq: &mut P,
+    shared: &mut P,
+    marks: &mut Marks,
+) -> Result<(), AllocError>
+    requires first { IsWellFormed a.now }
+    requires second { IsWellFormed b.now }
+    requires within { AllByRecursion (IsWithin a.now b.now) pairs.now }
+    requires numbered { AreNumbered pairs.now cells.now }
+    requires order { m < n }
+    requires there { n < length pairs.now }
+    ensures { OnOk result (IsPut (WantsOne a.now b.now pairs.now cells.now) m n (P.pairs eq.old) (P.pairs eq.new) × IsPut (WantsShare a.now b.now pairs.now cells.now) m n (P.pairs shared.old) (P.pairs shared.new)) }
+{
+    let first = &cells[m].1;
+    let second = &cells[n].1;
+    let one = is_one(a, b, pairs[m], pairs[n], first, second);
+    let share = is_shared(a, b, pairs[m], pairs[n], first, second, marks);
+    put_if(eq, one, m, n)?;
+    put_if(shared, share, m, n)
+}
+
+/// The pairs of ids with one object, and those that share.
+pub(crate) fn joined<P: Pairs>(
+    alloc: Global,
+    a: &AbsState<P>,
+    b: &AbsState<P>,
+    pairs: &[(Id, Id)],
+    cells: &[(Id, Cell)],
+    marks: &mut Marks,
+) -> Result<(P, P), AllocError>
+    requires first { IsWellFormed a.now }
+    requires second { IsWellFormed b.now }
+    requires within { AllByRecursion (IsWithin a.now b.now) pairs.now }
+    requires numbered { AreNumbered pairs.now cells.now }
+    ensures { IfOk result (λ both. AreJoined (WantsOne a.now b.now pairs.now cells.now) (P.pairs both.0) × AreJoined (WantsShare a.now b.now pairs.now cells.now) (P.pairs both.1)) }
+{
+    let mut eq = P::empty(alloc);
+    let mut shared = P::empty(alloc);
+    for n in 0..pairs.len() {
+        for m in 0..n {
+            join_one(a, b, pairs, cells, m, n, &mut eq, &mut shared, marks)?;
+        }
+    }
+    let _one = eq.nth(0);
+    let _share = shared.nth(0);
+    Ok((eq, shared))
 }

@@ -13,7 +13,7 @@ use abs_reach::cell_of;
 use std::alloc::Global;
 
 /// Whether the id of the one state is an int's and that of the other one too, or neither is.
-fn are_alike<P: Pairs>(a: &AbsState<P>, b: &AbsState<P>, x: Id, y: Id) -> bool
+pub(crate) fn are_alike<P: Pairs>(a: &AbsState<P>, b: &AbsState<P>, x: Id, y: Id) -> bool
     requires first { IsWellFormed a.now }
     requires second { IsWellFormed b.now }
     ensures { result ≡ are_alike a.now b.now x y }
