@@ -1,0 +1,9 @@
+pub mod Backs
+pub mod CertBacks
+pub mod ClassTexts
+pub mod NodeBacks
+pub mod Plain
+pub mod StateBacks
+pub mod StepBacks
+pub mod WordBacks
+pub mod WritingNodes

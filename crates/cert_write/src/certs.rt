@@ -1,0 +1,122 @@
+//! Certificates.
+ghost use Rattle.std.specs.Prelude.{◌≡◌, ◌≤◌, [], map, false, Ok, IfOk, IsTrue};
+ghost use Rattle.std.specs.List.{list_all};
+ghost use Rattle.json_view.specs.Answers.{Reads};
+ghost use Rattle.serde_json.specs.Data.{depth};
+ghost use Rattle.serde_json.specs.View.{view};
+ghost use Rattle.serde_json.specs.Written.{compact_text, has_float};
+ghost use Rattle.class_base.specs.ClassNames.{is_class_name};
+ghost use Rattle.cert_form.specs.Certificates.{cert_of, SaysOf};
+ghost use Rattle.cert_write.specs.Data.{list, node, parts_from, certificate, certificate_of, content_of};
+ghost use Rattle.cert_write.specs.Readable.{IsReadable, IsReadableGraph};
+
+use crate::types::Words;
+use crate::{lists, nodes};
+use abs_cells::Pairs;
+use cert_form::{ClassNames, NamedNodes};
+use descent::Proof;
+use list_views::Seq;
+use serde_json::{Value, json};
+use std::alloc::{AllocError, Global};
+use term_graph::{NodeSource, PartSource};
+
+/// The nodes of a source, those that a node in front of them names without their states.
+fn all_nodes<P: Pairs, S: NodeSource<P>>(
+    alloc: Global,
+    words: &Words<'_>,
+    source: &mut S,
+) -> Result<Value, AllocError>
+    ensures nodes { IfOk result (λ v. view v ≡ list (map (node words.now.names.now) (parts_from [] (S.graph source.old)))) }
+    ensures same { S.graph source.new ≡ S.graph source.old }
+{
+    let count = source.count();
+    let mut named = NamedNodes::none(alloc, count as usize)?;
+    let mut values = Vec::new(alloc);
+    for n in 0..count {
+        let next = source.node(alloc, n)?;
+        values.push(nodes::node(alloc, words, named.has(n as usize), &next)?)?;
+        named.add(next.by());
+    }
+    Ok(Value::Array(values))
+}
+
+/// The text of a certificate with these nodes.
+fn text(alloc: Global, nodes: Value, cuts: &[u32], proof: &Proof) -> Result<Seq<u8>, AllocError>
+    requires floats { has_float (view nodes) ≡ false }
+    requires nests { depth (view nodes) ≤ 6 }
+    ensures text { IfOk result (λ bytes. bytes ≡ compact_text (certificate_of cuts.now (view nodes) proof.now.steps)) }
+    ensures reads { IfOk result (λ bytes. Reads bytes (certificate_of cuts.now (view nodes) proof.now.steps)) }
+{
+    let value = whole(alloc, nodes, cuts, proof)?;
+    Ok(Seq::from_vec(value.to_vec(alloc)?))
+}
+
+/// The value of a certificate with these nodes.
+fn whole(alloc: Global, nodes: Value, cuts: &[u32], proof: &Proof) -> Result<Value, AllocError>
+    ensures { IfOk result (λ v. view v ≡ certificate_of cuts.now (view nodes) proof.now.steps) }
+{
+    let cuts = lists::list(alloc, &(), cuts)?;
+    let proof = lists::list(alloc, &(), proof.steps.as_slice())?;
+    json!(in alloc; {"cuts": cuts, "form": 2, "nodes": nodes, "proof": proof})
+}
+
+/// A certificate in form 2, as compact JSON with sorted keys: the nodes of a source, the cuts and the proof, the types by
+/// the names of classes. A node that an `expand` node with a lower number names as a child is written without its state.
+///
+/// # Errors
+///
+/// Want of memory.
+pub fn encode<P: Pairs, S: NodeSource<P>>(
+    alloc: Global,
+    source: &mut S,
+    cuts: &[u32],
+    proof: &Proof,
+    names: &ClassNames,
+) -> Result<Seq<u8>, AllocError>
+    requires names { IsTrue (list_all is_class_name names.now) }
+    ensures text { IfOk result (λ bytes. bytes ≡ compact_text (certificate names.now (content_of (S.graph source.old) cuts.now proof.now.steps))) }
+    ensures reads { IfOk result (λ bytes. Reads bytes (certificate names.now (content_of (S.graph source.old) cuts.now proof.now.steps))) }
+    ensures again { IsReadableGraph names.now (S.graph source.old) cuts.now proof.now.steps → IfOk result (λ bytes. SaysOf (cert_of names.now) bytes (Ok (content_of (S.graph source.old) cuts.now proof.now.steps))) }
+    ensures same { S.graph source.new ≡ S.graph source.old }
+{
+    let nodes = all_nodes(alloc, &Words { names }, source)?;
+    text(alloc, nodes, cuts, proof)
+}
+
+/// The nodes of a source of nodes that may lack their states.
+fn all_parts<P: Pairs, S: PartSource<P>>(
+    alloc: Global,
+    words: &Words<'_>,
+    source: &S,
+) -> Result<Value, AllocError>
+    ensures { IfOk result (λ v. view v ≡ list (map (node words.now.names.now) (S.parts source.now))) }
+{
+    let mut values = Vec::new(alloc);
+    for n in 0..source.count() {
+        let by = source.by(alloc, n)?;
+        let state = source.state(alloc, n)?;
+        values.push(nodes::part(alloc, words, state, &by)?)?;
+    }
+    Ok(Value::Array(values))
+}
+
+/// A certificate in form 2, as [`encode`] writes one, of nodes that may lack their states: these are written without one.
+///
+/// # Errors
+///
+/// Want of memory.
+pub fn encode_parts<P: Pairs, S: PartSource<P>>(
+    alloc: Global,
+    source: &S,
+    cuts: &[u32],
+    proof: &Proof,
+    names: &ClassNames,
+) -> Result<Seq<u8>, AllocError>
+    requires { IsTrue (list_all is_class_name names.now) }
+    ensures text { IfOk result (λ bytes. bytes ≡ compact_text (certificate names.now (record { cuts = cuts.now; parts = S.parts source.now; proof = proof.now.steps }))) }
+    ensures reads { IfOk result (λ bytes. Reads bytes (certificate names.now (record { cuts = cuts.now; parts = S.parts source.now; proof = proof.now.steps }))) }
+    ensures again { IsReadable names.now (record { cuts = cuts.now; parts = S.parts source.now; proof = proof.now.steps }) → IfOk result (λ bytes. SaysOf (cert_of names.now) bytes (Ok (record { cuts = cuts.now; parts = S.parts source.now; proof = proof.now.steps }))) }
+{
+    let nodes = all_parts(alloc, &Words { names }, source)?;
+    text(alloc, nodes, cuts, proof)
+}
