@@ -1,4 +1,5 @@
 pub mod Ending
+pub mod IntRuns
 pub mod Running
 pub mod Showing
 pub mod Terms

@@ -11,11 +11,17 @@ use Rattle.input_desc.specs.Descs.{IsOwnDesc}
 use Rattle.input_desc.specs.Fitting.{FitsDescription}
 use Rattle.input_desc.specs.Initial.{initial_of}
 use Rattle.abs_cells.specs.AbstractStates.{AbstractState}
+use Rattle.abs_expand.specs.IntForms.{HasIntForms}
 use Rattle.term_graph.specs.declared.nodes.By.TheVariants.{End}
 use Rattle.term_graph.specs.Graphs.{GraphNode}
 use Rattle.path_rules.specs.Walks.{Spot}
+use Rattle.descent.specs.Conditions.{AreRules, AreSteps}
+use Rattle.graph_check.specs.Conditions.{HasIntStates}
 use Rattle.graph_check.specs.Laws.{ExpansionsHold}
+use Rattle.expand_laws.specs.Laws.{HasShortIncrements}
 use Rattle.cert_check.specs.Certified.{IsCertified}
+use Rattle.cert_check.specs.Ready.{IsOverInts}
+use Rattle.cert_check.specs.Valid.{Case, IsValid}
 use Rattle.cert_check.specs.Walks.{Station, IsAt, WalksEnd, IsLast}
 
 -- Every walk of typed states that fit, from node 0 on, is finite; and where one can't be continued, the node says that the run ends.
@@ -40,3 +46,30 @@ CertifiedRunsEnd =
     → IsClosed p → HasInts p → IsTypingOf p typing → IsOwnDesc p desc → ExpansionsHold p typing nodes
     → IsCertified p typing nodes cuts (initial_of p desc)
     → (state : MachineState) → FitsDescription p desc state → Ends p state × IsNeverStuck p state
+
+-- ---- over ints, without that premise
+
+-- The expansions of a graph's states are true of the machine, where the program's instructions are about ints alone and each state that
+-- has an expansion is one of ints.
+abbrev pub IntExpansionsHold : Type 0
+IntExpansionsHold =
+    (p : Program) (typing : ℕ → CodeTypes) (nodes : List GraphNode)
+    → IsClosed p → HasInts p → HasIntForms p → HasShortIncrements p → HasIntStates p typing nodes → ExpansionsHold p typing nodes
+
+-- There every state that the description fits ends, and none of its runs is stuck.
+abbrev pub CertifiedIntRunsEnd : Type 0
+CertifiedIntRunsEnd =
+    (p : Program) (typing : ℕ → CodeTypes) (desc : Desc) (nodes : List GraphNode) (cuts : List ℕ)
+    → IsClosed p → HasInts p → IsTypingOf p typing → IsOwnDesc p desc
+    → HasIntForms p → HasShortIncrements p → HasIntStates p typing nodes
+    → IsCertified p typing nodes cuts (initial_of p desc)
+    → (state : MachineState) → FitsDescription p desc state → Ends p state × IsNeverStuck p state
+
+-- So it is where a valid certificate begins with the description's initial state.
+abbrev pub ValidIntCertificatesEnd : Type 0
+ValidIntCertificatesEnd =
+    (case : Case) (valid : IsValid case) (desc : Desc) → case.root ≡ initial_of case.program desc
+    → IsClosed case.program → HasInts case.program → IsTypingOf case.program case.typing → IsOwnDesc case.program desc
+    → HasIntForms case.program → HasShortIncrements case.program → HasIntStates case.program case.typing case.nodes
+    → IsOverInts case valid.links → AreRules valid.rules → AreSteps case.steps
+    → (state : MachineState) → FitsDescription case.program desc state → Ends case.program state × IsNeverStuck case.program state

@@ -1,8 +1,9 @@
 //! That walks and runs end where a certificate shows it. The laws are calls that do nothing when they run.
-ghost use Rattle.cert_check.specs.Laws.{CertifiedWalksEnd, LastNodesEnd, CertifiedRunsEnd};
+ghost use Rattle.cert_check.specs.Laws.{CertifiedWalksEnd, LastNodesEnd, CertifiedRunsEnd, IntExpansionsHold, CertifiedIntRunsEnd, ValidIntCertificatesEnd};
 ghost use Rattle.cert_check.specs.Ready.{ValidIsCertified};
 
 use descent::closed_proofs_end;
+use expand_laws::{int_ends_end, int_steps_fit_children};
 use graph_check::graphs_hold_runs;
 use input_root::{fitting_states_are_described, fitting_states_are_typed};
 use jvm_run::{runs_are_never_stuck, steps_are_typed};
@@ -43,4 +44,30 @@ pub fn valid_is_certified()
     ensures { ValidIsCertified }
 {
     closed_proofs_end();
+}
+
+/// The expansions of a graph's states are true of the machine, where the program's instructions are about ints alone and each state that
+/// has an expansion is one of ints.
+pub fn int_expansions_hold()
+    ensures { IntExpansionsHold }
+{
+    int_ends_end();
+    int_steps_fit_children();
+}
+
+/// There every state that the description fits ends, and none of its runs is stuck, if a certificate shows it.
+pub fn certified_int_runs_end()
+    ensures { CertifiedIntRunsEnd }
+{
+    certified_runs_end();
+    int_expansions_hold();
+}
+
+/// So it is where a valid certificate over ints begins with the description's initial state, the links of its graph are such as rules
+/// take, and its rules and steps are within the limits of proofs.
+pub fn valid_int_certificates_end()
+    ensures { ValidIntCertificatesEnd }
+{
+    valid_is_certified();
+    certified_int_runs_end();
 }

@@ -4,5 +4,8 @@
 mod laws;
 mod refusal;
 
-pub use laws::{certified_runs_end, certified_walks_end, valid_is_certified};
+pub use laws::{
+    certified_int_runs_end, certified_runs_end, certified_walks_end, int_expansions_hold,
+    valid_int_certificates_end, valid_is_certified,
+};
 pub use refusal::{Cause, Refusal};

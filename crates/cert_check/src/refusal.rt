@@ -29,7 +29,7 @@ pub enum Refusal {
     /// An item fails.
     Item {
         /// The item.
-        item: u32,
+        item: u64,
         /// What is wrong with it.
         cause: Cause,
     },

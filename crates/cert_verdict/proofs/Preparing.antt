@@ -1,0 +1,145 @@
+-- Good graphs over ints have links such as rules take.
+use Rattle.std.proofs.Common.{◌≡◌, ◌∙◌, ◌==◌, ◌≤◌, ◌<◌, ℕ, zero, suc, Bool, true, false, cond, eqb, if◌then◌else◌, IsTrue, List, [], ◌∷◌, map, length, Some, slice_get, inl, inr, refl, sym, ap, subst, arith, eq-eqb}
+use Rattle.std.specs.Prelude.{All}
+use Rattle.std.specs.List.{AllByRecursion, AllZip}
+use Rattle.std.proofs.lemmas.Bool.{eqb-true}
+use Rattle.std.proofs.lemmas.Option.{slice_get_within, get_or_from_slice_get}
+use Rattle.std.proofs.lemmas.List.Elements.{All-get_or, All-from_recursion, recursion_from_All}
+use Rattle.jvm_values.proofs.Options.{some_is, none_is_not_some}
+use Rattle.abs_cells.specs.declared.cells.Cell.{Cell}
+use Rattle.abs_cells.specs.AbstractStates.{AbstractState}
+use Rattle.abs_cells.specs.Cells.{is_int, cell_in}
+use Rattle.abs_cells.specs.Sound.{AreIdsRising}
+use Rattle.class_program.specs.Programs.{Program}
+use Rattle.frame_types.specs.Tables.{CodeTypes}
+use Rattle.term_graph.specs.declared.links.Link.{Link}
+use Rattle.term_graph.specs.declared.nodes.By.{By}
+use Rattle.term_graph.specs.declared.nodes.By.TheVariants.{Expand, Instance, End, Todo}
+use Rattle.term_graph.specs.Graphs.{GraphNode, GraphChild}
+use Rattle.path_rules.specs.Conditions.{HasIntsAlone, IsLinkBetween, IsGoodChild, CutsRise, IsReady}
+use Rattle.abs_expand.specs.BadStates.{IsGoodState}
+use Rattle.abs_expand.specs.IntForms.{HasIntForms, IsIntState}
+use Rattle.graph_check.specs.Conditions.{HasIntStates}
+use Rattle.graph_check.specs.Good.{NamesChild, IsExpanded, IsLeftBy, IsGoodNode, GraphOk}
+use Rattle.expand_laws.specs.Laws.{HasShortIncrements}
+use Rattle.int_links.specs.Laws.{FitsRules, IntLinksFit}
+use Rattle.cert_check.specs.Ready.{AreLinked}
+use Rattle.cert_check.specs.Valid.{Case, AreCuts}
+use Rattle.cert_check.proofs.Showing.{well_formed, all_good}
+use Rattle.cert_verdict.specs.Parts.{AreCutsFrom, AreCutsOf, IsPrepared}
+
+-- ---- states of ints
+
+at_least : (low id : ℕ) (listed : List (ℕ × Cell)) (cell : Cell) → AreIdsRising low listed → cell_in listed id ≡ Some cell → low ≤ id
+at_least low id [] cell r e = absurd (none_is_not_some cell e)
+at_least low id (c ∷ listed) cell r e = at (c.0 == id) refl e (λ g. at_least (suc c.0) id listed cell r.1.1 g)
+  where
+    at : (b : Bool) → eqb c.0 id ≡ b → (if b then Some c.1 else cell_in listed id) ≡ Some cell → (cell_in listed id ≡ Some cell → suc c.0 ≤ id) → low ≤ id
+    at true f g rest = omega (arith, r.0, eqb-true c.0 id f)
+    at false f g rest = omega (arith, r.0, rest g)
+
+found_later : (c : ℕ × Cell) (listed : List (ℕ × Cell)) (id : ℕ) (cell : Cell) → AreIdsRising (suc c.0) listed → cell_in listed id ≡ Some cell → cell_in (c ∷ listed) id ≡ Some cell
+found_later c listed id cell r e = at (c.0 == id) refl
+  where
+    at : (b : Bool) → eqb c.0 id ≡ b → (if b then Some c.1 else cell_in listed id) ≡ Some cell
+    at true f = absurd (omega (arith, at_least (suc c.0) id listed cell r e, eqb-true c.0 id f))
+    at false f = e
+
+all_ints : (low : ℕ) (listed : List (ℕ × Cell)) → AreIdsRising low listed → ((id : ℕ) (cell : Cell) → cell_in listed id ≡ Some cell → is_int cell ≡ true) → AllByRecursion (λ (c : ℕ × Cell). IsTrue (is_int c.1)) listed
+all_ints low [] r h = tt
+all_ints low (c ∷ listed) r h = (
+  h c.0 c.1 (ap (λ (b : Bool). if b then Some c.1 else cell_in listed c.0) (eq-eqb c.0 c.0 refl)),
+  all_ints (suc c.0) listed r.1.1 (λ id cell e. h id cell (found_later c listed id cell r.1.1 e)),
+)
+
+ints_alone : (state : AbstractState) → AreIdsRising 0 state.cells → IsIntState state → HasIntsAlone state
+ints_alone state r ints = All-from_recursion (λ (c : ℕ × Cell). IsTrue (is_int c.1)) state.cells (all_ints 0 state.cells r ints.cells)
+
+-- ---- nodes
+
+module _ (fit : IntLinksFit) (p : Program) (typing : ℕ → CodeTypes) (forms : HasIntForms p) (increments : HasShortIncrements p) (nodes : List GraphNode) where
+  abbrev IfGood : AbstractState → Type 0
+  IfGood state = IsGoodState p typing state → IsIntState state
+
+  is_good : (state : AbstractState) (by : By) (links : List Link) → IsLeftBy p typing nodes state by links → IsGoodState p typing state
+  is_good state (Expand named) links left = left.are.0
+  is_good state (Instance target entries) links left = left.0.good
+  is_good state End links left = left.0.0
+  is_good state Todo links left = absurd left
+
+  node_ints : (list : List GraphNode) (links : List (List Link)) → ((n : ℕ) (node : GraphNode) → slice_get list n ≡ Some node → IfGood node.state) → AllZip (IsGoodNode p typing nodes) list links → AllByRecursion (λ (n : GraphNode). HasIntsAlone n.state) list
+  node_ints [] links h each = tt
+  node_ints (node ∷ list) [] h each = absurd each
+  node_ints (node ∷ list) (own ∷ links) h each =
+      let good = is_good node.state node.by own each.0 in
+      (ints_alone node.state good.sound.well_formed.rising (h 0 node refl good), node_ints list links (λ n later e. h (suc n) later e) each.1)
+
+  module _ (ints : All (λ (n : GraphNode). HasIntsAlone n.state) nodes) where
+    ints_at : (n : ℕ) (node : GraphNode) → slice_get nodes n ≡ Some node → HasIntsAlone node.state
+    ints_at n node is = subst (λ (m : GraphNode). HasIntsAlone m.state) (get_or_from_slice_get nodes n node node is) (All-get_or (λ (m : GraphNode). HasIntsAlone m.state) nodes n node (slice_get_within nodes n node is) ints)
+
+    children_linked : (state : AbstractState) (children : List GraphChild) (named : List ℕ) → AllByRecursion (FitsRules state) children → AllZip (NamesChild nodes) children named → AllZip (IsGoodChild nodes state) named (map (λ (child : GraphChild). child.link) children)
+    children_linked state [] [] fits names = tt
+    children_linked state [] (n ∷ named) fits names = absurd names
+    children_linked state (child ∷ children) [] fits names = absurd names
+    children_linked state (child ∷ children) (n ∷ named) fits names =
+        let at = names.0 in
+        let alone = subst HasIntsAlone at.state_is (ints_at n at.node at.is) in
+        ((at.node, (at.is, subst (λ (s : AbstractState). IsLinkBetween state s child.link) (sym at.state_is) (fits.0 alone))), children_linked state children named fits.1 names.1)
+
+    expanded_linked : (state : AbstractState) (named : List ℕ) (links : List Link) → IfGood state → IsExpanded p typing nodes state named links → AllZip (IsGoodChild nodes state) named links
+    expanded_linked state named links h expanded =
+        subst (AllZip (IsGoodChild nodes state) named) (sym expanded.links_are)
+        (children_linked state expanded.children named (fit p typing state expanded.children forms increments expanded.are.0 (h expanded.are.0) expanded.are.1) expanded.names)
+
+    left_linked : (node : GraphNode) (links : List Link) → IfGood node.state → IsGoodNode p typing nodes node links → AreLinked nodes node links
+    left_linked node links h left named e = expanded_linked node.state named links h (subst (λ (by : By). IsLeftBy p typing nodes node.state by links) e left)
+
+    all_linked : (list : List GraphNode) (links : List (List Link)) → ((n : ℕ) (node : GraphNode) → slice_get list n ≡ Some node → IfGood node.state) → AllZip (IsGoodNode p typing nodes) list links → AllZip (AreLinked nodes) list links
+    all_linked [] [] h each = tt
+    all_linked [] (own ∷ links) h each = absurd each
+    all_linked (node ∷ list) [] h each = absurd each
+    all_linked (node ∷ list) (own ∷ links) h each = (left_linked node own (h 0 node refl) each.0, all_linked list links (λ n later e. h (suc n) later e) each.1)
+
+  pub prepared : (root : AbstractState) (links : List (List Link)) → HasIntStates p typing nodes → GraphOk p typing nodes root links → IsPrepared nodes links
+  prepared root links states graph =
+      let ints = All-from_recursion (λ (n : GraphNode). HasIntsAlone n.state) nodes (node_ints nodes links states graph.each) in
+      record {
+        states = well_formed p typing nodes ints links graph.each;
+        ints = ints;
+        ways = all_good p typing nodes ints links graph.each (all_linked ints nodes links states graph.each);
+      }
+
+-- ---- cuts
+
+cuts_rise : (nodes low : ℕ) (cuts : List ℕ) → AreCutsFrom nodes low cuts → CutsRise low cuts
+cuts_rise nodes low [] h = tt
+cuts_rise nodes low (cut ∷ cuts) h = (h.0, cuts_rise nodes (suc cut) cuts h.1.1)
+
+cuts_below : (nodes low : ℕ) (cuts : List ℕ) → AreCutsFrom nodes low cuts → AllByRecursion (λ (cut : ℕ). cut < nodes) cuts
+cuts_below nodes low [] h = tt
+cuts_below nodes low (cut ∷ cuts) h = (h.1.0, cuts_below nodes (suc cut) cuts h.1.1)
+
+rise_and_below : (nodes low : ℕ) (cuts : List ℕ) → CutsRise low cuts → AllByRecursion (λ (cut : ℕ). cut < nodes) cuts → AreCutsFrom nodes low cuts
+rise_and_below nodes low [] r b = tt
+rise_and_below nodes low (cut ∷ cuts) r b = (r.0, (b.0, rise_and_below nodes (suc cut) cuts r.1 b.1))
+
+pub cuts_are : (case : Case) → AreCutsOf (length case.nodes) case.cuts → AreCuts case
+cuts_are case h = record {
+  first = h.0;
+  rise = cuts_rise (length case.nodes) 0 case.cuts h.1;
+  nodes = All-from_recursion (λ (cut : ℕ). cut < length case.nodes) case.cuts (cuts_below (length case.nodes) 0 case.cuts h.1);
+}
+
+pub cuts_of : (case : Case) → AreCuts case → AreCutsOf (length case.nodes) case.cuts
+cuts_of case h = (h.first, rise_and_below (length case.nodes) 0 case.cuts h.rise (recursion_from_All (λ (cut : ℕ). cut < length case.nodes) case.cuts h.nodes))
+
+pub ready : (nodes : List GraphNode) (links : List (List Link)) (cuts : List ℕ) → IsPrepared nodes links → AreCutsOf (length nodes) cuts → IsReady nodes links cuts
+ready nodes links cuts is h = record {
+  states = is.states;
+  ints = is.ints;
+  nodes = is.ways;
+  first = h.0;
+  rise = cuts_rise (length nodes) 0 cuts h.1;
+  cut_nodes = All-from_recursion (λ (cut : ℕ). cut < length nodes) cuts (cuts_below (length nodes) 0 cuts h.1);
+}

@@ -1,0 +1,4 @@
+pub mod Links
+pub mod RowedTurns
+pub mod ShortIncrements
+pub mod SmallRows
