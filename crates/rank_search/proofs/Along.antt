@@ -1,8 +1,7 @@
 -- What is followed along a rule.
-use Rattle.std.proofs.Common.{◌≡◌, inl, inr, ℕ, zero, suc, ◌<◌, ◌≤◌, Bool, true, false, cond, List, [], ◌∷◌, length, get_or, ℤ, pos, Option, Some, None, subst, ap, arith, refl, ◌∙◌, sym}
+use Rattle.std.proofs.Common.{◌≡◌, inl, inr, ℕ, suc, ◌<◌, ◌≤◌, Bool, true, false, cond, List, [], ◌∷◌, length, get_or, ℤ, pos, Option, Some, None, subst, arith, ◌∙◌, sym}
 use Rattle.std.proofs.lemmas.Bool.{cases_lt}
 use Rattle.std.proofs.lemmas.List.{get_or_past}
-use Rattle.std.specs.Prelude.{unsigned_abs, ◌^◌}
 use Rattle.lin_core.specs.Rows.{Rise}
 use Rattle.lin_core.specs.Weights.{AreRows}
 use Rattle.lin_core.specs.declared.rows.WRow.{WRow}
@@ -12,10 +11,9 @@ use Rattle.descent.specs.declared.rules.Place.{Place}
 use Rattle.descent.specs.declared.rules.SlotForm.{SlotForm}
 use Rattle.rank_search.specs.declared.following.Followed.{Followed}
 use Rattle.rank_search.specs.declared.links.Come.{Come}
-use Rattle.rank_search.specs.declared.links.Link.{Link}
-use Rattle.rank_search.specs.Following.{IsAlong, SmallConstants, TellsBetween, TellsFollowed}
+use Rattle.rank_search.specs.Following.{SmallConstants, TellsBetween, TellsFollowed}
 use Rattle.rank_search.specs.Links.{IsWay}
-use Rattle.rank_search.specs.Positions.{StandsAt, is_at, slot_at}
+use Rattle.rank_search.specs.Positions.{is_at, slot_at}
 use Rattle.rank_search.specs.Searching.{Known, variable_at}
 use Rattle.rank_search.specs.Stepwise.{IsFallLink, StepsDown}
 use Rattle.rank_search.proofs.Changed.{stands_is, stands_at}

@@ -1,12 +1,10 @@
 -- The constant that the bounds need, and the rules as they are listed.
-use Rattle.std.proofs.Common.{◌≡◌, ℕ, zero, suc, ◌+◌, ◌<◌, ◌≤◌, ◌^◌, Bool, true, false, cond, List, [], ◌∷◌, length, ℤ, pos, ◌≤ℤ◌, Option, Some, None, subst, ap, arith, refl, ◌∙◌, sym}
+use Rattle.std.proofs.Common.{◌≡◌, ℕ, zero, suc, ◌+◌, ◌≤◌, ◌^◌, Bool, true, false, cond, List, [], ◌∷◌, length, ℤ, pos, ◌≤ℤ◌, Option, Some, None, subst, ap, arith, refl, ◌∙◌, sym}
 use Rattle.std.specs.Prelude.{◌||◌, slice_get, int_lt, unsigned_abs, nat_lt}
-use Rattle.std.specs.List.{All, list_any}
+use Rattle.std.specs.List.{All}
 use Rattle.std.proofs.lemmas.Bool.Decides.{nat_tests}
 use Rattle.std.proofs.lemmas.Int.{ints}
 use Rattle.descent.specs.declared.faults.DescentFault.{DescentFault}
-use Rattle.descent.specs.declared.proof.RankRule.{RankRule}
-use Rattle.descent.specs.declared.proof.RankRule.TheVariants.{Weak, Strict}
 use Rattle.descent.specs.declared.rules.PathRule.{PathRule}
 use Rattle.descent.specs.Conditions.{IsListed}
 use Rattle.descent.specs.Orders.{Says}
@@ -113,7 +111,7 @@ constant_small all h = zero_small (needed None all) (needed_small None all h tt)
 -- the listed rules
 pub record IsFine (weak strict bounded : Says) (number : ℕ) (rule : PathRule) (followed : Followed) : Type 0 where
   pub weak_none : weak number rule followed.fall ≡ None
-  pub strict_none : (bound : Bound) → strict_bound followed ≡ Some bound → (strict number rule followed.fall ≡ None) × (bounded number rule ((bound.row, pos 1) ∷ []) ≡ None)
+  pub strict_none : (bound : Bound) → strict_bound followed ≡ Some bound → (strict number rule followed.fall ≡ None) × (bounded number rule bound.rows ≡ None)
 
 no_edge : (first later : Option DescentFault) → first ≡ None → later ≡ None → edge_fault first later ≡ None
 no_edge None later e f = f
@@ -122,9 +120,9 @@ no_edge (Some fault) later e f = absurd (some_not fault e)
     some_not : (a : DescentFault) → ◌≡◌ {A = Option DescentFault} (Some a) None → ⊥
     some_not a e = absurd (cc)
 
-listed_cases : (weak strict bounded : Says) (number : ℕ) (rule : PathRule) (fall : List (ℕ × ℤ)) (found : Option Bound) → weak number rule fall ≡ None → ((bound : Bound) → found ≡ Some bound → (strict number rule fall ≡ None) × (bounded number rule ((bound.row, pos 1) ∷ []) ≡ None)) → listed_fault weak strict bounded (listed_by number fall found) (Some rule) ≡ None
+listed_cases : (weak strict bounded : Says) (number : ℕ) (rule : PathRule) (fall : List (ℕ × ℤ)) (found : Option Bound) → weak number rule fall ≡ None → ((bound : Bound) → found ≡ Some bound → (strict number rule fall ≡ None) × (bounded number rule bound.rows ≡ None)) → listed_fault weak strict bounded (listed_by number fall found) (Some rule) ≡ None
 listed_cases weak strict bounded number rule fall None w s = w
-listed_cases weak strict bounded number rule fall (Some bound) w s = let both = s bound refl in no_edge (strict number rule fall) (bounded number rule ((bound.row, pos 1) ∷ [])) both.0 both.1
+listed_cases weak strict bounded number rule fall (Some bound) w s = let both = s bound refl in no_edge (strict number rule fall) (bounded number rule bound.rows) both.0 both.1
 
 number_cases : (number : ℕ) (fall : List (ℕ × ℤ)) (found : Option Bound) → rule_of (listed_by number fall found) ≡ number
 number_cases number fall None = refl
@@ -199,11 +197,11 @@ pub one_strict : (k : ℕ) (follows : List Followed) (followed : Followed) (boun
 one_strict k follows followed bound at e = strict_from 0 k follows followed bound at e
 
 -- the multipliers are few
-few_by : (number : ℕ) (fall : List (ℕ × ℤ)) (found : Option Bound) → length fall ≤ 65536 → IsListed (listed_by number fall found)
-few_by number fall None h = h
-few_by number fall (Some bound) h = (h, omega arith)
+few_by : (number : ℕ) (fall : List (ℕ × ℤ)) (found : Option Bound) → length fall ≤ 65536 → ((bound : Bound) → found ≡ Some bound → length bound.rows ≤ 65536) → IsListed (listed_by number fall found)
+few_by number fall None h k = h
+few_by number fall (Some bound) h k = (h, k bound refl)
 
-pub all_few : (n : ℕ) (follows : List Followed) → ((k : ℕ) (followed : Followed) → slice_get follows k ≡ Some followed → length followed.fall ≤ 65536) → All IsListed (list_from n follows)
+pub all_few : (n : ℕ) (follows : List Followed) → ((k : ℕ) (followed : Followed) → slice_get follows k ≡ Some followed → (length followed.fall ≤ 65536) × ((bound : Bound) → followed.bound ≡ Some bound → length bound.rows ≤ 65536)) → All IsListed (list_from n follows)
 all_few n [] h i d low = absurd (omega (arith, low))
-all_few n (followed ∷ rest) h zero d low = few_by n followed.fall (strict_bound followed) (h 0 followed refl)
+all_few n (followed ∷ rest) h zero d low = let few = h 0 followed refl in few_by n followed.fall (strict_bound followed) few.0 (λ bound e. few.1 bound (strict_is (int_lt (pos 0) followed.falls) followed.bound bound e).1)
 all_few n (followed ∷ rest) h (suc i) d low = all_few (suc n) rest (λ k other at. h (suc k) other at) i d (omega (arith, low))

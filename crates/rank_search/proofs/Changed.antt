@@ -13,8 +13,8 @@ use Rattle.rank_search.specs.declared.links.Link.{Link}
 use Rattle.rank_search.specs.declared.links.Tie.{Tie}
 use Rattle.rank_search.specs.Links.{IsIntLink, IsWay, total}
 use Rattle.rank_search.specs.Plain.{IsChange}
-use Rattle.rank_search.specs.Positions.{IsVariable, StandsAt, slot_at}
-use Rattle.rank_search.specs.Searching.{InTies, Covers, IsReached, Known, has_none, only_variable, variable_of, variable_at, more_of, IsDifference, AreIntTies, TellsChange}
+use Rattle.rank_search.specs.Positions.{AreEnds, IsVariable, StandsAt, slot_at}
+use Rattle.rank_search.specs.Searching.{InTies, Covers, IsReached, Known, has_none, only_variable, variable_of, variable_at, more_of, IsDifference, IsFinished, IsKnownBy, AreIntTies, TellsChange}
 
 one_number : (a b : ℕ) → ◌≡◌ {A = Option ℕ} (Some a) (Some b) → a ≡ b
 one_number a b e = cc
@@ -38,18 +38,20 @@ Sound ties start known = (variable : ℕ) (come : Come) → get_or known variabl
 abbrev pub Complete : List Tie → ℕ → Known → Type 0
 Complete ties start known = (variable : ℕ) (by : ℤ) → IsReached ties start variable by → (come : Come) × (get_or known variable None ≡ Some come)
 
-difference_cases : (ties : List Tie) (start finish : ℕ) (known : Known) (found : Option Come) → Sound ties start known → Complete ties start known → get_or known finish None ≡ found → IsDifference ties start finish (more_of found)
-difference_cases ties start finish known None sound complete e = record {
+difference_cases : (ties : List Tie) (start finish : ℕ) (known : Known) (found : Option Come) → Sound ties start known → Complete ties start known → IsFinished ties start known → get_or known finish None ≡ found → IsDifference ties start finish (more_of found)
+difference_cases ties start finish known None sound complete done e = record {
   sound = λ by m. absurd (no_int by m);
   complete = λ by r. let w = complete finish by r in absurd (no_come w.0 (sym e ∙ w.1));
+  known = λ by m. absurd (no_int by m);
 }
-difference_cases ties start finish known (Some come) sound complete e = record {
+difference_cases ties start finish known (Some come) sound complete done e = record {
   sound = λ by m. subst (λ (x : ℤ). IsReached ties start finish x) (one_int come.by by m) (sound finish come e);
   complete = λ by r. (come.by, refl);
+  known = λ by m. record { known = known; finished = done; come = come; at = e; adds = one_int come.by by m };
 }
 
-pub difference_is : (ties : List Tie) (start finish : ℕ) (known seen : Known) (come : Option Come) (more : Option ℤ) → Sound ties start known → Complete ties start known → seen ≡ known → come ≡ get_or seen finish None → more ≡ more_of come → IsDifference ties start finish more
-difference_is ties start finish known seen come more sound complete s c m = subst (λ (o : Option ℤ). IsDifference ties start finish o) (sym (m ∙ ap more_of (c ∙ ap (λ (l : Known). get_or l finish None) s))) (difference_cases ties start finish known (get_or known finish None) sound complete refl)
+pub difference_is : (ties : List Tie) (start finish : ℕ) (known seen : Known) (come : Option Come) (more : Option ℤ) → Sound ties start known → Complete ties start known → IsFinished ties start known → seen ≡ known → come ≡ get_or seen finish None → more ≡ more_of come → IsDifference ties start finish more
+difference_is ties start finish known seen come more sound complete done s c m = subst (λ (o : Option ℤ). IsDifference ties start finish o) (sym (m ∙ ap more_of (c ∙ ap (λ (l : Known). get_or l finish None) s))) (difference_cases ties start finish known (get_or known finish None) sound complete done refl)
 
 -- a variable at a place
 both : (a b : Bool) → a ≡ true → b ≡ true → (a && b) ≡ true
@@ -63,7 +65,7 @@ chosen A false a b e = absurd (false≢true e)
 int_same : (x y : ℤ) → x ≡ y → int_eq x y ≡ true
 int_same x y e = (Decides-int_eq x y).1 e
 
-variable_is : (slot : SlotForm) (variable : ℕ) → IsVariable slot variable → variable_of (Some slot) ≡ Some variable
+pub variable_is : (slot : SlotForm) (variable : ℕ) → IsVariable slot variable → variable_of (Some slot) ≡ Some variable
 variable_is slot variable is =
     let plain = both (int_eq slot.constant (pos 0)) (has_none slot.weights) (int_same slot.constant (pos 0) is.constant) (ap has_none is.weights) in
     chosen (Option ℕ) (int_eq slot.constant (pos 0) && has_none slot.weights) (only_variable slot.terms) None plain ∙ ap only_variable is.terms ∙ chosen (Option ℕ) (int_eq (pos 1) (pos 1)) (Some variable) None (int_same (pos 1) (pos 1) refl)
@@ -136,7 +138,8 @@ change_told rule place ties start finish more are s f difference = record {
       change_is rule.rows ties start finish c more are difference (subst (λ (x : ℕ). IsChange rule.rows x finish c) first (subst (λ (y : ℕ). IsChange rule.rows changes.start y c) last changes.change));
   says = λ c e.
       let reached = difference.sound c e in
-      record { start = start; finish = finish; ends = record { first = stands_at rule.first false place start s; last = stands_at rule.last false place finish f }; links = reached.0; way = int_way rule.rows ties start finish reached.0 are reached.1; adds = reached.2 };
+      let ends : AreEnds rule false place start finish = record { first = stands_at rule.first false place start s; last = stands_at rule.last false place finish f } in
+      record { start = start; finish = finish; ends = ends; by = subst (λ (l : List Tie). IsKnownBy l start finish c) are.is (difference.known c e); moves = record { start = start; finish = finish; ends = ends; links = reached.0; way = int_way rule.rows ties start finish reached.0 are reached.1; adds = reached.2 } };
 }
 
 pub no_start : (rule : PathRule) (place : Place) → variable_at rule.first false place ≡ None → TellsChange rule place None

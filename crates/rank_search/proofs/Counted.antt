@@ -1,11 +1,12 @@
 -- The multipliers that entries add up to.
-use Rattle.std.proofs.Common.{◌≡◌, ℕ, zero, suc, ◌+◌, ◌-◌, ◌<◌, ◌≤◌, ◌^◌, Bool, true, false, cond, List, [], ◌∷◌, ◌++◌, length, get_or, set, replicate, ℤ, pos, negsuc, ◌+ℤ◌, ◌*ℤ◌, ◌≤ℤ◌, Option, Some, None, subst, ap, arith, refl, ◌∙◌, sym, append_assoc}
+use Rattle.std.proofs.Common.{◌≡◌, ℕ, zero, suc, ◌+◌, ◌-◌, ◌<◌, ◌≤◌, ◌^◌, Bool, true, false, cond, eqb, List, [], ◌∷◌, ◌++◌, length, get_or, set, replicate, ℤ, pos, ◌+ℤ◌, ◌*ℤ◌, ◌≤ℤ◌, Option, Some, None, subst, ap, arith, refl, ◌∙◌, sym, append_assoc}
 use Rattle.std.specs.Prelude.{slice_get, unsigned_abs, nat_lt, int_lt}
 use Rattle.std.specs.Ordering.{int_eq}
 use Rattle.std.proofs.Math.ListN.{length-set}
 use Rattle.std.proofs.lemmas.Bool.Decides.{Decides-int_eq, nat_tests}
 use Rattle.std.proofs.lemmas.Int.{ints}
-use Rattle.std.proofs.lemmas.List.{length-replicate}
+use Rattle.std.proofs.lemmas.Bool.{eq-eqb, eqb-true}
+use Rattle.std.proofs.lemmas.List.{get_or-set_same, get_or-set_other, length-replicate}
 use Rattle.std.proofs.lemmas.Option.{slice_get_within}
 use Rattle.list_views.proofs.Ring.{plus_times}
 use Rattle.lin_core.specs.declared.faults.LinFault.{LinFault}
@@ -13,7 +14,7 @@ use Rattle.lin_core.specs.declared.faults.LinFault.TheVariants.{NegativeMultipli
 use Rattle.lin_core.specs.declared.rows.RowKind.{RowKind}
 use Rattle.lin_core.specs.declared.rows.RowKind.TheVariants.{AtLeastZero, IsZero}
 use Rattle.lin_core.specs.Combination.{number_of, sum_of, may_multiply, fault_at_row, fault_of_entry, first_of_two, first_fault, first_fault_from, IsAllowedAt, AllAllowed}
-use Rattle.lin_core.specs.Rows.{Row}
+use Rattle.lin_core.specs.Rows.{Row, coefficient_of}
 use Rattle.lin_core.specs.Weights.{total_size}
 use Rattle.lin_core.proofs.Signs.{zero-mul_ℤ, mul-zero_ℤ}
 use Rattle.rank_search.specs.Counting.{added, counted, kept, multipliers_of}
@@ -195,21 +196,65 @@ allowed_within : (rows : List Row) (entries : List (ℕ × ℤ)) → AllAllowed 
 allowed_within rows [] h = tt
 allowed_within rows (entry ∷ rest) h = (slice_get_within rows entry.0 h.0.0 h.0.1, allowed_within rows rest h.1)
 
+-- how often a row counts is what the entries say of it
+count_cases : (test : Bool) (counts : List ℤ) (row n : ℕ) (times : ℤ) → eqb row n ≡ test → row < length counts → get_or (set counts row (get_or counts row (pos 0) +ℤ times)) n (pos 0) ≡ cond test times (pos 0) +ℤ get_or counts n (pos 0)
+count_cases true counts row n times e low =
+    let same : row ≡ n = eqb-true row n e in
+    ap (λ (k : ℕ). get_or (set counts row (get_or counts row (pos 0) +ℤ times)) k (pos 0)) (sym same) ∙ get_or-set_same counts row (get_or counts row (pos 0) +ℤ times) (pos 0) low ∙ turned (get_or counts row (pos 0)) times ∙ ap (λ (k : ℕ). times +ℤ get_or counts k (pos 0)) same
+  where
+    turned : (a b : ℤ) → a +ℤ b ≡ b +ℤ a
+    turned a b = omega (arith, ints)
+count_cases false counts row n times e low = get_or-set_other counts row n (get_or counts row (pos 0) +ℤ times) (pos 0) (λ s. clash (eqb row n) e (eq-eqb row n (sym s))) ∙ plain (get_or counts n (pos 0))
+  where
+    clash : (x : Bool) → x ≡ false → x ≡ true → ⊥
+    clash true e f = absurd (cc)
+    clash false e f = absurd (cc)
+
+    plain : (a : ℤ) → a ≡ pos 0 +ℤ a
+    plain a = omega (arith, ints)
+
+count_added : (counts : List ℤ) (row n : ℕ) (times : ℤ) → row < length counts → get_or (added row times counts) n (pos 0) ≡ cond (eqb row n) times (pos 0) +ℤ get_or counts n (pos 0)
+count_added counts row n times low = count_cases (eqb row n) counts row n times refl low
+
+count_is : (entries : List (ℕ × ℤ)) (counts : List ℤ) (n : ℕ) → AreWithin (length counts) entries → get_or (counted entries counts) n (pos 0) ≡ coefficient_of n entries +ℤ get_or counts n (pos 0)
+count_is [] counts n h = plain (get_or counts n (pos 0))
+  where
+    plain : (a : ℤ) → a ≡ pos 0 +ℤ a
+    plain a = omega (arith, ints)
+count_is (entry ∷ rest) counts n h =
+    let more = added entry.0 entry.1 counts in
+    count_is rest more n (subst (λ (k : ℕ). AreWithin k rest) (sym (length-set counts entry.0 (get_or counts entry.0 (pos 0) +ℤ entry.1))) h.1) ∙ ap (λ (z : ℤ). coefficient_of n rest +ℤ z) (count_added counts entry.0 n entry.1 h.0) ∙ moved (coefficient_of n rest) (cond (eqb entry.0 n) entry.1 (pos 0)) (get_or counts n (pos 0))
+  where
+    moved : (a b c : ℤ) → a +ℤ (b +ℤ c) ≡ (b +ℤ a) +ℤ c
+    moved a b c = omega (arith, ints)
+
+fits_least : (most least : ℕ) (rows : List Row) (counts : List ℤ) → ((n : ℕ) → unsigned_abs (get_or counts n (pos 0)) ≤ least) → Fits most rows counts → Fits least rows counts
+fits_least most least [] [] h f = tt
+fits_least most least [] (c ∷ counts) h f = f
+fits_least most least (row ∷ rows) [] h f = f
+fits_least most least (row ∷ rows) (c ∷ counts) h f = (f.0, h 0, fits_least most least rows counts (λ n. h (suc n)) f.2)
+
+zero_at : (count n : ℕ) → get_or (replicate count (pos 0)) n (pos 0) ≡ pos 0
+zero_at zero n = refl
+zero_at (suc count) zero = refl
+zero_at (suc count) (suc n) = zero_at count n
+
 -- the multipliers say what the entries say
 pub record AreMultipliers (rows : List Row) (entries list : List (ℕ × ℤ)) : Type 0 where
   pub fault : first_fault rows list ≡ None
   pub sums : (number : Row → ℤ) → sum_of number rows list ≡ sum_of number rows entries
   pub few : length list ≤ length rows
 
-pub multipliers_are : (rows : List Row) (count : ℕ) (entries : List (ℕ × ℤ)) → count ≡ length rows → AllAllowed rows entries → total_size entries ≤ 2 ^ 31 → AreMultipliers rows entries (multipliers_of count entries)
+pub multipliers_are : (rows : List Row) (count : ℕ) (entries : List (ℕ × ℤ)) → count ≡ length rows → AllAllowed rows entries → ((n : ℕ) → unsigned_abs (coefficient_of n entries) ≤ 2 ^ 31) → AreMultipliers rows entries (multipliers_of count entries)
 multipliers_are rows count entries e allowed small =
     let zeros : List ℤ = replicate count (pos 0) in
     let n : length zeros ≡ count = length-replicate {A = ℤ} count (pos 0) in
     let all = counted entries zeros in
     let m : length all ≡ length rows = length_counted entries zeros ∙ n ∙ e in
+    let within : AreWithin (length zeros) entries = subst (λ (k : ℕ). AreWithin k entries) (sym (n ∙ e)) (allowed_within rows entries allowed) in
     record {
-      fault = kept_fault rows rows 0 all (same_rest rows) (fits_more (0 + total_size entries) (2 ^ 31) rows all (omega (arith, small)) (fits_counted 0 rows entries zeros allowed (fits_zeros rows count e))) 0;
-      sums = λ number. kept_sum number rows rows 0 all (same_rest rows) (omega (arith, m)) ∙ dense_counted number rows entries zeros (subst (λ (k : ℕ). AreWithin k entries) (sym (n ∙ e)) (allowed_within rows entries allowed)) ∙ ap (λ (z : ℤ). sum_of number rows entries +ℤ z) (dense_zeros number rows count) ∙ plain (sum_of number rows entries);
+      fault = kept_fault rows rows 0 all (same_rest rows) (fits_least (0 + total_size entries) (2 ^ 31) rows all (λ k. subst (λ (z : ℤ). unsigned_abs z ≤ 2 ^ 31) (sym (count_is entries zeros k within ∙ ap (λ (z : ℤ). coefficient_of k entries +ℤ z) (zero_at count k) ∙ plain (coefficient_of k entries))) (small k)) (fits_counted 0 rows entries zeros allowed (fits_zeros rows count e))) 0;
+      sums = λ number. kept_sum number rows rows 0 all (same_rest rows) (omega (arith, m)) ∙ dense_counted number rows entries zeros within ∙ ap (λ (z : ℤ). sum_of number rows entries +ℤ z) (dense_zeros number rows count) ∙ plain (sum_of number rows entries);
       few = let f = kept_few 0 all in omega (arith, f, m);
     }
   where

@@ -1,15 +1,13 @@
 -- Each tie that is found stands with the row that says it.
-use Rattle.std.proofs.Common.{◌≡◌, ◌⊎◌, ℕ, zero, suc, ◌+◌, ◌<◌, Bool, true, false, cond, List, [], ◌∷◌, ◌++◌, ℤ, pos, negsuc, ◌+ℤ◌, ◌-ℤ◌, Option, Some, None, subst, ap, arith, refl, ◌∙◌, sym, IsPermutation}
+use Rattle.std.proofs.Common.{◌≡◌, ℕ, zero, suc, ◌+◌, Bool, true, false, cond, List, [], ◌∷◌, ◌++◌, ℤ, pos, ◌+ℤ◌, ◌-ℤ◌, Option, Some, None, subst, ap, arith, refl, ◌∙◌, sym, IsPermutation}
 use Rattle.std.specs.Prelude.{nat_lt, slice_get}
 use Rattle.std.specs.List.{All}
 use Rattle.std.proofs.lemmas.Int.{ints}
 use Rattle.std.proofs.lemmas.List.Sorted.{All-permutation}
-use Rattle.lin_core.specs.declared.rows.RowKind.{RowKind}
-use Rattle.lin_core.specs.declared.rows.RowKind.TheVariants.{AtLeastZero, IsZero}
 use Rattle.lin_core.specs.declared.rows.WRow.{WRow}
 use Rattle.rank_search.specs.declared.links.Link.{Link}
 use Rattle.rank_search.specs.declared.links.Tie.{Tie}
-use Rattle.rank_search.specs.Following.{IsFallTie, SaysAt}
+use Rattle.rank_search.specs.Following.{IsFallTie}
 use Rattle.rank_search.specs.Rising.{fall_links, fall_row_ties, fall_ties_from, leading, led, order_in, rising_tie}
 use Rattle.rank_search.specs.Searching.{has_none, is_inequality}
 use Rattle.rank_search.proofs.Fallen.{there_says, again_says, kind_is, none_is, order_terms}

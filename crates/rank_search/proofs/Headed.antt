@@ -1,6 +1,5 @@
 -- Where each end of a rule has the heads of the first end at its cut, all ends at a cut have the same.
-use Rattle.std.proofs.Common.{◌≡◌, ◌⊎◌, inl, inr, ℕ, zero, suc, ◌≤◌, Bool, true, false, List, [], ◌∷◌, length, subst, ap, refl, ◌∙◌, sym, Some}
-use Rattle.std.specs.Prelude.{slice_get, map}
+use Rattle.std.proofs.Common.{◌≡◌, inl, inr, ℕ, ◌≤◌, List, length, ap, ◌∙◌, sym}
 use Rattle.std.specs.List.{All}
 use Rattle.descent.specs.Conditions.{AreRules}
 use Rattle.descent.specs.declared.rules.PathRule.{PathRule}

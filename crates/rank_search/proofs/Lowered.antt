@@ -7,9 +7,13 @@ use Rattle.std.proofs.lemmas.Option.{slice_get_within, slice_get-get_or}
 use Rattle.descent.specs.declared.rules.PathRule.{PathRule}
 use Rattle.descent.specs.declared.rules.Place.{Place}
 use Rattle.rank_search.specs.declared.candidates.Candidate.{Candidate}
-use Rattle.rank_search.specs.Plain.{FormMoves, LowersInts, RanksSize}
+use Rattle.rank_search.specs.Plain.{FormMoves, LowersBy, LowersInts, MovesBy, RanksSize}
 use Rattle.rank_search.specs.Rising.{IsTableOf, TellAll, TellsSize, TellsSteps, falling_form}
-use Rattle.rank_search.specs.Searching.{IsOneFound, IsSumFound, IsTable, TellsChange, falls, form_value, is_strict, is_weak, never_rises, value_of}
+use Rattle.rank_search.specs.Searching.{IsMoved, IsOneFound, IsSumFound, IsTable, TellsChange, falls, form_value, is_strict, is_weak, never_rises, value_of}
+use Rattle.rank_search.specs.declared.searching.PlainForm.{PlainForm}
+use Rattle.rank_search.specs.declared.searching.PlainForm.TheVariants.{Ints, Size}
+use Rattle.rank_search.specs.Found.{IsFound}
+use Rattle.rank_search.specs.Reasons.{IsTold}
 use Rattle.rank_search.specs.Stepwise.{StepwiseRanks}
 
 abbrev Lists : Type 0
@@ -85,7 +89,7 @@ rule_at (rule ∷ rest) n count e less = (get_or (rule ∷ rest) n rule, slice_g
 
 -- one int
 abbrev Moves : PathRule → List (Place × ℤ) → ℤ → Type 0
-Moves rule form most = (c : ℤ) × FormMoves rule form c × (c ≤ℤ most)
+Moves rule form most = (c : ℤ) × FormMoves IsMoved rule form c × (c ≤ℤ most)
 
 one_moves : (rule : PathRule) (told : List (Option ℤ)) (places : List Place) (form : Candidate) (place : Place) (most : ℤ) → TellAll (TellsChange rule) places told → slice_get places form.one ≡ Some place → form.more ≡ pos 0 → IsValue (form_value form told) most → Moves rule ((place, form.times) ∷ []) most
 one_moves rule told places form place most tells is more value =
@@ -95,7 +99,7 @@ one_moves rule told places form place most tells is more value =
     adds : (c a b : ℤ) → c ≡ a +ℤ b → b ≡ pos 0 → c ≡ a +ℤ pos 0
     adds c a b e h = omega (arith, ints)
 
-pub one_lowers : (rules : List PathRule) (places : List Place) (table : Lists) (form : Candidate) (place : Place) → IsTable rules places table → IsOneFound table (length places) form → slice_get places form.one ≡ Some place → LowersInts rules ((place, form.times) ∷ [])
+pub one_lowers : (rules : List PathRule) (places : List Place) (table : Lists) (form : Candidate) (place : Place) → IsTable rules places table → IsOneFound table (length places) form → slice_get places form.one ≡ Some place → LowersBy IsMoved rules ((place, form.times) ∷ [])
 one_lowers rules places table form place is found at =
     let parts = and_parts (never_rises form table) (falls form table) found.ranks in
     let fall = falls_at form table parts.1 in
@@ -118,7 +122,7 @@ two_moves rule told places form place other most tells is at value =
     adds : (c a b : ℤ) → c ≡ a +ℤ b → c ≡ a +ℤ (b +ℤ pos 0)
     adds c a b e = omega (arith, ints)
 
-pub two_lower : (rules : List PathRule) (places : List Place) (table : Lists) (form : Candidate) (place other : Place) → IsTable rules places table → IsSumFound table (length places) form → slice_get places form.one ≡ Some place → slice_get places form.other ≡ Some other → LowersInts rules ((place, form.times) ∷ (other, form.more) ∷ [])
+pub two_lower : (rules : List PathRule) (places : List Place) (table : Lists) (form : Candidate) (place other : Place) → IsTable rules places table → IsSumFound table (length places) form → slice_get places form.one ≡ Some place → slice_get places form.other ≡ Some other → LowersBy IsMoved rules ((place, form.times) ∷ (other, form.more) ∷ [])
 two_lower rules places table form place other is found at too =
     let parts = and_parts (never_rises form table) (falls form table) found.ranks in
     let fall = falls_at form table parts.1 in
@@ -186,14 +190,14 @@ steps_rank negative rules places weak strict k place is counts found at =
     }
 
 -- the form as it is written down
-pub one_told : (rules : List PathRule) (places : List Place) (table : Lists) (form : Candidate) (place : Place) (times : ℤ) (none new : List (Place × ℤ)) → none ≡ [] → new ≡ none ++ (place, times) ∷ [] → times ≡ form.times → IsTable rules places table → IsOneFound table (length places) form → slice_get places form.one ≡ Some place → LowersInts rules new
-one_told rules places table form place times none new n e t is found at = subst (LowersInts rules) (sym (e ∙ ap (λ (l : List (Place × ℤ)). l ++ (place, times) ∷ []) n ∙ ap (λ (x : ℤ). made place x) t)) (one_lowers rules places table form place is found at)
+pub one_told : (rules : List PathRule) (places : List Place) (table : Lists) (form : Candidate) (place : Place) (times : ℤ) (none new : List (Place × ℤ)) → none ≡ [] → new ≡ none ++ (place, times) ∷ [] → times ≡ form.times → IsTable rules places table → IsOneFound table (length places) form → slice_get places form.one ≡ Some place → LowersBy IsMoved rules new
+one_told rules places table form place times none new n e t is found at = subst (LowersBy IsMoved rules) (sym (e ∙ ap (λ (l : List (Place × ℤ)). l ++ (place, times) ∷ []) n ∙ ap (λ (x : ℤ). made place x) t)) (one_lowers rules places table form place is found at)
   where
     made : Place → ℤ → List (Place × ℤ)
     made p x = (p, x) ∷ []
 
-pub two_told : (rules : List PathRule) (places : List Place) (table : Lists) (form : Candidate) (place other : Place) (times more : ℤ) (none one new : List (Place × ℤ)) → none ≡ [] → one ≡ none ++ (place, times) ∷ [] → new ≡ one ++ (other, more) ∷ [] → times ≡ form.times → more ≡ form.more → IsTable rules places table → IsSumFound table (length places) form → slice_get places form.one ≡ Some place → slice_get places form.other ≡ Some other → LowersInts rules new
-two_told rules places table form place other times more none one new n e f t m is found at too = subst (LowersInts rules) (sym (f ∙ ap (λ (l : List (Place × ℤ)). l ++ (other, more) ∷ []) e ∙ ap (λ (l : List (Place × ℤ)). (l ++ (place, times) ∷ []) ++ (other, more) ∷ []) n ∙ ap (λ (x : ℤ). made place x other more) t ∙ ap (λ (x : ℤ). made place form.times other x) m)) (two_lower rules places table form place other is found at too)
+pub two_told : (rules : List PathRule) (places : List Place) (table : Lists) (form : Candidate) (place other : Place) (times more : ℤ) (none one new : List (Place × ℤ)) → none ≡ [] → one ≡ none ++ (place, times) ∷ [] → new ≡ one ++ (other, more) ∷ [] → times ≡ form.times → more ≡ form.more → IsTable rules places table → IsSumFound table (length places) form → slice_get places form.one ≡ Some place → slice_get places form.other ≡ Some other → LowersBy IsMoved rules new
+two_told rules places table form place other times more none one new n e f t m is found at too = subst (LowersBy IsMoved rules) (sym (f ∙ ap (λ (l : List (Place × ℤ)). l ++ (other, more) ∷ []) e ∙ ap (λ (l : List (Place × ℤ)). (l ++ (place, times) ∷ []) ++ (other, more) ∷ []) n ∙ ap (λ (x : ℤ). made place x other more) t ∙ ap (λ (x : ℤ). made place form.times other x) m)) (two_lower rules places table form place other is found at too)
   where
     made : Place → ℤ → Place → ℤ → List (Place × ℤ)
     made p x q y = (p, x) ∷ (q, y) ∷ []
@@ -207,3 +211,26 @@ size_told rules places table found k count place e some is at = size_ranks rules
 
 pub steps_told : (negative : Bool) (rules : List PathRule) (places : List Place) (weak strict : Lists) (found : Option ℕ) (k count : ℕ) (place : Place) → found ≡ Some k → IfSome found (λ one. (one < count) × IsFalling weak strict one) → IsTableOf (TellsSteps false negative) rules places weak → IsTableOf (TellsSteps true negative) rules places strict → slice_get places k ≡ Some place → StepwiseRanks rules negative place
 steps_told negative rules places weak strict found k count place e some is counts at = steps_rank negative rules places weak strict k place is counts (if_some_at (λ (one : ℕ). (one < count) × IsFalling weak strict one) found k e some).1 at
+
+-- by the numbers that are found, some lists of links say so
+moves_map : (rule : PathRule) (form : List (Place × ℤ)) (c : ℤ) → FormMoves IsMoved rule form c → FormMoves MovesBy rule form c
+moves_map rule [] c h = h
+moves_map rule (one ∷ rest) c h = (h.0, h.1, h.2.moves, moves_map rule rest h.1 h.3, h.4)
+
+pub lowers_ints : (rules : List PathRule) (form : List (Place × ℤ)) → LowersBy IsMoved rules form → LowersInts rules form
+lowers_ints rules form h = record {
+  shape = h.shape;
+  each = λ n rule is. let some = h.each n rule is in (some.0, moves_map rule form some.0 some.1, some.2);
+  falling = h.falling;
+  fallen = h.fallen;
+  there = h.there;
+  falls = (h.falls.0, moves_map h.fallen form h.falls.0 h.falls.1, h.falls.2);
+}
+
+found_is : (rules : List PathRule) (form : PlainForm) → IsTold rules form → IsFound rules form
+found_is rules (Ints form) h = lowers_ints rules form h
+found_is rules (Size place) h = h
+
+pub some_found : (rules : List PathRule) (found : Option PlainForm) → IfSome found (λ form. IsTold rules form) → IfSome found (λ form. IsFound rules form)
+some_found rules None h = h
+some_found rules (Some form) h = found_is rules form h

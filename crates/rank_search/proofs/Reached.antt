@@ -10,7 +10,7 @@ use Rattle.rank_search.specs.declared.links.Come.{Come}
 use Rattle.rank_search.specs.declared.links.Link.{Link}
 use Rattle.rank_search.specs.declared.links.Tie.{Tie}
 use Rattle.rank_search.specs.Links.{IsWay, total}
-use Rattle.rank_search.specs.Searching.{InTies, IsReached, Known, moves_at, moves, by_of, step, relaxed, any_moves, unknown, AreBelow}
+use Rattle.rank_search.specs.Searching.{InTies, IsReached, Known, moves_at, moves, by_of, step, relaxed, any_moves, begun, passed, span_from, unknown, AreBelow, IsFinished}
 
 -- a way that goes on by one link more
 way_more : (kind : Link → Type 0) (u v : ℕ) (links : List Link) (link : Link) → IsWay kind u links v → link.from ≡ v → kind link → IsWay kind u (links ++ link ∷ []) link.to
@@ -41,7 +41,7 @@ not_some : (come : Come) → ◌≡◌ {A = Option Come} None (Some come) → �
 not_some come e = absurd (cc)
 
 -- what a move says
-record IsMove (tie : Tie) (known : Known) : Type 0 where
+pub record IsMove (tie : Tie) (known : Known) : Type 0 where
   pub come : Come
   pub from : get_or known tie.link.from None ≡ Some come
   pub to : get_or known tie.link.to None ≡ None
@@ -52,11 +52,11 @@ move_cases None other low tie known a b c e = absurd (false≢true e)
 move_cases (Some come) (Some again) low tie known a b c e = absurd (false≢true e)
 move_cases (Some come) None low tie known a b c e = record { come = come; from = a; to = b; low = ltb-true tie.link.to (length known) (c ∙ e) }
 
-move_is : (tie : Tie) (known : Known) → moves tie known ≡ true → IsMove tie known
+pub move_is : (tie : Tie) (known : Known) → moves tie known ≡ true → IsMove tie known
 move_is tie known e = move_cases (get_or known tie.link.from None) (get_or known tie.link.to None) (nat_lt tie.link.to (length known)) tie known refl refl refl e
 
 -- one tie
-abbrev gone : Tie → Known → Known
+abbrev pub gone : Tie → Known → Known
 gone tie known = set known tie.link.to (Some (record { by = by_of (get_or known tie.link.from None) +ℤ tie.link.by; last = Some tie }))
 
 gone_reached : (ties : List Tie) (first : ℕ) (tie : Tie) (known : Known) → InTies ties tie.link → IsMove tie known → AreReached ties first known → AreReached ties first (gone tie known)
@@ -81,12 +81,12 @@ gone_length : (moved : Bool) (tie : Tie) (known : Known) → length (cond moved 
 gone_length true tie known = length-set known tie.link.to (Some (record { by = by_of (get_or known tie.link.from None) +ℤ tie.link.by; last = Some tie }))
 gone_length false tie known = refl
 
-relaxed_length : (rest : List Tie) (known : Known) → length (relaxed rest known) ≡ length known
+pub relaxed_length : (rest : List Tie) (known : Known) → length (relaxed rest known) ≡ length known
 relaxed_length [] known = refl
 relaxed_length (tie ∷ rest) known = relaxed_length rest (step tie known) ∙ gone_length (moves tie known) tie known
 
 -- less is unknown after each move
-step_unknown : (moved : Bool) (tie : Tie) (known : Known) → moves tie known ≡ moved → unknown (cond moved (gone tie known) known) + cond moved 1 0 ≡ unknown known
+pub step_unknown : (moved : Bool) (tie : Tie) (known : Known) → moves tie known ≡ moved → unknown (cond moved (gone tie known) known) + cond moved 1 0 ≡ unknown known
 step_unknown false tie known e = plus_zero (unknown known)
   where
     plus_zero : (n : ℕ) → n + 0 ≡ n
@@ -97,7 +97,7 @@ step_unknown true tie known e =
     let t = rw m.to at s in
     omega (arith, t)
 
-relaxed_unknown : (rest : List Tie) (known : Known) → unknown (relaxed rest known) ≤ unknown known
+pub relaxed_unknown : (rest : List Tie) (known : Known) → unknown (relaxed rest known) ≤ unknown known
 relaxed_unknown [] known = omega arith
 relaxed_unknown (tie ∷ rest) known =
     let one = step_unknown (moves tie known) tie known refl in
@@ -128,7 +128,7 @@ step_still : (moved : Bool) (tie : Tie) (known : Known) → moved ≡ false → 
 step_still true tie known e = absurd (true≢false e)
 step_still false tie known e = refl
 
-relaxed_still : (rest : List Tie) (known : Known) → any_moves rest known ≡ false → relaxed rest known ≡ known
+pub relaxed_still : (rest : List Tie) (known : Known) → any_moves rest known ≡ false → relaxed rest known ≡ known
 relaxed_still [] known e = refl
 relaxed_still (tie ∷ rest) known e =
     let parts = still_cases (moves tie known) tie rest known e in
@@ -170,8 +170,9 @@ pub record IsRelaxing (ties : List Tie) (first : ℕ) (any : Bool) (known : Know
   pub below : AreBelow ties (length known)
   pub start : (come : Come) × (get_or known first None ≡ Some come)
   pub still : any ≡ false → any_moves ties known ≡ false
+  pub times : (n : ℕ) × (known ≡ passed n ties (begun ties first))
 
-kept_cases : (moved : Bool) (tie : Tie) (known : Known) (v : ℕ) (come : Come) → moves tie known ≡ moved → get_or known v None ≡ Some come → get_or (cond moved (gone tie known) known) v None ≡ Some come
+pub kept_cases : (moved : Bool) (tie : Tie) (known : Known) (v : ℕ) (come : Come) → moves tie known ≡ moved → get_or known v None ≡ Some come → get_or (cond moved (gone tie known) known) v None ≡ Some come
 kept_cases false tie known v come e at = at
 kept_cases true tie known v come e at =
     let m = move_is tie known e in
@@ -189,8 +190,8 @@ none_before zero v come e = not_some come e
 none_before (suc n) zero come e = not_some come e
 none_before (suc n) (suc v) come e = none_before n v come e
 
-pub relaxing_first : (ties : List Tie) (first span : ℕ) (before : Known) → before ≡ replicate span None → first < span → AreBelow ties span → IsRelaxing ties first true (set before first (Some (record { by = pos 0; last = None })))
-relaxing_first ties first span before b low below =
+pub relaxing_first : (ties : List Tie) (first span : ℕ) (before : Known) → before ≡ replicate span None → span ≡ span_from (suc first) ties → first < span → AreBelow ties span → IsRelaxing ties first true (set before first (Some (record { by = pos 0; last = None })))
+relaxing_first ties first span before b value low below =
     let begun : Come = record { by = pos 0; last = None } in
     let n : length before ≡ span = ap length b ∙ length-replicate {A = Option Come} span None in
     let in' : first < length before = omega (arith, low, n) in
@@ -204,6 +205,7 @@ relaxing_first ties first span before b low below =
       below = subst (λ (k : ℕ). AreBelow ties k) (sym (length-set before first (Some begun) ∙ n)) below;
       start = (begun, get_or-set_same before first (Some begun) None in');
       still = λ e. absurd (true≢false e);
+      times = (0, ap (λ (l : Known). set l first (Some begun)) (b ∙ ap (λ (k : ℕ). replicate k None) value));
     }
 
 pub relaxing_more : (ties : List Tie) (first : ℕ) (any moved : Bool) (known new : Known) → moved ≡ any_moves ties known → new ≡ relaxed ties known → IsRelaxing ties first any known → IsRelaxing ties first moved new
@@ -212,7 +214,12 @@ relaxing_more ties first any moved known new m n h = subst (λ (k : Known). IsRe
   below = subst (λ (k : ℕ). AreBelow ties k) (sym (relaxed_length ties known)) h.below;
   start = (h.start.0, kept ties known first h.start.0 h.start.1);
   still = λ e. let none = sym m ∙ e in subst (λ (k : Known). any_moves ties k ≡ false) (sym (relaxed_still ties known none)) none;
+  times = (suc h.times.0, ap (relaxed ties) h.times.1);
 })
+
+-- in the end
+pub relaxing_done : (ties : List Tie) (first : ℕ) (any : Bool) (known : Known) → any ≡ false → IsRelaxing ties first any known → IsFinished ties first known
+relaxing_done ties first any known e h = (h.times.0, h.times.1, h.still e)
 
 less_left : (any moved : Bool) (new old : ℕ) → any ≡ true → (moved ≡ true → new < old) → new ≤ old → new + cond moved 1 0 < old + cond any 1 0
 less_left true true new old e less most = let l = less refl in omega (arith, l)

@@ -51,14 +51,14 @@ low_here : (here : Bool) (y x low : ℕ) (k rest : ℤ) → eqb y x ≡ here →
 low_here true y x low k rest e l h r = absurd (let s = eqb-true y x e in omega arith)
 low_here false y x low k rest e l h r = omega (arith, ints)
 
-coefficient_low : (x low end : ℕ) (terms : List (ℕ × ℤ)) → RiseFrom low end terms → x < low → coefficient_of x terms ≡ pos 0
+pub coefficient_low : (x low end : ℕ) (terms : List (ℕ × ℤ)) → RiseFrom low end terms → x < low → coefficient_of x terms ≡ pos 0
 coefficient_low x low end [] h less = refl
 coefficient_low x low end (term ∷ rest) h less = low_here (eqb term.0 x) term.0 x low term.1 (coefficient_of x rest) refl h.0 less (coefficient_low x (suc term.0) end rest h.2 (under x low term.0 less h.0))
   where
     under : (a b c : ℕ) → a < b → b ≤ c → a < suc c
     under a b c h k = omega (arith, h, k)
 
-abbrev HasTerm : ℕ → ℤ → List (ℕ × ℤ) → Type 0
+abbrev pub HasTerm : ℕ → ℤ → List (ℕ × ℤ) → Type 0
 HasTerm x c terms = (k : ℕ) × (slice_get terms k ≡ Some (x, c))
 
 term_here : (x : ℕ) (c : ℤ) (term : ℕ × ℤ) (rest : List (ℕ × ℤ)) → term.0 ≡ x → term.1 ≡ c → HasTerm x c (term ∷ rest)
@@ -84,7 +84,7 @@ has_cases false x low end c term rest e rise h some more =
     rest_is : (b c : ℤ) → pos 0 +ℤ b ≡ c → b ≡ c
     rest_is b c h = omega (arith, ints)
 
-has_term : (x low end : ℕ) (c : ℤ) (terms : List (ℕ × ℤ)) → RiseFrom low end terms → coefficient_of x terms ≡ c → (c ≡ pos 0 → ⊥) → HasTerm x c terms
+pub has_term : (x low end : ℕ) (c : ℤ) (terms : List (ℕ × ℤ)) → RiseFrom low end terms → coefficient_of x terms ≡ c → (c ≡ pos 0 → ⊥) → HasTerm x c terms
 has_term x low end c [] rise h some = absurd (some (sym h))
 has_term x low end c (term ∷ rest) rise h some = has_cases (eqb term.0 x) x low end c term rest refl rise.2 h some (λ e. has_term x (suc term.0) end c rest rise.2 e some)
 
@@ -122,7 +122,7 @@ both : (a b : Bool) → a ≡ true → b ≡ true → (a && b) ≡ true
 both true b e f = f
 both false b e f = absurd (cc)
 
-zero_row : (rows : List WRow) (variable : ℕ) → HasBound rows variable (pos 1) (pos 0) → has_zero variable rows ≡ true
+pub zero_row : (rows : List WRow) (variable : ℕ) → HasBound rows variable (pos 1) (pos 0) → has_zero variable rows ≡ true
 zero_row rows variable low = any_row (is_zero variable) rows low.among.0 low.row low.among.1 (both (is_bound variable (pos 1) low.row) (int_eq low.row.constant (pos 0)) (bound_told rows variable (pos 1) (pos 0) low) ((Decides-int_eq low.row.constant (pos 0)).1 low.number))
 
 part_is : (rows : List WRow) (term : ℕ × ℤ) → (term.1 ≤ℤ negsuc 0) × HasBound rows term.0 (pos 1) (pos 0) → (is_part term.1 && has_zero term.0 rows) ≡ true
@@ -264,7 +264,7 @@ zero_found : (rows list : List WRow) (variable : ℕ) → ((n : ℕ) (row : WRow
 zero_found rows [] variable part e = absurd (cc)
 zero_found rows (row ∷ rest) variable part e = zero_cases (is_zero variable row) rows row rest variable refl (part 0 row refl) e (λ h. zero_found rows rest variable (λ n other is. part (suc n) other is) h)
 
-zero_is : (rows : List WRow) (variable : ℕ) → has_zero variable rows ≡ true → HasBound rows variable (pos 1) (pos 0)
+pub zero_is : (rows : List WRow) (variable : ℕ) → has_zero variable rows ≡ true → HasBound rows variable (pos 1) (pos 0)
 zero_is rows variable e = zero_found rows rows variable (λ n row is. (n, is)) e
 
 other_cases : (same part : Bool) (rows : List WRow) (u : ℕ) (term : ℕ × ℤ) → eqb term.0 u ≡ same → (is_part term.1 && has_zero term.0 rows) ≡ part → (same || part) ≡ true → (term.0 ≡ u) ⊎ ((term.1 ≤ℤ negsuc 0) × HasBound rows term.0 (pos 1) (pos 0))
@@ -324,39 +324,55 @@ record IsReadAs (rows : List WRow) (row : WRow) (link : Link) : Type 0 where
   pub less : link.from < link.to
   pub read : IsRead rows row link
 
-given_read : (rows : List WRow) (row : WRow) (n end : ℕ) (link : Link) → RiseFrom 0 end row.terms → InTies (given_ties rows (pos 0 -ℤ size_constant row) n row.terms row.terms) link → IsReadAs rows row link
-given_read rows row n end link rise h =
+-- what a link to a part says
+abbrev pub SaysPart : List WRow → WRow → Link → Type 0
+SaysPart rows row link = GivesSize rows row link.from × (coefficient_of link.to row.terms ≤ℤ negsuc 0) × (link.by +ℤ size_constant row ≡ pos 0)
+
+given_link : (rows : List WRow) (row : WRow) (n end : ℕ) (link : Link) → RiseFrom 0 end row.terms → InTies (given_ties rows (pos 0 -ℤ size_constant row) n row.terms row.terms) link → (link.from < link.to) × SaysPart rows row link
+given_link rows row n end link rise h =
     let g = given_is rows (pos 0 -ℤ size_constant row) n row.terms row.terms link h in
     let u : g.term.0 ≡ link.from = sym g.part.rising.1 in
     let one = coefficient_is 0 end g.number g.term.0 g.term.1 row.terms rise g.is ∙ g.one in
-    let part = coefficient_is 0 end g.part.number link.to g.part.coefficient row.terms rise g.part.is in
-    record {
-      less = g.part.rising.0;
-      read = inl (
+    let part = coefficient_is 0 end g.part.number link.to g.part.coefficient row.terms rise g.part.is in (
+      g.part.rising.0,
+      (
         subst (λ (x : ℕ). GivesSize rows row x) u (record { one = one; others = λ n term is. others_are rows g.term.0 n row.terms term g.gives is }),
         subst (λ (x : ℤ). x ≤ℤ negsuc 0) (sym part) (part_below g.part.coefficient g.part.part),
         sum_is link.by (size_constant row) g.part.rising.2,
-      );
-    }
+      ),
+    )
   where
     sum_is : (a b : ℤ) → a ≡ pos 0 -ℤ b → a +ℤ b ≡ pos 0
     sum_is a b e = omega (arith, ints)
 
-back_read : (rows : List WRow) (row : WRow) (n : ℕ) (link : Link) (order : Option (ℕ × ℕ)) → order_in row.terms ≡ order → InTies (back_ties order (size_constant row) n) link → IsReadAs rows row link
-back_read rows row n link None e h = absurd h
-back_read rows row n link (Some order) e h =
+pub given_says : (rows : List WRow) (row : WRow) (n end : ℕ) (link : Link) → RiseFrom 0 end row.terms → InTies (given_ties rows (pos 0 -ℤ size_constant row) n row.terms row.terms) link → SaysPart rows row link
+given_says rows row n end link rise h = (given_link rows row n end link rise h).1
+
+given_read : (rows : List WRow) (row : WRow) (n end : ℕ) (link : Link) → RiseFrom 0 end row.terms → InTies (given_ties rows (pos 0 -ℤ size_constant row) n row.terms row.terms) link → IsReadAs rows row link
+given_read rows row n end link rise h = let g = given_link rows row n end link rise h in record { less = g.0; read = inl g.1 }
+
+-- what a link back says
+abbrev pub SaysOther : WRow → Link → Type 0
+SaysOther row link = ((row.terms ≡ (link.from, negsuc 0) ∷ (link.to, pos 1) ∷ []) ⊎ (row.terms ≡ (link.to, pos 1) ∷ (link.from, negsuc 0) ∷ [])) × (link.by ≡ size_constant row)
+
+back_link : (row : WRow) (n : ℕ) (link : Link) (order : Option (ℕ × ℕ)) → order_in row.terms ≡ order → InTies (back_ties order (size_constant row) n) link → (link.from < link.to) × SaysOther row link
+back_link row n link None e h = absurd h
+back_link row n link (Some order) e h =
     let r = rising_is order.1 order.0 (size_constant row) n true link h in
     let terms = order_terms row.terms order.0 order.1 e in
-    record {
-      less = r.less;
-      read = inr (subst (λ (x : ℕ). (row.terms ≡ (x, negsuc 0) ∷ (link.to, pos 1) ∷ []) ⊎ (row.terms ≡ (link.to, pos 1) ∷ (x, negsuc 0) ∷ [])) (sym r.starts) (subst (λ (y : ℕ). (row.terms ≡ (order.1, negsuc 0) ∷ (y, pos 1) ∷ []) ⊎ (row.terms ≡ (y, pos 1) ∷ (order.1, negsuc 0) ∷ [])) (sym r.ends) (other_way row.terms order.0 order.1 terms)), r.adds);
-    }
+    (r.less, (subst (λ (x : ℕ). (row.terms ≡ (x, negsuc 0) ∷ (link.to, pos 1) ∷ []) ⊎ (row.terms ≡ (link.to, pos 1) ∷ (x, negsuc 0) ∷ [])) (sym r.starts) (subst (λ (y : ℕ). (row.terms ≡ (order.1, negsuc 0) ∷ (y, pos 1) ∷ []) ⊎ (row.terms ≡ (y, pos 1) ∷ (order.1, negsuc 0) ∷ [])) (sym r.ends) (other_way row.terms order.0 order.1 terms)), r.adds))
   where
     other_way : (terms : List (ℕ × ℤ)) (plus minus : ℕ) → (terms ≡ (plus, pos 1) ∷ (minus, negsuc 0) ∷ []) ⊎ (terms ≡ (minus, negsuc 0) ∷ (plus, pos 1) ∷ []) → (terms ≡ (minus, negsuc 0) ∷ (plus, pos 1) ∷ []) ⊎ (terms ≡ (plus, pos 1) ∷ (minus, negsuc 0) ∷ [])
     other_way terms plus minus h = elim h as (λ o. (terms ≡ (minus, negsuc 0) ∷ (plus, pos 1) ∷ []) ⊎ (terms ≡ (plus, pos 1) ∷ (minus, negsuc 0) ∷ [])) [
       | inl x ↦ inr x
       | inr y ↦ inl y
     ]
+
+pub back_says : (row : WRow) (n : ℕ) (link : Link) → InTies (back_ties (order_in row.terms) (size_constant row) n) link → SaysOther row link
+back_says row n link h = (back_link row n link (order_in row.terms) refl h).1
+
+back_read : (rows : List WRow) (row : WRow) (n : ℕ) (link : Link) (order : Option (ℕ × ℕ)) → order_in row.terms ≡ order → InTies (back_ties order (size_constant row) n) link → IsReadAs rows row link
+back_read rows row n link order e h = let b = back_link row n link order e h in record { less = b.0; read = inr b.1 }
 
 row_read : (rows : List WRow) (row : WRow) (n end : ℕ) (link : Link) → RiseFrom 0 end row.terms → InTies (size_row_ties rows n row) link → (row.kind ≡ IsZero) × IsReadAs rows row link
 row_read rows row n end link rise h =

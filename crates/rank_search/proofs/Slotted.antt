@@ -1,6 +1,6 @@
 -- The slot at a place is the slot of its id, and ends at one cut have one id there.
 use Rattle.std.proofs.Common.{◌≡◌, ◌⊎◌, inl, inr, ℕ, zero, suc, ◌<◌, ◌≤◌, Bool, true, false, cond, not, eqb, List, [], ◌∷◌, ◌++◌, ℤ, pos, Option, Some, None, subst, ap, arith, refl, ◌∙◌, sym}
-use Rattle.std.specs.Prelude.{◌&&◌, slice_get, map}
+use Rattle.std.specs.Prelude.{◌&&◌, slice_get}
 use Rattle.std.specs.List.{list_any}
 use Rattle.std.proofs.lemmas.Bool.{eq-eqb, eqb-true, and_parts}
 use Rattle.lin_core.specs.Rows.{RiseFrom, Rise}
@@ -10,7 +10,7 @@ use Rattle.descent.specs.declared.rules.PathRule.{PathRule}
 use Rattle.descent.specs.declared.rules.Place.{Place}
 use Rattle.descent.specs.declared.rules.SlotForm.{SlotForm}
 use Rattle.rank_search.specs.Forms.{slots_for}
-use Rattle.rank_search.specs.Graphs.{AreNamed, IsEndAt, head_of, heads, ids_of}
+use Rattle.rank_search.specs.Graphs.{IsEndAt, head_of, heads, ids_of}
 use Rattle.rank_search.specs.Positions.{is_at, is_place, same, slot_at}
 
 one_slot : (a b : SlotForm) → ◌≡◌ {A = Option SlotForm} (Some a) (Some b) → a ≡ b

@@ -29,7 +29,7 @@ pub kind_is : (kind : RowKind) → is_inequality kind ≡ true → kind ≡ AtLe
 kind_is AtLeastZero e = refl
 kind_is IsZero e = absurd (false≢true e)
 
-none_is : (list : List (ℕ × ℤ)) → has_none list ≡ true → list ≡ []
+pub none_is : (list : List (ℕ × ℤ)) → has_none list ≡ true → list ≡ []
 none_is [] e = refl
 none_is (one ∷ rest) e = absurd (false≢true e)
 
@@ -63,7 +63,7 @@ pub bound_told : (rows : List WRow) (variable : ℕ) (times constant : ℤ) (bou
 bound_told rows variable times constant bound = both (is_inequality bound.row.kind) (is_alone variable times bound.row.terms && has_none bound.row.weights) (ap is_inequality bound.inequality) (both (is_alone variable times bound.row.terms) (has_none bound.row.weights) (ap (is_alone variable times) bound.terms ∙ alone_same variable times) (ap has_none bound.weights))
 
 -- the row that a variable is at most a number
-record IsMost (variable : ℕ) (low : ℤ) (n most : ℕ) (list : List WRow) : Type 0 where
+pub record IsMost (variable : ℕ) (low : ℤ) (n most : ℕ) (list : List WRow) : Type 0 where
   pub index : ℕ
   pub row : WRow
   pub at : most ≡ n + index
@@ -83,7 +83,7 @@ most_cases false variable low n most row rest h e more =
     let m = more e in
     record { index = suc m.index; row = m.row; at = omega (arith, m.at); is = m.is; bound = m.bound; opposite = m.opposite }
 
-most_is : (variable : ℕ) (low : ℤ) (n most : ℕ) (list : List WRow) → most_from variable low n list ≡ Some most → IsMost variable low n most list
+pub most_is : (variable : ℕ) (low : ℤ) (n most : ℕ) (list : List WRow) → most_from variable low n list ≡ Some most → IsMost variable low n most list
 most_is variable low n most [] e = absurd (cc)
 most_is variable low n most (row ∷ rest) e = most_cases (is_opposite variable low row) variable low n most row rest refl e (λ h. most_is variable low (suc n) most rest h)
 
@@ -100,8 +100,9 @@ most_found variable low n zero (r ∷ rest) row is h = found_cases (is_opposite 
 most_found variable low n (suc k) (r ∷ rest) row is h = found_cases (is_opposite variable low r) n (most_from variable low (suc n) rest) (λ f. most_found variable low (suc n) k rest row is h)
 
 -- the two rows that fix a variable
-record IsFound (variable : ℕ) (rows : List WRow) (fixed : ℕ × ℕ) (list : List WRow) : Type 0 where
+pub record IsFound (variable : ℕ) (rows : List WRow) (n : ℕ) (fixed : ℕ × ℕ) (list : List WRow) : Type 0 where
   pub index : ℕ
+  pub first : fixed.0 ≡ n + index
   pub row : WRow
   pub is : slice_get list index ≡ Some row
   pub bound : is_bound variable (pos 1) row ≡ true
@@ -114,16 +115,17 @@ of_cases : (bound : Bool) (found : Option ℕ) (most : ℕ) → cond bound found
 of_cases true found most e = (refl, e)
 of_cases false found most e = absurd (cc)
 
-fixed_cases : (variable : ℕ) (rows : List WRow) (found : Option ℕ) (n : ℕ) (fixed : ℕ × ℕ) (row : WRow) (rest : List WRow) → most_of variable rows row ≡ found → fixed_or n found (fixed_from variable rows (suc n) rest) ≡ Some fixed → (fixed_from variable rows (suc n) rest ≡ Some fixed → IsFound variable rows fixed rest) → IsFound variable rows fixed (row ∷ rest)
+fixed_cases : (variable : ℕ) (rows : List WRow) (found : Option ℕ) (n : ℕ) (fixed : ℕ × ℕ) (row : WRow) (rest : List WRow) → most_of variable rows row ≡ found → fixed_or n found (fixed_from variable rows (suc n) rest) ≡ Some fixed → (fixed_from variable rows (suc n) rest ≡ Some fixed → IsFound variable rows (suc n) fixed rest) → IsFound variable rows n fixed (row ∷ rest)
 fixed_cases variable rows None n fixed row rest h e more =
     let m = more e in
-    record { index = suc m.index; row = m.row; is = m.is; bound = m.bound; most = m.most }
+    record { index = suc m.index; first = omega (arith, m.first); row = m.row; is = m.is; bound = m.bound; most = m.most }
 fixed_cases variable rows (Some most) n fixed row rest h e more =
     let parts = of_cases (is_bound variable (pos 1) row) (most_from variable row.constant 0 rows) most h in
     let same : most ≡ fixed.1 = ap (λ (p : ℕ × ℕ). p.1) (some_pair (n, most) fixed e) in
-    record { index = 0; row = row; is = refl; bound = parts.0; most = parts.1 ∙ ap Some same }
+    let first : n ≡ fixed.0 = ap (λ (p : ℕ × ℕ). p.0) (some_pair (n, most) fixed e) in
+    record { index = 0; first = omega (arith, first); row = row; is = refl; bound = parts.0; most = parts.1 ∙ ap Some same }
 
-found_is : (variable : ℕ) (rows : List WRow) (n : ℕ) (fixed : ℕ × ℕ) (list : List WRow) → fixed_from variable rows n list ≡ Some fixed → IsFound variable rows fixed list
+pub found_is : (variable : ℕ) (rows : List WRow) (n : ℕ) (fixed : ℕ × ℕ) (list : List WRow) → fixed_from variable rows n list ≡ Some fixed → IsFound variable rows n fixed list
 found_is variable rows n fixed [] e = absurd (cc)
 found_is variable rows n fixed (row ∷ rest) e = fixed_cases variable rows (most_of variable rows row) n fixed row rest refl e (λ h. found_is variable rows (suc n) fixed rest h)
 
@@ -319,7 +321,7 @@ record SaysLink (rows : List WRow) (row : WRow) (link : Link) : Type 0 where
   pub weightless : row.weights ≡ []
   pub tied : LinksOf rows row.terms row.constant link
 
-equation_is : (kind : RowKind) → is_inequality kind ≡ false → kind ≡ IsZero
+pub equation_is : (kind : RowKind) → is_inequality kind ≡ false → kind ≡ IsZero
 equation_is AtLeastZero e = absurd (true≢false e)
 equation_is IsZero e = refl
 

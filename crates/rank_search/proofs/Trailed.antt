@@ -1,12 +1,11 @@
 -- What the ties of a trail say together.
-use Rattle.std.proofs.Common.{◌≡◌, ℕ, zero, suc, ◌+◌, ◌*◌, ◌-◌, ◌<◌, ◌≤◌, List, [], ◌∷◌, ◌++◌, length, get_or, ℤ, pos, ◌+ℤ◌, ◌-ℤ◌, ◌*ℤ◌, Option, Some, None, subst, ap, arith, refl, ◌∙◌, sym, append_assoc}
-use Rattle.std.specs.Prelude.{slice_get}
+use Rattle.std.proofs.Common.{◌≡◌, ℕ, zero, suc, ◌+◌, ◌-◌, ◌<◌, ◌≤◌, List, [], ◌∷◌, ◌++◌, length, get_or, ℤ, pos, ◌+ℤ◌, ◌-ℤ◌, ◌*ℤ◌, Option, Some, None, subst, ap, arith, ◌∙◌, sym, append_assoc}
+use Rattle.std.specs.Prelude.{slice_get, unsigned_abs}
 use Rattle.std.specs.List.{All}
 use Rattle.std.proofs.lemmas.Int.{ints}
 use Rattle.list_views.proofs.Ring.{times_plus}
 use Rattle.lin_core.specs.Combination.{number_of, sum_of, AllAllowed}
 use Rattle.lin_core.specs.Rows.{Row, coefficient_of}
-use Rattle.lin_core.specs.Weights.{total_size}
 use Rattle.lin_core.proofs.Signs.{mul-zero_ℤ}
 use Rattle.rank_search.specs.declared.links.Come.{Come}
 use Rattle.rank_search.specs.declared.links.Tie.{Tie}
@@ -48,14 +47,14 @@ pub record IsShift (rows : List Row) (times counts : ℤ) (size : ℕ) (tie : Ti
   pub coefficients : (x : ℕ) → sum_of (λ row. coefficient_of x row.terms) rows entries ≡ times *ℤ (unit x tie.link.from -ℤ unit x tie.link.to)
   pub constant : sum_of (λ row. row.constant) rows entries ≡ counts *ℤ tie.link.by
   pub allowed : AllAllowed rows entries
-  pub small : total_size entries ≤ size
+  pub small : (n : ℕ) → unsigned_abs (coefficient_of n entries) ≤ size
 
 -- and for a trail
 pub record AreShifts (rows : List Row) (times counts : ℤ) (size : ℕ) (first v : ℕ) (by : ℤ) (entries : List (ℕ × ℤ)) : Type 0 where
   pub coefficients : (x : ℕ) → sum_of (λ row. coefficient_of x row.terms) rows entries ≡ times *ℤ (unit x first -ℤ unit x v)
   pub constant : sum_of (λ row. row.constant) rows entries ≡ counts *ℤ by
   pub allowed : AllAllowed rows entries
-  pub small : total_size entries ≤ size
+  pub small : (n : ℕ) → unsigned_abs (coefficient_of n entries) ≤ size
 
 pub sum_both : (number : Row → ℤ) (rows : List Row) (a b : List (ℕ × ℤ)) → sum_of number rows (a ++ b) ≡ sum_of number rows a +ℤ sum_of number rows b
 sum_both number rows [] b = plain (sum_of number rows b)
@@ -71,18 +70,22 @@ pub allowed_both : (rows : List Row) (a b : List (ℕ × ℤ)) → AllAllowed ro
 allowed_both rows [] b h k = k
 allowed_both rows (entry ∷ rest) b h k = (h.0, allowed_both rows rest b h.1 k)
 
-pub size_both : (a b : List (ℕ × ℤ)) (m n : ℕ) → total_size a ≤ m → total_size b ≤ n → total_size (a ++ b) ≤ m + n
-size_both [] b m n h k = omega (arith, h, k)
-size_both (entry ∷ rest) b m n h k =
-    let more = size_both rest b (total_size rest) n (omega arith) k in
-    omega (arith, h, more)
+both_small : (a b : ℤ) (m n : ℕ) → unsigned_abs a ≤ m → unsigned_abs b ≤ n → unsigned_abs (a +ℤ b) ≤ m + n
+both_small a b m n h k = omega (arith, ints, h, k)
+
+coefficient_both : (x : ℕ) (a b : List (ℕ × ℤ)) → coefficient_of x (a ++ b) ≡ coefficient_of x a +ℤ coefficient_of x b
+coefficient_both x [] b = omega (arith, ints)
+coefficient_both x (term ∷ rest) b = let h = coefficient_both x rest b in omega (arith, ints)
+
+pub size_both : (a b : List (ℕ × ℤ)) (m n : ℕ) → ((x : ℕ) → unsigned_abs (coefficient_of x a) ≤ m) → ((x : ℕ) → unsigned_abs (coefficient_of x b) ≤ n) → (x : ℕ) → unsigned_abs (coefficient_of x (a ++ b)) ≤ m + n
+size_both a b m n h k x = subst (λ (z : ℤ). unsigned_abs z ≤ m + n) (sym (coefficient_both x a b)) (both_small (coefficient_of x a) (coefficient_of x b) m n (h x) (k x))
 
 pub no_shift : (rows : List Row) (times counts : ℤ) (first v : ℕ) (by : ℤ) → v ≡ first → by ≡ pos 0 → AreShifts rows times counts 0 first v by []
 no_shift rows times counts first v by e z = record {
   coefficients = λ x. nothing times (unit x first) (unit x v) (ap (unit x) (sym e));
   constant = nothing_counts counts by z;
   allowed = tt;
-  small = omega arith;
+  small = λ x. omega arith;
 }
   where
     nothing : (t a b : ℤ) → a ≡ b → pos 0 ≡ t *ℤ (a -ℤ b)

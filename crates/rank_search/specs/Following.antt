@@ -1,17 +1,17 @@
 -- Words for this crate's own functions: how what stands at a place is followed along a rule, and what shows that it falls.
-use Rattle.std.specs.Prelude.{ℕ, zero, suc, ℤ, pos, negsuc, ◌≡◌, ◌≤◌, ◌<◌, ◌^◌, ◌+ℤ◌, ◌-ℤ◌, ◌*ℤ◌, ◌≤ℤ◌, Bool, true, false, List, [], ◌∷◌, ◌++◌, Option, Some, None, if◌then◌else◌, slice_get, get_or, length, unsigned_abs}
+use Rattle.std.specs.Prelude.{ℕ, zero, suc, ℤ, pos, negsuc, ◌≡◌, ◌≤◌, ◌^◌, ◌+ℤ◌, ◌-ℤ◌, ◌≤ℤ◌, Bool, true, false, List, [], ◌∷◌, Option, Some, None, if◌then◌else◌, slice_get, get_or, length, unsigned_abs}
 use Rattle.std.specs.List.{All}
-use Rattle.lin_core.specs.declared.rows.RowKind.TheVariants.{AtLeastZero}
 use Rattle.lin_core.specs.declared.rows.WRow.{WRow}
 use Rattle.lin_core.specs.Combination.{summed_coefficient, summed_constant, first_fault}
 use Rattle.lin_core.specs.Rows.{Row, coefficient_of}
-use Rattle.lin_core.specs.Weights.{row_under, rows_under, unweighed}
+use Rattle.lin_core.specs.Weights.{rows_under, unweighed}
 use Rattle.descent.specs.declared.rules.PathRule.{PathRule}
 use Rattle.descent.specs.declared.rules.Place.{Place}
 use Rattle.rank_search.specs.declared.links.Come.{Come}
 use Rattle.rank_search.specs.declared.links.Link.{Link}
 use Rattle.rank_search.specs.declared.links.Tie.{Tie}
 use Rattle.rank_search.specs.declared.following.Bound.{Bound}
+use Rattle.rank_search.specs.declared.following.BoundRow.{BoundRow}
 use Rattle.rank_search.specs.declared.following.Followed.{Followed}
 use Rattle.rank_search.specs.Links.{IsWay, total}
 use Rattle.rank_search.specs.Positions.{AreEnds}
@@ -47,27 +47,30 @@ made falls fall bound = record { falls = falls; fall = fall; bound = bound }
 abbrev pub unit : ℕ → ℕ → ℤ
 unit variable other = coefficient_of variable ((other, pos 1) ∷ [])
 
--- the row says that so many times the start, and a number, is at least 0
-pub record IsBoundAt (rows : List Row) (times : ℤ) (start : ℕ) (bound : Bound) : Type 0 where
-  pub row : Row
-  pub at : slice_get rows bound.row ≡ Some row
-  pub inequality : row.kind ≡ AtLeastZero
-  pub coefficients : (variable : ℕ) → coefficient_of variable row.terms ≡ times *ℤ unit variable start
-  pub constant : row.constant ≡ bound.base
+-- the multipliers show that terms and a number are at least 0
+pub record IsBoundAt (rows : List Row) (start : List (ℕ × ℤ)) (bound : Bound) : Type 0 where
+  pub fault : first_fault rows bound.rows ≡ None
+  pub few : length bound.rows ≤ length rows
+  pub coefficients : (variable : ℕ) → summed_coefficient rows bound.rows variable ≡ coefficient_of variable start
+  pub constant : summed_constant rows bound.rows ≡ bound.base
   pub small : unsigned_abs bound.base ≤ 2 ^ 40
 
--- the multipliers show what so many times a variable falls by
-pub record IsFollowed (rows : List Row) (times : ℤ) (start finish : ℕ) (followed : Followed) : Type 0 where
+-- the multipliers show what terms fall by from the start to the end
+pub record IsFollowed (rows : List Row) (start finish : List (ℕ × ℤ)) (followed : Followed) : Type 0 where
   pub fault : first_fault rows followed.fall ≡ None
   pub few : length followed.fall ≤ length rows
-  pub coefficients : (variable : ℕ) → summed_coefficient rows followed.fall variable ≡ times *ℤ (unit variable start -ℤ unit variable finish)
+  pub coefficients : (variable : ℕ) → summed_coefficient rows followed.fall variable ≡ coefficient_of variable start -ℤ coefficient_of variable finish
   pub constant : summed_constant rows followed.fall +ℤ followed.falls ≡ pos 0
-  pub bound : (bound : Bound) → followed.bound ≡ Some bound → IsBoundAt rows times start bound
+  pub bound : (bound : Bound) → followed.bound ≡ Some bound → IsBoundAt rows start bound
 
 -- the first row that bounds a start; the rows are counted from n
-abbrev pub bound_from : Bool → ℕ → ℕ → List WRow → Option Bound
+abbrev pub bound_from : Bool → ℕ → ℕ → List WRow → Option BoundRow
 bound_from negative start n [] = None
 bound_from negative start n (row ∷ rest) = if bounds negative start row then Some (record { row = n; base = row.constant }) else bound_from negative start (suc n) rest
+
+abbrev pub bounded_by : Option BoundRow → Option Bound
+bounded_by None = None
+bounded_by (Some row) = Some (record { rows = (row.row, pos 1) ∷ []; base = row.base })
 
 -- a tie with its row
 abbrev pub SaysAt : Bool → Bool → WRow → Link → Type 0
@@ -81,7 +84,7 @@ pub record IsFallTie (negative : Bool) (rows : List WRow) (tie : Tie) : Type 0 w
 
 -- step by step from one variable to another one, where nothing falls by more
 pub record AreSteps (negative : Bool) (rows : List WRow) (start finish : ℕ) (followed : Followed) : Type 0 where
-  pub shown : IsFollowed (rows_under unweighed rows) (sign negative) start finish followed
+  pub shown : IsFollowed (rows_under unweighed rows) ((start, sign negative) ∷ []) ((finish, sign negative) ∷ []) followed
   pub most : (links : List Link) → IsWay (IsFallLink negative rows) start links finish → total links ≤ℤ followed.falls
   pub unbounded : followed.bound ≡ None → has_bound negative start rows ≡ false
 

@@ -1,5 +1,6 @@
--- Words for this crate's own functions: the form of each cut that is so many times what stands at a place, and the listed rules.
-use Rattle.std.specs.Prelude.{ℕ, suc, ℤ, pos, ◌≡◌, ◌≤◌, ◌<◌, ◌==◌, Bool, List, [], ◌∷◌, ◌++◌, Option, Some, None, if◌then◌else◌, nat_lt, int_lt, slice_get, length}
+-- Words for this crate's own functions: the form of each cut that is made of multiples of what stands at places, and the listed rules.
+use Rattle.std.specs.Prelude.{ℕ, suc, ℤ, pos, ◌+ℤ◌, ◌≡◌, ◌≤◌, ◌<◌, ◌==◌, Bool, List, [], ◌∷◌, ◌++◌, Option, Some, None, if◌then◌else◌, nat_lt, int_lt, slice_get, length}
+use Rattle.std.specs.Ordering.{int_eq}
 use Rattle.descent.specs.declared.proof.CutForm.{CutForm}
 use Rattle.descent.specs.declared.proof.RankRule.{RankRule}
 use Rattle.descent.specs.declared.proof.RankRule.TheVariants.{Weak, Strict}
@@ -51,24 +52,42 @@ abbrev pub slots_for : List PathRule → ℕ → List SlotForm
 slots_for [] cut = []
 slots_for (rule ∷ rest) cut = if rule.from == cut then rule.first else (if rule.to == cut then rule.last else slots_for rest cut)
 
-abbrev pub multiple_of_slot : Option SlotForm → ℤ → List (ℕ × ℤ)
-multiple_of_slot None times = []
-multiple_of_slot (Some slot) times = (slot.id, times) ∷ []
+-- the ids of the slots at places, with their multiples
+abbrev pub id_of : Option SlotForm → ℤ → List (ℕ × ℤ)
+id_of None times = []
+id_of (Some slot) times = (slot.id, times) ∷ []
 
-abbrev pub multiples_at : List SlotForm → Bool → Place → ℤ → List (ℕ × ℤ)
-multiples_at slots size place times = multiple_of_slot (slot_at slots size place) times
+abbrev pub ids_at : List SlotForm → Bool → List (Place × ℤ) → List (ℕ × ℤ)
+ids_at slots size [] = []
+ids_at slots size (part ∷ rest) = id_of (slot_at slots size part.0) part.1 ++ ids_at slots size rest
 
-abbrev pub form_of : ℕ → List SlotForm → Bool → Place → ℤ → ℤ → CutForm
-form_of cut slots size place times constant = record {
+-- at most two ids in their order; the multiples of one id add up
+abbrev pub alone : ℕ → ℤ → List (ℕ × ℤ)
+alone id times = if int_eq times (pos 0) then [] else (id, times) ∷ []
+
+abbrev pub pair_of : ℕ × ℤ → ℕ × ℤ → List (ℕ × ℤ)
+pair_of one other = if nat_lt one.0 other.0 then one ∷ other ∷ [] else (if nat_lt other.0 one.0 then other ∷ one ∷ [] else alone one.0 (one.1 +ℤ other.1))
+
+abbrev pub joined : List (ℕ × ℤ) → List (ℕ × ℤ)
+joined [] = []
+joined (one ∷ []) = one ∷ []
+joined (one ∷ other ∷ []) = pair_of one other
+joined (one ∷ other ∷ more ∷ rest) = one ∷ other ∷ more ∷ rest
+
+abbrev pub multiples_at : List SlotForm → Bool → List (Place × ℤ) → List (ℕ × ℤ)
+multiples_at slots size parts = joined (ids_at slots size parts)
+
+abbrev pub form_of : ℕ → List SlotForm → Bool → List (Place × ℤ) → ℤ → CutForm
+form_of cut slots size parts constant = record {
   cut = cut;
   constant = constant;
-  ints = if size then [] else multiples_at slots size place times;
-  sizes = if size then multiples_at slots size place times else [];
+  ints = if size then [] else multiples_at slots size parts;
+  sizes = if size then multiples_at slots size parts else [];
 }
 
-abbrev pub forms_over : List PathRule → Bool → Place → ℤ → ℤ → List ℕ → List CutForm
-forms_over rules size place times constant [] = []
-forms_over rules size place times constant (cut ∷ cuts) = form_of cut (slots_for rules cut) size place times constant ∷ forms_over rules size place times constant cuts
+abbrev pub forms_over : List PathRule → Bool → List (Place × ℤ) → ℤ → List ℕ → List CutForm
+forms_over rules size parts constant [] = []
+forms_over rules size parts constant (cut ∷ cuts) = form_of cut (slots_for rules cut) size parts constant ∷ forms_over rules size parts constant cuts
 
 -- the bound, where there is a fall
 abbrev pub strict_bound : Followed → Option Bound
@@ -94,7 +113,7 @@ or_zero (Some number) = number
 -- how a rule is listed
 abbrev pub listed_by : ℕ → List (ℕ × ℤ) → Option Bound → RankRule
 listed_by number fall None = Weak number fall
-listed_by number fall (Some bound) = Strict number fall ((bound.row, pos 1) ∷ [])
+listed_by number fall (Some bound) = Strict number fall bound.rows
 
 abbrev pub listed_as : ℕ → Followed → RankRule
 listed_as number followed = listed_by number followed.fall (strict_bound followed)

@@ -2,8 +2,6 @@
 use Rattle.std.specs.Prelude.{ℤ, Bool, List}
 use Rattle.descent.specs.declared.rules.PathRule.{PathRule}
 use Rattle.descent.specs.declared.rules.Place.{Place}
-use Rattle.rank_search.specs.declared.errors.RankError.{RankError}
-use Rattle.rank_search.specs.declared.errors.RankError.TheVariants.{Memory, Unshown}
 use Rattle.rank_search.specs.declared.searching.PlainForm.{PlainForm}
 use Rattle.rank_search.specs.declared.searching.PlainForm.TheVariants.{Ints, Size}
 use Rattle.rank_search.specs.Plain.{LowersInts, RanksInts, RanksSize}
@@ -23,8 +21,3 @@ NoSize rules = (place : Place) → RanksSize rules place → ⊥
 
 abbrev pub NoSteps : List PathRule → Bool → Type 0
 NoSteps rules negative = (place : Place) → StepwiseRanks rules negative place → ⊥
-
--- where a form was found, and the step that was made of it isn't one that a closed proof takes, there is such a form
-abbrev pub IfUnshown : RankError → Type 0 → Type 0
-IfUnshown Memory there = Unit {0}
-IfUnshown Unshown there = there

@@ -11,3 +11,6 @@ pub mod Counting
 pub mod Following
 pub mod Forms
 pub mod Heads
+pub mod Reasons
+pub mod SizeReasons
+pub mod Weighing

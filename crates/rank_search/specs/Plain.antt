@@ -56,17 +56,21 @@ pub record MovesBy (rule : PathRule) (place : Place) (c : ℤ) : Type 0 where
   pub way : IsWay (IsIntLink rule.rows) start links finish
   pub adds : total links ≡ c
 
-abbrev pub FormMoves : PathRule → List (Place × ℤ) → ℤ → Type 0
-FormMoves rule [] c = c ≡ pos 0
-FormMoves rule (one ∷ rest) c = (d : ℤ) × (e : ℤ) × MovesBy rule one.0 d × FormMoves rule rest e × (c ≡ one.1 *ℤ d +ℤ e)
+-- a form of ints that never rises on the rules, where its ints move so, and falls on one of them
+abbrev pub FormMoves : (PathRule → Place → ℤ → Type 0) → PathRule → List (Place × ℤ) → ℤ → Type 0
+FormMoves moves rule [] c = c ≡ pos 0
+FormMoves moves rule (one ∷ rest) c = (d : ℤ) × (e : ℤ) × moves rule one.0 d × FormMoves moves rule rest e × (c ≡ one.1 *ℤ d +ℤ e)
 
-pub record LowersInts (rules : List PathRule) (form : List (Place × ℤ)) : Type 0 where
+pub record LowersBy (moves : PathRule → Place → ℤ → Type 0) (rules : List PathRule) (form : List (Place × ℤ)) : Type 0 where
   pub shape : IsIntForm form
-  pub each : (n : ℕ) (rule : PathRule) → slice_get rules n ≡ Some rule → (c : ℤ) × FormMoves rule form c × (c ≤ℤ pos 0)
+  pub each : (n : ℕ) (rule : PathRule) → slice_get rules n ≡ Some rule → (c : ℤ) × FormMoves moves rule form c × (c ≤ℤ pos 0)
   pub falling : ℕ
   pub fallen : PathRule
   pub there : slice_get rules falling ≡ Some fallen
-  pub falls : (c : ℤ) × FormMoves fallen form c × (c ≤ℤ negsuc 0)
+  pub falls : (c : ℤ) × FormMoves moves fallen form c × (c ≤ℤ negsuc 0)
+
+abbrev pub LowersInts : List PathRule → List (Place × ℤ) → Type 0
+LowersInts rules form = LowersBy MovesBy rules form
 
 -- what the weights of a row add, where every class weighs 1
 abbrev pub weighed_once : List (ℕ × ℤ) → ℤ

@@ -1,5 +1,5 @@
 -- Words for this crate's own functions: how the links of a path are found.
-use Rattle.std.specs.Prelude.{ℕ, suc, ℤ, pos, negsuc, ◌≡◌, ◌⊎◌, ◌<◌, ◌+ℤ◌, ◌-ℤ◌, ◌*ℤ◌, ◌==◌, ◌&&◌, ◌++◌, Bool, true, false, List, [], ◌∷◌, Option, Some, None, if◌then◌else◌, slice_get, slice_set, get_or, nat_lt, is_none, sum_by, ◌||◌, int_le, int_lt, length, unsigned_abs}
+use Rattle.std.specs.Prelude.{ℕ, zero, suc, ℤ, replicate, pos, negsuc, ◌≡◌, ◌⊎◌, ◌<◌, ◌+ℤ◌, ◌-ℤ◌, ◌*ℤ◌, ◌==◌, ◌&&◌, ◌++◌, Bool, true, false, List, [], ◌∷◌, Option, Some, None, if◌then◌else◌, slice_get, slice_set, get_or, nat_lt, is_none, sum_by, ◌||◌, int_le, int_lt, length, unsigned_abs}
 use Rattle.std.specs.List.{All}
 use Rattle.std.specs.Ordering.{int_eq}
 use Rattle.lin_core.specs.declared.rows.RowKind.{RowKind}
@@ -15,7 +15,7 @@ use Rattle.rank_search.specs.declared.links.Tie.{Tie}
 use Rattle.rank_search.specs.declared.links.Come.{Come}
 use Rattle.rank_search.specs.Links.{IsIntLink, IsWay, total}
 use Rattle.rank_search.specs.Plain.{ChangesBy, IsMultiple, MovesBy}
-use Rattle.rank_search.specs.Positions.{slot_at}
+use Rattle.rank_search.specs.Positions.{AreEnds, slot_at}
 
 -- the kinds of rows
 abbrev pub is_inequality : RowKind → Bool
@@ -152,6 +152,23 @@ unknown known = sum_by (λ come. if is_none come then 1 else 0) known
 abbrev pub AreBelow : List Tie → ℕ → Type 0
 AreBelow ties span = All (λ (tie : Tie). tie.link.to < span) ties
 
+-- one more than the greatest of a number and the variables to which ties lead
+abbrev pub span_from : ℕ → List Tie → ℕ
+span_from low [] = low
+span_from low (tie ∷ rest) = span_from (if nat_lt tie.link.to low then low else suc tie.link.to) rest
+
+-- what is known first, and after so many passes over all ties
+abbrev pub begun : List Tie → ℕ → Known
+begun ties first = slice_set (replicate (span_from (suc first) ties) None) first (Some (record { by = pos 0; last = None }))
+
+abbrev pub passed : ℕ → List Tie → Known → Known
+passed zero ties known = known
+passed (suc n) ties known = relaxed ties (passed n ties known)
+
+-- and once no tie leads to a variable that isn't known
+abbrev pub IsFinished : List Tie → ℕ → Known → Type 0
+IsFinished ties first known = (n : ℕ) × (known ≡ passed n ties (begun ties first)) × (any_moves ties known ≡ false)
+
 -- the variable of a slot that is one variable alone
 abbrev pub only_variable : List (ℕ × ℤ) → Option ℕ
 only_variable [] = None
@@ -170,20 +187,38 @@ abbrev pub more_of : Option Come → Option ℤ
 more_of None = None
 more_of (Some come) = Some come.by
 
+-- so much more is known of one variable once no tie leads on from another one
+pub record IsKnownBy (ties : List Tie) (start finish : ℕ) (by : ℤ) : Type 0 where
+  pub known : Known
+  pub finished : IsFinished ties start known
+  pub come : Come
+  pub at : get_or known finish None ≡ Some come
+  pub adds : come.by ≡ by
+
 -- what one variable has more than another one is told
 pub record IsDifference (ties : List Tie) (start finish : ℕ) (more : Option ℤ) : Type 0 where
   pub sound : (by : ℤ) → more ≡ Some by → IsReached ties start finish by
   pub complete : (by : ℤ) → IsReached ties start finish by → (c : ℤ) × (more ≡ Some c)
+  pub known : (by : ℤ) → more ≡ Some by → IsKnownBy ties start finish by
 
 -- the ties are those of a path's rows
 pub record AreIntTies (rows : List WRow) (ties : List Tie) : Type 0 where
   pub sound : (link : Link) → InTies ties link → IsIntLink rows link
   pub complete : (link : Link) → IsIntLink rows link → Covers ties link.from link.to
+  pub is : ties ≡ ties_from rows 0 rows
+
+-- along a rule the int at a place moves by the number that is found
+pub record IsMoved (rule : PathRule) (place : Place) (c : ℤ) : Type 0 where
+  pub start : ℕ
+  pub finish : ℕ
+  pub ends : AreEnds rule false place start finish
+  pub by : IsKnownBy (ties_from rule.rows 0 rule.rows) start finish c
+  pub moves : MovesBy rule place c
 
 -- where the int at a place changes along a rule, the number is this; and some links say the number
 pub record TellsChange (rule : PathRule) (place : Place) (change : Option ℤ) : Type 0 where
   pub told : (c : ℤ) → ChangesBy rule place c → change ≡ Some c
-  pub says : (c : ℤ) → change ≡ Some c → MovesBy rule place c
+  pub says : (c : ℤ) → change ≡ Some c → IsMoved rule place c
 
 -- the same for a list of places, and for each of the rules
 abbrev pub TellChanges : PathRule → List Place → List (Option ℤ) → Type 0

@@ -1,9 +1,10 @@
 //! The rank step that parts make.
 ghost use Rattle.descent.specs.Conditions.{AreRules};
 
-use crate::cut_forms::{forms_of, ones};
+use crate::cut_forms::forms_of;
 use crate::gathering::{Gathered, gather};
 use crate::parts::{Part, is_size};
+use crate::weights::ones;
 use descent::{PathRule, RankRule, RankStep};
 use list_views::Seq;
 use std::alloc::{AllocError, Global};

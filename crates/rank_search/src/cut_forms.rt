@@ -1,4 +1,4 @@
-//! The forms of cuts that parts make, and the weights of classes.
+//! The forms of cuts that parts make.
 ghost use Rattle.std.specs.Prelude.{◌<◌, IfSome, length};
 
 use crate::parts::{Part, is_size};
@@ -155,51 +155,4 @@ pub(crate) fn forms_of(
         before = Some(end.cut);
     }
     Ok(Some(forms))
-}
-
-/// Adds the classes of multiples.
-fn add_classes(weights: &[(u32, i64)], classes: &mut Vec<u32>) -> Result<(), AllocError> {
-    for (class, _) in weights {
-        classes.push(*class)?;
-    }
-    Ok(())
-}
-
-/// Adds the classes of slots.
-fn add_slots(slots: &[SlotForm], classes: &mut Vec<u32>) -> Result<(), AllocError> {
-    for slot in slots {
-        add_classes(slot.weights.as_slice(), classes)?;
-    }
-    Ok(())
-}
-
-/// Adds the classes that a rule names.
-fn add_rule(rule: &PathRule, classes: &mut Vec<u32>) -> Result<(), AllocError> {
-    for row in rule.rows.as_slice() {
-        add_classes(row.weights.as_slice(), classes)?;
-    }
-    add_slots(rule.first.as_slice(), classes)?;
-    add_slots(rule.last.as_slice(), classes)
-}
-
-/// The weight 1 for each class that the rules name.
-///
-/// # Errors
-///
-/// Want of memory.
-pub(crate) fn ones(alloc: Global, rules: &[PathRule]) -> Result<Seq<(u32, i64)>, AllocError> {
-    let mut classes = Vec::new(alloc);
-    for rule in rules {
-        add_rule(rule, &mut classes)?;
-    }
-    classes.sort_by_key(|class| *class)?;
-    let mut weights = Seq::new(alloc);
-    let mut before = None;
-    for class in &classes {
-        if before != Some(*class) {
-            weights.push((*class, 1))?;
-        }
-        before = Some(*class);
-    }
-    Ok(weights)
 }

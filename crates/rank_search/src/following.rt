@@ -1,7 +1,7 @@
 //! How what stands at a place is followed along a rule, and what shows that it falls.
-ghost use Rattle.std.specs.Prelude.{◌≡◌, ◌<◌, IfOk, length};
+ghost use Rattle.std.specs.Prelude.{◌≡◌, ◌<◌, ◌∷◌, [], pos, IfOk, length};
 ghost use Rattle.descent.specs.Conditions.{IsRule};
-ghost use Rattle.rank_search.specs.Following.{IsFew, SmallConstants, TellsBetween, TellsFollowed, bound_from, last_of, made, step_entries, step_times, trail_from};
+ghost use Rattle.rank_search.specs.Following.{IsFew, SmallConstants, TellsBetween, TellsFollowed, bound_from, bounded_by, last_of, made, step_entries, step_times, trail_from};
 
 use crate::counting::multipliers_of;
 use crate::links::{Come, Tie};
@@ -14,15 +14,21 @@ use lin_core::WRow;
 use list_views::Seq;
 use std::alloc::{AllocError, Global};
 
-/// A row that bounds what stands at a place where a rule starts, and its constant: what has to be added so that it is at least 0
-/// there.
+/// A row that bounds what stands at a place where a rule starts, and its constant.
 #[derive(Clone, Copy, Debug, PartialEq, Eq)]
-pub(crate) struct Bound {
+pub(crate) struct BoundRow {
     pub(crate) row: usize,
     pub(crate) base: i64,
 }
 
-/// What falls by at least so much along a rule, with the multipliers that show it; and the row that bounds it, if there is one.
+/// What has to be added to a form so that it is at least 0 where a rule starts, with the multipliers that show it.
+#[derive(Debug, PartialEq, Drop)]
+pub(crate) struct Bound {
+    pub(crate) rows: Seq<(u32, i64)>,
+    pub(crate) base: i64,
+}
+
+/// What falls by at least so much along a rule, with the multipliers that show it; and what bounds it, if something does.
 #[derive(Debug, PartialEq, Drop)]
 pub(crate) struct Followed {
     pub(crate) falls: i64,
@@ -41,7 +47,11 @@ fn last_of(come: Option<Come>) -> Option<Tie>
 }
 
 /// The ties that lead to a variable from the one that all are known from, the last first.
-fn trail(alloc: Global, known: &[Option<Come>], finish: u32) -> Result<Seq<Tie>, AllocError>
+pub(crate) fn trail(
+    alloc: Global,
+    known: &[Option<Come>],
+    finish: u32,
+) -> Result<Seq<Tie>, AllocError>
     ensures { IfOk result (λ ties. ties ≡ trail_from (length known.now) known.now finish) }
 {
     let mut ties = Seq::new(alloc);
@@ -57,7 +67,7 @@ fn trail(alloc: Global, known: &[Option<Come>], finish: u32) -> Result<Seq<Tie>,
 }
 
 /// How often the row of a fall link counts.
-fn step_times(tie: &Tie) -> i64
+pub(crate) fn step_times(tie: &Tie) -> i64
     ensures { result ≡ step_times tie.now }
 {
     if tie.back { -1 } else { 1 }
@@ -75,12 +85,12 @@ fn step_entries(alloc: Global, ties: &[Tie]) -> Result<Seq<(usize, i64)>, AllocE
 }
 
 /// The first row that bounds a start.
-fn bound_of(rows: &[WRow], negative: bool, start: u32) -> Option<Bound>
+fn bound_of(rows: &[WRow], negative: bool, start: u32) -> Option<BoundRow>
     ensures { result ≡ bound_from negative start 0 rows.now }
 {
     for (n, row) in rows.iter().enumerate() {
         if bounds(negative, start, row) {
-            return Some(Bound {
+            return Some(BoundRow {
                 row: n,
                 base: row.constant,
             });
@@ -89,8 +99,33 @@ fn bound_of(rows: &[WRow], negative: bool, start: u32) -> Option<Bound>
     None
 }
 
+/// A row that counts once.
+fn one_row(alloc: Global, row: usize) -> Result<Seq<(u32, i64)>, AllocError>
+    ensures { IfOk result (λ list. list ≡ (row, pos 1) ∷ []) }
+{
+    let Ok(row) = u32::try_from(row) else {
+        return Err(AllocError);
+    };
+    let mut list = Seq::new(alloc);
+    list.push((row, 1))?;
+    Ok(list)
+}
+
+/// What a row that counts once bounds.
+fn bounded_by(alloc: Global, found: Option<BoundRow>) -> Result<Option<Bound>, AllocError>
+    ensures { IfOk result (λ bound. bound ≡ bounded_by found) }
+{
+    match found {
+        Some(row) => Ok(Some(Bound {
+            rows: one_row(alloc, row.row)?,
+            base: row.base,
+        })),
+        None => Ok(None),
+    }
+}
+
 /// The parts together.
-fn made(falls: &i64, fall: Seq<(u32, i64)>, bound: Option<Bound>) -> Followed
+pub(crate) fn made(falls: &i64, fall: Seq<(u32, i64)>, bound: Option<Bound>) -> Followed
     ensures { result ≡ made falls.now fall bound }
 {
     Followed {
@@ -121,7 +156,8 @@ fn steps_between(
     let path = trail(alloc, known.as_slice(), finish)?;
     let entries = step_entries(alloc, path.as_slice())?;
     let fall = multipliers_of(alloc, rows.len(), entries.as_slice())?;
-    Ok(Some(made(&by_of(come), fall, bound_of(rows, negative, start))))
+    let bound = bounded_by(alloc, bound_of(rows, negative, start))?;
+    Ok(Some(made(&by_of(come), fall, bound)))
 }
 
 /// What an int, or its negative, falls by step by step along a rule; None where no steps lead along it.

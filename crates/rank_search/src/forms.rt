@@ -1,8 +1,10 @@
-//! The form of each cut that is so many times what stands at a place.
-ghost use Rattle.std.specs.Prelude.{◌≡◌, ◌≤◌, ℕ, suc, List, None, IfOk};
-ghost use Rattle.rank_search.specs.Forms.{AreCuts, form_of, forms_over, less_of, lesser, multiples_at, next_from, slots_for};
+//! The form of each cut that is made of multiples of what stands at places.
+ghost use Rattle.std.specs.Prelude.{◌≡◌, ◌≤◌, ◌∷◌, ◌++◌, [], ℕ, suc, List, None, IfOk, OnOk};
+ghost use Rattle.rank_search.specs.Forms.{AreCuts, alone, form_of, forms_over, id_of, ids_at, joined, less_of, lesser, next_from, pair_of, slots_for};
+ghost use Rattle.rank_search.specs.Positions.{slot_at};
 
 use crate::positions::slot_at;
+use crate::reaching::sum;
 use descent::{CutForm, PathRule, Place, SlotForm};
 use list_views::Seq;
 use std::alloc::{AllocError, Global};
@@ -75,21 +77,95 @@ pub(crate) fn slots_for(rules: &[PathRule], cut: u32) -> &[SlotForm]
     &[]
 }
 
-/// So many times the slot at a place.
-fn multiples_at(
+/// The ids of the slots at these places, with their multiples.
+fn ids_at(
     alloc: Global,
     slots: &[SlotForm],
     size: bool,
-    place: &Place,
-    times: &i64,
+    parts: &[(Place, i64)],
 ) -> Result<Seq<(u16, i64)>, AllocError>
-    ensures { IfOk result (λ multiples. multiples ≡ multiples_at slots.now size place.now times.now) }
+    ensures { IfOk result (λ ids. ids ≡ ids_at slots.now size parts.now) }
 {
-    let mut multiples = Seq::new(alloc);
-    if let Some(slot) = slot_at(slots, size, place) {
-        multiples.push((slot.id, *times))?;
+    let mut ids = Seq::new(alloc);
+    for part in parts {
+        add_id(slots, size, part, &mut ids)?;
     }
-    Ok(multiples)
+    Ok(ids)
+}
+
+/// Adds the id of the slot at a place.
+fn add_id(
+    slots: &[SlotForm],
+    size: bool,
+    part: &(Place, i64),
+    ids: &mut Seq<(u16, i64)>,
+) -> Result<(), AllocError>
+    ensures { OnOk result (ids.new ≡ ids.old ++ id_of (slot_at slots.now size part.now.0) part.now.1) }
+{
+    if let Some(slot) = slot_at(slots, size, &part.0) {
+        ids.push((slot.id, part.1))?;
+    }
+    Ok(())
+}
+
+/// An id with its multiple, unless this is 0.
+fn alone(alloc: Global, id: u16, times: &i64) -> Result<Seq<(u16, i64)>, AllocError>
+    ensures { IfOk result (λ ids. ids ≡ alone id times.now) }
+{
+    let mut ids = Seq::new(alloc);
+    if *times != 0 {
+        ids.push((id, *times))?;
+    }
+    Ok(ids)
+}
+
+/// Two ids with their multiples.
+fn two(alloc: Global, one: &(u16, i64), other: &(u16, i64)) -> Result<Seq<(u16, i64)>, AllocError>
+    ensures { IfOk result (λ ids. ids ≡ one.now ∷ other.now ∷ []) }
+{
+    let mut ids = Seq::new(alloc);
+    ids.push(*one)?;
+    ids.push(*other)?;
+    Ok(ids)
+}
+
+/// Two ids in their order; the multiples of one id add up.
+fn pair_of(
+    alloc: Global,
+    one: &(u16, i64),
+    other: &(u16, i64),
+) -> Result<Seq<(u16, i64)>, AllocError>
+    ensures { IfOk result (λ ids. ids ≡ pair_of one.now other.now) }
+{
+    if one.0 < other.0 {
+        return two(alloc, one, other);
+    }
+    if other.0 < one.0 {
+        return two(alloc, other, one);
+    }
+    match sum(&one.1, &other.1) {
+        Some(times) => alone(alloc, one.0, &times),
+        None => Err(AllocError),
+    }
+}
+
+/// The same ids.
+fn copied(alloc: Global, ids: &[(u16, i64)]) -> Result<Seq<(u16, i64)>, AllocError>
+    ensures { IfOk result (λ list. list ≡ ids.now) }
+{
+    let mut list = Seq::new(alloc);
+    list.extend_from_slice(ids)?;
+    Ok(list)
+}
+
+/// At most two ids in their order.
+fn joined(alloc: Global, ids: &[(u16, i64)]) -> Result<Seq<(u16, i64)>, AllocError>
+    ensures { IfOk result (λ list. list ≡ joined ids.now) }
+{
+    match ids {
+        [one, other] => pair_of(alloc, one, other),
+        _ => copied(alloc, ids),
+    }
 }
 
 /// The form of a cut that has these slots.
@@ -98,13 +174,13 @@ fn form_of(
     cut: u32,
     slots: &[SlotForm],
     size: bool,
-    place: &Place,
-    times: &i64,
+    parts: &[(Place, i64)],
     constant: &i64,
 ) -> Result<CutForm, AllocError>
-    ensures { IfOk result (λ form. form ≡ form_of cut slots.now size place.now times.now constant.now) }
+    ensures { IfOk result (λ form. form ≡ form_of cut slots.now size parts.now constant.now) }
 {
-    let multiples = multiples_at(alloc, slots, size, place, times)?;
+    let ids = ids_at(alloc, slots, size, parts)?;
+    let multiples = joined(alloc, ids.as_slice())?;
     if size {
         Ok(CutForm {
             cut,
@@ -127,36 +203,34 @@ fn forms_over(
     alloc: Global,
     rules: &[PathRule],
     size: bool,
-    place: &Place,
-    times: &i64,
+    parts: &[(Place, i64)],
     constant: &i64,
     cuts: &[u32],
 ) -> Result<Seq<CutForm>, AllocError>
-    ensures { IfOk result (λ forms. forms ≡ forms_over rules.now size place.now times.now constant.now cuts.now) }
+    ensures { IfOk result (λ forms. forms ≡ forms_over rules.now size parts.now constant.now cuts.now) }
 {
     let mut forms = Seq::new(alloc);
     for cut in cuts {
         let slots = slots_for(rules, *cut);
-        forms.push(form_of(alloc, *cut, slots, size, place, times, constant)?)?;
+        forms.push(form_of(alloc, *cut, slots, size, parts, constant)?)?;
     }
     Ok(forms)
 }
 
-/// The form of each cut of the rules: so many times what stands at a place, and a constant.
+/// The form of each cut of the rules: multiples of what stands at most two places, and a constant.
 ///
 /// # Errors
 ///
-/// Want of memory.
+/// Want of memory, which also answers a number of more than 64 bits.
 pub(crate) fn forms_of(
     alloc: Global,
     rules: &[PathRule],
     size: bool,
-    place: &Place,
-    times: &i64,
+    parts: &[(Place, i64)],
     constant: &i64,
 ) -> Result<Seq<CutForm>, AllocError>
-    ensures { IfOk result (λ forms. (cuts : List ℕ) × AreCuts rules.now cuts × (forms ≡ forms_over rules.now size place.now times.now constant.now cuts)) }
+    ensures { IfOk result (λ forms. (cuts : List ℕ) × AreCuts rules.now cuts × (forms ≡ forms_over rules.now size parts.now constant.now cuts)) }
 {
     let cuts = cuts_of(alloc, rules)?;
-    forms_over(alloc, rules, size, place, times, constant, cuts.as_slice())
+    forms_over(alloc, rules, size, parts, constant, cuts.as_slice())
 }

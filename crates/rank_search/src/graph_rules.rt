@@ -1,13 +1,17 @@
 //! Whether rules are as a graph's paths have them.
-ghost use Rattle.std.specs.Prelude.{◌≡◌, IsTrue, All};
+ghost use Rattle.std.specs.Prelude.{◌≡◌, ◌≤◌, IsTrue, All, true, unsigned_abs};
 ghost use Rattle.lin_core.specs.Rows.{RiseFrom};
 ghost use Rattle.descent.specs.Conditions.{AreRules};
-ghost use Rattle.rank_search.specs.Graphs.{AreNamed, ArePathRules, IsPathRule, head_of, heads, ids_of};
-ghost use Rattle.rank_search.specs.Heads.{HasHeads};
+ghost use Rattle.rank_search.specs.Graphs.{AreNamed, ArePathRules, ArePlainRules, AreSizeTerms, HasClose, IsCloseInt, IsOneKind, IsPathRule, IsPlainRule, IsShort, IsSizeSlot, head_of, heads, ids_of};
+ghost use Rattle.rank_search.specs.Heads.{AreShort, HasHeads, has_size, is_size};
 
 use crate::forms::slots_for;
-use crate::positions::{is_place, same};
+use crate::int_reasons::close_row;
+use crate::positions::{is_place, same, variable_of};
+use crate::sizes::has_zero;
+use crate::ties::{is_bound, is_inequality};
 use descent::{PathRule, Place, SlotForm};
+use lin_core::WRow;
 
 /// Whether the ids of a kind rise.
 fn ids_rise(slots: &[SlotForm], size: bool) -> bool
@@ -107,4 +111,177 @@ pub fn are_path_rules(rules: &[PathRule]) -> bool
     ensures { IsTrue result → ArePathRules rules.now }
 {
     rules.len() <= 4096 && all_path_rules(rules) && all_have_heads(rules)
+}
+
+/// Whether a variable stands for a size: no row bounds it from above.
+fn is_size(rows: &[WRow], variable: u32) -> bool
+    ensures { result ≡ is_size rows.now variable }
+{
+    for row in rows {
+        if is_bound(row, variable, &-1) {
+            return false;
+        }
+    }
+    true
+}
+
+/// Whether a row bounds a variable on a side with a constant of at most 2^31 in size.
+#[tactic(auto, using(crate::proofs::PlainChecked::close_has))]
+fn has_close(rows: &[WRow], variable: u32, times: &i64) -> bool
+    ensures { IsTrue result → HasClose rows.now variable times.now }
+{
+    close_row(rows, variable, times).is_some()
+}
+
+/// Whether an int that is one variable is bounded on both sides.
+#[tactic(auto, using(crate::proofs::PlainChecked::close_int, crate::proofs::PlainChecked::no_int))]
+fn is_close_int(rows: &[WRow], slot: &SlotForm) -> bool
+    ensures { IsTrue result → IsCloseInt rows.now slot.now }
+{
+    if slot.size {
+        return true;
+    }
+    match variable_of(slot) {
+        Some(variable) => has_close(rows, variable, &1) && has_close(rows, variable, &-1),
+        None => true,
+    }
+}
+
+fn are_close_ints(rows: &[WRow], slots: &[SlotForm]) -> bool
+    ensures { IsTrue result → All (IsCloseInt rows.now) slots.now }
+{
+    slots.iter().all(|slot| is_close_int(rows, slot))
+}
+
+/// Whether a coefficient is at most 4,096 in size.
+fn is_short_term(term: &(u32, i64)) -> bool
+    ensures { IsTrue result → unsigned_abs term.now.1 ≤ 4096 }
+{
+    term.1.unsigned_abs() <= 4096
+}
+
+/// Whether three terms have coefficients of at most 4,096 in size.
+fn are_short(terms: &[(u32, i64)]) -> bool
+    ensures { IsTrue result → AreShort terms.now }
+{
+    match terms {
+        [a, b, c] => is_short_term(a) && is_short_term(b) && is_short_term(c),
+        _ => true,
+    }
+}
+
+/// Whether an equation of three variables has coefficients of at most 4,096 in size.
+#[tactic(auto, using(crate::proofs::PlainChecked::no_equation, crate::proofs::PlainChecked::short_three))]
+fn is_short(row: &WRow) -> bool
+    ensures { IsTrue result → IsShort row.now }
+{
+    if is_inequality(row.kind) {
+        return true;
+    }
+    are_short(row.terms.as_slice())
+}
+
+fn are_short_rows(rows: &[WRow]) -> bool
+    ensures { IsTrue result → All IsShort rows.now }
+{
+    rows.iter().all(|row| is_short(row))
+}
+
+/// Whether a size slot that is one variable has a size, which is at least 0 by a row.
+#[tactic(auto, using(crate::proofs::PlainChecked::size_slot, crate::proofs::PlainChecked::no_size_slot))]
+fn is_size_slot(rows: &[WRow], slot: &SlotForm) -> bool
+    ensures { IsTrue result → IsSizeSlot rows.now (is_size rows.now) slot.now }
+{
+    if !slot.size {
+        return true;
+    }
+    match variable_of(slot) {
+        Some(variable) => is_size(rows, variable) && has_zero(variable, rows),
+        None => true,
+    }
+}
+
+fn are_size_slots(rows: &[WRow], slots: &[SlotForm]) -> bool
+    ensures { IsTrue result → All (IsSizeSlot rows.now (is_size rows.now)) slots.now }
+{
+    slots.iter().all(|slot| is_size_slot(rows, slot))
+}
+
+/// Whether some term is a size.
+fn has_size(rows: &[WRow], terms: &[(u32, i64)]) -> bool
+    ensures { result ≡ has_size rows.now terms.now }
+{
+    for term in terms {
+        if is_size(rows, term.0) {
+            return true;
+        }
+    }
+    false
+}
+
+fn is_size_term(rows: &[WRow], term: &(u32, i64)) -> bool
+    ensures { IsTrue result → (is_size rows.now term.now.0 ≡ true) × (unsigned_abs term.now.1 ≤ 4096) }
+{
+    is_size(rows, term.0) && is_short_term(term)
+}
+
+fn are_size_terms(rows: &[WRow], terms: &[(u32, i64)]) -> bool
+    ensures { IsTrue result → AreSizeTerms (is_size rows.now) terms.now }
+{
+    terms.iter().all(|term| is_size_term(rows, term))
+}
+
+/// Whether an equation that has a size has sizes alone.
+#[tactic(auto, using(crate::proofs::PlainChecked::other_kind, crate::proofs::PlainChecked::no_kind, crate::proofs::PlainChecked::one_kind))]
+fn is_one_kind(rows: &[WRow], row: &WRow) -> bool
+    ensures { IsTrue result → IsOneKind (is_size rows.now) row.now }
+{
+    if is_inequality(row.kind) {
+        return true;
+    }
+    if !has_size(rows, row.terms.as_slice()) {
+        return true;
+    }
+    are_size_terms(rows, row.terms.as_slice())
+}
+
+fn are_one_kind(rows: &[WRow], all: &[WRow]) -> bool
+    ensures { IsTrue result → All (IsOneKind (is_size rows.now)) all.now }
+{
+    all.iter().all(|row| is_one_kind(rows, row))
+}
+
+/// Whether a rule is as plain forms ask.
+fn is_plain_rule(rule: &PathRule) -> bool
+    ensures { IsTrue result → IsPlainRule rule.now }
+{
+    let rows = rule.rows.as_slice();
+    let slots = rule.first.as_slice();
+    if !are_close_ints(rows, slots) {
+        return false;
+    }
+    if !are_short_rows(rows) {
+        return false;
+    }
+    if !are_size_slots(rows, slots) {
+        return false;
+    }
+    are_one_kind(rows, rows)
+}
+
+fn all_plain_rules(rules: &[PathRule]) -> bool
+    ensures { IsTrue result → All IsPlainRule rules.now }
+{
+    rules.iter().all(|rule| is_plain_rule(rule))
+}
+
+/// Whether rules are as plain forms ask: as a graph's paths have them; an int is bounded on both sides by numbers of 32 bits; a variable
+/// that no row bounds from above is a size, at least 0 by a row, and stands with sizes alone in equations, with coefficients of at most
+/// 4,096 in size, as an equation of three variables without weights has.
+#[tactic(auto, using(crate::proofs::PlainChecked::plain_rules))]
+pub fn are_plain_rules(rules: &[PathRule]) -> bool
+    requires { AreRules rules.now }
+    ensures { IsTrue result → ArePlainRules rules.now }
+{
+    are_path_rules(rules) && all_plain_rules(rules)
 }

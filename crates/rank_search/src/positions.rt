@@ -64,7 +64,7 @@ fn only_variable(terms: &[(u32, i64)]) -> Option<u32>
 }
 
 /// The variable of a slot that is one variable alone.
-fn variable_of(slot: &SlotForm) -> Option<u32>
+pub(crate) fn variable_of(slot: &SlotForm) -> Option<u32>
     ensures { result ≡ variable_of (Some slot.now) }
 {
     if slot.constant == 0 && slot.weights.is_empty() {

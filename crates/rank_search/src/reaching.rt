@@ -1,13 +1,14 @@
 //! The variables that a variable is tied to by links, and what they have more.
-ghost use Rattle.std.specs.Prelude.{◌≡◌, ◌<◌, ◌≤◌, ◌+ℤ◌, ℕ, ℤ, None, Some, IfOk, IfSome, get_or, replicate};
+ghost use Rattle.std.specs.Prelude.{◌≡◌, ◌<◌, ◌≤◌, ◌+ℤ◌, ℕ, suc, ℤ, None, Some, IfOk, IfSome, get_or, replicate};
 ghost use Rattle.rank_search.specs.declared.links.Come.{Come};
-ghost use Rattle.rank_search.specs.Searching.{IsReached, moves, step, relaxed, any_moves, by_of, AreBelow};
+ghost use Rattle.rank_search.specs.Searching.{IsReached, moves, step, relaxed, any_moves, by_of, span_from, AreBelow, IsFinished};
 
 use crate::links::{Come, Tie};
 use std::alloc::{AllocError, Global};
 
 /// One more than the greatest of a number and the variables to which ties lead.
 pub(crate) fn span(ties: &[Tie], first: u32) -> usize
+    ensures value { result ≡ span_from (suc first) ties.now }
     ensures first { first < result }
     ensures ties { AreBelow ties.now result }
 {
@@ -115,6 +116,7 @@ pub(crate) fn reach(
 ) -> Result<Vec<Option<Come>>, AllocError>
     ensures sound { IfOk result (λ known. (variable : ℕ) (come : Come) → get_or known.items variable None ≡ Some come → IsReached ties.now first variable come.by) }
     ensures complete { IfOk result (λ known. (variable : ℕ) (by : ℤ) → IsReached ties.now first variable by → (come : Come) × (get_or known.items variable None ≡ Some come)) }
+    ensures finished { IfOk result (λ known. IsFinished ties.now first known.items) }
 {
     let mut known = none_known(alloc, span(ties, first))?;
     known[first as usize] = Some(Come { by: 0, last: None });

@@ -2,9 +2,10 @@
 ghost use Rattle.std.specs.Prelude.{◌≡◌, ◌<◌, ℕ, ℤ, List, [], ◌∷◌, Bool, false, true, None, Some, IfOk, IfSome, MatchOption, slice_get, length};
 ghost use Rattle.descent.specs.Conditions.{AreRules};
 ghost use Rattle.descent.specs.declared.rules.Place.{Place};
-ghost use Rattle.rank_search.specs.Plain.{LowersInts, NoPlainForm, RanksInts, RanksSize};
+ghost use Rattle.rank_search.specs.Plain.{LowersBy, NoPlainForm, RanksInts, RanksSize};
 ghost use Rattle.rank_search.specs.Stepwise.{NoStepwiseForm, StepwiseRanks};
-ghost use Rattle.rank_search.specs.Searching.{IsOneFound, IsSumFound, IsTable, NoOne};
+ghost use Rattle.rank_search.specs.Reasons.{IsTold};
+ghost use Rattle.rank_search.specs.Searching.{IsMoved, IsOneFound, IsSumFound, IsTable, NoOne};
 ghost use Rattle.rank_search.specs.Found.{IsFound, NoInts, NoSize, NoSteps};
 ghost use Rattle.rank_search.specs.Rising.{ArePlacesOf, IsTableOf, TellsSize, TellsSteps};
 
@@ -51,7 +52,7 @@ fn one_term(
 ) -> Result<Seq<(Place, i64)>, AllocError>
     requires table { IsTable rules.now places.now table.now }
     requires found { IsOneFound table.now (length places.now) form.now }
-    ensures { IfOk result (λ terms. LowersInts rules.now terms) }
+    ensures { IfOk result (λ terms. LowersBy IsMoved rules.now terms) }
 {
     let mut terms = Seq::new(alloc);
     terms.push((place_at(places, form.one), form.times))?;
@@ -68,7 +69,7 @@ fn two_terms(
 ) -> Result<Seq<(Place, i64)>, AllocError>
     requires table { IsTable rules.now places.now table.now }
     requires found { IsSumFound table.now (length places.now) form.now }
-    ensures { IfOk result (λ terms. LowersInts rules.now terms) }
+    ensures { IfOk result (λ terms. LowersBy IsMoved rules.now terms) }
 {
     let mut terms = Seq::new(alloc);
     terms.push((place_at(places, form.one), form.times))?;
@@ -86,7 +87,7 @@ fn sum_in(
     requires places { ArePlacesOf rules.now false places.now }
     requires table { IsTable rules.now places.now table.now }
     requires one { NoOne table.now (length places.now) }
-    ensures found { IfOk result (λ found. IfSome found (λ form. LowersInts rules.now form)) }
+    ensures found { IfOk result (λ found. IfSome found (λ form. LowersBy IsMoved rules.now form)) }
     ensures none { IfOk result (λ found. found ≡ None → NoInts rules.now) }
 {
     match sum_of_two(table, places.len())? {
@@ -104,7 +105,7 @@ fn ints_in(
 ) -> Result<Option<Seq<(Place, i64)>>, AllocError>
     requires places { ArePlacesOf rules.now false places.now }
     requires table { IsTable rules.now places.now table.now }
-    ensures found { IfOk result (λ found. IfSome found (λ form. LowersInts rules.now form)) }
+    ensures found { IfOk result (λ found. IfSome found (λ form. LowersBy IsMoved rules.now form)) }
     ensures none { IfOk result (λ found. found ≡ None → NoInts rules.now) }
 {
     match one_int(table, places.len())? {
@@ -115,7 +116,7 @@ fn ints_in(
 
 /// The first form of ints that ranks the rules.
 fn int_form(alloc: Global, rules: &[PathRule]) -> Result<Option<Seq<(Place, i64)>>, AllocError>
-    ensures found { IfOk result (λ found. IfSome found (λ form. LowersInts rules.now form)) }
+    ensures found { IfOk result (λ found. IfSome found (λ form. LowersBy IsMoved rules.now form)) }
     ensures none { IfOk result (λ found. found ≡ None → NoInts rules.now) }
 {
     let places = first_places(alloc, rules, false)?;
@@ -192,7 +193,7 @@ fn step_form(alloc: Global, negative: bool, rules: &[PathRule]) -> Result<Option
 fn size_plain(alloc: Global, rules: &[PathRule]) -> Result<Option<PlainForm>, AllocError>
     requires rules { AreRules rules.now }
     requires ints { NoInts rules.now }
-    ensures found { IfOk result (λ found. IfSome found (λ form. IsFound rules.now form)) }
+    ensures found { IfOk result (λ found. IfSome found (λ form. IsTold rules.now form)) }
     ensures none { IfOk result (λ found. found ≡ None → NoPlainForm rules.now) }
 {
     match size_form(alloc, rules)? {
@@ -216,6 +217,22 @@ fn negative_form(alloc: Global, rules: &[PathRule]) -> Result<Option<StepwiseFor
     }
 }
 
+/// A plain form that ranks the rules by the numbers that are found.
+///
+/// # Errors
+///
+/// Want of memory, which also answers a number of more than 64 bits.
+pub(crate) fn told_form(alloc: Global, rules: &[PathRule]) -> Result<Option<PlainForm>, AllocError>
+    requires rules { AreRules rules.now }
+    ensures found { IfOk result (λ found. IfSome found (λ form. IsTold rules.now form)) }
+    ensures none { IfOk result (λ found. found ≡ None → NoPlainForm rules.now) }
+{
+    match int_form(alloc, rules)? {
+        Some(form) => Ok(Some(PlainForm::Ints(form))),
+        None => size_plain(alloc, rules),
+    }
+}
+
 /// A plain form that ranks the rules: by the links of each rule it never rises, and on some rule it falls. None only where no
 /// plain form does. Ints come first, single ones before sums. The changes of each place on each rule are found once; then it
 /// costs some 64 steps for each two places and each rule.
@@ -228,10 +245,7 @@ pub fn plain_form(alloc: Global, rules: &[PathRule]) -> Result<Option<PlainForm>
     ensures found { IfOk result (λ found. IfSome found (λ form. IsFound rules.now form)) }
     ensures none { IfOk result (λ found. found ≡ None → NoPlainForm rules.now) }
 {
-    match int_form(alloc, rules)? {
-        Some(form) => Ok(Some(PlainForm::Ints(form))),
-        None => size_plain(alloc, rules),
-    }
+    told_form(alloc, rules)
 }
 
 /// A stepwise form that ranks the rules: on each rule steps lead from its start to its end that never rise together, and on

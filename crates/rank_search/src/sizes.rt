@@ -1,5 +1,5 @@
 //! Links between sizes, and the most that sizes fall by.
-ghost use Rattle.std.specs.Prelude.{◌≡◌, ◌++◌, ◌+ℤ◌, ◌-ℤ◌, pos, ℤ, [], false, None, Some, IfOk, IfSome, OnOk, if◌then◌else◌, ◌&&◌};
+ghost use Rattle.std.specs.Prelude.{All, ◌≡◌, ◌++◌, ◌+ℤ◌, ◌-ℤ◌, pos, ℤ, [], false, None, Some, IfOk, IfSome, OnOk, if◌then◌else◌, ◌&&◌};
 ghost use Rattle.std.specs.List.Sorted.{IsNonDecreasingBy};
 ghost use Rattle.lin_core.specs.Weights.{AreRows};
 ghost use Rattle.rank_search.specs.declared.links.Link.{Link};
@@ -7,6 +7,7 @@ ghost use Rattle.rank_search.specs.declared.links.Tie.{Tie};
 ghost use Rattle.rank_search.specs.Plain.{IsSizeLink, weighed_once};
 ghost use Rattle.rank_search.specs.Rising.{AreRising, back_ties, gives, given_by, given_ties, has_zero, is_part, is_zero, order_in, part_ties, rising_tie, size_constant, size_row_ties, size_ties_from};
 ghost use Rattle.rank_search.specs.Searching.{InTies};
+ghost use Rattle.rank_search.specs.SizeReasons.{IsSizeTie};
 
 use crate::links::{Link, Tie};
 use crate::rising::sort_ties;
@@ -62,7 +63,7 @@ pub(crate) fn is_zero(variable: u32, row: &WRow) -> bool
 }
 
 /// Whether some row says so.
-fn has_zero(variable: u32, rows: &[WRow]) -> bool
+pub(crate) fn has_zero(variable: u32, rows: &[WRow]) -> bool
     ensures { result ≡ has_zero variable rows.now }
 {
     for row in rows {
@@ -249,6 +250,7 @@ pub(crate) fn size_ties(alloc: Global, rows: &[WRow], vars: u32) -> Result<Vec<T
     ensures rising { IfOk result (λ ties. AreRising ties.items) }
     ensures sound { IfOk result (λ ties. (link : Link) → InTies ties.items link → IsSizeLink rows.now link) }
     ensures complete { IfOk result (λ ties. (link : Link) → IsSizeLink rows.now link → InTies ties.items link) }
+    ensures rows { IfOk result (λ ties. All (IsSizeTie rows.now) ties.items) }
 {
     let mut ties = all_sizes(alloc, rows)?.into_vec();
     sort_ties(&mut ties)?;

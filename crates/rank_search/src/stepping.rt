@@ -1,15 +1,16 @@
 //! The rank step of an int, or of its negative, that falls step by step.
-ghost use Rattle.std.specs.Prelude.{◌≡◌, ◌∷◌, [], None, IfOk, IfSome, pos};
+ghost use Rattle.std.specs.Prelude.{◌≡◌, ◌∷◌, [], None, IfOk, IfSome};
 ghost use Rattle.rank_search.specs.Following.{IsFew};
-ghost use Rattle.rank_search.specs.Forms.{AreFollowed, TellsAll, base_of_bound, greater_of, list_from, listed_as, needed, or_zero, strict_bound};
+ghost use Rattle.rank_search.specs.Forms.{AreFollowed, TellsAll};
 ghost use Rattle.rank_search.specs.Graphs.{ArePathRules};
 ghost use Rattle.rank_search.specs.RankSteps.{IsRankStep};
 ghost use Rattle.rank_search.specs.Stepwise.{NoStepwiseForm, StepwiseRanks, sign};
 
-use crate::following::{Bound, Followed, follow_steps};
+use crate::following::{Followed, follow_steps};
 use crate::forms::forms_of;
+use crate::listing::{list_all, needed, or_zero};
 use crate::searching::StepwiseForm;
-use descent::{PathRule, Place, RankRule, RankStep};
+use descent::{PathRule, Place, RankStep};
 use list_views::Seq;
 use std::alloc::{AllocError, Global};
 
@@ -33,109 +34,20 @@ fn follow_all(
     Ok(Some(all))
 }
 
-/// The bound, where there is a fall.
-fn strict_bound(followed: &Followed) -> Option<Bound>
-    ensures { result ≡ strict_bound followed.now }
-{
-    if followed.falls > 0 {
-        followed.bound
-    } else {
-        None
-    }
-}
-
-/// The greater of a constant that may be there and that of a bound.
-fn greater_of(best: Option<i64>, bound: Option<Bound>) -> Option<i64>
-    ensures { result ≡ greater_of best (base_of_bound bound) }
-{
-    match (best, bound) {
-        (_, None) => best,
-        (None, Some(bound)) => Some(bound.base),
-        (Some(most), Some(bound)) => {
-            if most < bound.base {
-                Some(bound.base)
-            } else {
-                Some(most)
-            }
-        }
-    }
-}
-
-/// The constant that the bounds need.
-fn needed(all: &[Followed]) -> Option<i64>
-    ensures { result ≡ needed None all.now }
-{
-    let mut best = None;
-    for followed in all {
-        best = greater_of(best, strict_bound(followed));
-    }
-    best
-}
-
-fn or_zero(number: Option<i64>) -> i64
-    ensures { result ≡ or_zero number }
-{
-    match number {
-        Some(number) => number,
-        None => 0,
-    }
-}
-
-/// A row that counts once.
-fn one_row(alloc: Global, row: usize) -> Result<Seq<(u32, i64)>, AllocError>
-    ensures { IfOk result (λ list. list ≡ (row, pos 1) ∷ []) }
-{
-    let Ok(row) = u32::try_from(row) else {
-        return Err(AllocError);
-    };
-    let mut list = Seq::new(alloc);
-    list.push((row, 1))?;
-    Ok(list)
-}
-
-/// The same multipliers.
-fn copied(alloc: Global, multipliers: &[(u32, i64)]) -> Result<Seq<(u32, i64)>, AllocError>
-    ensures { IfOk result (λ list. list ≡ multipliers.now) }
-{
-    let mut list = Seq::new(alloc);
-    list.extend_from_slice(multipliers)?;
-    Ok(list)
-}
-
-/// How a rule is listed.
-fn listed_as(alloc: Global, number: u32, followed: &Followed) -> Result<RankRule, AllocError>
-    ensures { IfOk result (λ listed. listed ≡ listed_as number followed.now) }
-{
-    let fall = copied(alloc, followed.fall.as_slice())?;
-    match strict_bound(followed) {
-        Some(bound) => Ok(RankRule::Strict {
-            rule: number,
-            fall,
-            bound: one_row(alloc, bound.row)?,
-        }),
-        None => Ok(RankRule::Weak { rule: number, fall }),
-    }
-}
-
-/// The rules as they are listed.
-fn list_all(alloc: Global, all: &[Followed]) -> Result<Seq<RankRule>, AllocError>
-    ensures { IfOk result (λ list. list ≡ list_from 0 all.now) }
-{
-    let mut list = Seq::new(alloc);
-    for (n, followed) in all.iter().enumerate() {
-        let Ok(number) = u32::try_from(n) else {
-            return Err(AllocError);
-        };
-        list.push(listed_as(alloc, number, followed)?)?;
-    }
-    Ok(list)
-}
-
 /// How often an int counts.
 fn sign(negative: bool) -> i64
     ensures { result ≡ sign negative }
 {
     if negative { -1 } else { 1 }
+}
+
+/// The int at a place, or its negative.
+fn one_part(alloc: Global, place: &Place, negative: bool) -> Result<Seq<(Place, i64)>, AllocError>
+    ensures { IfOk result (λ part. part ≡ (place.now, sign negative) ∷ []) }
+{
+    let mut part = Seq::new(alloc);
+    part.push((*place, sign(negative)))?;
+    Ok(part)
 }
 
 /// The step of what is followed along each rule.
@@ -152,7 +64,8 @@ fn step_of(
     ensures { IfOk result (λ step. IsRankStep rules.now step) }
 {
     let constant = or_zero(needed(all));
-    let forms = forms_of(alloc, rules, false, place, &sign(negative), &constant)?;
+    let part = one_part(alloc, place, negative)?;
+    let forms = forms_of(alloc, rules, false, part.as_slice(), &constant)?;
     let listed = list_all(alloc, all)?;
     Ok(RankStep {
         size: false,

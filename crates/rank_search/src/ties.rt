@@ -289,6 +289,7 @@ fn all_ties(alloc: Global, rows: &[WRow]) -> Result<Seq<Tie>, AllocError>
 pub(crate) fn int_ties(alloc: Global, rows: &[WRow]) -> Result<Seq<Tie>, AllocError>
     ensures sound { IfOk result (λ ties. (link : Link) → InTies ties link → IsIntLink rows.now link) }
     ensures complete { IfOk result (λ ties. (link : Link) → IsIntLink rows.now link → Covers ties link.from link.to) }
+    ensures is { IfOk result (λ ties. ties ≡ ties_from rows.now 0 rows.now) }
 {
     all_ties(alloc, rows)
 }

@@ -1,12 +1,15 @@
-//! `plain`: whether a plain form ranks the rules of the case. `stepwise`: whether a stepwise form does. Two more are made by
-//! hand: `form` and `steps` write the form that is found. `read`, which is for
-//! measuring alone, reads a case and tests its limits.
+//! `plain`: whether a plain form ranks the rules of the case, by a rank step of it. `stepwise`: whether a stepwise form does, where a
+//! step is made too. `linear`: whether such a form does, or one over several places, by a rank step. Two more are made by hand:
+//! `form` and `steps` write the form that is found. `read`, which is for measuring alone, reads a case and tests its limits.
 ghost use Rattle.descent.specs.Conditions.{AreRules};
+ghost use Rattle.rank_search.specs.Graphs.{ArePlainRules};
 
 use anyhow::{Context, Result, bail};
 use descent::{PathRule, Place};
 use json_view::{View, parse};
-use rank_search::{PlainForm, StepwiseForm, plain_form, stepwise_form};
+use rank_search::{
+    PlainForm, StepwiseForm, are_plain_rules, linear, plain, plain_form, stepwise_form,
+};
 use rule_cases::{are_rules, rules};
 use std::alloc::Global;
 use std::fmt::Write;
@@ -28,6 +31,8 @@ enum Question {
     Plain,
     /// Whether a stepwise form does.
     Stepwise,
+    /// Whether a stepwise form does, or one over several places.
+    Linear,
     /// Whether they are within their limits.
     Read,
     /// The plain form that is found.
@@ -40,6 +45,7 @@ fn asked_by(table: &str) -> Option<Question> {
     match table {
         "plain" => Some(Question::Plain),
         "stepwise" => Some(Question::Stepwise),
+        "linear" => Some(Question::Linear),
         "read" => Some(Question::Read),
         "form" => Some(Question::Form),
         "steps" => Some(Question::Steps),
@@ -53,19 +59,34 @@ fn told(alloc: Global, table: &str, rules: &[PathRule]) -> Result<String> {
     if !are_rules(rules) {
         bail!("a number is past its limit");
     }
+    if !are_plain_rules(rules) {
+        bail!("the rules are not those of paths");
+    }
     answered(alloc, question, rules)
 }
 
 fn answered(alloc: Global, question: Question, rules: &[PathRule]) -> Result<String>
-    requires { AreRules rules.now }
+    requires { ArePlainRules rules.now }
 {
     match question {
-        Question::Plain => said(alloc, plain_form(alloc, rules)?.is_some()),
-        Question::Stepwise => said(alloc, stepwise_form(alloc, rules)?.is_some()),
+        Question::Plain => said(alloc, plain(alloc, rules)?.is_some()),
+        Question::Stepwise => stepwise(alloc, rules),
+        Question::Linear => said(alloc, linear(alloc, rules)?.is_some()),
         Question::Read => Ok(String::from_str(alloc, "OK")?),
         Question::Form => plain_text(alloc, plain_form(alloc, rules)?),
         Question::Steps => stepwise_text(alloc, stepwise_form(alloc, rules)?),
     }
+}
+
+/// Whether a stepwise form ranks the rules; where one does, a step is made.
+fn stepwise(alloc: Global, rules: &[PathRule]) -> Result<String>
+    requires { ArePlainRules rules.now }
+{
+    let found = stepwise_form(alloc, rules)?.is_some();
+    if found && linear(alloc, rules)?.is_none() {
+        bail!("no step is made");
+    }
+    said(alloc, found)
 }
 
 fn said(alloc: Global, found: bool) -> Result<String> {

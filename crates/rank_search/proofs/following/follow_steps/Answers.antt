@@ -1,9 +1,9 @@
-use Rattle.std.proofs.Common.{ap, sym, subst, ◌∙◌, List, Option, ℕ, false, None}
+use Rattle.std.proofs.Common.{ap, sym, subst, ◌∙◌, List, false}
 use Rattle.lin_core.specs.declared.rows.WRow.{WRow}
 use Rattle.descent.specs.declared.rules.SlotForm.{SlotForm}
 use Rattle.rank_search.specs.Following.{SmallConstants, TellsBetween, TellsFollowed}
 use Rattle.rank_search.specs.Searching.{variable_at}
-use Rattle.rank_search.proofs.Along.{along_is, finish_low, no_finish, no_start, small_constants}
+use Rattle.rank_search.proofs.Along.{along_is, finish_low, small_constants}
 use Rattle.rank_search.proofs.Tied.{if_ok_then}
 use Rattle.rank_search.proofs.following.follow_steps.Goals as goal
 

@@ -1,5 +1,6 @@
 use Rattle.std.proofs.Common.{◌∙◌}
 use Rattle.rank_search.proofs.Sized.{sizes_rise, sizes_sound, sizes_complete}
+use Rattle.rank_search.proofs.SizeRows.{sizes_in_rows}
 use Rattle.rank_search.proofs.sizes.size_ties.Goals as goal
 
 pub returns-clause-rising : goal.returns-clause-rising
@@ -10,3 +11,6 @@ returns-clause-sound c = sizes_sound c.args.vars c.args.rows.now _ _ c.requires 
 
 pub returns-clause-complete : goal.returns-clause-complete
 returns-clause-complete c = sizes_complete c.args.vars c.args.rows.now _ _ c.requires c.sort_ties.ensures.same (c.into_vec-ties.ensures ∙ c.in_ok-all_sizes.ensures)
+
+pub returns-clause-rows : goal.returns-clause-rows
+returns-clause-rows c = sizes_in_rows c.args.vars c.args.rows.now _ _ c.requires c.sort_ties.ensures.same (c.into_vec-ties.ensures ∙ c.in_ok-all_sizes.ensures)
