@@ -7,15 +7,10 @@ It makes a program over copies of `abs_cells` and the crates below it in a new f
 it. Given lines of input the program keeps the pairs of 512 ids, all that there are, once for each line; given none it times the
 calls.
 """
-import pathlib
-import shutil
-import subprocess
-import sys
 import tempfile
 
-from common import peak_memory
+from common import run_over_copies, peak_memory
 
-TOP = pathlib.Path(__file__).resolve().parent.parent
 CRATES = ['list_views', 'lin_core', 'jvm_values', 'abs_cells']
 KEPT = 1000
 MAIN = '''//! Times calls on pairs of ids.
@@ -173,20 +168,8 @@ fn main(rt: HostRuntime) -> Result<()> {
 
 def main():
     with tempfile.TemporaryDirectory() as made:
-        folder = pathlib.Path(made)
-        (folder / 'crates').mkdir()
-        for crate in CRATES:
-            shutil.copytree(TOP / 'crates' / crate, folder / 'crates' / crate, ignore=shutil.ignore_patterns('out'))
-        lines = (TOP / 'crates.txt').read_text().splitlines()
-        kept = [line for line in lines if line.split(':')[0] in CRATES]
-        (folder / 'crates.txt').write_text('\n'.join(kept) + '\ncells_timed: abs_cells jvm_values list_views anyhow\n')
-        program = folder / 'crates' / 'cells_timed'
-        (program / 'src').mkdir(parents=True)
-        (program / 'src' / 'main.rt').write_text(MAIN)
         print('| form | ids | call | nanoseconds a call |\n|---|---|---|---|', flush=True)
-        if subprocess.run(['rt', 'run'], cwd=program, stdin=subprocess.DEVNULL).returncode != 0:
-            sys.exit('the program is not proved')
-        built = str(program / 'out' / 'cells_timed')
+        built = str(run_over_copies(made, CRATES, 'cells_timed', 'abs_cells jvm_values list_views anyhow', MAIN))
         some, more = (peak_memory(built, b'a\n' * count) for count in [KEPT, 2 * KEPT])
         print('packed pairs of 512 ids, all there are: %.1f KiB' % ((more - some) * 1024 / KEPT))
 

@@ -6,13 +6,10 @@ usage: abs_heap.py
 It makes a program over copies of `abs_heap` and the crates below it in a new folder, proves it, builds it with LLVM and runs
 it.
 """
-import pathlib
-import shutil
-import subprocess
-import sys
 import tempfile
 
-TOP = pathlib.Path(__file__).resolve().parent.parent
+from common import run_over_copies
+
 CRATES = ['list_views', 'lin_core', 'jvm_values', 'jvm_heaps', 'abs_cells', 'abs_reach', 'term_graph', 'abs_heap']
 MAIN = '''//! Times a write.
 #![tactic(auto)]
@@ -114,19 +111,8 @@ fn main(rt: HostRuntime) -> Result<()> {
 
 def main():
     with tempfile.TemporaryDirectory() as made:
-        folder = pathlib.Path(made)
-        (folder / 'crates').mkdir()
-        for crate in CRATES:
-            shutil.copytree(TOP / 'crates' / crate, folder / 'crates' / crate, ignore=shutil.ignore_patterns('out'))
-        lines = (TOP / 'crates.txt').read_text().splitlines()
-        kept = [line for line in lines if line.split(':')[0] in CRATES]
-        (folder / 'crates.txt').write_text('\n'.join(kept) + '\nwrites_timed: abs_heap abs_reach abs_cells jvm_values list_views anyhow\n')
-        program = folder / 'crates' / 'writes_timed'
-        (program / 'src').mkdir(parents=True)
-        (program / 'src' / 'main.rt').write_text(MAIN)
         print('| form | value | nanoseconds a call | done |\n|---|---|---|---|', flush=True)
-        if subprocess.run(['rt', 'run'], cwd=program, stdin=subprocess.DEVNULL).returncode != 0:
-            sys.exit('the program is not proved')
+        run_over_copies(made, CRATES, 'writes_timed', 'abs_heap abs_reach abs_cells jvm_values list_views anyhow', MAIN)
 
 
 main()

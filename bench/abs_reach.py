@@ -6,13 +6,10 @@ usage: abs_reach.py
 It makes a program over copies of `abs_reach` and the crates below it in a new folder, proves it, builds it with LLVM and runs
 it.
 """
-import pathlib
-import shutil
-import subprocess
-import sys
 import tempfile
 
-TOP = pathlib.Path(__file__).resolve().parent.parent
+from common import run_over_copies
+
 CRATES = ['list_views', 'lin_core', 'jvm_values', 'jvm_heaps', 'abs_cells', 'abs_reach']
 MAIN = '''//! Times the tests of what ids reach.
 #![tactic(auto)]
@@ -201,19 +198,8 @@ fn main(rt: HostRuntime) -> Result<()> {
 
 def main():
     with tempfile.TemporaryDirectory() as made:
-        folder = pathlib.Path(made)
-        (folder / 'crates').mkdir()
-        for crate in CRATES:
-            shutil.copytree(TOP / 'crates' / crate, folder / 'crates' / crate, ignore=shutil.ignore_patterns('out'))
-        lines = (TOP / 'crates.txt').read_text().splitlines()
-        kept = [line for line in lines if line.split(':')[0] in CRATES]
-        (folder / 'crates.txt').write_text('\n'.join(kept) + '\nreach_timed: abs_reach abs_cells jvm_values list_views anyhow\n')
-        program = folder / 'crates' / 'reach_timed'
-        (program / 'src').mkdir(parents=True)
-        (program / 'src' / 'main.rt').write_text(MAIN)
         print('| form | pairs | call | nanoseconds a call | yes |\n|---|---|---|---|---|', flush=True)
-        if subprocess.run(['rt', 'run'], cwd=program, stdin=subprocess.DEVNULL).returncode != 0:
-            sys.exit('the program is not proved')
+        run_over_copies(made, CRATES, 'reach_timed', 'abs_reach abs_cells jvm_values list_views anyhow', MAIN)
 
 
 main()

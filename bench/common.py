@@ -1,6 +1,6 @@
 """What the scripts that time programs for tables share: a program's path, the time and the memory that it takes for a case, and
 the printed table."""
-import pathlib, resource, struct, subprocess, sys
+import pathlib, resource, shutil, struct, subprocess, sys
 
 TOP = pathlib.Path(__file__).resolve().parent.parent
 BUILDING = """
@@ -74,3 +74,20 @@ def print_times(usage, heading, cases, name, memory=False):
         if not is_right(answer):
             sys.exit('another answer than wanted: %r' % answer[:80])
         print_row(words + ['%.1f' % (1000 * (took - empty))] + ['%.1f' % peak_memory(path, line)] * memory)
+
+
+def run_over_copies(folder, crates, name, below, text):
+    """The path of a program of this text, over copies of crates below a folder, that is proved, built with LLVM and run."""
+    folder = pathlib.Path(folder)
+    (folder / 'crates').mkdir()
+    for crate in crates:
+        shutil.copytree(TOP / 'crates' / crate, folder / 'crates' / crate, ignore=shutil.ignore_patterns('out'))
+    lines = (TOP / 'crates.txt').read_text().splitlines()
+    kept = [line for line in lines if line.split(':')[0] in crates]
+    (folder / 'crates.txt').write_text('\n'.join(kept) + '\n%s: %s\n' % (name, below))
+    program = folder / 'crates' / name
+    (program / 'src').mkdir(parents=True)
+    (program / 'src' / 'main.rt').write_text(text)
+    if subprocess.run(['rt', 'run'], cwd=program, stdin=subprocess.DEVNULL).returncode != 0:
+        sys.exit('the program is not proved')
+    return program / 'out' / name
