@@ -20,13 +20,13 @@ use Rattle.jvm_values.specs.declared.heap.Heap.{Heap}
 use Rattle.jvm_values.specs.declared.shape.Shape.{Shape}
 use Rattle.jvm_values.specs.declared.shape.Shape.TheVariants.{Tree, Dag, Any}
 use Rattle.jvm_values.specs.States.{MachineState}
-use Rattle.jvm_values.specs.Kinds.{least_of, greatest_of, IsOfKind}
 use Rattle.jvm_values.specs.Joins.{item_of, item_under}
 use Rattle.jvm_values.specs.Heaps.{target, values_of, Region, HasShape}
 use Rattle.jvm_values.specs.Subtyping.{class_type, object_type, array_of, array_of_numbers, IsReference, IsReferenceBase, IsSlot}
 use Rattle.jvm_values.specs.TypedHeaps.{WorldTypes, HasType, Holds, IsTypedHeap, IsTypedObject, type_of}
 use Rattle.jvm_values.proofs.Options.{some_is, none_is_not_some}
 use Rattle.jvm_values.proofs.Lists.{same_or_not}
+use Rattle.jvm_values.proofs.Ranges.{kind_ints}
 use Rattle.abs_cells.specs.declared.cells.Cell.{Cell}
 use Rattle.abs_cells.specs.declared.cells.Cell.TheVariants as cells
 use Rattle.abs_cells.specs.AbstractStates.{AbstractState}
@@ -409,14 +409,6 @@ module _ (types : WorldTypes) (state child : AbstractState) (machine : MachineSt
 
   field_described : (i : ℕ) (c : Cell) (f : Field i c) → Describes types heap inow c f.value
   field_described i c f = subst (λ (d : Cell). Describes types heap inow d f.value) f.cell_is (slot_described f.slot f.value (field_holds i c f))
-
-  -- the ends of a kind's numbers are ints
-  kind_ints : (kind : Kind) → IsOfKind kinds.Int (least_of kind) × IsOfKind kinds.Int (greatest_of kind)
-  kind_ints kinds.Boolean = ((omega (arith, ints), omega (arith, ints)), (omega (arith, ints), omega (arith, ints)))
-  kind_ints kinds.Char = ((omega (arith, ints), omega (arith, ints)), (omega (arith, ints), omega (arith, ints)))
-  kind_ints kinds.Byte = ((omega (arith, ints), omega (arith, ints)), (omega (arith, ints), omega (arith, ints)))
-  kind_ints kinds.Short = ((omega (arith, ints), omega (arith, ints)), (omega (arith, ints), omega (arith, ints)))
-  kind_ints kinds.Int = ((omega (arith, ints), omega (arith, ints)), (omega (arith, ints), omega (arith, ints)))
 
   -- a field that names an object holds a reference
   slot_sound : (s : Slot) → IsSlot types.classes s → IsSoundCell types state (cell_of_slot types.erase shape s)

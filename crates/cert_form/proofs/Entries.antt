@@ -1,32 +1,18 @@
 -- Lists of entries, read one after another.
-use Rattle.std.proofs.Common.{◌≡◌, ℕ, zero, suc, ◌+◌, List, [], ◌∷◌, ◌++◌, Result, Ok, Err, Option, Some, None, refl, sym, ap, ◌∙◌, subst, arith}
-use Rattle.std.specs.Prelude.{option_map}
+use Rattle.std.proofs.Common.{◌≡◌, ℕ, zero, suc, ◌+◌, List, [], ◌∷◌, ◌++◌, Result, Ok, Err, Some, refl, sym, ap, ◌∙◌, subst, arith}
 use Rattle.serde_json.specs.Data.{Data, null, boolean, number, string, array, object, Items, no_items, item}
 use Rattle.serde_json.specs.Events.{items_len}
-use Rattle.serde_json.specs.Find.{get_item, at}
+use Rattle.serde_json.specs.Find.{at}
 use Rattle.json_view.specs.Answers.{same}
 use Rattle.json_view.specs.Located.{Located}
-use Rattle.json_view.specs.Reading.{item_of, item_count, at_item, items_of}
+use Rattle.json_view.specs.Reading.{item_of, item_count, items_of}
 use Rattle.json_view.specs.declared.fault.JsonFault.{JsonFault}
 use Rattle.json_view.specs.declared.fault.JsonFault.TheVariants.{WrongKind}
+use Rattle.json_view.proofs.Behind.{items_after, items_in, nth_after, item_found}
 use Rattle.cert_form.specs.declared.fault.CertFault.{CertFault}
 use Rattle.cert_form.specs.declared.fault.CertFault.TheVariants.{Json, Limit, Memory}
 use Rattle.cert_form.specs.Answers.{Reader, Says, Tells, json}
 use Rattle.cert_form.specs.Fields.{◌>>=◌, entries_from, entries_of}
-
--- the items behind the first n
-abbrev pub items_after : ℕ → Items → Items
-items_after zero items = items
-items_after (suc n) no_items = no_items
-items_after (suc n) (item value rest) = items_after n rest
-
-abbrev pub items_in : Data → Items
-items_in (array items) = items
-items_in null = no_items
-items_in (boolean b) = no_items
-items_in (number n) = no_items
-items_in (string s) = no_items
-items_in (object ms) = no_items
 
 -- the list that is said, where `front` was read and the entries from n on are still to be read
 abbrev pub Goes : {A : Type 0} → (List A → Reader A) → Located → ℕ → List A → Type 0
@@ -46,24 +32,6 @@ starts_by reader place (array items) count e = refl
 -- nothing is read yet
 pub starts : {A : Type 0} (reader : List A → Reader A) (here : Located) (count : ℕ) → items_of here ≡ Ok count → Goes reader here 0 []
 starts reader here count e = starts_by reader here.place here.value count e
-
--- the first of the items behind n
-first_after : (n : ℕ) (items : Items) (value : Data) → get_item n items ≡ Some value → items_after n items ≡ item value (items_after (suc n) items)
-first_after n no_items value e = let no : ⊥ = cc in absurd no
-first_after zero (item d ds) value e = let same : d ≡ value = cc in ap (λ (x : Data). item x ds) same
-first_after (suc n) (item d ds) value e = first_after n ds value e
-
-nth_after : (n : ℕ) (here value : Data) → at n here ≡ Some value → items_after n (items_in here) ≡ item value (items_after (suc n) (items_in here))
-nth_after n null value e = let no : ⊥ = cc in absurd no
-nth_after n (boolean b) value e = let no : ⊥ = cc in absurd no
-nth_after n (number x) value e = let no : ⊥ = cc in absurd no
-nth_after n (string s) value e = let no : ⊥ = cc in absurd no
-nth_after n (object ms) value e = let no : ⊥ = cc in absurd no
-nth_after n (array items) value e = first_after n items value e
-
-item_found : (place : List ℕ) (n : ℕ) (found : Option Data) (there : Located) → option_map (at_item place n) found ≡ Some there → (value : Data) × ((found ≡ Some value) × (at_item place n value ≡ there))
-item_found place n None there e = let no : ⊥ = cc in absurd no
-item_found place n (Some value) there e = (value, (refl, cc))
 
 -- the next entry is read, and then the others
 next_is : {A : Type 0} (reader : List A → Reader A) (here there : Located) (n : ℕ) (front : List A) → Goes reader here n front → item_of n here ≡ Some there → entries_of reader here ≡ (reader front there >>= λ x. entries_from reader (front ++ x ∷ []) here.place (suc n) (items_after (suc n) (items_in here.value)))

@@ -47,7 +47,7 @@ base_same (bases.Class x) (bases.Num k) e = absurd (false≢true e)
 base_same (bases.Num j) (bases.Class y) e = absurd (false≢true e)
 base_same (bases.Num j) (bases.Num k) e = ap bases.Num (kind_same j k e)
 
-type_same : (a b : Ty) → type_eq.eq-value.it a b ≡ true → a ≡ b
+pub type_same : (a b : Ty) → type_eq.eq-value.it a b ≡ true → a ≡ b
 type_same a b e =
     let r = and_parts (eqb a.dims b.dims) (base_eq.eq-value.it a.base b.base) e in
     parts a.dims b.dims a.base b.base (eqb-true a.dims b.dims r.0) (base_same a.base b.base r.1)

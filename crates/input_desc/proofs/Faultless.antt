@@ -1,6 +1,6 @@
 -- Faults that are not there, and those that are due.
 use Rattle.std.proofs.Common.{◌≡◌, ℕ, Bool, true, false, eqb, List, length, Option, Some, None, Result, Ok, Err, refl, sym, subst}
-use Rattle.std.specs.Prelude.{not}
+use Rattle.std.specs.Prelude.{◌≢◌, not}
 use Rattle.std.specs.Option.{option_map, option_or}
 use Rattle.std.proofs.lemmas.Bool.{eqb-true, not-false}
 use Rattle.input_text.specs.declared.fault.DescFault.{DescFault}
@@ -36,6 +36,20 @@ due (BadPair n) wanted e = e
 due (BadObject n) wanted e = e
 due StaticCount wanted e = e
 due Memory wanted e = tt
+
+-- a fault that is due, and no want of memory, is wanted
+pub due_is : (fault : DescFault) (wanted : Option DescFault) → fault ≢ Memory → IsDue fault wanted → wanted ≡ Some fault
+due_is (Json fault) wanted other d = d
+due_is NoMethod wanted other d = d
+due_is Abstract wanted other d = d
+due_is ParamCount wanted other d = d
+due_is (ParamKind i) wanted other d = d
+due_is (EmptyInterval i) wanted other d = d
+due_is (UnknownType i) wanted other d = d
+due_is (BadPair n) wanted other d = d
+due_is (BadObject n) wanted other d = d
+due_is StaticCount wanted other d = d
+due_is Memory wanted other d = absurd (other refl)
 
 -- want of memory is always due
 pub memory_due : (fault : DescFault) (wanted : Option DescFault) → fault ≡ Memory → IsDue fault wanted

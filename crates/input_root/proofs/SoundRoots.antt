@@ -18,6 +18,7 @@ use Rattle.jvm_values.specs.declared.types.Kind.{Kind}
 use Rattle.jvm_values.specs.declared.types.Kind.TheVariants as kinds
 use Rattle.jvm_values.specs.Kinds.{least_of, greatest_of, IsOfKind}
 use Rattle.jvm_values.specs.Subtyping.{IsReference, IsErased}
+use Rattle.jvm_values.proofs.Ranges.{kind_ints}
 use Rattle.class_world.specs.World.{World}
 use Rattle.class_world.specs.WorldTypes.{types_of}
 use Rattle.class_world.specs.WorldLaws.{world_laws}
@@ -94,19 +95,11 @@ of_world world slot (texts.Ref ty null' shape') t null shape laws e =
       ap (erase world) erased ∙ erased_twice world is.named ∙ sym erased,
     )
 
--- a kind's numbers are ints
-kind_within : (kind : Kind) → (least_of kinds.Int ≤ℤ least_of kind) × (greatest_of kind ≤ℤ greatest_of kinds.Int)
-kind_within kinds.Boolean = (omega (arith, ints), omega (arith, ints))
-kind_within kinds.Char = (omega (arith, ints), omega (arith, ints))
-kind_within kinds.Byte = (omega (arith, ints), omega (arith, ints))
-kind_within kinds.Short = (omega (arith, ints), omega (arith, ints))
-kind_within kinds.Int = (omega (arith, ints), omega (arith, ints))
-
 -- ends of an interval that are no less and no greater than a kind's are ints
 ends_within : (kind : Kind) (lo hi : ℤ) → int_le (int_max (least_of kind) lo) (int_min (greatest_of kind) hi) ≡ true → IsOfKind kinds.Int (int_max (least_of kind) lo) × IsOfKind kinds.Int (int_min (greatest_of kind) hi)
 ends_within kind lo hi l =
-    let w = kind_within kind in
-    within (least_of kind) (greatest_of kind) lo hi w.0 w.1 l
+    let ends = kind_ints kind in
+    within (least_of kind) (greatest_of kind) lo hi ends.0.0 ends.1.1 l
   where
     within : (a b lo hi : ℤ) → least_of kinds.Int ≤ℤ a → b ≤ℤ greatest_of kinds.Int → int_le (int_max a lo) (int_min b hi) ≡ true → IsOfKind kinds.Int (int_max a lo) × IsOfKind kinds.Int (int_min b hi)
     within a b lo hi p q l = ((omega (arith, ints, clamps, p), omega (arith, ints, clamps, q, l)), (omega (arith, ints, clamps, p, l), omega (arith, ints, clamps, q)))

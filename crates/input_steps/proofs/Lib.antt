@@ -1,4 +1,6 @@
 pub mod Causes
 pub mod Files
 pub mod OneAnswer
+pub mod OneText
 pub mod Steps
+pub mod Texts

@@ -1,5 +1,5 @@
 -- Steps that give one thing, and refuse for one fault.
-use Rattle.std.proofs.Common.{◌≡◌, ℕ, zero, suc, ◌<◌, arith, List, [], ◌∷◌, Option, Some, None, Result, Ok, Err, refl, sym, ap, ◌∙◌, subst, inl, inr}
+use Rattle.std.proofs.Common.{◌≡◌, ℕ, zero, suc, ◌<◌, arith, List, [], ◌∷◌, map, Option, Some, None, Result, Ok, Err, refl, sym, ap, ◌∙◌, subst, inl, inr}
 use Rattle.std.specs.Prelude.{◌≢◌, slice_get}
 use Rattle.class_read.specs.Content.{ClassContent}
 use Rattle.class_read.specs.declared.fault.ClassFault.{ClassFault}
@@ -12,7 +12,6 @@ use Rattle.class_world.specs.declared.world.MethodRef.{MethodRef}
 use Rattle.class_program.specs.declared.program.Method.{Method}
 use Rattle.class_program.specs.Programs.{Program}
 use Rattle.class_program.specs.Reached.{close_of}
-use Rattle.class_program.specs.Said.{Said}
 use Rattle.class_program.specs.Statics.{fields_named, statics_of}
 use Rattle.number_graphs.specs.Graphs.{IsLeastOnCycle}
 use Rattle.call_graph.specs.Calls.{Calls, IsNameOf}
@@ -65,6 +64,33 @@ module _ {A X : Type 0} (Gives : A → Type 0) (Refuses : Place → Fault → Ty
   then_one (Err (At p f)) (Err Memory) h k nr ns = absurd (ns refl)
   then_one (Err Memory) s h k nr ns = absurd (nr refl)
 
+-- ---- what is computed
+
+pub ok_one : {A E : Type 0} (said : Result A E) (a b : A) → said ≡ Ok a → said ≡ Ok b → a ≡ b
+ok_one {A} {E} said a b e f = let k : (let r : Result A E = Ok a in r) ≡ Ok b = sym e ∙ f in cc
+
+pub err_one : {A E : Type 0} (said : Result A E) (a b : E) → said ≡ Err a → said ≡ Err b → a ≡ b
+err_one {A} {E} said a b e f = let k : (let r : Result A E = Err a in r) ≡ Err b = sym e ∙ f in cc
+
+pub ok_err : {A E : Type 0} (said : Result A E) (a : A) (b : E) → said ≡ Ok a → said ≡ Err b → ⊥
+ok_err {A} {E} said a b e f = let k : (let r : Result A E = Ok a in r) ≡ Err b = sym e ∙ f in cc
+
+pub some_one : {A : Type 0} (o : Option A) (x y : A) → o ≡ Some x → o ≡ Some y → x ≡ y
+some_one o x y e f = let k : Some x ≡ Some y = sym e ∙ f in cc
+
+pub none_some : {A : Type 0} (o : Option A) (x : A) → o ≡ None → o ≡ Some x → ⊥
+none_some {A} o x e f = let k : (let n : Option A = None in n) ≡ Some x = sym e ∙ f in cc
+
+pub map_some_one : {A : Type 0} (xs ys : List A) → map Some xs ≡ map Some ys → xs ≡ ys
+map_some_one [] [] e = refl
+map_some_one [] (y ∷ ys) e = absurd (cc)
+map_some_one (x ∷ xs) [] e = absurd (cc)
+map_some_one {A} (x ∷ xs) (y ∷ ys) e =
+    let first : x ≡ y = cc in
+    let rest : map Some xs ≡ map Some ys = cc in
+    let more = map_some_one xs ys rest in
+    λ i. first i ∷ more i
+
 -- ---- class files
 
 spell_unique : (files : List (List ℕ)) (a b : List ClassContent) → AllSpell files a → AllSpell files b → a ≡ b
@@ -102,12 +128,6 @@ classes_exact files = record {
 
 -- ---- the world
 
-pub some_one : {A : Type 0} (o : Option A) (x y : A) → o ≡ Some x → o ≡ Some y → x ≡ y
-some_one o x y e f = let k : Some x ≡ Some y = sym e ∙ f in cc
-
-pub none_some : {A : Type 0} (o : Option A) (x : A) → o ≡ None → o ≡ Some x → ⊥
-none_some {A} o x e f = let k : (let n : Option A = None in n) ≡ Some x = sym e ∙ f in cc
-
 pub world_exact : (classes : List ClassContent) → IsExact (IsWorldOf classes) (RefusesWorld classes)
 world_exact classes = record {
   one = λ a b h k. h.world_is ∙ sym k.world_is;
@@ -126,15 +146,6 @@ program_is world entry p h =
     let whole : p ≡ with_statics p.world p.entry p.methods = λ i. record { world = p.world; entry = p.entry; methods = p.methods; statics = h.closed.statics i } in
     let made : close_of world entry ≡ Ok p.methods = subst (λ (w : World). close_of w entry ≡ Ok p.methods) h.world_is (subst (λ (e : MethodRef). close_of p.world e ≡ Ok p.methods) h.entry_is h.closed.made) in
     (made, whole ∙ (λ i. with_statics (h.world_is i) (h.entry_is i) p.methods))
-
-ok_one : (said : Said (List Method)) (a b : List Method) → said ≡ Ok a → said ≡ Ok b → a ≡ b
-ok_one said a b e f = let k : (let r : Said (List Method) = Ok a in r) ≡ Ok b = sym e ∙ f in cc
-
-err_one : (said : Said (List Method)) (a b : LinkFault) → said ≡ Err a → said ≡ Err b → a ≡ b
-err_one said a b e f = let k : (let r : Said (List Method) = Err a in r) ≡ Err b = sym e ∙ f in cc
-
-ok_err : (said : Said (List Method)) (a : List Method) (b : LinkFault) → said ≡ Ok a → said ≡ Err b → ⊥
-ok_err said a b e f = let k : (let r : Said (List Method) = Ok a in r) ≡ Err b = sym e ∙ f in cc
 
 pub program_exact : (world : World) (entry : MethodRef) → IsExact (IsProgramOf world entry) (RefusesProgram world entry)
 program_exact world entry = record {

@@ -1,7 +1,8 @@
 //! The steps that commands have in common, from the bytes of class files to a program with its typings, and how they refuse an
 //! input: with the first fault at its place.
 //!
-//! The definitions stand in `specs/Steps` (steps one after another), `specs/Classes`, `specs/Programs` and `specs/Lines`.
+//! The definitions stand in `specs/Steps` (steps one after another), `specs/Texts` (faults of what is read), `specs/Classes`,
+//! `specs/Programs` and `specs/Lines`.
 #![tactic(auto)]
 
 mod classes;

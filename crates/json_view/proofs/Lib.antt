@@ -1,3 +1,4 @@
+pub mod Behind
 pub mod Items
 pub mod Leads
 pub mod Least

@@ -4,4 +4,5 @@ pub mod Joining
 pub mod Lists
 pub mod Options
 pub mod PathLaws
+pub mod Ranges
 pub mod Typed

@@ -2,4 +2,3 @@ pub mod Answering
 pub mod Endings
 pub mod Inputs
 pub mod OneAnswer
-pub mod States

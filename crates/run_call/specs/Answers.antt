@@ -8,11 +8,10 @@ use Rattle.class_program.specs.Programs.{Program}
 use Rattle.jvm_step.specs.Running.{start}
 use Rattle.jvm_run.specs.declared.ended.Ended.{Ended}
 use Rattle.jvm_run.specs.Runs.{EndsAs}
-use Rattle.input_text.specs.Answers.{SaysOf, AnswersText}
+use Rattle.input_text.specs.Answers.{SaysOf}
 use Rattle.input_text.specs.States.{state_of}
 use Rattle.input_text.specs.declared.texts.StateText.{StateText}
 use Rattle.input_text.specs.declared.fault.DescFault.{DescFault}
-use Rattle.input_text.specs.declared.fault.DescFault.TheVariants as descs
 use Rattle.input_desc.specs.declared.states.StateInput.{StateInput}
 use Rattle.input_desc.specs.Entries.{entry_of}
 use Rattle.input_desc.specs.Given.{statics_of, static_values}
@@ -24,31 +23,24 @@ use Rattle.input_steps.specs.declared.refused.Place.TheVariants as places
 use Rattle.input_steps.specs.declared.refused.Fault.{Fault}
 use Rattle.input_steps.specs.declared.refused.Fault.TheVariants as faults
 use Rattle.input_steps.specs.Steps.{IsAt, Then}
+use Rattle.input_steps.specs.Texts.{OfInput, IsTextFault}
 use Rattle.input_steps.specs.Classes.{AllSpell, RefusesClasses, IsWorldOf, RefusesWorld}
 use Rattle.input_steps.specs.Programs.{IsProgramOf, RefusesProgram, IsAcyclic, RefusesCalls, HasTypings, RefusesTypes}
 use Rattle.run_call.specs.Lines.{ended_line}
 
 -- ---- what a state says
 
--- a fault of the state
-abbrev pub OfState : (DescFault → Type 0) → Place → Fault → Type 0
-OfState = IsAt {C = DescFault} (λ fault. places.State) faults.Desc
-
 -- the bytes say this
 abbrev pub IsStateText : List ℕ → StateText → Type 0
 IsStateText state text = SaysOf state_of state (Ok text)
 
 -- a fault of the bytes
-abbrev pub IsTextFault : List ℕ → DescFault → Type 0
-IsTextFault state descs.Memory = ⊥
-IsTextFault state fault = AnswersText state_of state (Err fault)
-
 abbrev pub RefusesState : List ℕ → Place → Fault → Type 0
-RefusesState state = OfState (IsTextFault state)
+RefusesState state = OfInput places.State (IsTextFault state_of state)
 
 -- the state names no method of the world that can run
 abbrev pub RefusesEntry : World → StateText → Place → Fault → Type 0
-RefusesEntry world text = OfState (λ fault. entry_of world text.entry ≡ Err fault)
+RefusesEntry world text = OfInput places.State (λ fault. entry_of world text.entry ≡ Err fault)
 
 -- the state gives this to the program
 abbrev pub IsInput : Program → StateText → StateInput → Type 0
@@ -59,7 +51,7 @@ abbrev pub input_fault : Program → StateText → Option DescFault
 input_fault p text = fault_of p (objects_of p text) text.args (static_values (statics_of p) text.statics)
 
 abbrev pub RefusesInput : Program → StateText → Place → Fault → Type 0
-RefusesInput p text = OfState (λ fault. input_fault p text ≡ Some fault)
+RefusesInput p text = OfInput places.State (λ fault. input_fault p text ≡ Some fault)
 
 -- ---- the run
 
