@@ -1,6 +1,6 @@
 """Widening: a state of which two states are instances. And the patterns of ids.
 
-Reads again: crates/abs_cells/specs/Patterns, crates/jvm_values/specs/Joins; widening has no crate yet. Otto et al. 2010.
+Reads again: crates/abs_cells/specs/Patterns, crates/jvm_values/specs/Joins, crates/abs_widen/specs. Otto et al. 2010.
 """
 import sys
 

@@ -1,12 +1,12 @@
 -- Pairs that are kept: those whose ids are both in a set.
-use Rattle.std.proofs.Common.{◌≡◌, ◌≢◌, ℕ, zero, suc, ◌+◌, ◌<◌, ◌≤◌, ◌&&◌, ◌||◌, not, Bool, true, false, cond, List, [], ◌∷◌, Option, Some, None, ◌⊎◌, inl, inr, refl, sym, ap, subst, ◌∙◌, arith, eqb}
+use Rattle.std.proofs.Common.{◌≡◌, ◌≢◌, ℕ, ◌+◌, ◌<◌, ◌≤◌, ◌&&◌, ◌||◌, not, Bool, true, false, cond, List, [], ◌∷◌, Option, None, ◌⊎◌, inl, inr, refl, sym, ap, subst, ◌∙◌, arith}
 use Rattle.std.specs.Prelude.{filter, min, max}
-use Rattle.std.proofs.lemmas.Bool.{false≢true, cases_eq, cases_lt, and_parts, and_from, cases_Bool, not-true}
+use Rattle.std.proofs.lemmas.Bool.{false≢true, cases_lt, and_parts, and_from, cases_Bool, not-true}
 use Rattle.abs_cells.specs.PairLists.{pair_of, is_same, is_before, IsFirst, IsRising, has_pair, removed}
 use Rattle.abs_cells.specs.IdSets.{has_id, kept}
-use Rattle.abs_cells.specs.PackedBits.{slot_of, pairs_in, ArePacked, IsCleared, IsKeptTo}
+use Rattle.abs_cells.specs.PackedBits.{slot_of, pairs_in, IsCleared, IsKeptTo}
 use Rattle.abs_cells.proofs.PairLaws.{same_is, is_same_from, is_before_from, before_is, onward}
-use Rattle.abs_cells.proofs.PackedLaws.{is_one_list, has_without, packed_rises, packed_has, no_hit}
+use Rattle.abs_cells.proofs.PackedLaws.{is_one_list, has_without, packed_has, no_hit}
 use Rattle.abs_cells.proofs.PackedCalls.{left_no_hit}
 use Rattle.abs_cells.proofs.Checking.{low_pair}
 

@@ -1,5 +1,5 @@
 -- What packed pairs are asked: the pair at a place, and whether two sets are touched.
-use Rattle.std.proofs.Common.{◌≡◌, ℕ, zero, suc, ◌+◌, ◌*◌, ◌/◌, ◌%◌, ◌-◌, ◌<◌, ◌≤◌, min, max, Bool, true, false, cond, ◌&&◌, ◌||◌, ◌==◌, eqb, List, [], ◌∷◌, ◌++◌, length, get_or, Option, Some, None, ◌⊎◌, inl, inr, refl, sym, ap, subst, ◌∙◌, arith, w64, bit_and, add-one, ◌^◌, eq-eqb}
+use Rattle.std.proofs.Common.{◌≡◌, ℕ, zero, suc, ◌+◌, ◌*◌, ◌/◌, ◌%◌, ◌-◌, ◌<◌, ◌≤◌, min, max, Bool, true, false, cond, ◌&&◌, ◌||◌, ◌==◌, eqb, List, [], ◌∷◌, ◌++◌, length, get_or, Option, Some, None, ◌⊎◌, inl, inr, refl, sym, ap, subst, ◌∙◌, arith, w64, bit_and, add-one, append_assoc, append-nil, ◌^◌, eq-eqb}
 use Rattle.std.specs.Prelude.{slice_get}
 use Rattle.std.specs.Int.{bit_at, trailing_zeros}
 use Rattle.std.specs.List.{list_any}
@@ -93,6 +93,36 @@ pub nth_ends : (holds : ℕ → ℕ → Bool) (whole : List (ℕ × ℕ)) (n a e
 nth_ends holds whole n a end left l h =
     let e : end - a ≡ 0 = omega (arith, l) in
     sym (h ∙ ap (λ (k : ℕ). slice_get (pairs_from holds a k) left) e)
+
+-- ---- the list of all pairs
+
+empty_row : (test : ℕ → Bool) (a b count : ℕ) → ((n : ℕ) → test n ≡ false) → row_from test a b count ≡ []
+empty_row test a b zero h = refl
+empty_row test a b (suc count) h = row_without test a b count (h b) ∙ empty_row test a (suc b) count h
+
+-- an id with no slot is in no pair
+pub nothing_listed : (slots : List (Option ℕ)) (words : List ℕ) (a : ℕ) (xs : List (ℕ × ℕ)) → slot_of slots a ≡ None → xs ≡ xs ++ row_from (hit slots words a) a (suc a) (length slots - suc a)
+nothing_listed slots words a xs e =
+    sym (ap (λ (ys : List (ℕ × ℕ)). xs ++ ys) (empty_row (hit slots words a) a (suc a) (length slots - suc a) (λ b. ap (λ (u : Option ℕ). hit_slots words u (slot_of slots b)) e)) ∙ append-nil xs)
+
+module _ (test : ℕ → Bool) (a b end : ℕ) (xs ys whole : List (ℕ × ℕ)) (l : b < end) (h : xs ++ row_from test a b (end - b) ≡ whole) where
+  next_in : ys ++ row_from test a (b + 1) (end - (b + 1)) ≡ ys ++ row_from test a (suc b) (end - suc b)
+  next_in = ap (λ (n : ℕ). ys ++ row_from test a n (end - n)) (add-one b)
+
+  pub row_listed : (t : Bool) → t ≡ test b → ys ≡ cond t (xs ++ (a, b) ∷ []) xs → ys ++ row_from test a (b + 1) (end - (b + 1)) ≡ whole
+  row_listed true e k =
+      next_in ∙ ap (λ (zs : List (ℕ × ℕ)). zs ++ row_from test a (suc b) (end - suc b)) k ∙ append_assoc xs ((a, b) ∷ []) (row_from test a (suc b) (end - suc b))
+      ∙ ap (λ (zs : List (ℕ × ℕ)). xs ++ zs) (sym (row_hit test a b end l (sym e))) ∙ h
+  row_listed false e k =
+      next_in ∙ ap (λ (zs : List (ℕ × ℕ)). zs ++ row_from test a (suc b) (end - suc b)) k
+      ∙ ap (λ (zs : List (ℕ × ℕ)). xs ++ zs) (sym (row_miss test a b end l (sym e))) ∙ h
+
+pub rows_listed : (holds : ℕ → ℕ → Bool) (a end : ℕ) (xs ys whole : List (ℕ × ℕ)) → a < end → xs ++ pairs_from holds a (end - a) ≡ whole → ys ≡ xs ++ row_from (holds a) a (suc a) (end - suc a) → ys ++ pairs_from holds (a + 1) (end - (a + 1)) ≡ whole
+rows_listed holds a end xs ys whole l h k =
+    ap (λ (n : ℕ). ys ++ pairs_from holds n (end - n)) (add-one a)
+    ∙ ap (λ (zs : List (ℕ × ℕ)). zs ++ pairs_from holds (suc a) (end - suc a)) k
+    ∙ append_assoc xs (row_from (holds a) a (suc a) (end - suc a)) (pairs_from holds (suc a) (end - suc a))
+    ∙ ap (λ (zs : List (ℕ × ℕ)). xs ++ zs) (sym (rows_next holds a end l)) ∙ h
 
 -- ---- words and rows that meet
 

@@ -1,9 +1,8 @@
 -- Rising lists of pairs: the place of a pair, and what putting and taking away leave.
-use Rattle.std.proofs.Common.{◌≡◌, ℕ, suc, ◌+◌, ◌<◌, ◌≤◌, min, max, Bool, true, false, cond, ◌||◌, eqb, ltb, List, [], ◌∷◌, length, get_or, drop, Some, ◌⊎◌, inl, inr, refl, sym, ap, subst, ◌∙◌, arith, eq-eqb, drop-cons, add-one}
+use Rattle.std.proofs.Common.{◌≡◌, ℕ, zero, suc, ◌<◌, ◌≤◌, min, max, Bool, true, false, cond, ◌||◌, eqb, ltb, List, [], ◌∷◌, length, get_or, Some, ◌⊎◌, inl, inr, refl, sym, ap, subst, ◌∙◌, arith, eq-eqb}
 use Rattle.std.specs.Prelude.{slice_get}
 use Rattle.std.specs.List.{insert, remove}
 use Rattle.std.proofs.lemmas.Bool.{false≢true, eqb-true, ltb-true, lt-ltb, ne_eqb, and_parts, and_from, cases_lt}
-use Rattle.std.proofs.lemmas.List.{drop_all}
 use Rattle.jvm_values.proofs.Options.{some_is, none_is_not_some}
 use Rattle.abs_cells.specs.PairLists.{pair_of, is_same, is_before, IsFirst, IsRising, has_pair, with_pair, without_pair, has, added, removed, place_in}
 
@@ -273,20 +272,29 @@ rising_without p (q ∷ rest) h = elim (bool_cases (is_same p q)) [
 
 -- ---- looking for the place
 
-pub gone_by : (p : ℕ × ℕ) (xs : List (ℕ × ℕ)) (i : ℕ) (d : ℕ × ℕ) → i < length xs → is_before (get_or xs i d) p ≡ true → place_in p xs ≡ i + place_in p (drop i xs) → place_in p xs ≡ (i + 1) + place_in p (drop (i + 1) xs)
-gone_by p xs i d l b e =
-    let step : place_in p (drop i xs) ≡ suc (place_in p (drop (suc i) xs)) = rw (drop-cons xs i d) (place_later p (get_or xs i d) (drop (suc i) xs) b) in
-    rw add-one (omega (arith, e, step))
+-- a pair behind which the place lies stands behind all that are before the place
+later_too : (q p : ℕ × ℕ) (rest : List (ℕ × ℕ)) → IsFirst q rest → 0 < place_in p rest → is_before q p ≡ true
+later_too q p [] f l = absurd (omega (arith, l))
+later_too q p (x ∷ rest) f l = elim (bool_cases (is_before x p)) [
+  | inl e ↦ is_before_from q p (onward q x p (before_is q x f) (before_is x p e))
+  | inr e ↦ absurd (omega (arith, l, place_here p x rest e))
+]
 
-pub found_place : (p : ℕ × ℕ) (xs : List (ℕ × ℕ)) (i : ℕ) (d : ℕ × ℕ) → i < length xs → is_before (get_or xs i d) p ≡ false → place_in p xs ≡ i + place_in p (drop i xs) → i ≡ place_in p xs
-found_place p xs i d l b e =
-    let stop : place_in p (drop i xs) ≡ 0 = rw (drop-cons xs i d) (place_here p (get_or xs i d) (drop (suc i) xs) b) in
-    omega (arith, e, stop)
+-- the place lies behind a pair that stands before the sought one, and not behind another
+pub place_behind : (p : ℕ × ℕ) (xs : List (ℕ × ℕ)) (i : ℕ) (d : ℕ × ℕ) → IsRising xs → i < length xs → is_before (get_or xs i d) p ≡ true → i < place_in p xs
+place_behind p [] i d r l b = absurd (omega (arith, l))
+place_behind p (q ∷ rest) zero d r l b = omega (arith, place_later p q rest b)
+place_behind p (q ∷ rest) (suc i) d r l b =
+    let h = place_behind p rest i d r.1.1 (omega (arith, l)) b in
+    omega (arith, h, place_later p q rest (later_too q p rest r.1.0 (omega (arith, h))))
 
-pub at_the_end : (p : ℕ × ℕ) (xs : List (ℕ × ℕ)) (i : ℕ) → length xs ≤ i → i ≤ length xs → place_in p xs ≡ i + place_in p (drop i xs) → length xs ≡ place_in p xs
-at_the_end p xs i l m e =
-    let stop : place_in p (drop i xs) ≡ 0 = rw (drop_all i xs l) refl in
-    omega (arith, e, stop, l, m)
+pub place_before : (p : ℕ × ℕ) (xs : List (ℕ × ℕ)) (i : ℕ) (d : ℕ × ℕ) → i < length xs → is_before (get_or xs i d) p ≡ false → place_in p xs ≤ i
+place_before p [] i d l b = absurd (omega (arith, l))
+place_before p (q ∷ rest) zero d l b = omega (arith, place_here p q rest b)
+place_before p (q ∷ rest) (suc i) d l b = elim (bool_cases (is_before q p)) [
+  | inl e ↦ let h = place_before p rest i d (omega (arith, l)) b in omega (arith, h, place_later p q rest e)
+  | inr e ↦ omega (arith, place_here p q rest e)
+]
 
 -- the place is within the list, or at its end
 pub place_within : (p : ℕ × ℕ) (xs : List (ℕ × ℕ)) → place_in p xs ≤ length xs

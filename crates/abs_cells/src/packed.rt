@@ -1,5 +1,5 @@
 //! Pairs of ids held as packed bits.
-ghost use Rattle.std.specs.Prelude.{◌≡◌, ◌≢◌, ℕ, suc, ◌+◌, ◌*◌, ◌/◌, ◌<◌, ◌≤◌, ◌==◌, ◌||◌, ◌&&◌, ◌⊎◌, not, Bool, true, false, IsTrue, IsFalse, ◌↔◌, length, List, Some, None, slice_get, if◌then◌else◌, IfSome, IfNone, IfOk, IfErr, OnOk, OnErr};
+ghost use Rattle.std.specs.Prelude.{◌≡◌, ◌≢◌, ℕ, suc, ◌+◌, ◌*◌, ◌/◌, ◌<◌, ◌≤◌, ◌==◌, ◌||◌, ◌&&◌, ◌⊎◌, not, Bool, true, false, IsTrue, IsFalse, ◌↔◌, length, List, Some, None, slice_get, if◌then◌else◌, IfSome, IfNone, ◌++◌, ◌∷◌, [], IfOk, IfErr, OnOk, OnErr};
 ghost use Rattle.std.specs.Int.{bit_at};
 ghost use Rattle.abs_cells.specs.PairLists.{added, removed, AreAmong};
 ghost use Rattle.abs_cells.specs.IdSets.{has_bit, has_id, are_touched, kept};
@@ -268,6 +268,52 @@ fn nth_pair(packed: &Packed, n: usize) -> Option<(Id, Id)>
     None
 }
 
+/// Whether an id may be in some pair.
+fn has_slot(slots: &[Option<u16>], id: Id) -> bool
+    ensures { result ≡ false → slot_of slots.now id ≡ None }
+{
+    slot_of(slots, id).is_some()
+}
+
+/// Adds a pair at the end of a list, where it is one.
+fn list_pair(list: &mut Vec<(Id, Id)>, there: bool, pair: (Id, Id)) -> Result<(), AllocError>
+    ensures { OnOk result (list.new.items ≡ (if there then list.old.items ++ pair ∷ [] else list.old.items)) }
+{
+    if there {
+        list.push(pair)?;
+    }
+    Ok(())
+}
+
+/// Adds the pairs of a number with higher ones at the end of a list.
+fn list_row(packed: &Packed, a: Id, list: &mut Vec<(Id, Id)>) -> Result<(), AllocError>
+    requires packed { ArePacked packed.now.slots.items packed.now.count packed.now.words.items }
+    requires low { a < length packed.now.slots.items }
+    ensures { OnOk result (list.new.items ≡ list.old.items ++ whole_row packed.now.slots.items packed.now.words.items a) }
+{
+    if !has_slot(&packed.slots, a) {
+        return Ok(());
+    }
+    let end = packed.slots.len() as u16;
+    for b in a + 1..end {
+        list_pair(list, is_hit(packed, a, b), (a, b))?;
+    }
+    Ok(())
+}
+
+/// All pairs, in rising order.
+fn list_pairs(packed: &Packed, alloc: Global) -> Result<Vec<(Id, Id)>, AllocError>
+    requires { ArePacked packed.now.slots.items packed.now.count packed.now.words.items }
+    ensures { IfOk result (λ list. list.items ≡ pairs_in packed.now.slots.items packed.now.words.items) }
+{
+    let mut list = Vec::new(alloc);
+    let end = packed.slots.len() as u16;
+    for a in 0..end {
+        list_row(packed, a, &mut list)?;
+    }
+    Ok(list)
+}
+
 /// Sets the bit of two ids.
 fn add_pair(packed: &mut Packed, a: Id, b: Id) -> Result<(), AllocError>
     requires packed { ArePacked packed.old.slots.items packed.old.count packed.old.words.items }
@@ -412,6 +458,10 @@ impl Pairs for PackedPairs {
 
     fn nth(&self, n: usize) -> Option<(Id, Id)> {
         nth_pair(&self.packed, n)
+    }
+
+    fn list(&self, alloc: Global) -> Result<Vec<(Id, Id)>, AllocError> {
+        list_pairs(&self.packed, alloc)
     }
 
     fn touches(&self, x: &IdSet, y: &IdSet) -> bool {

@@ -44,6 +44,15 @@ pub trait Pairs: Drop {
         ensures value { result ≡ slice_get (pairs self.now) n }
         ensures rising { IsRising (pairs self.now) };
 
+    /// All pairs in rising order. The whole list costs about as much as `nth` at its last place.
+    ///
+    /// # Errors
+    ///
+    /// Want of memory.
+    fn list(&self, alloc: Global) -> Result<Vec<(Id, Id)>, AllocError>
+        ensures value { IfOk result (λ list. list.items ≡ pairs self.now) }
+        ensures rising { IsRising (pairs self.now) };
+
     /// Whether some pair has one id in `x` and the other one in `y`. It takes no memory.
     fn touches(&self, x: &IdSet, y: &IdSet) -> bool
         ensures value { result ≡ are_touched x.now y.now (pairs self.now) }
@@ -90,16 +99,23 @@ fn is_before(p: (Id, Id), q: (Id, Id)) -> bool
     if p.0 == q.0 { p.1 < q.1 } else { p.0 < q.0 }
 }
 
-/// The number of pairs before a pair: its place in the rising list.
+/// The number of pairs before a pair: its place in the rising list. It takes as many steps as the count of pairs has
+/// digits.
 fn place_of(pairs: &[(Id, Id)], pair: (Id, Id)) -> usize
+    requires { IsRising pairs.now }
     ensures { result ≡ place_in pair pairs.now }
 {
-    for (place, other) in pairs.iter().enumerate() {
-        if !is_before(*other, pair) {
-            return place;
+    let mut low = 0;
+    let mut high = pairs.len();
+    while low < high {
+        let middle = low + (high - low) / 2;
+        if is_before(pairs[middle], pair) {
+            low = middle + 1;
+        } else {
+            high = middle;
         }
     }
-    pairs.len()
+    low
 }
 
 /// Whether a pair stands at a place.
@@ -183,6 +199,10 @@ impl Pairs for ListPairs {
 
     fn nth(&self, n: usize) -> Option<(Id, Id)> {
         self.pairs.get(n).copied()
+    }
+
+    fn list(&self, alloc: Global) -> Result<Vec<(Id, Id)>, AllocError> {
+        Ok(Vec::from_slice(alloc, &self.pairs)?)
     }
 
     fn touches(&self, x: &IdSet, y: &IdSet) -> bool {

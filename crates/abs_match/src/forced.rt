@@ -8,8 +8,9 @@ ghost use Rattle.abs_cells.specs.Sound.{given_ids, ids_of_frame};
 ghost use Rattle.abs_reach.specs.Reached.{positions};
 ghost use Rattle.abs_match.specs.Forced.{ArePut, NoneDoes, fields_of, stacked, numbers_length, array_length, place_asks, locals_ask, entries_ask, frame_asks, frames_ask, state_asks, fields_ask, cell_asks};
 
-use crate::places::{are_same_heads, entry_at, local_at};
+use crate::places::{entry_at, local_at};
 use abs_cells::{AbsFrame, AbsState, Cell, Id, Ids, Pairs};
+use abs_reach::are_same_heads;
 use list_views::Stack;
 use std::alloc::AllocError;
 

@@ -11,9 +11,9 @@ use crate::covers::is_covered;
 use crate::least::lower_of;
 use crate::maps::{least_unmapped, lists_ids, unmet};
 use crate::pairing::{aliases_fit, shape_fits, sharing_fits};
-use crate::places::{are_same_heads, least_place};
+use crate::places::least_place;
 use abs_cells::{AbsState, Cell, Id, Pairs};
-use abs_reach::Marks;
+use abs_reach::{Marks, are_same_heads};
 use jvm_values::Types;
 
 /// Whether an id keeps a clause.

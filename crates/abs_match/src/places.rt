@@ -1,33 +1,10 @@
 //! Whether the places of frames have the images of ids.
-ghost use Rattle.std.specs.Prelude.{◌≡◌, ◌↔◌, IsTrue, map, length, slice_get};
-ghost use Rattle.abs_reach.specs.Instances.{head_of};
+ghost use Rattle.std.specs.Prelude.{◌≡◌, length, slice_get};
 ghost use Rattle.abs_match.specs.Matching.{AreKeysRising, IsLeastOf, PlacesMeet, FrameMeets, FirstMeet, FramesMeet, local_at};
 
 use crate::least::lower_of;
 use crate::maps::unmet;
 use abs_cells::{AbsFrame, Id};
-
-/// Whether two frames have the same method, place and depth of stack.
-fn is_same_head(a: &AbsFrame, b: &AbsFrame) -> bool
-    ensures { IsTrue result ↔ (head_of a.now ≡ head_of b.now) }
-{
-    a.method() == b.method() && a.pc() == b.pc() && a.stack().len() == b.stack().len()
-}
-
-/// Whether frames have the same methods, places and depths of stacks.
-pub(crate) fn are_same_heads(a: &[AbsFrame], b: &[AbsFrame]) -> bool
-    ensures { IsTrue result ↔ (map head_of a.now ≡ map head_of b.now) }
-{
-    if a.len() != b.len() {
-        return false;
-    }
-    for (place, frame) in a.iter().enumerate() {
-        if !is_same_head(frame, &b[place]) {
-            return false;
-        }
-    }
-    true
-}
 
 /// The id of a local variable, if it is there and has one.
 pub(crate) fn local_at(locals: &[Option<Id>], n: usize) -> Option<Id>

@@ -3,6 +3,7 @@ pub mod AnsweringSets
 pub mod Beginning
 pub mod Dropped
 pub mod Finding
+pub mod HeadLists
 pub mod Restricting
 pub mod Room
 pub mod Searching

@@ -6,6 +6,7 @@
 
 mod dropping;
 mod find;
+mod heads;
 mod laws;
 mod marks;
 mod meeting;
@@ -15,6 +16,7 @@ mod walk;
 
 pub use dropping::drop_unreached;
 pub use find::{cell_of, has_cell};
+pub use heads::{are_same_heads, is_same_head};
 pub use laws::{
     closures_are_ways, finite_ids_have_no_cycles, known_ids_inside_may_be_in,
     meeting_regions_may_meet, restricted_states_fit, tree_ids_have_trees,

@@ -95,6 +95,28 @@ module _ (wants : ℕ → ℕ → Type 0) where
     ),
   )
 
+  -- a row in which nothing is wanted
+  pub joined_skip : (n : ℕ) (list : List (ℕ × ℕ)) → ((i : ℕ) → wants i n → ⊥) → AreJoinedTo wants n 0 list → AreJoinedTo wants (n + 1) 0 list
+  joined_skip n list none to i j k = (
+    λ h. let before = (to i j k).0 h in (
+      (elim before.0 [
+        | inl p ↦ inl (omega (arith, p))
+        | inr e ↦ let f = e.1 in absurd (omega (arith, f))
+      ]),
+      before.1,
+    ),
+    λ h. (to i j k).1 (
+      (elim (cases_eq j n) [
+        | inl e ↦ absurd (none i (subst (wants i) e h.1))
+        | inr d ↦ elim h.0 [
+          | inl p ↦ inl (omega (arith, p, d))
+          | inr e ↦ let f = e.1 in absurd (omega (arith, f))
+        ]
+      ]),
+      h.1,
+    ),
+  )
+
   -- all rows are
   pub joined_all : (n : ℕ) (list : List (ℕ × ℕ)) → ((i j : ℕ) → wants i j → j < n) → IsRising list → AreJoinedTo wants n 0 list → AreJoined wants list
   joined_all n list below rising to = record {

@@ -1,13 +1,14 @@
 -- Which ids are wanted as pairs, from the tests of their cells.
-use Rattle.std.proofs.Common.{◌≡◌, ◌⊎◌, ℕ, ◌<◌, Bool, true, false, List, length, Some, Result, Ok, Err, OnOk, refl, sym, ap, subst, ◌∙◌, inl, inr}
+use Rattle.std.proofs.Common.{◌≡◌, ◌⊎◌, ℕ, ◌<◌, Bool, true, false, List, length, Some, None, Result, Ok, Err, OnOk, refl, sym, subst, ◌∙◌, inl, inr}
 use Rattle.std.specs.Prelude.{◌↔◌, slice_get, IsTrue, if◌then◌else◌}
 use Rattle.std.proofs.lemmas.Bool.{false≢true}
 use Rattle.std.proofs.lemmas.Option.{slice_get_within}
-use Rattle.jvm_values.proofs.Options.{some_is}
+use Rattle.jvm_values.proofs.Options.{some_is, none_is_not_some}
 use Rattle.abs_cells.specs.declared.cells.Cell.{Cell}
 use Rattle.abs_cells.specs.AbstractStates.{AbstractState}
 use Rattle.abs_cells.specs.PairLists.{added}
-use Rattle.abs_widen.specs.Pairing.{may_join_cells, IsPairedAs, AreOne, MayJoinAt, WantsOne, WantsShare, AreNumbered, IsPut}
+use Rattle.abs_cells.specs.Cells.{cell_in}
+use Rattle.abs_widen.specs.Pairing.{may_join_cells, IsPairedAs, AreOne, MayJoinAt, WantsOne, WantsShare, IsPut}
 
 -- a pair is put among others where a test says that it is wanted
 pub put_is : (wants : ℕ → ℕ → Type 0) (m n : ℕ) (w : Bool) (old new : List (ℕ × ℕ)) → (IsTrue w ↔ wants m n) → new ≡ (if w then added m n old else old) → IsPut wants m n old new
@@ -15,15 +16,9 @@ put_is wants m n true old new is e = inl (is.0 refl, e)
 put_is wants m n false old new is e = inr ((λ x. false≢true (is.1 x)), e)
 
 -- two ids with their pairs and cells
-module _ (a b : AbstractState) (pairs : List (ℕ × ℕ)) (cells : List (ℕ × Cell)) (numbered : AreNumbered pairs cells) (m n : ℕ) (p q : ℕ × ℕ) (first second : ℕ × Cell)
-    (p_is : slice_get pairs m ≡ Some p) (q_is : slice_get pairs n ≡ Some q) (first_is : slice_get cells m ≡ Some first) (second_is : slice_get cells n ≡ Some second) where
-  c_is : slice_get cells m ≡ Some (m, first.1)
-  c_is = first_is ∙ ap (λ (k : ℕ). Some (k, first.1)) (numbered.each m first first_is)
-
-  d_is : slice_get cells n ≡ Some (n, second.1)
-  d_is = second_is ∙ ap (λ (k : ℕ). Some (k, second.1)) (numbered.each n second second_is)
-
-  at : may_join_cells first.1 second.1 ≡ true → MayJoinAt pairs cells m n p q first.1 second.1
+module _ (a b : AbstractState) (pairs : List (ℕ × ℕ)) (cells : List (ℕ × Cell)) (m n : ℕ) (p q : ℕ × ℕ) (first second : Cell)
+    (p_is : slice_get pairs m ≡ Some p) (q_is : slice_get pairs n ≡ Some q) (c_is : cell_in cells m ≡ Some first) (d_is : cell_in cells n ≡ Some second) where
+  at : may_join_cells first second ≡ true → MayJoinAt pairs cells m n p q first second
   at j = record { p_is = p_is; q_is = q_is; c_is = c_is; d_is = d_is; joins = j }
 
   -- others at these ids are the same
@@ -34,48 +29,62 @@ module _ (a b : AbstractState) (pairs : List (ℕ × ℕ)) (cells : List (ℕ ×
     s_is : s ≡ q
     s_is = some_is (sym other.q_is ∙ q_is)
 
-    first_cell : c ≡ first.1
-    first_cell = ap (λ (x : ℕ × Cell). x.1) (some_is (sym other.c_is ∙ c_is))
+    first_cell : c ≡ first
+    first_cell = some_is (sym other.c_is ∙ c_is)
 
-    second_cell : d ≡ second.1
-    second_cell = ap (λ (x : ℕ × Cell). x.1) (some_is (sym other.d_is ∙ d_is))
+    second_cell : d ≡ second
+    second_cell = some_is (sym other.d_is ∙ d_is)
 
-    joins : may_join_cells first.1 second.1 ≡ true
-    joins = subst (λ (x : Cell). may_join_cells x second.1 ≡ true) first_cell (subst (λ (y : Cell). may_join_cells c y ≡ true) second_cell other.joins)
+    joins : may_join_cells first second ≡ true
+    joins = subst (λ (x : Cell). may_join_cells x second ≡ true) first_cell (subst (λ (y : Cell). may_join_cells c y ≡ true) second_cell other.joins)
 
     one : AreOne a b r s → AreOne a b p q
     one h = subst (λ (x : ℕ × ℕ). AreOne a b x q) r_is (subst (λ (y : ℕ × ℕ). AreOne a b r y) s_is h)
 
-    paired : IsPairedAs a b r s c d → IsPairedAs a b p q first.1 second.1
+    paired : IsPairedAs a b r s c d → IsPairedAs a b p q first second
     paired h =
-        subst (λ (x : ℕ × ℕ). IsPairedAs a b x q first.1 second.1) r_is
-        (subst (λ (y : ℕ × ℕ). IsPairedAs a b r y first.1 second.1) s_is
-        (subst (λ (x : Cell). IsPairedAs a b r s x second.1) first_cell
+        subst (λ (x : ℕ × ℕ). IsPairedAs a b x q first second) r_is
+        (subst (λ (y : ℕ × ℕ). IsPairedAs a b r y first second) s_is
+        (subst (λ (x : Cell). IsPairedAs a b r s x second) first_cell
         (subst (λ (y : Cell). IsPairedAs a b r s c y) second_cell h)))
 
-    shared : AreOne a b r s ⊎ IsPairedAs a b r s c d → AreOne a b p q ⊎ IsPairedAs a b p q first.1 second.1
+    shared : AreOne a b r s ⊎ IsPairedAs a b r s c d → AreOne a b p q ⊎ IsPairedAs a b p q first second
     shared (inl h) = inl (one h)
     shared (inr h) = inr (paired h)
 
-  pub wants_one : (w : Bool) → (IsTrue w ↔ ((may_join_cells first.1 second.1 ≡ true) × AreOne a b p q)) → IsTrue w ↔ WantsOne a b pairs cells m n
+  pub wants_one : (w : Bool) → (IsTrue w ↔ ((may_join_cells first second ≡ true) × AreOne a b p q)) → IsTrue w ↔ WantsOne a b pairs cells m n
   wants_one w is = (
-    λ t. let h = is.0 t in record { p = p; q = q; c = first.1; d = second.1; at = at h.0; one = h.1 },
+    λ t. let h = is.0 t in record { p = p; q = q; c = first; d = second; at = at h.0; one = h.1 },
     λ x. is.1 (joins x.p x.q x.c x.d x.at, one x.p x.q x.c x.d x.at x.one),
   )
 
-  pub wants_share : (w : Bool) → (IsTrue w ↔ ((may_join_cells first.1 second.1 ≡ true) × (AreOne a b p q ⊎ IsPairedAs a b p q first.1 second.1))) → IsTrue w ↔ WantsShare a b pairs cells m n
+  pub wants_share : (w : Bool) → (IsTrue w ↔ ((may_join_cells first second ≡ true) × (AreOne a b p q ⊎ IsPairedAs a b p q first second))) → IsTrue w ↔ WantsShare a b pairs cells m n
   wants_share w is = (
-    λ t. let h = is.0 t in record { p = p; q = q; c = first.1; d = second.1; at = at h.0; shares = h.1 },
+    λ t. let h = is.0 t in record { p = p; q = q; c = first; d = second; at = at h.0; shares = h.1 },
     λ x. is.1 (joins x.p x.q x.c x.d x.at, shared x.p x.q x.c x.d x.at x.shares),
   )
 
-  pub both_put : (w s : Bool) → (IsTrue w ↔ ((may_join_cells first.1 second.1 ≡ true) × AreOne a b p q)) → (IsTrue s ↔ ((may_join_cells first.1 second.1 ≡ true) × (AreOne a b p q ⊎ IsPairedAs a b p q first.1 second.1)))
+  pub both_put : (w s : Bool) → (IsTrue w ↔ ((may_join_cells first second ≡ true) × AreOne a b p q)) → (IsTrue s ↔ ((may_join_cells first second ≡ true) × (AreOne a b p q ⊎ IsPairedAs a b p q first second)))
       → (old new older newer : List (ℕ × ℕ)) → new ≡ (if w then added m n old else old) → newer ≡ (if s then added m n older else older)
       → IsPut (WantsOne a b pairs cells) m n old new × IsPut (WantsShare a b pairs cells) m n older newer
   both_put w s w_is s_is old new older newer e f = (
     put_is (WantsOne a b pairs cells) m n w old new (wants_one w w_is) e,
     put_is (WantsShare a b pairs cells) m n s older newer (wants_share s s_is) f,
   )
+
+-- an id without a cell is wanted with none
+module _ (a b : AbstractState) (pairs : List (ℕ × ℕ)) (cells : List (ℕ × Cell)) where
+  pub low_unwanted : (m n : ℕ) → cell_in cells m ≡ None → (eq shared : List (ℕ × ℕ)) → IsPut (WantsOne a b pairs cells) m n eq eq × IsPut (WantsShare a b pairs cells) m n shared shared
+  low_unwanted m n e eq shared = (
+    inr ((λ w. none_is_not_some w.c (sym e ∙ w.at.c_is)), refl),
+    inr ((λ w. none_is_not_some w.c (sym e ∙ w.at.c_is)), refl),
+  )
+
+  pub one_unwanted : (i n : ℕ) → cell_in cells n ≡ None → WantsOne a b pairs cells i n → ⊥
+  one_unwanted i n e w = none_is_not_some w.d (sym e ∙ w.at.d_is)
+
+  pub share_unwanted : (i n : ℕ) → cell_in cells n ≡ None → WantsShare a b pairs cells i n → ⊥
+  share_unwanted i n e w = none_is_not_some w.d (sym e ∙ w.at.d_is)
 
 -- what follows where a call succeeds
 pub ok_as : {A E P Q : Type 0} (r : Result A E) → (P → Q) → OnOk r P → OnOk r Q

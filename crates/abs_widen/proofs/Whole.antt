@@ -12,7 +12,7 @@ use Rattle.abs_cells.specs.declared.cells.Cell.{Cell}
 use Rattle.abs_cells.specs.declared.cells.Cell.TheVariants.{Int, Null, Obj, Nums, Refs, Unk}
 use Rattle.abs_cells.specs.AbstractStates.{AbstractFrame, AbstractState}
 use Rattle.abs_cells.specs.PairLists.{is_same, has}
-use Rattle.abs_cells.specs.Cells.{is_known, is_reference, ids_in, cell_in, cell_at, HasCell, AreEqual, Share}
+use Rattle.abs_cells.specs.Cells.{is_known, is_reference, ids_in, cell_in, HasCell, AreEqual, Share}
 use Rattle.abs_cells.specs.Sound.{AreIdsRising, given_ids, ids_of_frame, ids_used, IsWellFormed}
 use Rattle.abs_cells.proofs.PairLaws.{has_swapped}
 use Rattle.abs_reach.proofs.Dropped.{any_reversed, any_flat}
@@ -20,8 +20,8 @@ use Rattle.abs_reach.proofs.Finding.{stands}
 use Rattle.abs_widen.specs.Rows.{Row, ints, nulls, instances, numbers, arrays, unlike, pairs_of}
 use Rattle.abs_widen.specs.Visits.{is_among, local_pair, some_in, local_pairs, frame_pairs, frames_pairs, thrown_pair, position_pairs, pairs_in, pairs_below, ArePairs}
 use Rattle.abs_widen.specs.Visiting.{AreAsLong}
-use Rattle.abs_widen.specs.Widening.{number_of, merged_locals, merged_frame, merged_frames, IsRowCell, IsCellUnless, IsMergedCell, IsMerged, without_pairs, clashes}
-use Rattle.abs_widen.specs.Pairing.{may_join_cells, WantsOne, WantsShare, AreJoined, AreNumbered, IsWhole}
+use Rattle.abs_widen.specs.Widening.{number_of, merged_locals, merged_frame, merged_frames, IsRowCell, IsCellUnless, IsMergedCell, IsMerged, clashes}
+use Rattle.abs_widen.specs.Pairing.{may_join_cells, AreJoined, AreNumbered}
 use Rattle.abs_widen.proofs.Closed.{among_front, among_back, among_either, number_low, among_at, positions_among, below_among}
 use Rattle.abs_widen.proofs.Rising.{never_itself}
 use Rattle.abs_widen.proofs.Visiting.{all_joined}
@@ -249,10 +249,10 @@ module _ (types : WorldTypes) (a b : AbstractState) (pairs : List (ℕ × ℕ)) 
       let p = pair_at k entry e in
       cell_low pairs a b types p.0 entry.1 (λ r h. below_among a b pairs are p.0 r (among_at pairs k p.0 p.1) h) (is.cells k p.0 entry p.1 e).1)))
 
-  no_equals : (i j : ℕ) → AreEqual merged i j → ⊥
+  pub no_equals : (i j : ℕ) → AreEqual merged i j → ⊥
   no_equals i j h = false≢true (ap (has i j) (sym is.eq) ∙ h)
 
-  no_shares : (i j : ℕ) → Share merged i j → ⊥
+  pub no_shares : (i j : ℕ) → Share merged i j → ⊥
   no_shares i j h = false≢true (ap (has i j) (sym is.share) ∙ h)
 
   pub merged_is_good : IsWellFormed merged
@@ -263,48 +263,4 @@ module _ (types : WorldTypes) (a b : AbstractState) (pairs : List (ℕ × ℕ)) 
     left = λ i j l h. absurd (no_shares i j h);
     right = λ i j l h. absurd (no_shares i j h);
     not_both_known = λ i j l h k m. no_shares i j h;
-  }
-
--- ---- with the pairs of ids
-
-module _ (types : WorldTypes) (a b : AbstractState) (pairs : List (ℕ × ℕ)) (whole : AbstractState)
-    (are : ArePairs a b pairs) (few : length pairs ≤ 512) (long : AllZip AreAsLong a.frames b.frames) (is : IsWhole types a b pairs whole) where
-  pub bare_merged : IsMerged types a b pairs (without_pairs whole)
-  bare_merged = record { frames = is.frames; throwing = is.throwing; long = is.long; cells = is.cells; eq = refl; share = refl }
-
-  bare_good : IsWellFormed (without_pairs whole)
-  bare_good = merged_is_good types a b pairs (without_pairs whole) are few long bare_merged
-
-  pub whole_numbered : AreNumbered pairs whole.cells
-  whole_numbered = numbered types a b pairs (without_pairs whole) are few long bare_merged
-
-  one_shares : (i j : ℕ) → WantsOne a b pairs whole.cells i j → WantsShare a b pairs whole.cells i j
-  one_shares i j w = record { p = w.p; q = w.q; c = w.c; d = w.d; at = w.at; shares = inl w.one }
-
-  shared : (i j : ℕ) → AreEqual whole i j → Share whole i j
-  shared i j h = elim (in_order (WantsOne a b pairs whole.cells) whole.eq is.eq i j h) [
-    | inl w ↦ (is.share.each i j w.1).1 (one_shares i j w.0)
-    | inr w ↦ has_swapped j i whole.share ∙ (is.share.each j i w.1).1 (one_shares j i w.0)
-  ]
-
-  cell_of_number : (n : ℕ) (c : Cell) → slice_get whole.cells n ≡ Some (n, c) → cell_at whole n ≡ Some c
-  cell_of_number n c e = number_cell pairs whole.cells whole_numbered n (n, c) e
-
-  known_of : (n : ℕ) (c : Cell) → cell_at whole n ≡ Some c → HasCell is_known whole n → is_known c ≡ true
-  known_of n c e h = ap is_known (some_is (sym e ∙ h.is)) ∙ h.sort_is
-
-  pub whole_is_good : IsWellFormed whole
-  whole_is_good = record {
-    rising = bare_good.rising;
-    used = λ k d l. let h = bare_good.used k d l in record { cell = h.cell; is = h.is; sort_is = refl };
-    shared = shared;
-    left = λ i j l h.
-        let w = (is.share.each i j l).0 h in
-        record { cell = w.c; is = cell_of_number i w.c w.at.c_is; sort_is = (may_join_parts w.c w.d w.at.joins).0 };
-    right = λ i j l h.
-        let w = (is.share.each i j l).0 h in
-        record { cell = w.d; is = cell_of_number j w.d w.at.d_is; sort_is = (may_join_parts w.c w.d w.at.joins).1.0 };
-    not_both_known = λ i j l h k m.
-        let w = (is.share.each i j l).0 h in
-        (may_join_parts w.c w.d w.at.joins).1.1 (known_of i w.c (cell_of_number i w.c w.at.c_is) k) (known_of j w.d (cell_of_number j w.d w.at.d_is) m);
   }

@@ -1,26 +1,26 @@
 -- What is left of the state of all pairs, without the ids that nothing reaches, is a widening.
-use Rattle.std.proofs.Common.{◌≡◌, ◌≢◌, ◌⊎◌, ℕ, ◌<◌, ◌≤◌, Bool, true, false, not, ◌&&◌, List, [], ◌∷◌, length, get_or, reverse, Option, Some, refl, sym, ap, subst, ◌∙◌, inl, inr, arith}
+use Rattle.std.proofs.Common.{◌≡◌, ◌≢◌, ◌⊎◌, ℕ, ◌<◌, ◌≤◌, Bool, true, false, not, ◌&&◌, List, [], ◌∷◌, length, reverse, Option, Some, refl, sym, ap, subst, ◌∙◌, inl, inr, arith}
 use Rattle.std.specs.Prelude.{◌↔◌, slice_get}
-use Rattle.std.specs.List.{AllZip, AllByRecursion}
+use Rattle.std.specs.List.{AllByRecursion}
 use Rattle.std.specs.Option.{option_map}
 use Rattle.std.proofs.lemmas.Bool.{and_from, cases_lt, or_cases, false≢true, false_from_ne_true}
-use Rattle.std.proofs.lemmas.Option.{slice_get-get_or, slice_get_within}
 use Rattle.jvm_values.proofs.Options.{some_is}
 use Rattle.jvm_values.specs.TypedHeaps.{WorldTypes}
 use Rattle.abs_cells.specs.declared.cells.Cell.{Cell}
 use Rattle.abs_cells.specs.declared.cells.Cell.TheVariants.{Int, Null, Obj, Nums, Refs, Unk}
 use Rattle.abs_cells.specs.AbstractStates.{AbstractFrame, AbstractState}
-use Rattle.abs_cells.specs.Cells.{is_known, is_hazy, is_reference, cell_at, HasCell, AreEqual, Share}
+use Rattle.abs_cells.specs.Cells.{is_known, is_hazy, is_reference, cell_in, cell_at, HasCell, AreEqual, Share}
 use Rattle.abs_cells.specs.Closures.{MayMeet, MayBeIn}
-use Rattle.abs_cells.specs.Sound.{IsWellFormed}
+use Rattle.abs_cells.specs.Sound.{AreIdsRising}
+use Rattle.abs_cells.specs.PairLists.{has}
 use Rattle.abs_cells.proofs.PairLaws.{has_swapped}
-use Rattle.abs_reach.specs.Reached.{IsReached, IsDropped}
+use Rattle.abs_reach.specs.Reached.{IsDropped}
 use Rattle.abs_reach.specs.Instances.{MayBeOne}
 use Rattle.abs_widen.specs.Visits.{thrown_pair, ArePairs}
-use Rattle.abs_widen.specs.Visiting.{AreAsLong, ArePairCells}
-use Rattle.abs_widen.specs.Widening.{number_of, merged_frames, AreMergedCells, MayJoin, OnOneSide, MustShare, without_pairs, IsWidening}
-use Rattle.abs_widen.specs.Pairing.{may_join_cells, IsPairedBy, IsPairedAs, AreOne, MayJoinAt, WantsOne, WantsShare, IsWithin, AreNumbered, AreJoined, IsWhole}
-use Rattle.abs_widen.proofs.Whole.{in_order, may_join_parts, at_number, number_cell, bare_merged, whole_numbered}
+use Rattle.abs_widen.specs.Visiting.{ArePairCells}
+use Rattle.abs_widen.specs.Widening.{number_of, merged_frames, AreMergedCells, MayJoin, OnOneSide, MustShare, without_pairs, IsMerged, IsWidening}
+use Rattle.abs_widen.specs.Pairing.{may_join_cells, IsPairedBy, IsPairedAs, AreOne, MayJoinAt, WantsOne, WantsShare, IsWithin, AreJoined, IsPaired}
+use Rattle.abs_widen.proofs.Whole.{in_order, may_join_parts}
 
 -- ---- what holds of two ids holds of them turned
 
@@ -94,58 +94,31 @@ not_both_true false t h = refl
 
 -- ---- the result
 
-module _ (types : WorldTypes) (a b : AbstractState) (pairs : List (ℕ × ℕ)) (whole result : AbstractState)
-    (are : ArePairs a b pairs) (few : length pairs ≤ 512) (long : AllZip AreAsLong a.frames b.frames) (is : IsWhole types a b pairs whole) (dropped : IsDropped whole result) where
-  numbered : AreNumbered pairs whole.cells
-  numbered = whole_numbered types a b pairs whole are few long is
-
-  bare_reached : (id : ℕ) → IsReached (without_pairs whole) id → IsReached whole id
-  bare_reached id r = record { place = r.place; start = r.start; stands = r.stands; reaches = r.reaches }
-
-  reached_bare : (id : ℕ) → IsReached whole id → IsReached (without_pairs whole) id
-  reached_bare id r = record { place = r.place; start = r.start; stands = r.stands; reaches = r.reaches }
-
-  bare_dropped : IsDropped (without_pairs whole) (without_pairs result)
+module _ (types : WorldTypes) (a b : AbstractState) (pairs : List (ℕ × ℕ)) (merged left result : AbstractState) (is : IsMerged types a b pairs merged) (dropped : IsDropped merged left) (paired : IsPaired a b pairs left result) where
+  bare_dropped : IsDropped merged (without_pairs result)
   bare_dropped = record {
-    frames = dropped.frames;
-    throwing = dropped.throwing;
-    kept = λ id r. dropped.kept id (bare_reached id r);
-    gone = λ id h. reached_bare id (dropped.gone id (record { cell = h.cell; is = h.is; sort_is = refl }));
-    eq = λ m n. ((λ h. absurd (false≢true h)), (λ h. absurd (false≢true h.0)));
-    share = λ m n. ((λ h. absurd (false≢true h)), (λ h. absurd (false≢true h.0)));
+    frames = paired.frames ∙ sym is.frames;
+    throwing = paired.throwing ∙ dropped.throwing;
+    kept = λ id r. ap (λ (cells : List (ℕ × Cell)). cell_in cells id) paired.cells ∙ dropped.kept id r;
+    gone = λ id h. dropped.gone id (record { cell = h.cell; is = ap (λ (cells : List (ℕ × Cell)). cell_in cells id) (sym paired.cells) ∙ h.is; sort_is = refl });
+    eq = λ m n. ((λ h. absurd (false≢true h)), (λ h. absurd (false≢true (ap (has m n) (sym is.eq) ∙ h.0))));
+    share = λ m n. ((λ h. absurd (false≢true h)), (λ h. absurd (false≢true (ap (has m n) (sym is.share) ∙ h.0))));
   }
-
-  -- cells of the result
-
-  reached : (sort : Cell → Bool) (n : ℕ) → HasCell sort result n → IsReached whole n
-  reached sort n h = dropped.gone n (record { cell = h.cell; is = h.is; sort_is = refl })
-
-  cell_number : (sort : Cell → Bool) (n : ℕ) (h : HasCell sort result n) → slice_get whole.cells n ≡ Some (n, h.cell)
-  cell_number sort n h = at_number pairs whole.cells numbered n h.cell (sym (dropped.kept n (reached sort n h)) ∙ h.is)
-
-  result_cell : (n : ℕ) (c : Cell) → IsReached whole n → slice_get whole.cells n ≡ Some (n, c) → cell_at result n ≡ Some c
-  result_cell n c r e = dropped.kept n r ∙ number_cell pairs whole.cells numbered n (n, c) e
 
   sort_at : (sort : Cell → Bool) (n : ℕ) (c : Cell) → cell_at result n ≡ Some c → HasCell sort result n → sort c ≡ true
   sort_at sort n c e h = ap sort (some_is (sym e ∙ h.is)) ∙ h.sort_is
 
   -- from ids that are wanted
 
-  module _ (m n : ℕ) (p q : ℕ × ℕ) (c d : Cell) (at : MayJoinAt pairs whole.cells m n p q c d) (left : IsReached whole m) (right : IsReached whole n) where
-    c_is : cell_at result m ≡ Some c
-    c_is = result_cell m c left at.c_is
-
-    d_is : cell_at result n ≡ Some d
-    d_is = result_cell n d right at.d_is
-
+  module _ (m n : ℕ) (p q : ℕ × ℕ) (c d : Cell) (at : MayJoinAt pairs result.cells m n p q c d) where
     they_join : m ≢ n → MayJoin result m n
     they_join differ =
         let parts = may_join_parts c d at.joins in
         record {
           differ = differ;
-          first = record { cell = c; is = c_is; sort_is = parts.0 };
-          second = record { cell = d; is = d_is; sort_is = parts.1.0 };
-          not_both = λ h k. parts.1.1 (sort_at is_known m c c_is h) (sort_at is_known n d d_is k);
+          first = record { cell = c; is = at.c_is; sort_is = parts.0 };
+          second = record { cell = d; is = at.d_is; sort_is = parts.1.0 };
+          not_both = λ h k. parts.1.1 (sort_at is_known m c at.c_is h) (sort_at is_known n d at.d_is k);
         }
 
     one_side : (holds : AbstractState → ℕ → ℕ → Type 0) → holds a p.0 q.0 ⊎ holds b p.1 q.1 → OnOneSide holds a b pairs m n
@@ -158,23 +131,23 @@ module _ (types : WorldTypes) (a b : AbstractState) (pairs : List (ℕ × ℕ)) 
     they_share true t e f h =
         let parts = may_join_parts c d at.joins in
         let hazy = hazy_of d parts.1.0 (false_from_ne_true (is_known d) (parts.1.1 e)) in
-        inr (inr (inl ((record { cell = c; is = c_is; sort_is = e }, record { cell = d; is = d_is; sort_is = hazy }), one_side MayBeIn h)))
+        inr (inr (inl ((record { cell = c; is = at.c_is; sort_is = e }, record { cell = d; is = at.d_is; sort_is = hazy }), one_side MayBeIn h)))
     they_share false true e f h =
         let parts = may_join_parts c d at.joins in
-        inr (inr (inr ((record { cell = d; is = d_is; sort_is = f }, record { cell = c; is = c_is; sort_is = hazy_of c parts.0 e }), other_side MayBeIn h)))
+        inr (inr (inr ((record { cell = d; is = at.d_is; sort_is = f }, record { cell = c; is = at.c_is; sort_is = hazy_of c parts.0 e }), other_side MayBeIn h)))
     they_share false false e f h =
         let parts = may_join_parts c d at.joins in
-        inr (inl ((record { cell = c; is = c_is; sort_is = hazy_of c parts.0 e }, record { cell = d; is = d_is; sort_is = hazy_of d parts.1.0 f }), one_side MayMeet h))
+        inr (inl ((record { cell = c; is = at.c_is; sort_is = hazy_of c parts.0 e }, record { cell = d; is = at.d_is; sort_is = hazy_of d parts.1.0 f }), one_side MayMeet h))
 
     they_must : AreOne a b p q ⊎ IsPairedAs a b p q c d → MustShare a b pairs result m n
     they_must (inl h) = inl (one_side MayBeOne h)
     they_must (inr h) = they_share (is_known c) (is_known d) refl refl h
 
-  said_one : (m n : ℕ) → m ≢ n → WantsOne a b pairs whole.cells m n → IsReached whole m → IsReached whole n → MayJoin result m n × OnOneSide MayBeOne a b pairs m n
-  said_one m n differ w left right = (they_join m n w.p w.q w.c w.d w.at left right differ, one_side m n w.p w.q w.c w.d w.at left right MayBeOne w.one)
+  said_one : (m n : ℕ) → m ≢ n → WantsOne a b pairs result.cells m n → MayJoin result m n × OnOneSide MayBeOne a b pairs m n
+  said_one m n differ w = (they_join m n w.p w.q w.c w.d w.at differ, one_side m n w.p w.q w.c w.d w.at MayBeOne w.one)
 
-  said_share : (m n : ℕ) → m ≢ n → WantsShare a b pairs whole.cells m n → IsReached whole m → IsReached whole n → MayJoin result m n × MustShare a b pairs result m n
-  said_share m n differ w left right = (they_join m n w.p w.q w.c w.d w.at left right differ, they_must m n w.p w.q w.c w.d w.at left right w.shares)
+  said_share : (m n : ℕ) → m ≢ n → WantsShare a b pairs result.cells m n → MayJoin result m n × MustShare a b pairs result m n
+  said_share m n differ w = (they_join m n w.p w.q w.c w.d w.at differ, they_must m n w.p w.q w.c w.d w.at w.shares)
 
   -- to ids that are wanted
 
@@ -192,16 +165,16 @@ module _ (types : WorldTypes) (a b : AbstractState) (pairs : List (ℕ × ℕ)) 
         (not_both_true (is_known c) (is_known d)
         (λ h k. join.not_both (record { cell = c; is = join.first.is; sort_is = h }) (record { cell = d; is = join.second.is; sort_is = k })))
 
-    join_at : (p q : ℕ × ℕ) → slice_get pairs m ≡ Some p → slice_get pairs n ≡ Some q → MayJoinAt pairs whole.cells m n p q c d
+    join_at : (p q : ℕ × ℕ) → slice_get pairs m ≡ Some p → slice_get pairs n ≡ Some q → MayJoinAt pairs result.cells m n p q c d
     join_at p q e f = record {
       p_is = e;
       q_is = f;
-      c_is = cell_number is_reference m join.first;
-      d_is = cell_number is_reference n join.second;
+      c_is = join.first.is;
+      d_is = join.second.is;
       joins = cells_join;
     }
 
-    wanted_one : OnOneSide MayBeOne a b pairs m n → WantsOne a b pairs whole.cells m n
+    wanted_one : OnOneSide MayBeOne a b pairs m n → WantsOne a b pairs result.cells m n
     wanted_one h = record { p = h.p; q = h.q; c = c; d = d; at = join_at h.p h.q h.first h.second; one = h.side }
 
     paired_by : (p q : ℕ × ℕ) (s t : Bool) → is_known c ≡ s → is_known d ≡ t → IsPairedBy s t a b p q → IsPairedAs a b p q c d
@@ -221,7 +194,7 @@ module _ (types : WorldTypes) (a b : AbstractState) (pairs : List (ℕ × ℕ)) 
     second_hazy : HasCell is_hazy result n → is_known d ≡ false
     second_hazy h = hazy_not_known d (sort_at is_hazy n d join.second.is h)
 
-    wanted_share : MustShare a b pairs result m n → WantsShare a b pairs whole.cells m n
+    wanted_share : MustShare a b pairs result m n → WantsShare a b pairs result.cells m n
     wanted_share (inl h) = record { p = h.p; q = h.q; c = c; d = d; at = join_at h.p h.q h.first h.second; shares = inl h.side }
     wanted_share (inr (inl h)) =
         let side = h.1 in
@@ -264,60 +237,44 @@ module _ (types : WorldTypes) (a b : AbstractState) (pairs : List (ℕ × ℕ)) 
 
   eq_is : (m n : ℕ) → AreEqual result m n ↔ (MayJoin result m n × OnOneSide MayBeOne a b pairs m n)
   eq_is m n = (
-    λ h.
-        let kept = (dropped.eq m n).0 h in
-        elim (in_order (WantsOne a b pairs whole.cells) whole.eq is.eq m n kept.0) [
-          | inl w ↦ said_one m n (more m n w.1) w.0 kept.1.0 kept.1.1
-          | inr w ↦ said_one_turned a b pairs result n m (said_one n m (more n m w.1) w.0 kept.1.1 kept.1.0)
-        ],
-    λ h.
-        let left = reached is_reference m h.0.first in
-        let right = reached is_reference n h.0.second in
-        (dropped.eq m n).1 (
-          (elim (cases_lt m n) [
-            | inl l ↦ (is.eq.each m n l).1 (wanted_one m n h.0 h.1)
-            | inr l ↦
-                let back = said_one_turned a b pairs result m n h in
-                let other : n < m = below m n l h.0.differ in
-                has_swapped n m whole.eq ∙ (is.eq.each n m other).1 (wanted_one n m back.0 back.1)
-          ]),
-          (left, right),
-        ),
+    λ h. elim (in_order (WantsOne a b pairs result.cells) result.eq paired.eq m n h) [
+      | inl w ↦ said_one m n (more m n w.1) w.0
+      | inr w ↦ said_one_turned a b pairs result n m (said_one n m (more n m w.1) w.0)
+    ],
+    λ h. elim (cases_lt m n) [
+      | inl l ↦ (paired.eq.each m n l).1 (wanted_one m n h.0 h.1)
+      | inr l ↦
+          let back = said_one_turned a b pairs result m n h in
+          let other : n < m = below m n l h.0.differ in
+          has_swapped n m result.eq ∙ (paired.eq.each n m other).1 (wanted_one n m back.0 back.1)
+    ],
   )
 
   share_is : (m n : ℕ) → Share result m n ↔ (MayJoin result m n × MustShare a b pairs result m n)
   share_is m n = (
-    λ h.
-        let kept = (dropped.share m n).0 h in
-        elim (in_order (WantsShare a b pairs whole.cells) whole.share is.share m n kept.0) [
-          | inl w ↦ said_share m n (more m n w.1) w.0 kept.1.0 kept.1.1
-          | inr w ↦ said_share_turned a b pairs result n m (said_share n m (more n m w.1) w.0 kept.1.1 kept.1.0)
-        ],
-    λ h.
-        let left = reached is_reference m h.0.first in
-        let right = reached is_reference n h.0.second in
-        (dropped.share m n).1 (
-          (elim (cases_lt m n) [
-            | inl l ↦ (is.share.each m n l).1 (wanted_share m n h.0 h.1)
-            | inr l ↦
-                let back = said_share_turned a b pairs result m n h in
-                let other : n < m = below m n l h.0.differ in
-                has_swapped n m whole.share ∙ (is.share.each n m other).1 (wanted_share n m back.0 back.1)
-          ]),
-          (left, right),
-        ),
+    λ h. elim (in_order (WantsShare a b pairs result.cells) result.share paired.share m n h) [
+      | inl w ↦ said_share m n (more m n w.1) w.0
+      | inr w ↦ said_share_turned a b pairs result n m (said_share n m (more n m w.1) w.0)
+    ],
+    λ h. elim (cases_lt m n) [
+      | inl l ↦ (paired.share.each m n l).1 (wanted_share m n h.0 h.1)
+      | inr l ↦
+          let back = said_share_turned a b pairs result m n h in
+          let other : n < m = below m n l h.0.differ in
+          has_swapped n m result.share ∙ (paired.share.each n m other).1 (wanted_share n m back.0 back.1)
+    ],
   )
 
-  pub is_widening : IsWellFormed result → IsWidening types a b result
-  is_widening good = record {
+  pub is_widening : ArePairs a b pairs → length pairs ≤ 512 → AreIdsRising 0 left.cells → IsWidening types a b result
+  is_widening are few rising = record {
     pairs = pairs;
     are_pairs = are;
     few = few;
     is = record {
-      merged = without_pairs whole;
-      is_merged = bare_merged types a b pairs whole are few long is;
+      merged = merged;
+      is_merged = is;
       dropped = bare_dropped;
-      rising = good.rising;
+      rising = subst (AreIdsRising 0) (sym paired.cells) rising;
       eq = eq_is;
       share = share_is;
     };
@@ -337,21 +294,24 @@ all_within types a b (p ∷ pairs) h =
       all_within types a b pairs h.1,
     )
 
--- cells that are made have their pairs' numbers
-pub made_numbered : (types : WorldTypes) (a b : AbstractState) (pairs : List (ℕ × ℕ)) (cells : List (ℕ × Cell)) → length pairs ≤ 512 → (length cells ≡ length pairs) × AreMergedCells types a b pairs cells → AreNumbered pairs cells
-made_numbered types a b pairs cells few made = record {
-  long = made.0;
-  few = few;
-  each = λ k entry e.
-      let lengths = made.0 in
-      let low : k < length cells = slice_get_within cells k entry e in
-      (made.1 k (get_or pairs k (0, 0)) entry (slice_get-get_or pairs k (0, 0) (omega (arith, lengths, low))) e).0;
-}
-
 -- a state that is made of its parts
-pub whole_of : (types : WorldTypes) (a b : AbstractState) (pairs : List (ℕ × ℕ)) (frames : List AbstractFrame) (thrown : Option ℕ) (cells : List (ℕ × Cell)) (eq share : List (ℕ × ℕ)) (made : AbstractState)
+pub merged_of : (types : WorldTypes) (a b : AbstractState) (pairs : List (ℕ × ℕ)) (frames : List AbstractFrame) (thrown : Option ℕ) (cells : List (ℕ × Cell)) (eq share : List (ℕ × ℕ)) (made : AbstractState)
     → made ≡ record { frames = reverse frames; throwing = thrown; cells = cells; eq = eq; share = share }
     → reverse frames ≡ merged_frames a b pairs a.frames b.frames → thrown ≡ option_map (number_of pairs) (thrown_pair a.throwing b.throwing)
-    → (length cells ≡ length pairs) × AreMergedCells types a b pairs cells → AreJoined (WantsOne a b pairs cells) eq × AreJoined (WantsShare a b pairs cells) share → IsWhole types a b pairs made
-whole_of types a b pairs frames thrown cells eq share made e f t c j =
-    subst (IsWhole types a b pairs) (sym e) (record { frames = f; throwing = t; long = c.0; cells = c.1; eq = j.0; share = j.1 })
+    → (length cells ≡ length pairs) × AreMergedCells types a b pairs cells → eq ≡ [] → share ≡ [] → IsMerged types a b pairs made
+merged_of types a b pairs frames thrown cells eq share made e f t c none empty =
+    subst (IsMerged types a b pairs) (sym e) (record { frames = f; throwing = t; long = c.0; cells = c.1; eq = none; share = empty })
+
+-- a state that is given its pairs
+pub paired_of : (a b : AbstractState) (pairs : List (ℕ × ℕ)) (left : AbstractState) (frames : List AbstractFrame) (thrown : Option ℕ) (cells : List (ℕ × Cell)) (eq share : List (ℕ × ℕ)) (made : AbstractState)
+    → made ≡ record { frames = reverse frames; throwing = thrown; cells = cells; eq = eq; share = share }
+    → reverse frames ≡ merged_frames a b pairs a.frames b.frames → thrown ≡ left.throwing → cells ≡ left.cells
+    → AreJoined (WantsOne a b pairs left.cells) eq × AreJoined (WantsShare a b pairs left.cells) share → IsPaired a b pairs left made
+paired_of a b pairs left frames thrown cells eq share made e f t c j =
+    subst (IsPaired a b pairs left) (sym e) (record {
+      frames = f;
+      throwing = t;
+      cells = c;
+      eq = subst (λ (l : List (ℕ × Cell)). AreJoined (WantsOne a b pairs l) eq) (sym c) j.0;
+      share = subst (λ (l : List (ℕ × Cell)). AreJoined (WantsShare a b pairs l) share) (sym c) j.1;
+    })

@@ -3,13 +3,10 @@ use Rattle.std.specs.Prelude.{◌≡◌, ◌⊎◌, ◌↔◌, ℕ, ◌<◌, ◌
 use Rattle.abs_cells.specs.declared.cells.Cell.{Cell}
 use Rattle.abs_cells.specs.AbstractStates.{AbstractState}
 use Rattle.abs_cells.specs.PairLists.{IsRising, has, added}
-use Rattle.abs_cells.specs.Cells.{is_known, is_reference, HasCell}
+use Rattle.abs_cells.specs.Cells.{is_known, is_reference, cell_in, HasCell}
 use Rattle.abs_cells.specs.Closures.{MayMeet, MayBeIn}
 use Rattle.abs_reach.specs.Instances.{MayBeOne}
-use Rattle.std.specs.Option.{option_map}
-use Rattle.jvm_values.specs.TypedHeaps.{WorldTypes}
-use Rattle.abs_widen.specs.Visits.{thrown_pair}
-use Rattle.abs_widen.specs.Widening.{number_of, merged_frames, AreMergedCells}
+use Rattle.abs_widen.specs.Widening.{merged_frames}
 
 -- both ids of a pair have cells
 pub record IsWithin (a b : AbstractState) (pair : ℕ × ℕ) : Type 0 where
@@ -31,12 +28,12 @@ IsPairedAs a b p q c d = IsPairedBy (is_known c) (is_known d) a b p q
 abbrev pub AreOne : AbstractState → AbstractState → ℕ × ℕ → ℕ × ℕ → Type 0
 AreOne a b p q = MayBeOne a p.0 q.0 ⊎ MayBeOne b p.1 q.1
 
--- two ids of the widening with their pairs and cells, which may join
+-- two ids with their pairs and cells, which may join
 pub record MayJoinAt (pairs : List (ℕ × ℕ)) (cells : List (ℕ × Cell)) (m n : ℕ) (p q : ℕ × ℕ) (c d : Cell) : Type 0 where
   pub p_is : slice_get pairs m ≡ Some p
   pub q_is : slice_get pairs n ≡ Some q
-  pub c_is : slice_get cells m ≡ Some (m, c)
-  pub d_is : slice_get cells n ≡ Some (n, d)
+  pub c_is : cell_in cells m ≡ Some c
+  pub d_is : cell_in cells n ≡ Some d
   pub joins : may_join_cells c d ≡ true
 
 -- they are to have one object; they are to share
@@ -77,11 +74,10 @@ pub record AreNumbered (pairs : List (ℕ × ℕ)) (cells : List (ℕ × Cell)) 
   pub few : length pairs ≤ 512
   pub each : (k : ℕ) (entry : ℕ × Cell) → slice_get cells k ≡ Some entry → entry.0 ≡ k
 
--- the state of all pairs, with the pairs of ids that have one object, and those that share
-pub record IsWhole (types : WorldTypes) (a b : AbstractState) (pairs : List (ℕ × ℕ)) (whole : AbstractState) : Type 0 where
-  pub frames : whole.frames ≡ merged_frames a b pairs a.frames b.frames
-  pub throwing : whole.throwing ≡ option_map (number_of pairs) (thrown_pair a.throwing b.throwing)
-  pub long : length whole.cells ≡ length pairs
-  pub cells : AreMergedCells types a b pairs whole.cells
-  pub eq : AreJoined (WantsOne a b pairs whole.cells) whole.eq
-  pub share : AreJoined (WantsShare a b pairs whole.cells) whole.share
+-- a state of pairs with those of its ids that have one object, and those that share
+pub record IsPaired (a b : AbstractState) (pairs : List (ℕ × ℕ)) (left paired : AbstractState) : Type 0 where
+  pub frames : paired.frames ≡ merged_frames a b pairs a.frames b.frames
+  pub throwing : paired.throwing ≡ left.throwing
+  pub cells : paired.cells ≡ left.cells
+  pub eq : AreJoined (WantsOne a b pairs paired.cells) paired.eq
+  pub share : AreJoined (WantsShare a b pairs paired.cells) paired.share

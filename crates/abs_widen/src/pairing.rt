@@ -1,12 +1,12 @@
 //! Which ids of a widening may have one object, and which share.
-ghost use Rattle.std.specs.Prelude.{◌≡◌, ◌⊎◌, ◌↔◌, ◌<◌, true, length, if◌then◌else◌, IsTrue, OnOk, IfOk};
+ghost use Rattle.std.specs.Prelude.{◌≡◌, ◌⊎◌, ◌↔◌, ◌+◌, ◌<◌, ◌≤◌, ℕ, List, true, length, if◌then◌else◌, IsTrue, None, Some, OnOk, IfOk, MatchOption};
 ghost use Rattle.std.specs.List.{AllByRecursion};
 ghost use Rattle.abs_cells.specs.PairLists.{added};
-ghost use Rattle.abs_cells.specs.Cells.{is_reference, HasCell, AreEqual};
+ghost use Rattle.abs_cells.specs.Cells.{is_reference, cell_in, HasCell, AreEqual};
 ghost use Rattle.abs_cells.specs.Closures.{MayMeet, MayBeIn};
 ghost use Rattle.abs_cells.specs.Sound.{AreIdsRising, IsWellFormed};
 ghost use Rattle.abs_reach.specs.Instances.{MayBeOne};
-ghost use Rattle.abs_widen.specs.Pairing.{IsWithin, AreOne, may_join_cells, IsPairedAs, WantsOne, WantsShare, AreNumbered, IsPut, AreJoined};
+ghost use Rattle.abs_widen.specs.Pairing.{IsWithin, AreOne, may_join_cells, IsPairedAs, WantsOne, WantsShare, IsPut, AreJoinedTo, AreJoined};
 
 use abs_cells::{AbsState, Cell, Id, Pairs};
 use abs_reach::{Marks, cell_of, may_be_in, may_meet};
@@ -189,13 +189,106 @@ fn put_if<P: Pairs>(list: &mut P, wanted: bool, m: usize, n: usize) -> Result<()
     Ok(())
 }
 
-/// Puts two ids among those with one object, and among those that share, where they are to be.
+/// Puts two ids with their cells among those with one object, and among those that share, where they are to be.
+fn join_cells<P: Pairs>(
+    a: &AbsState<P>,
+    b: &AbsState<P>,
+    pairs: &[(Id, Id)],
+    m: usize,
+    n: usize,
+    first: &Cell,
+    second: &Cell,
+    eq: &mut P,
+    shared: &mut P,
+    marks: &mut Marks,
+) -> Result<(), AllocError>
+    requires first { IsWellFormed a.now }
+    requires second { IsWellFormed b.now }
+    requires within { AllByRecursion (IsWithin a.now b.now) pairs.now }
+    requires few { length pairs.now ≤ 512 }
+    requires order { m < n }
+    requires there { n < length pairs.now }
+    ensures { OnOk result ((cells : List (ℕ × Cell)) → cell_in cells m ≡ Some first.now → cell_in cells n ≡ Some second.now → IsPut (WantsOne a.now b.now pairs.now cells) m n (P.pairs eq.old) (P.pairs eq.new) × IsPut (WantsShare a.now b.now pairs.now cells) m n (P.pairs shared.old) (P.pairs shared.new)) }
+{
+    let one = is_one(a, b, pairs[m], pairs[n], first, second);
+    let share = is_shared(a, b, pairs[m], pairs[n], first, second, marks);
+    put_if(eq, one, m, n)?;
+    put_if(shared, share, m, n)
+}
+
+/// The cell of a number among cells that rise, if it has one.
+fn cell_at(cells: &[(Id, Cell)], n: usize) -> Option<&Cell>
+    requires rising { AreIdsRising 0 cells.now }
+    requires low { n < 512 }
+    ensures { MatchOption result (cell_in cells.now n ≡ None) (λ cell. cell_in cells.now n ≡ Some cell.now) }
+{
+    cell_of(cells, n as Id)
+}
+
+/// The same of two ids of which the lower one may have no cell.
 fn join_one<P: Pairs>(
     a: &AbsState<P>,
     b: &AbsState<P>,
     pairs: &[(Id, Id)],
     cells: &[(Id, Cell)],
     m: usize,
+    n: usize,
+    second: &Cell,
+    eq: &mut P,
+    shared: &mut P,
+    marks: &mut Marks,
+) -> Result<(), AllocError>
+    requires first { IsWellFormed a.now }
+    requires second { IsWellFormed b.now }
+    requires within { AllByRecursion (IsWithin a.now b.now) pairs.now }
+    requires few { length pairs.now ≤ 512 }
+    requires rising { AreIdsRising 0 cells.now }
+    requires cell { cell_in cells.now n ≡ Some second.now }
+    requires order { m < n }
+    requires there { n < length pairs.now }
+    ensures { OnOk result (IsPut (WantsOne a.now b.now pairs.now cells.now) m n (P.pairs eq.old) (P.pairs eq.new) × IsPut (WantsShare a.now b.now pairs.now cells.now) m n (P.pairs shared.old) (P.pairs shared.new)) }
+{
+    match cell_at(cells, m) {
+        None => Ok(()),
+        Some(first) => join_cells(a, b, pairs, m, n, first, second, eq, shared, marks),
+    }
+}
+
+/// The same of an id with its cell and each lower one.
+fn join_below<P: Pairs>(
+    a: &AbsState<P>,
+    b: &AbsState<P>,
+    pairs: &[(Id, Id)],
+    cells: &[(Id, Cell)],
+    n: usize,
+    second: &Cell,
+    eq: &mut P,
+    shared: &mut P,
+    marks: &mut Marks,
+) -> Result<(), AllocError>
+    requires first { IsWellFormed a.now }
+    requires second { IsWellFormed b.now }
+    requires within { AllByRecursion (IsWithin a.now b.now) pairs.now }
+    requires few { length pairs.now ≤ 512 }
+    requires rising { AreIdsRising 0 cells.now }
+    requires cell { cell_in cells.now n ≡ Some second.now }
+    requires there { n < length pairs.now }
+    requires eq { AreJoinedTo (WantsOne a.now b.now pairs.now cells.now) n 0 (P.pairs eq.old) }
+    requires shared { AreJoinedTo (WantsShare a.now b.now pairs.now cells.now) n 0 (P.pairs shared.old) }
+    ensures { OnOk result (AreJoinedTo (WantsOne a.now b.now pairs.now cells.now) (n + 1) 0 (P.pairs eq.new) × AreJoinedTo (WantsShare a.now b.now pairs.now cells.now) (n + 1) 0 (P.pairs shared.new)) }
+{
+    for m in 0..n {
+        join_one(a, b, pairs, cells, m, n, second, eq, shared, marks)?;
+    }
+    Ok(())
+}
+
+/// The same of an id that may have no cell.
+fn join_row<P: Pairs>(
+    a: &AbsState<P>,
+    b: &AbsState<P>,
+    pairs: &[(Id, Id)],
+    cells: &[(Id, Cell)],
     n: usize,
     eq: &mut P,
     shared: &mut P,
@@ -204,20 +297,21 @@ fn join_one<P: Pairs>(
     requires first { IsWellFormed a.now }
     requires second { IsWellFormed b.now }
     requires within { AllByRecursion (IsWithin a.now b.now) pairs.now }
-    requires numbered { AreNumbered pairs.now cells.now }
-    requires order { m < n }
+    requires few { length pairs.now ≤ 512 }
+    requires rising { AreIdsRising 0 cells.now }
     requires there { n < length pairs.now }
-    ensures { OnOk result (IsPut (WantsOne a.now b.now pairs.now cells.now) m n (P.pairs eq.old) (P.pairs eq.new) × IsPut (WantsShare a.now b.now pairs.now cells.now) m n (P.pairs shared.old) (P.pairs shared.new)) }
+    requires eq { AreJoinedTo (WantsOne a.now b.now pairs.now cells.now) n 0 (P.pairs eq.old) }
+    requires shared { AreJoinedTo (WantsShare a.now b.now pairs.now cells.now) n 0 (P.pairs shared.old) }
+    ensures { OnOk result (AreJoinedTo (WantsOne a.now b.now pairs.now cells.now) (n + 1) 0 (P.pairs eq.new) × AreJoinedTo (WantsShare a.now b.now pairs.now cells.now) (n + 1) 0 (P.pairs shared.new)) }
 {
-    let first = &cells[m].1;
-    let second = &cells[n].1;
-    let one = is_one(a, b, pairs[m], pairs[n], first, second);
-    let share = is_shared(a, b, pairs[m], pairs[n], first, second, marks);
-    put_if(eq, one, m, n)?;
-    put_if(shared, share, m, n)
+    match cell_at(cells, n) {
+        None => Ok(()),
+        Some(second) => join_below(a, b, pairs, cells, n, second, eq, shared, marks),
+    }
 }
 
-/// The pairs of ids with one object, and those that share.
+/// Of the ids that have cells, the pairs with one object, and those that share. It costs as many steps as there are pairs of
+/// such ids, each with the tests of what ids reach.
 pub(crate) fn joined<P: Pairs>(
     alloc: Global,
     a: &AbsState<P>,
@@ -229,15 +323,14 @@ pub(crate) fn joined<P: Pairs>(
     requires first { IsWellFormed a.now }
     requires second { IsWellFormed b.now }
     requires within { AllByRecursion (IsWithin a.now b.now) pairs.now }
-    requires numbered { AreNumbered pairs.now cells.now }
+    requires few { length pairs.now ≤ 512 }
+    requires rising { AreIdsRising 0 cells.now }
     ensures { IfOk result (λ both. AreJoined (WantsOne a.now b.now pairs.now cells.now) (P.pairs both.0) × AreJoined (WantsShare a.now b.now pairs.now cells.now) (P.pairs both.1)) }
 {
     let mut eq = P::empty(alloc);
     let mut shared = P::empty(alloc);
     for n in 0..pairs.len() {
-        for m in 0..n {
-            join_one(a, b, pairs, cells, m, n, &mut eq, &mut shared, marks)?;
-        }
+        join_row(a, b, pairs, cells, n, &mut eq, &mut shared, marks)?;
     }
     let _one = eq.nth(0);
     let _share = shared.nth(0);

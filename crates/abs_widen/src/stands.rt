@@ -2,12 +2,13 @@
 ghost use Rattle.std.specs.Prelude.{◌≡◌, ◌↔◌, IsTrue, true, length};
 ghost use Rattle.std.specs.List.{AllZip};
 ghost use Rattle.abs_cells.specs.Sound.{IsWellFormed};
-ghost use Rattle.abs_reach.specs.Instances.{head_of, is_thrown};
+ghost use Rattle.abs_reach.specs.Instances.{is_thrown};
 ghost use Rattle.abs_widen.specs.Visits.{are_alike};
 ghost use Rattle.abs_widen.specs.Widening.{AreFramesAlike, AreAlike};
 
 use crate::positions::are_alike;
 use abs_cells::{AbsFrame, AbsState, Id, Pairs};
+use abs_reach::is_same_head;
 
 /// Whether ids stand beside ids of their sort, place by place: ints beside ints.
 fn are_ids_alike<P: Pairs>(a: &AbsState<P>, b: &AbsState<P>, ids: &[Id], others: &[Id]) -> bool
@@ -24,15 +25,6 @@ fn are_ids_alike<P: Pairs>(a: &AbsState<P>, b: &AbsState<P>, ids: &[Id], others:
         }
     }
     true
-}
-
-/// Whether two frames have one method, one place of an instruction and one depth of stacks.
-fn is_same_head(frame: &AbsFrame, other: &AbsFrame) -> bool
-    ensures { IsTrue result ↔ (head_of frame.now ≡ head_of other.now) }
-{
-    frame.method() == other.method()
-        && frame.pc() == other.pc()
-        && frame.stack().len() == other.stack().len()
 }
 
 /// Whether two frames have as many locals.

@@ -6,8 +6,8 @@ ghost use Rattle.abs_cells.specs.Sound.{IsWellFormed, IsSound};
 ghost use Rattle.abs_widen.specs.declared.fault.WidenFault.TheVariants.{TooManyIds};
 ghost use Rattle.abs_widen.specs.Visits.{AreTooMany};
 ghost use Rattle.abs_widen.specs.Visiting.{AreAsLong, ArePairCells};
-ghost use Rattle.abs_widen.specs.Pairing.{IsWhole};
-ghost use Rattle.abs_widen.specs.Widening.{AreAlike, IsWidening};
+ghost use Rattle.abs_widen.specs.Pairing.{IsWithin, IsPaired};
+ghost use Rattle.abs_widen.specs.Widening.{AreAlike, IsMerged, IsWidening};
 ghost use Rattle.abs_widen.specs.Laws.{IsInstance};
 
 use crate::fault::WidenFault;
@@ -15,13 +15,14 @@ use crate::merged::merged_cells;
 use crate::numbers::{frames_of, number_of_some};
 use crate::pairing::joined;
 use crate::positions::{pairs_of, thrown_pair};
-use abs_cells::{AbsState, Id, Pairs};
+use abs_cells::{AbsState, Cell, Id, Ids, Pairs};
 use abs_reach::{Marks, drop_unreached};
 use jvm_values::Types;
-use std::alloc::{AllocError, Global};
+use list_views::Seq;
+use std::alloc::{AllocError, AllocFailed, Global};
 
-/// The state of all pairs, before ids that nothing reaches are dropped.
-fn whole_state<T: Types, P: Pairs>(
+/// The state of all pairs, in which no two ids are a pair yet.
+fn bare_state<T: Types, P: Pairs>(
     alloc: Global,
     types: &T,
     a: &AbsState<P>,
@@ -34,13 +35,61 @@ fn whole_state<T: Types, P: Pairs>(
     requires long { AllZip AreAsLong a.now.frames b.now.frames }
     requires few { length pairs.now ≤ 512 }
     requires cells { AllByRecursion (ArePairCells (world_types (T.sub types.now) (T.erase types.now) (T.classes types.now) (T.fields types.now) (T.can_be_made types.now)) a.now b.now) pairs.now }
-    ensures { IfOk result (λ whole. IsWhole (world_types (T.sub types.now) (T.erase types.now) (T.classes types.now) (T.fields types.now) (T.can_be_made types.now)) a.now b.now pairs.now whole) }
+    ensures { IfOk result (λ bare. IsMerged (world_types (T.sub types.now) (T.erase types.now) (T.classes types.now) (T.fields types.now) (T.can_be_made types.now)) a.now b.now pairs.now bare) }
 {
     let frames = frames_of(alloc, a, b, pairs)?;
     let thrown = number_of_some(pairs, thrown_pair(a.throwing(), b.throwing()));
     let cells = merged_cells(alloc, types, a, b, pairs, marks)?;
-    let both = joined(alloc, a, b, pairs, cells.as_slice(), marks)?;
-    Ok(AbsState::new(frames, thrown, cells, both.0, both.1))
+    Ok(AbsState::new(frames, thrown, cells, P::empty(alloc), P::empty(alloc)))
+}
+
+/// The same cell once more.
+fn copied_cell(alloc: Global, cell: &Cell) -> Result<Cell, AllocError>
+    ensures { IfOk result (λ copy. copy ≡ cell.now) }
+{
+    Ok(match cell {
+        Cell::Int(interval) => Cell::Int(*interval),
+        Cell::Null => Cell::Null,
+        Cell::Obj(class, ids) => Cell::Obj(*class, Ids::from_slice(alloc, ids.as_slice())?),
+        Cell::Nums(kind, len) => Cell::Nums(*kind, *len),
+        Cell::Refs(element, len, shape) => Cell::Refs(*element, *len, *shape),
+        Cell::Unk(bound, nullable, shape) => Cell::Unk(*bound, *nullable, *shape),
+    })
+}
+
+/// The same cells once more.
+fn copied_cells(alloc: Global, cells: &[(Id, Cell)]) -> Result<Seq<(Id, Cell)>, AllocError>
+    ensures { IfOk result (λ copy. copy ≡ cells.now) }
+{
+    let mut copy = Seq::with_capacity(alloc, cells.len())?;
+    for (id, cell) in cells {
+        copy.push((*id, copied_cell(alloc, cell)?))?;
+    }
+    Ok(copy)
+}
+
+/// The state of all pairs that are left where ids that nothing reaches are dropped, with the pairs of its ids that have one
+/// object, and those that share.
+fn paired<P: Pairs>(
+    alloc: Global,
+    a: &AbsState<P>,
+    b: &AbsState<P>,
+    pairs: &[(Id, Id)],
+    left: &AbsState<P>,
+    marks: &mut Marks,
+) -> Result<AbsState<P>, AllocError>
+    requires first { IsWellFormed a.now }
+    requires second { IsWellFormed b.now }
+    requires long { AllZip AreAsLong a.now.frames b.now.frames }
+    requires within { AllByRecursion (IsWithin a.now b.now) pairs.now }
+    requires few { length pairs.now ≤ 512 }
+    requires left { IsWellFormed left.now }
+    ensures { IfOk result (λ paired. IsPaired a.now b.now pairs.now left.now paired) }
+{
+    let frames = frames_of(alloc, a, b, pairs)?;
+    let cells = copied_cells(alloc, left.cells())?;
+    let both = joined(alloc, a, b, pairs, left.cells(), marks)?;
+    Ok(AbsState::new(frames, left.throwing(), cells, both.0, both.1))
 }
 
 /// The widening of a sound state by another one that stands alike.
@@ -58,8 +107,9 @@ fn widening_of<T: Types, P: Pairs>(
     ensures err { result ≡ Err TooManyIds → AreTooMany a.now b.now }
 {
     let pairs = pairs_of(alloc, a, b)?;
-    let whole = whole_state(alloc, types, a, b, &pairs, marks)?;
-    Ok(drop_unreached(whole, marks))
+    let bare = bare_state(alloc, types, a, b, &pairs, marks)?;
+    let left = drop_unreached(bare, marks);
+    Ok(paired(alloc, a, b, &pairs, &left, marks)?)
 }
 
 /// The widening of a sound state by another one that stands alike: the same methods, places of instructions, numbers of
@@ -67,8 +117,8 @@ fn widening_of<T: Types, P: Pairs>(
 /// of it, and it is sound.
 ///
 /// Its ids stand for pairs of ids of the two, numbered as a visit depth first meets them (Otto, Brockschmidt, von Essen,
-/// Giesl 2010). An int's bound that would move goes on to the next of five, so that bounds move only so often. It costs as many
-/// steps as there are pairs of pairs, each with the tests of what ids reach; the marks are scratch.
+/// Giesl 2010). An int's bound that would move goes on to the next of five, so that bounds move only so often. It looks at
+/// each two pairs, and asks for each two ids of the result what they reach; the marks are scratch.
 ///
 /// # Errors
 ///

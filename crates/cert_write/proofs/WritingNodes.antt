@@ -97,10 +97,6 @@ pub value_next : {A : Type 0} (f : A → Data) (xs : List A) (n : ℕ) (x : A) (
 value_next f xs n x old new v g all e m =
     ap (map view) m ∙ map-append view old (v ∷ []) ∙ map_next f xs n x (map view old) (view v) (sym g) all e
 
--- none is left
-pub values_all : {A : Type 0} (f : A → Data) (xs : List A) (n : ℕ) (values : List Value) → None ≡ slice_get xs n → map view values ≡ map f (take n xs) → map view values ≡ map f xs
-values_all f xs n values g all = all ∙ ap (map f) (all_of xs n (sym g))
-
 -- all are taken
 pub values_taken : {A : Type 0} (f : A → Data) (xs : List A) (n : ℕ) (values : List Value) → length xs ≤ n → map view values ≡ map f (take n xs) → map view values ≡ map f xs
 values_taken f xs n values l all = all ∙ ap (map f) (all_of xs n (slice_get_past xs n l))

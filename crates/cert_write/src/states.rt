@@ -109,14 +109,8 @@ impl Written<()> for AbsFrame {
 fn pairs<P: Pairs>(alloc: Global, set: &P) -> Result<Value, AllocError>
     ensures { IfOk result (λ v. view v ≡ pairs (P.pairs set.now)) }
 {
-    let mut values = Vec::new(alloc);
-    for n in 0..usize::MAX {
-        match set.nth(n) {
-            Some(pair) => values.push(pair.value(alloc, &())?)?,
-            None => return Ok(Value::Array(values)),
-        }
-    }
-    Err(AllocError)
+    let listed = set.list(alloc)?;
+    list(alloc, &(), &listed)
 }
 
 /// A state.

@@ -1,7 +1,5 @@
-use Rattle.std.proofs.Common.{◌≡◌, ◌<◌, ◌+◌, ℕ, true, sym, ap, subst, ◌∙◌, inl, inr, arith}
+use Rattle.std.proofs.Common.{◌+◌, sym, subst}
 use Rattle.abs_cells.specs.declared.packed.Packed.{Packed}
-use Rattle.abs_cells.specs.PairLists.{has_pair}
-use Rattle.abs_cells.specs.IdSets.{has_id}
 use Rattle.abs_cells.specs.PackedBits.{pairs_in, ArePacked, IsKeptTo}
 use Rattle.abs_cells.proofs.PackedLaws.{packed_rises}
 use Rattle.abs_cells.proofs.KeepLaws.{kept_none, kept_over, kept_less, kept_at_end, stays}

@@ -1,14 +1,8 @@
 use Rattle.std.proofs.Common.{◌<◌, length, arith}
 use Rattle.abs_widen.specs.Pairing.{WantsOne, WantsShare}
-use Rattle.abs_widen.proofs.Joining.{joined_more, joined_all}
+use Rattle.abs_widen.proofs.Joining.{joined_all}
 use Rattle.abs_widen.proofs.Wanting.{one_within, share_within}
 use Rattle.abs_widen.proofs.pairing.joined.Goals as goal
-
-pub loop-m-preserved : goal.loop-m-preserved
-loop-m-preserved g c = (
-  joined_more (WantsOne c.args.a.now c.args.b.now c.args.pairs.now c.args.cells.now) c.loop-n.n c.loop-m.m (g.P.Pairs.pairs c.loop-m.eq) (g.P.Pairs.pairs c.join_one.new.eq) c.loop-m-test.true c.in_ok-join_one.ensures.0 c.loop-m.invariant.0,
-  joined_more (WantsShare c.args.a.now c.args.b.now c.args.pairs.now c.args.cells.now) c.loop-n.n c.loop-m.m (g.P.Pairs.pairs c.loop-m.shared) (g.P.Pairs.pairs c.join_one.new.shared) c.loop-m-test.true c.in_ok-join_one.ensures.1 c.loop-m.invariant.1,
-)
 
 pub returns : goal.returns
 returns g c = (

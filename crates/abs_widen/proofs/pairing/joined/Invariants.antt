@@ -3,6 +3,3 @@ use Rattle.abs_widen.proofs.pairing.joined.Given as goal
 
 abbrev pub invariant-loop-n : goal.invariant-loop-n
 invariant-loop-n g l = AreJoinedTo (WantsOne l.a l.b l.pairs l.cells) l.n 0 (g.P.Pairs.pairs l.eq) × AreJoinedTo (WantsShare l.a l.b l.pairs l.cells) l.n 0 (g.P.Pairs.pairs l.shared)
-
-abbrev pub invariant-loop-m : goal.invariant-loop-m
-invariant-loop-m g l = AreJoinedTo (WantsOne l.a l.b l.pairs l.cells) l.n l.m (g.P.Pairs.pairs l.eq) × AreJoinedTo (WantsShare l.a l.b l.pairs l.cells) l.n l.m (g.P.Pairs.pairs l.shared)

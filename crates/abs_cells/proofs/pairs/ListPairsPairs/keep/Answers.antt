@@ -1,4 +1,4 @@
-use Rattle.std.proofs.Common.{◌≡◌, ◌&&◌, sym, subst, ℕ, List}
+use Rattle.std.proofs.Common.{◌&&◌, sym, subst, ℕ, List}
 use Rattle.abs_cells.specs.PairLists.{IsRising}
 use Rattle.abs_cells.specs.IdSets.{has_id}
 use Rattle.abs_cells.proofs.KeepLaws.{rising_filter}

@@ -1,0 +1,93 @@
+#!/usr/bin/env python3
+"""Times `jterm check` on certificates of generated methods of ints.
+
+usage: check.py [PROGRAM]
+
+PROGRAM is the built `jterm`; without it, it is `.built/jterm`, which `./jterm` makes. The shapes:
+
+ints 1     255 int parameters and 1,000 `nop`s, in form 1: each node says its 255 ints
+ints 2     the same in form 2: node 0 alone says its ints
+nodes      20 int parameters and 19,999 `nop`s, in form 2
+"""
+import json
+import pathlib
+import struct
+import subprocess
+import sys
+import tempfile
+
+from class_world import Pool
+from common import PEAK, processor_seconds, u2
+
+TOP = pathlib.Path(__file__).resolve().parent.parent
+LEAST, MOST = -2**31, 2**31 - 1
+
+
+def class_file(params, code, stack=2):
+    """`A` with a static method `f` of so many ints that returns nothing."""
+    pool = Pool()
+    this, over, attribute = pool.named('A'), pool.named('java/lang/Object'), pool.utf8('Code')
+    content = u2(stack) + u2(params) + struct.pack('>I', len(code)) + code + u2(0) + u2(0)
+    method = u2(9) + u2(pool.utf8('f')) + u2(pool.utf8('(' + 'I' * params + ')V')) + u2(1) + u2(attribute)
+    method += struct.pack('>I', len(content)) + content
+    head = bytes.fromhex('cafebabe00000032') + u2(len(pool.entries) + 1) + b''.join(pool.entries)
+    return head + u2(0x21) + u2(this) + u2(over) + u2(0) + u2(0) + u2(1) + method + u2(0)
+
+
+def description(params):
+    given = [{'lo': LEAST, 'hi': MOST}] * params
+    return {'form': 1, 'class': 'A', 'method': 'f', 'desc': '(' + 'I' * params + ')V', 'params': given, 'same': [], 'share': []}
+
+
+def state(params, place):
+    cells = [[n, 'int', LEAST, MOST] for n in range(params)]
+    return {'cells': cells, 'eq': [], 'frames': [[0, place, list(range(params)), []]], 'share': [], 'throw': -1}
+
+
+def straight(params, nops, form):
+    """A node for each `nop` and one for `return`."""
+    nodes = [{'by': ['expand', [n + 1]]} for n in range(nops)] + [{'by': ['end']}]
+    for place, node in enumerate(nodes):
+        if form == 1 or place == 0:
+            node['state'] = state(params, place)
+    cert = {'cuts': [0], 'form': form, 'nodes': nodes, 'proof': [['empty']]}
+    return class_file(params, bytes(nops) + b'\xb1'), description(params), cert
+
+
+def told(program, words):
+    """The program's output, and the least processor time of five runs, or of one that takes above a second."""
+    best = None
+    for _ in range(5):
+        before = processor_seconds()
+        out = subprocess.run([program] + words, capture_output=True).stdout
+        took = processor_seconds() - before
+        best = took if best is None else min(best, took)
+        if best > 1:
+            break
+    peak = subprocess.run([sys.executable, '-c', PEAK, program] + words, stdout=subprocess.DEVNULL, stderr=subprocess.PIPE).stderr
+    return out, best, int(peak.split()[-1]) / 1024
+
+
+def main():
+    program = sys.argv[1] if len(sys.argv) > 1 else str(TOP / '.built' / 'jterm')
+    if not pathlib.Path(program).is_file():
+        sys.exit(__doc__.strip())
+    shapes = [
+        ('ints 1', straight(255, 1000, 1)),
+        ('ints 2', straight(255, 1000, 2)),
+        ('nodes', straight(20, 19999, 2)),
+    ]
+    print('%-10s %10s %10s %10s  %s' % ('shape', 'bytes', 'ms', 'MiB', 'answer'))
+    with tempfile.TemporaryDirectory() as place:
+        place = pathlib.Path(place)
+        for name, (bytes_, desc, cert) in shapes:
+            (place / 'A.class').write_bytes(bytes_)
+            (place / 'desc.json').write_text(json.dumps(desc, separators=(',', ':')))
+            text = json.dumps(cert, separators=(',', ':'), sort_keys=True)
+            (place / 'cert.json').write_text(text)
+            out, took, peak = told(program, ['check', str(place / 'cert.json'), str(place / 'desc.json'), str(place / 'A.class')])
+            print('%-10s %10d %10.0f %10.1f  %s' % (name, len(text), 1000 * took, peak, out.decode().strip()[:60]))
+
+
+if __name__ == '__main__':
+    main()

@@ -1,6 +1,0 @@
-use Rattle.abs_reach.specs.Instances.{head_of}
-use Rattle.abs_match.specs.Matching.{FirstSame}
-use Rattle.abs_match.proofs.places.are_same_heads.Given as goal
-
-abbrev pub invariant-loop-place : goal.invariant-loop-place
-invariant-loop-place l = FirstSame head_of head_of l.a l.b l.place
