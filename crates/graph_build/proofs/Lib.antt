@@ -1,0 +1,13 @@
+mod Adding
+mod Ancestry
+mod Carrying
+mod Climbing
+mod Extending
+mod Finding
+mod Growths
+mod Heads
+mod Keeping
+mod Nodes
+mod Sounding
+mod Starting
+mod Turning

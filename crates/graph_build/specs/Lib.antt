@@ -1,0 +1,5 @@
+pub mod Rules
+pub mod Disciplined
+pub mod Growing
+pub mod Answers
+pub mod Working
