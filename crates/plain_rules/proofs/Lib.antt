@@ -1,0 +1,10 @@
+pub mod Close
+pub mod Collected
+pub mod Counted
+pub mod Ends
+pub mod Good
+pub mod Plain
+pub mod RuleRows
+pub mod ShortCases
+pub mod ShortLinks
+pub mod ShortTurns
