@@ -1,0 +1,5 @@
+mod Dividing
+mod Joining
+mod Owning
+mod Places
+mod Turning

@@ -1,0 +1,23 @@
+-- What is answered for rules.
+use Rattle.std.specs.Prelude.{List, map}
+use Rattle.std.specs.List.{AllZip}
+use Rattle.descent.specs.declared.proof.ProofStep.{ProofStep}
+use Rattle.descent.specs.declared.rules.PathRule.{PathRule}
+use Rattle.descent.specs.Conditions.{AreSteps}
+use Rattle.chain_proofs.specs.declared.proving.LeftRule.{LeftRule}
+use Rattle.chain_proofs.specs.declared.proving.Proved.{Proved}
+use Rattle.chain_proofs.specs.declared.proving.Proved.TheVariants.{Whole, Stuck}
+use Rattle.chain_proofs.specs.Stuck.{AreStuck, IsLeftRule}
+use Rattle.chain_proofs.specs.Unfinished.{IsLeft}
+
+-- the steps so far hold, and leave these rules to the next one; and the rules are stuck
+pub record LeavesStuck (rules : List PathRule) (steps : List ProofStep) (left : List LeftRule) : Type 0 where
+  pub is_left : IsLeft rules steps (map (λ (one : LeftRule). one.rule) left)
+  pub own : List PathRule
+  pub are_own : AllZip (IsLeftRule rules) left own
+  pub stuck : AreStuck own
+
+-- a proof whose steps are within the limits of proofs, and which is still to be checked; or the steps so far, and rules that are stuck
+abbrev pub ProvesOr : List PathRule → Proved → Type 0
+ProvesOr rules (Whole proof) = AreSteps proof.steps
+ProvesOr rules (Stuck proof left) = LeavesStuck rules proof.steps left

@@ -1,0 +1,4 @@
+pub mod Unfinished
+pub mod Stuck
+pub mod Answers
+pub mod Sets

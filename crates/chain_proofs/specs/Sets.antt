@@ -1,0 +1,99 @@
+-- Words for the calls that make proofs: sets of rules, and the steps for them.
+use Rattle.std.specs.Prelude.{◌≡◌, ℕ, suc, ◌<◌, ◌≤◌, true, Bool, false, IsTrue, if◌then◌else◌, List, [], ◌∷◌, length, map, Option, Some, None, slice_get}
+use Rattle.std.specs.List.{AllZip, filter_map}
+use Rattle.descent.specs.declared.proof.RankStep.{RankStep}
+use Rattle.descent.specs.declared.rules.PathRule.{PathRule}
+use Rattle.descent.specs.Conditions.{IsRanked, IsStep}
+use Rattle.descent.specs.Splits.{is_followed}
+use Rattle.descent.specs.Steps.{Given, ranking_of, ranking_fault, give, part_left, same_option}
+use Rattle.number_graphs.specs.Graphs.{Leads}
+use Rattle.rank_search.specs.Plain.{NoPlainForm}
+use Rattle.rank_search.specs.Stepwise.{NoStepwiseForm}
+use Rattle.chain_proofs.specs.declared.proving.LeftRule.{LeftRule}
+use Rattle.chain_proofs.specs.declared.proving.Turn.{Turn}
+use Rattle.chain_proofs.specs.declared.proving.Turn.TheVariants.{Step, Left}
+use Rattle.chain_proofs.specs.Stuck.{AreStuck, IsLeftRule}
+use Rattle.chain_proofs.specs.Unfinished.{HoldsAt}
+
+-- ---- rules
+
+-- numbers rise: the first is not below one, and each is above the one before
+abbrev pub Rises : ℕ → List ℕ → Type 0
+Rises low [] = Unit {0}
+Rises low (n ∷ rest) = (low ≤ n) × Rises (suc n) rest
+
+-- these rules are those of these numbers
+abbrev pub AreOwn : List PathRule → List ℕ → List PathRule → Type 0
+AreOwn rules set own = AllZip (λ (n : ℕ) (rule : PathRule). slice_get rules n ≡ Some rule) set own
+
+-- a class of one rule, which doesn't follow itself
+abbrev pub is_alone : List PathRule → List ℕ → Bool
+is_alone own [] = false
+is_alone own (only ∷ []) = if is_followed own only only then false else true
+is_alone own (one ∷ more ∷ rest) = false
+
+-- numbers that stand at these places of a list
+abbrev pub AreAt : List ℕ → List ℕ → List ℕ → Type 0
+AreAt set places part = AllZip (λ (place n : ℕ). slice_get set place ≡ Some n) places part
+
+-- the step of a class, to which its part is given; none where the class is one rule that doesn't follow itself
+abbrev pub IsStepOf : List PathRule → List ℕ → Option ℕ → Type 0
+IsStepOf own class (Some step) = Unit {0}
+IsStepOf own class None = is_alone own class ≡ true
+
+pub record IsHanded (own : List PathRule) (set class part : List ℕ) (number : ℕ) (given : Given) (step : Option ℕ) (after : Given) : Type 0 where
+  pub step_is : IsStepOf own class step
+  pub gives : give number (filter_map same_option (part_left set part step ∷ [])) given ≡ Some after
+
+-- a class has several rules, or one that follows itself
+abbrev pub Follows : List PathRule → List ℕ → Type 0
+Follows own [] = ⊥
+Follows own (only ∷ []) = is_followed own only only ≡ true
+Follows own (one ∷ more ∷ rest) = Unit {0}
+
+-- there are rules, and each reaches each, itself too
+pub record AreJoined (own : List PathRule) : Type 0 where
+  pub some : 0 < length own
+  pub joined : (rule other : ℕ) → rule < length own → other < length own → Leads (λ m n. IsTrue (is_followed own m n)) rule other
+
+-- the rules of a set with their cuts
+pub record IsLeftOf (rules : List PathRule) (number : ℕ) (left : LeftRule) : Type 0 where
+  pub number_is : left.rule ≡ number
+  pub rule : PathRule
+  pub is : IsLeftRule rules left rule
+
+abbrev pub AreLeft : List PathRule → List ℕ → List LeftRule → Type 0
+AreLeft rules set left = AllZip (IsLeftOf rules) set left
+
+-- ---- steps
+
+abbrev pub RanksAll : List PathRule → List ℕ → RankStep → Type 0
+RanksAll rules set step = ranking_fault (ranking_of step) rules set step.rules ≡ None
+
+pub record IsRankOf (rules : List PathRule) (set : List ℕ) (step : RankStep) : Type 0 where
+  pub limits : IsRanked step
+  pub ranks : RanksAll rules set step
+
+pub record HasNoForm (own : List PathRule) : Type 0 where
+  pub plain : NoPlainForm own
+  pub stepwise : NoStepwiseForm own
+
+-- what is found for rules by their places
+abbrev pub RanksOwn : List PathRule → Option RankStep → Type 0
+RanksOwn own (Some step) = IsRanked step
+RanksOwn own None = HasNoForm own
+
+abbrev pub RanksOr : List PathRule → List ℕ → List PathRule → Option RankStep → Type 0
+RanksOr rules set own (Some step) = IsRankOf rules set step
+RanksOr rules set own None = HasNoForm own
+
+-- what becomes of a step: it holds for its set and gives sets on, or there is no form
+pub record IsStuckAt (rules : List PathRule) (set : List ℕ) (left : List LeftRule) : Type 0 where
+  pub own : List PathRule
+  pub numbers : map (λ (one : LeftRule). one.rule) left ≡ set
+  pub are_own : AllZip (IsLeftRule rules) left own
+  pub stuck : AreStuck own
+
+abbrev pub TurnsOr : List PathRule → ℕ → List ℕ → Given → Turn → Given → Type 0
+TurnsOr rules number set given (Step step) after = HoldsAt rules number given step after × IsStep step
+TurnsOr rules number set given (Left left) after = (after ≡ given) × IsStuckAt rules set left

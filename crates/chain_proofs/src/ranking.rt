@@ -1,0 +1,140 @@
+//! Rank steps for sets of rules.
+ghost use Rattle.std.specs.Prelude.{◌≡◌, IfOk};
+ghost use Rattle.std.specs.List.{All};
+ghost use Rattle.descent.specs.Conditions.{AreRules, IsRanked, IsListed};
+ghost use Rattle.descent.specs.Handing.{AreOver};
+ghost use Rattle.chain_proofs.specs.Sets.{AreOwn, IsRankOf, RanksOr, RanksOwn};
+
+use descent::{PathRule, RankRule, RankStep, Scratch, check_rank_step};
+use list_views::Seq;
+use rank_search::{are_plain_rules, linear, plain};
+use std::alloc::{AllocError, Global};
+
+/// The number at a place of a set. A place that the set doesn't have is answered as want of memory.
+fn number_at(set: &[u32], place: u32) -> Result<u32, AllocError> {
+    match set.get(place as usize) {
+        Some(number) => Ok(*number),
+        None => Err(AllocError),
+    }
+}
+
+/// A listed rule, which is named by its place in a set, named by its number.
+fn renumbered(set: &[u32], listed: RankRule) -> Result<RankRule, AllocError>
+    requires { IsListed listed }
+    ensures { IfOk result IsListed }
+{
+    match listed {
+        RankRule::Weak { rule, fall } => Ok(RankRule::Weak {
+            rule: number_at(set, rule)?,
+            fall,
+        }),
+        RankRule::Strict { rule, fall, bound } => Ok(RankRule::Strict {
+            rule: number_at(set, rule)?,
+            fall,
+            bound,
+        }),
+    }
+}
+
+/// Listed rules so.
+fn all_renumbered(
+    alloc: Global,
+    set: &[u32],
+    listed: Seq<RankRule>,
+) -> Result<Seq<RankRule>, AllocError>
+    requires { All IsListed listed }
+    ensures { IfOk result (All IsListed) }
+{
+    let mut rules = Seq::new(alloc);
+    for one in listed.into_vec() {
+        rules.push(renumbered(set, one)?)?;
+    }
+    Ok(rules)
+}
+
+/// A step for the rules of a set, which it names by their places, as one that names them by their numbers.
+fn step_over(alloc: Global, set: &[u32], step: RankStep) -> Result<RankStep, AllocError>
+    requires { IsRanked step }
+    ensures { IfOk result IsRanked }
+{
+    let RankStep {
+        size,
+        weights,
+        forms,
+        rules,
+    } = step;
+    Ok(RankStep {
+        size,
+        weights,
+        forms,
+        rules: all_renumbered(alloc, set, rules)?,
+    })
+}
+
+/// The number of variables of the rule that has most.
+fn most_variables(rules: &[PathRule]) -> u32
+    ensures { AreOver result rules.now }
+{
+    let mut most = 0;
+    for rule in rules {
+        if rule.vars > most {
+            most = rule.vars;
+        }
+    }
+    most
+}
+
+/// The step, which is checked for its set. One that doesn't hold is answered as want of memory.
+fn checked(
+    alloc: Global,
+    rules: &[PathRule],
+    set: &[u32],
+    step: RankStep,
+) -> Result<RankStep, AllocError>
+    requires rules { AreRules rules.now }
+    requires limits { IsRanked step }
+    ensures { IfOk result (IsRankOf rules.now set.now) }
+{
+    let step = step_over(alloc, set, step)?;
+    let mut scratch = Scratch::new(alloc, most_variables(rules))?;
+    match check_rank_step(rules, set, &step, &mut scratch) {
+        Ok(()) => Ok(step),
+        Err(_fault) => Err(AllocError),
+    }
+}
+
+/// A step of a plain form for rules, or else of a linear one.
+#[tactic(auto, using(crate::proofs::Owning::linear_found))]
+fn form_of(alloc: Global, own: &[PathRule]) -> Result<Option<RankStep>, AllocError>
+    requires { AreRules own.now }
+    ensures { IfOk result (RanksOwn own.now) }
+{
+    if !are_plain_rules(own) {
+        return Err(AllocError);
+    }
+    match plain(alloc, own)? {
+        Some(step) => Ok(Some(step)),
+        None => linear(alloc, own),
+    }
+}
+
+/// A rank step for the rules of a set; None only where neither a plain nor a stepwise form ranks them.
+///
+/// # Errors
+///
+/// Want of memory.
+pub(crate) fn rank_step(
+    alloc: Global,
+    rules: &[PathRule],
+    set: &[u32],
+    own: &[PathRule],
+) -> Result<Option<RankStep>, AllocError>
+    requires rules { AreRules rules.now }
+    requires own { AreOwn rules.now set.now own.now }
+    ensures { IfOk result (RanksOr rules.now set.now own.now) }
+{
+    match form_of(alloc, own)? {
+        Some(step) => Ok(Some(checked(alloc, rules, set, step)?)),
+        None => Ok(None),
+    }
+}

@@ -1,0 +1,199 @@
+//! The sets that steps are given, and steps that divide a set.
+ghost use Rattle.std.specs.Prelude.{◌≡◌, ◌≤◌, ◌∷◌, [], ℕ, true, Some, IfOk, OnOk, IsTrue, slice_get, filter, length, replicate, None};
+ghost use Rattle.descent.specs.Components.{AreClasses};
+ghost use Rattle.descent.specs.Conditions.{IsStep};
+ghost use Rattle.descent.specs.Splits.{has};
+ghost use Rattle.descent.specs.Steps.{give, given_first, set_of, numbers_from};
+ghost use Rattle.chain_proofs.specs.Unfinished.{HoldsAt};
+ghost use Rattle.chain_proofs.specs.Sets.{Rises, AreAt, AreOwn, IsHanded, is_alone};
+
+use descent::{PathRule, ProofStep};
+use list_views::Seq;
+use std::alloc::{AllocError, Global};
+
+/// The sets that steps are given, by the steps' numbers, and the first step that has none yet.
+#[derive(Drop)]
+pub(crate) struct Sets {
+    pub(crate) given: Vec<Option<Seq<u32>>>,
+    pub(crate) next: u32,
+}
+
+/// So many numbers from 0 on.
+fn first_numbers(alloc: Global, count: u32) -> Result<Seq<u32>, AllocError>
+    ensures { IfOk result (λ set. set ≡ numbers_from 0 count) }
+{
+    let mut set = Seq::new(alloc);
+    for rule in 0..count {
+        set.push(rule)?;
+    }
+    Ok(set)
+}
+
+impl Sets {
+    /// Step 0 has all rules, and the others, below a number, have no set yet.
+    pub(crate) fn first(alloc: Global, rules: u32, below: usize) -> Result<Sets, AllocError>
+        requires { 1 ≤ below }
+        ensures { IfOk result (λ sets. sets.given.items ≡ given_first rules below) }
+    {
+        let mut given = Vec::new(alloc);
+        given.push(Some(first_numbers(alloc, rules)?))?;
+        for _n in 1..below {
+            given.push(None)?;
+        }
+        Ok(Sets { given, next: 1 })
+    }
+
+    /// A copy of the set that a step was given, if it was given one.
+    pub(crate) fn of(&self, alloc: Global, number: u32) -> Result<Option<Seq<u32>>, AllocError>
+        ensures { IfOk result (λ set. set ≡ set_of (slice_get self.now.given.items number)) }
+    {
+        match self.given.get(number as usize) {
+            Some(Some(set)) => Ok(Some(Seq::from_slice(alloc, set.as_slice())?)),
+            _ => Ok(None),
+        }
+    }
+
+    /// Gives a set to the next step that has none, and says which it is. Where no step is left it is answered as want of memory.
+    pub(crate) fn hand(&mut self, number: u32, set: Seq<u32>) -> Result<u32, AllocError>
+        ensures { IfOk result (λ step. give number ((step, set) ∷ []) self.old.given.items ≡ Some self.new.given.items) }
+    {
+        let step = self.next;
+        if step <= number || step == u32::MAX {
+            return Err(AllocError);
+        }
+        match self.given.get(step as usize) {
+            Some(None) => {}
+            _ => return Err(AllocError),
+        }
+        self.given[step as usize] = Some(set);
+        self.next = step + 1;
+        Ok(step)
+    }
+}
+
+/// Whether numbers rise.
+pub(crate) fn rise(set: &[u32]) -> bool
+    ensures { IsTrue result → Rises 0 set.now }
+{
+    let mut low = 0u32;
+    for number in set {
+        if *number < low || *number == u32::MAX {
+            return false;
+        }
+        low = *number + 1;
+    }
+    true
+}
+
+/// Whether a class is one rule that doesn't follow itself.
+pub(crate) fn is_alone(own: &[PathRule], class: &[u32]) -> bool
+    ensures { IsTrue result → is_alone own.now class.now ≡ true }
+{
+    let Some((only, rest)) = class.split_first() else {
+        return false;
+    };
+    if !rest.is_empty() {
+        return false;
+    }
+    match own.get(*only as usize) {
+        Some(rule) => rule.to != rule.from,
+        None => true,
+    }
+}
+
+/// The number at a place of a set. A place that the set doesn't have is answered as want of memory.
+fn number_at(set: &[u32], place: u32) -> Result<u32, AllocError>
+    ensures { IfOk result (λ number. slice_get set.now place ≡ Some number) }
+{
+    match set.get(place as usize) {
+        Some(number) => Ok(*number),
+        None => Err(AllocError),
+    }
+}
+
+/// The numbers at places of a set. A place that the set doesn't have is answered as want of memory.
+fn part_of(alloc: Global, set: &[u32], class: &[u32]) -> Result<Seq<u32>, AllocError>
+    ensures { IfOk result (AreAt set.now class.now) }
+{
+    let mut part = Seq::with_capacity(alloc, class.len())?;
+    for place in class {
+        part.push(number_at(set, *place)?)?;
+    }
+    Ok(part)
+}
+
+/// Whether a number is in a set.
+fn has(set: &[u32], rule: u32) -> bool
+    ensures { result ≡ has set.now rule }
+{
+    set.iter().any(|other| *other == rule)
+}
+
+/// The numbers of a set that are in a part.
+fn within(alloc: Global, part: &[u32], set: &[u32]) -> Result<Seq<u32>, AllocError>
+    ensures { IfOk result (λ kept. kept ≡ filter (has part.now) set.now) }
+{
+    let mut kept = Seq::new(alloc);
+    for rule in set {
+        if has(part, *rule) {
+            kept.push(*rule)?;
+        }
+    }
+    Ok(kept)
+}
+
+/// The step that takes a part, to which it is given; none where it is one rule that doesn't follow itself.
+fn step_of(
+    alloc: Global,
+    own: &[PathRule],
+    set: &[u32],
+    class: &[u32],
+    part: &[u32],
+    number: u32,
+    sets: &mut Sets,
+) -> Result<Option<u32>, AllocError>
+    ensures { IfOk result (λ step. IsHanded own.now set.now class.now part.now number sets.old.given.items step sets.new.given.items) }
+{
+    if is_alone(own, class) {
+        return Ok(None);
+    }
+    let kept = within(alloc, part, set)?;
+    Ok(Some(sets.hand(number, kept)?))
+}
+
+/// The step that divides a set into classes of rules that reach each other, and gives each class to a step of its own.
+#[tactic(auto, using(crate::proofs::Dividing::divided_first, crate::proofs::Dividing::split_holds, crate::proofs::Dividing::split_within))]
+pub(crate) fn split(
+    alloc: Global,
+    rules: &[PathRule],
+    own: &[PathRule],
+    set: &[u32],
+    classes: &[Seq<u32>],
+    number: u32,
+    sets: &mut Sets,
+) -> Result<ProofStep, AllocError>
+    requires own { AreOwn rules.now set.now own.now }
+    requires rise { Rises 0 set.now }
+    requires classes { AreClasses own.now classes.now }
+    requires given { set_of (slice_get sets.old.given.items number) ≡ Some set.now }
+    ensures holds { IfOk result (λ step. HoldsAt rules.now number sets.old.given.items step sets.new.given.items) }
+    ensures step { IfOk result IsStep }
+{
+    let mut parts = Seq::with_capacity(alloc, classes.len())?;
+    let mut steps = Seq::with_capacity(alloc, classes.len())?;
+    for class in classes {
+        let part = part_of(alloc, set, class.as_slice())?;
+        let step = step_of(
+            alloc,
+            own,
+            set,
+            class.as_slice(),
+            part.as_slice(),
+            number,
+            sets,
+        )?;
+        parts.push(part)?;
+        steps.push(step)?;
+    }
+    Ok(ProofStep::Split { parts, steps })
+}
