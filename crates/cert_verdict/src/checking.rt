@@ -25,9 +25,14 @@ use path_rules::paths;
 use std::alloc::Global;
 use term_graph::{Links, NodeSource};
 
-/// The links of a good graph.
+/// The links of a good graph with the root's state at node 0. The program's instructions are about ints alone, and so is each state that
+/// has an expansion.
+///
+/// # Errors
+///
+/// The first item that fails among the root and the nodes, with its cause; or want of memory.
 #[tactic(auto, using(crate::proofs::Telling::links_good, crate::proofs::Telling::links_refused))]
-fn good_links<P: Pairs, S: NodeSource<P>>(
+pub fn good_links<P: Pairs, S: NodeSource<P>>(
     alloc: Global,
     program: &Program<'_>,
     typing: &Typing,
@@ -45,9 +50,13 @@ fn good_links<P: Pairs, S: NodeSource<P>>(
     }
 }
 
-/// The rules of a good graph's paths between good cuts.
+/// The rules of a good graph's paths between good cuts, given the graph's links.
+///
+/// # Errors
+///
+/// The cuts, which don't rise, aren't nodes or don't begin with 0; or what is first in the way of the paths; or want of memory.
 #[tactic(auto, using(crate::proofs::Telling::ready_for, crate::proofs::Telling::cuts_refused, crate::proofs::Telling::paths_refused, crate::proofs::Telling::rules_given))]
-fn rules_between<P: Pairs, S: NodeSource<P>>(
+pub fn rules_between<P: Pairs, S: NodeSource<P>>(
     alloc: Global,
     program: &Program<'_>,
     typing: &Typing,

@@ -6,4 +6,4 @@ mod cuts;
 mod refusals;
 
 pub use cert_check::{Cause, Refusal};
-pub use checking::check_cert;
+pub use checking::{check_cert, good_links, rules_between};

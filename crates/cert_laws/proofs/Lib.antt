@@ -1,0 +1,9 @@
+pub mod Children
+pub mod Graphs
+pub mod Matching
+pub mod Nodes
+pub mod Numbers
+pub mod Paths
+pub mod Rules
+pub mod Steady
+pub mod Verdicts
