@@ -5,10 +5,15 @@ use Rattle.prove_call.specs.Answers as prove
 use Rattle.prove_call.specs.Headline.{AllEnd}
 use Rattle.prove_call.proofs.Good.{yes_true}
 use Rattle.run_call.specs.Answers as run
+use Rattle.check_call.specs.declared.outcome.Outcome.{Outcome}
+use Rattle.check_call.specs.Answers as check
+use Rattle.check_call.specs.Headline.{AllEndIfAccepted}
+use Rattle.check_call.specs.Lines.{accepted_line}
 use Rattle.jterm.specs.declared.verdict.Request.{Request}
-use Rattle.jterm.specs.declared.verdict.Request.TheVariants.{Prove, Run, Asm}
+use Rattle.jterm.specs.declared.verdict.Request.TheVariants.{Prove, Check, Run, Asm}
 use Rattle.jterm.specs.declared.verdict.Verdict.{Verdict}
-use Rattle.jterm.specs.Decision.{Takes, SaysYes, done_of, Done, IsAnswer}
+use Rattle.jterm.specs.Decision.{Takes, Says, done_of, Done, verdict_of, IsAnswer}
+use Rattle.jterm.proofs.Checking.{judged_with, accepted_true}
 
 -- ---- outputs
 
@@ -18,7 +23,7 @@ done_with P (Ok out) result e h = subst (Done P) (sym e) (refl, h)
 done_with P (Err refused) result e h = subst (Done P) (sym e) h
 
 -- what yes says
-pub headline_of : (desc : List ℕ) (files : List (List ℕ)) (result : Result Verdict Refused) → Done (prove.Answers desc files) result → IfOk result (λ verdict. SaysYes verdict → AllEnd files desc)
+pub headline_of : (desc : List ℕ) (files : List (List ℕ)) (result : Result Verdict Refused) → Done (prove.Answers desc files) result → IfOk result (λ verdict. Says prove.yes_line verdict → AllEnd files desc)
 headline_of desc files (Ok verdict) a = λ says. yes_true desc files verdict.out a.1
 headline_of desc files (Err refused) a = tt
 
@@ -31,6 +36,7 @@ take_all {A} (x ∷ xs) = ap (λ (ys : List A). x ∷ ys) (take_all xs)
 -- there is an input
 pub some_inputs : (request : Request) (given : List (List ℕ)) → Takes request given → 1 ≤ length given
 some_inputs (Prove nodes) given t = let some = t.2 in omega (arith, some)
+some_inputs Check given t = let some = t.0 in omega (arith, some)
 some_inputs (Run fuel) given t = let some = t.1 in omega (arith, some)
 some_inputs Asm given t = omega (arith, t)
 
@@ -43,6 +49,21 @@ inputs_are {A} f (x ∷ xs) one first some at is =
     let long : length (x ∷ xs) - 1 ≡ length xs = omega arith in
     let others : xs ≡ take (length (x ∷ xs) - 1) xs = sym (ap (λ (n : ℕ). take n xs) long ∙ take_all xs) in
     ap (λ (w : List ℕ). w ∷ map f xs) here ∙ ap (λ (ys : List A). first ∷ map f ys) others
+
+-- the first two inputs and the others, as they are handed on
+pub inputs_are_two : {A : Type 0} (f : A → List ℕ) (inputs : List A) (one two : A) (first second : List ℕ) → 3 ≤ length (map f inputs) → one ≡ get_or inputs 0 one → first ≡ f one
+    → two ≡ get_or inputs 1 two → second ≡ f two → map f inputs ≡ first ∷ second ∷ map f (take (length inputs - 2) (drop 2 inputs))
+inputs_are_two f [] one two first second some at is at_two is_two = absurd (omega arith)
+inputs_are_two f (x ∷ []) one two first second some at is at_two is_two = absurd (omega arith)
+inputs_are_two {A} f (x ∷ y ∷ xs) one two first second some at is at_two is_two =
+    let here : f x ≡ first = sym (is ∙ ap f at) in
+    let there : f y ≡ second = sym (is_two ∙ ap f at_two) in
+    let long : length (x ∷ y ∷ xs) - 2 ≡ length xs = omega arith in
+    let others : xs ≡ take (length (x ∷ y ∷ xs) - 2) xs = sym (ap (λ (n : ℕ). take n xs) long ∙ take_all xs) in
+    ap (λ (w : List ℕ). w ∷ f y ∷ map f xs) here ∙ (ap (λ (w : List ℕ). first ∷ w ∷ map f xs) there ∙ ap (λ (ys : List A). first ∷ second ∷ map f ys) others)
+
+pub three_inputs : {A : Type 0} (f : A → List ℕ) (inputs : List A) (request : Request) → request ≡ Check → Takes request (map f inputs) → 3 ≤ length (map f inputs)
+three_inputs f inputs request asked t = (subst (λ (r : Request). Takes r (map f inputs)) asked t).0
 
 pub prove_answer : (request : Request) (nodes : ℕ) (given : List (List ℕ)) (desc : List ℕ) (files : List (List ℕ)) (out : Result (List ℕ) Refused) (result : Result Verdict Refused)
     → request ≡ Prove nodes → given ≡ desc ∷ files → result ≡ done_of out → prove.Answers desc files out → IsAnswer request given result
@@ -58,7 +79,7 @@ run_answer request fuel given state files out result asked e d a =
 
 -- what YES says of a description and classes
 pub headline_at : (given : List (List ℕ)) (first : List ℕ) (others : List (List ℕ)) (desc : List ℕ) (classes : List (List ℕ)) (out : Result (List ℕ) Refused) (result : Result Verdict Refused)
-    → given ≡ first ∷ others → given ≡ desc ∷ classes → result ≡ done_of out → prove.Answers first others out → IfOk result (λ verdict. SaysYes verdict → AllEnd classes desc)
+    → given ≡ first ∷ others → given ≡ desc ∷ classes → result ≡ done_of out → prove.Answers first others out → IfOk result (λ verdict. Says prove.yes_line verdict → AllEnd classes desc)
 headline_at given first others desc classes out result e f d a =
     let same : (first ∷ others) ≡ (desc ∷ classes) = sym e ∙ f in
     let one : first ≡ desc = cc in
@@ -66,3 +87,21 @@ headline_at given first others desc classes out result e f d a =
     let here : prove.Answers desc others out = subst (λ (x : List ℕ). prove.Answers x others out) one a in
     let there : prove.Answers desc classes out = subst (λ (xs : List (List ℕ)). prove.Answers desc xs out) rest here in
     headline_of desc classes result (done_with (prove.Answers desc classes) out result d there)
+
+pub check_answer : (request : Request) (given : List (List ℕ)) (cert desc : List ℕ) (files : List (List ℕ)) (out : Result Outcome Refused) (result : Result Verdict Refused)
+    → request ≡ Check → given ≡ cert ∷ desc ∷ files → result ≡ verdict_of out → check.Answers cert desc files out → IsAnswer request given result
+check_answer request given cert desc files out result asked e d a =
+    let here : IsAnswer Check given result = subst (λ (fs : List (List ℕ)). IsAnswer Check fs result) (sym e) (judged_with (check.Answers cert desc files) out result d a) in
+    subst (λ (r : Request). IsAnswer r given result) (sym asked) here
+
+-- what ACCEPTED says of a description and classes
+pub accepted_at : (given : List (List ℕ)) (first second : List ℕ) (others : List (List ℕ)) (cert desc : List ℕ) (classes : List (List ℕ)) (out : Result Outcome Refused) (result : Result Verdict Refused)
+    → given ≡ first ∷ second ∷ others → given ≡ cert ∷ desc ∷ classes → result ≡ verdict_of out → check.Answers first second others out → AllEndIfAccepted others second out
+    → IfOk result (λ verdict. Says accepted_line verdict → AllEnd classes desc)
+accepted_at given first second others cert desc classes out result e f d a ends =
+    let same : (first ∷ second ∷ others) ≡ (cert ∷ desc ∷ classes) = sym e ∙ f in
+    let two : second ≡ desc = cc in
+    let rest : others ≡ classes = cc in
+    let here = accepted_true first second others out result d a ends in
+    subst (λ (xs : List (List ℕ)). IfOk result (λ verdict. Says accepted_line verdict → AllEnd xs desc)) rest
+    (subst (λ (x : List ℕ). IfOk result (λ verdict. Says accepted_line verdict → AllEnd others x)) two here)

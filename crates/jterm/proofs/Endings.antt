@@ -1,8 +1,10 @@
 -- From what stopped a call, or the verdict that it has, to what the call says.
-use Rattle.std.proofs.Common.{◌≡◌, ◌⊎◌, ◌≤◌, ◌++◌, ℕ, suc, zero, List, [], ◌∷◌, length, map, Option, Some, Ok, Err, refl, sym, ap, ◌∙◌, subst, arith, inl, inr, IfSome, slice_get, length-append}
+use Rattle.std.proofs.Common.{◌≡◌, ◌⊎◌, ◌≤◌, ◌++◌, ℕ, suc, zero, List, [], ◌∷◌, length, map, take, drop, Option, Some, None, Ok, Err, refl, sym, ap, ◌∙◌, subst, arith, inl, inr, IfSome, slice_get, length-append, append_assoc, take-append-drop, take_all}
+use Rattle.std.proofs.lemmas.List.{append_cancel_left}
 use Rattle.std.specs.Prelude.{◌≢◌, ◌↔◌, Result}
 use Rattle.std.specs.Io.KnownBytes.{Appends}
 use Rattle.io_ports.specs.Count.{Rose}
+use Rattle.io_ports.specs.Taken.{AppendsPrefix}
 use Rattle.io_ports.specs.Told.{Told, IsContent, IsPastLimit, IsNotHeld}
 use Rattle.io_ports.specs.Told.Told.{Content}
 use Rattle.io_ports.specs.declared.files.FileFault.{FileFault}
@@ -10,31 +12,33 @@ use Rattle.io_ports.specs.declared.files.FileFault.TheVariants.{Failed, TooLong,
 use Rattle.jterm.specs.declared.inputs.Stop.{Stop}
 use Rattle.jterm.specs.declared.inputs.Stop.TheVariants.{Unread, Broken, NoMemory}
 use Rattle.jterm.specs.declared.verdict.Request.{Request}
-use Rattle.jterm.specs.declared.verdict.Request.TheVariants.{Prove}
+use Rattle.jterm.specs.declared.verdict.Request.TheVariants.{Prove, Check, Run, Asm}
 use Rattle.jterm.specs.declared.verdict.Verdict.{Verdict}
 use Rattle.input_steps.specs.declared.refused.Place.{Place}
 use Rattle.input_steps.specs.declared.refused.Fault.{Fault}
 use Rattle.input_steps.specs.declared.refused.Refused.{Refused}
 use Rattle.input_steps.specs.declared.refused.Refused.TheVariants as answers
 use Rattle.input_steps.specs.declared.refused.Refused.TheVariants.{At}
-use Rattle.jterm.specs.Words.{IsProve, IsCommand}
+use Rattle.jterm.specs.Words.{IsProve, IsCheck, IsCommand}
 use Rattle.input_steps.specs.Lines.{refusal_line}
 use Rattle.jterm.specs.Lines.{memory_line, read_line}
 use Rattle.prove_call.specs.Answers.{yes_line}
+use Rattle.check_call.specs.Lines.{accepted_line, refused_line}
 use Rattle.prove_call.proofs.Good.{yes_true}
-use Rattle.jterm.specs.Decision.{IsAnswer}
+use Rattle.jterm.specs.Decision.{Says, refused_at, IsAnswer}
 use Rattle.prove_call.specs.Headline.{AllEnd}
-use Rattle.jterm.specs.Outside.{AreTold, AreContents, AreWithin, AreHanded, IsUnread, ReadFails, Decided, Claims, IsWritten, file_limit}
+use Rattle.jterm.specs.Outside.{AreTold, AreContents, AreWithin, AreHanded, IsUnread, ReadFails, Decided, Claims, IsWritten, file_limits, behind}
 use Rattle.jterm.specs.Stop.{IsAnswered, HasCause, HasLine, status_of, line_of}
 use Rattle.jterm.proofs.OneAnswer.{answers_one}
+use Rattle.jterm.proofs.Checking.{judged_refused}
 use Rattle.jterm.proofs.WordsLemmas.{commands_one}
 
 -- nothing is claimed where nothing is put
-pub unclaimed : {S : Type 0} (taken : S → Option (List ℕ)) (sink : S) (status : ℕ) → (status ≡ 0 → ⊥) → Claims taken sink sink status → ⊥
-unclaimed taken sink status more claims = elim claims [
+pub unclaimed : {S : Type 0} (line : List ℕ) (taken : S → Option (List ℕ)) (sink : S) (status : ℕ) → 1 ≤ length line → (status ≡ 0 → ⊥) → Claims line taken sink sink status → ⊥
+unclaimed line taken sink status some more claims = elim claims [
   | inl done ↦ more done
-  | inr put ↦ let e : put.0 ≡ put.0 ++ yes_line ++ put.1 = cc in
-      omega (arith, ap length e, length-append (put.0 ++ yes_line) put.1, length-append put.0 yes_line)
+  | inr put ↦ let e : put.0 ≡ put.0 ++ line ++ put.1 = cc in
+      omega (arith, some, ap length e, length-append (put.0 ++ line) put.1, length-append put.0 line)
 ]
 
 -- what `report` says of a stop
@@ -43,7 +47,7 @@ Reports Puts stop status = ((status ≡ status_of stop) × HasLine stop × Puts 
 
 -- status 3 comes where the input is refused
 pub refused : {F : Type 0} (held : F → List ℕ → Told) (faults : F → ℕ) (leaves : F → List ℕ → F → Type 0) (words : List (List ℕ)) (request : Request) (names : List (List ℕ)) (old new : F) (stop : Stop) (status : ℕ) (Puts : List ℕ → Type 0)
-    → IsCommand words request names → HasCause held faults leaves file_limit request names old new stop → Reports Puts stop status
+    → IsCommand words request names → HasCause held faults leaves (file_limits request) request names old new stop → Reports Puts stop status
     → status ≡ 3 → (place : Place) × (fault : Fault) × Decided words (held old) (Err (At place fault)) × Puts (refusal_line place fault)
 refused held faults leaves words request names old new (Unread name fault) status Puts command cause (inl said) three = absurd (omega (arith, said.0, three))
 refused held faults leaves words request names old new (Broken place fault) status Puts command cause (inl said) three =
@@ -53,9 +57,9 @@ refused held faults leaves words request names old new stop status Puts command 
 
 -- status 5 comes where a file was not read
 pub unread : {F : Type 0} (held : F → List ℕ → Told) (faults : F → ℕ) (leaves : F → List ℕ → F → Type 0) (words : List (List ℕ)) (request : Request) (names : List (List ℕ)) (old new : F) (stop : Stop) (status : ℕ) (Puts : List ℕ → Type 0)
-    → IsCommand words request names → HasCause held faults leaves file_limit request names old new stop → Reports Puts stop status
+    → IsCommand words request names → HasCause held faults leaves (file_limits request) request names old new stop → Reports Puts stop status
     → status ≡ 5 → (request : Request) × (names : List (List ℕ)) × (name : List ℕ) × (fault : FileFault) × IsCommand words request names
-    × IsUnread held faults leaves file_limit names old new name fault × Puts (read_line name fault)
+    × IsUnread held faults leaves (file_limits request) names old new name fault × Puts (read_line name fault)
 unread held faults leaves words request names old new (Unread name fault) status Puts command cause (inl said) five = (request, names, name, fault, command, cause, said.2)
 unread held faults leaves words request names old new (Broken place fault) status Puts command cause (inl said) five = absurd (omega (arith, said.0, five))
 unread held faults leaves words request names old new NoMemory status Puts command cause (inl said) five = absurd said.1
@@ -80,15 +84,20 @@ not_four words r m stop status Puts command says = (λ four. absurd (never stop 
     never stop (inr said) four = omega (arith, said.0, four)
 
 -- nor does one with a verdict
-pub done_is_no_usage : {P Q : Type 0} (words : List (List ℕ)) (r : Request) (m : List (List ℕ)) (own status : ℕ) → IsCommand words r m → own ≡ 0 → ((status ≡ own) × P) ⊎ ((status ≡ 6) × Q)
+pub done_is_no_usage : {P Q : Type 0} (words : List (List ℕ)) (r : Request) (m : List (List ℕ)) (own status : ℕ) → IsCommand words r m → own ≤ 2 → ((status ≡ own) × P) ⊎ ((status ≡ 6) × Q)
     → (status ≡ 4) ↔ ((request : Request) (names : List (List ℕ)) → IsCommand words request names → ⊥)
-done_is_no_usage {P = P} {Q = Q} words r m own status command none line = (λ four. absurd (never line four), λ no_row. absurd (no_row r m command))
+done_is_no_usage {P = P} {Q = Q} words r m own status command low line = (λ four. absurd (never line four), λ no_row. absurd (no_row r m command))
   where
     never : ((status ≡ own) × P) ⊎ ((status ≡ 6) × Q) → status ≡ 4 → ⊥
-    never (inl said) four = omega (arith, said.0, none, four)
+    never (inl said) four = omega (arith, said.0, low, four)
     never (inr said) four = omega (arith, said.0, four)
 
--- a call without a verdict does not end with 0
+-- a call without a verdict does not end with 0, nor with 2
+pub not_two : (stop : Stop) (status : ℕ) (P Q R : Type 0) → ((status ≡ status_of stop) × P × Q) ⊎ ((status ≡ 7) × R) → status ≡ 2 → ⊥
+not_two (Unread name fault) status P Q R says two = elim says [ inl said ↦ omega arith | inr said ↦ omega arith ]
+not_two (Broken place fault) status P Q R says two = elim says [ inl said ↦ omega arith | inr said ↦ omega arith ]
+not_two NoMemory status P Q R says two = elim says [ inl said ↦ omega arith | inr said ↦ omega arith ]
+
 pub not_zero : (stop : Stop) (status : ℕ) (P Q R : Type 0) → ((status ≡ status_of stop) × P × Q) ⊎ ((status ≡ 7) × R) → status ≡ 0 → ⊥
 not_zero (Unread name fault) status P Q R says none = elim says [ inl said ↦ omega arith | inr said ↦ omega arith ]
 not_zero (Broken place fault) status P Q R says none = elim says [ inl said ↦ omega arith | inr said ↦ omega arith ]
@@ -97,38 +106,77 @@ not_zero NoMemory status P Q R says none = elim says [ inl said ↦ omega arith 
 -- ---- told contents
 
 -- the contents that were read are the told ones
-pub told_contents : (limit : ℕ) (held : List ℕ → Told) (names contents told : List (List ℕ)) → AreContents limit held names contents → AreTold held names told → contents ≡ told
-told_contents limit held [] [] [] are e = refl
-told_contents limit held [] [] (t ∷ told) are e = cc
-told_contents limit held [] (c ∷ contents) told are e = absurd are
-told_contents limit held (n ∷ names) [] told are e = absurd are
-told_contents limit held (n ∷ names) (c ∷ contents) [] are e = cc
-told_contents limit held (n ∷ names) (c ∷ contents) (t ∷ told) are e =
+pub told_contents : (limits : ℕ → ℕ) (held : List ℕ → Told) (names contents told : List (List ℕ)) → AreContents limits held names contents → AreTold held names told → contents ≡ told
+told_contents limits held [] [] [] are e = refl
+told_contents limits held [] [] (t ∷ told) are e = cc
+told_contents limits held [] (c ∷ contents) told are e = absurd are
+told_contents limits held (n ∷ names) [] told are e = absurd are
+told_contents limits held (n ∷ names) (c ∷ contents) [] are e = cc
+told_contents limits held (n ∷ names) (c ∷ contents) (t ∷ told) are e =
     let first : held n ≡ Content t = cc in
     let others : map held names ≡ map Content told = cc in
-    let rest : contents ≡ told = told_contents limit held names contents told are.2 others in
+    let rest : contents ≡ told = told_contents (behind limits) held names contents told are.2 others in
     let same : c ≡ t = subst (λ h. IsContent h c) first are.0 in
     cc
 
--- an answer for what was read under the names of a command is one for what is told under them
+-- what was read under the names of a command is what is told under them
+told_same : (words : List (List ℕ)) (held : List ℕ → Told) (r s : Request) (m n contents told : List (List ℕ)) → IsCommand words r m → IsCommand words s n → AreContents (file_limits r) held m contents → AreTold held n told → contents ≡ told
+told_same words held r s m n contents told here there are tells =
+    let one = commands_one words r s m n here there in
+    told_contents (file_limits r) held m contents told are (subst (λ (names : List (List ℕ)). AreTold held names told) (sym one.1) tells)
+
+-- and an answer for it one for that
 told_answer : (words : List (List ℕ)) (held : List ℕ → Told) (r s : Request) (m n contents told : List (List ℕ)) (result : Result Verdict Refused)
-    → IsCommand words r m → IsCommand words s n → AreContents file_limit held m contents → AreTold held n told → IsAnswer r contents result → IsAnswer s told result
+    → IsCommand words r m → IsCommand words s n → AreContents (file_limits r) held m contents → AreTold held n told → IsAnswer r contents result → IsAnswer s told result
 told_answer words held r s m n contents told result here there are tells answer =
     let one = commands_one words r s m n here there in
-    let same : contents ≡ told = told_contents file_limit held m contents told are (subst (λ (names : List (List ℕ)). AreTold held names told) (sym one.1) tells) in
+    let same : contents ≡ told = told_same words held r s m n contents told here there are tells in
     subst (λ (q : Request). IsAnswer q told result) one.0 (subst (λ (fs : List (List ℕ)). IsAnswer r fs result) same answer)
 
--- the words of a `prove` are a command
+-- the words of a `prove` and of a `check` are a command
 pub prove_is_command : (words : List (List ℕ)) (d : List ℕ) (cs : List (List ℕ)) → IsProve words d cs → IsCommand words (Prove 4000) (d ∷ cs)
 prove_is_command words d cs prove = inl (record { desc = d; classes = cs; is_prove = prove; asked = refl; named = refl })
 
+check_is_command : (words : List (List ℕ)) (c d : List ℕ) (cs : List (List ℕ)) → IsCheck words c d cs → IsCommand words Check (c ∷ d ∷ cs)
+check_is_command words c d cs check = inr (inl (record { cert = c; desc = d; classes = cs; is_check = check; asked = refl; named = refl }))
+
 -- what YES says of the contents of a `prove`
 pub headline : (words : List (List ℕ)) (request : Request) (names : List (List ℕ)) (held : List ℕ → Told) (verdict : Verdict) (d : List ℕ) (cs : List (List ℕ)) (desc : List ℕ) (classes : List (List ℕ))
-    → IsCommand words request names → IsAnswered file_limit request names held verdict → IsProve words d cs → AreTold held (d ∷ cs) (desc ∷ classes) → AllEnd classes desc
+    → IsCommand words request names → IsAnswered (file_limits request) request names held verdict → IsProve words d cs → AreTold held (d ∷ cs) (desc ∷ classes) → AllEnd classes desc
 headline words request names held verdict d cs desc classes command answered prove tells =
     let answer : IsAnswer (Prove 4000) (desc ∷ classes) (Ok verdict) =
     told_answer words held request (Prove 4000) names (d ∷ cs) answered.contents (desc ∷ classes) (Ok verdict) command (prove_is_command words d cs prove) answered.read tells answered.answer in
     yes_true desc classes verdict.out answer.1
+
+-- what was put began with a line: so does what was to be put
+begins : (old new : Option (List ℕ)) (before line rest out : List ℕ) (count : ℕ) → Appends old new (take count out) → old ≡ Some before → new ≡ Some (before ++ line ++ rest) → (more : List ℕ) × (out ≡ line ++ more)
+begins None new before line rest out count put was is = absurd (cc)
+begins (Some old) None before line rest out count put was is = absurd (cc)
+begins (Some old) (Some new) before line rest out count put was is =
+    let here : old ≡ before = cc in
+    let there : new ≡ before ++ line ++ rest = cc in
+    let grown : old ++ take count out ≡ old ++ (line ++ rest) = sym put ∙ there ∙ ap (λ (l : List ℕ). l ++ line ++ rest) (sym here) ∙ append_assoc old line rest in
+    let taken : take count out ≡ line ++ rest = append_cancel_left old (take count out) (line ++ rest) grown in
+    (rest ++ drop count out, sym (take-append-drop count out) ∙ ap (λ (l : List ℕ). l ++ drop count out) taken ∙ append_assoc line rest (drop count out))
+
+-- what is claimed of a verdict that was written, it says
+pub claimed_says : {S : Type 0} (line : List ℕ) (faults : S → ℕ) (taken : S → Option (List ℕ)) (old new : S) (verdict : Verdict) (status : ℕ) → IsWritten faults taken old new verdict status → Claims line taken old new status → Says line verdict
+claimed_says line faults taken old new verdict status (inl put) (inl none) = inl (sym put.0 ∙ none)
+claimed_says line faults taken old new verdict status (inr failed) (inl none) = absurd (omega (arith, failed.0, none))
+claimed_says line faults taken old new verdict status (inl put) (inr c) =
+    inr (begins (taken old) (taken new) c.0 line c.1 verdict.out (length verdict.out) (subst (λ (l : List ℕ). Appends (taken old) (taken new) l) (sym (take_all (length verdict.out) verdict.out (omega arith))) put.1) c.2 c.3)
+claimed_says line faults taken old new verdict status (inr failed) (inr c) =
+    inr (begins (taken old) (taken new) c.0 line c.1 verdict.out failed.2.0 failed.2.2 c.2 c.3)
+
+-- what ACCEPTED says of the contents of a `check`
+pub headline_of_check : {S : Type 0} (faults : S → ℕ) (taken : S → Option (List ℕ)) (old new : S) (words : List (List ℕ)) (request : Request) (names : List (List ℕ)) (held : List ℕ → Told) (verdict : Verdict) (status : ℕ) (c d : List ℕ) (cs : List (List ℕ)) (cert desc : List ℕ) (classes : List (List ℕ))
+    → IsCommand words request names → IsAnswered (file_limits request) request names held verdict → IsWritten faults taken old new verdict status → IsCheck words c d cs → AreTold held (c ∷ d ∷ cs) (cert ∷ desc ∷ classes)
+    → Claims accepted_line taken old new status → AllEnd classes desc
+headline_of_check faults taken old new words request names held verdict status c d cs cert desc classes command answered written check tells claims =
+    let there = check_is_command words c d cs check in
+    let one = commands_one words request Check names (c ∷ d ∷ cs) command there in
+    let same = told_same words held request Check names (c ∷ d ∷ cs) answered.contents (cert ∷ desc ∷ classes) command there answered.read tells in
+    answered.true_check cert desc classes one.0 same (claimed_says accepted_line faults taken old new verdict status written claims)
 
 -- ---- completeness
 
@@ -138,16 +186,16 @@ record IsHeld (held : List ℕ → Told) (name : List ℕ) (limit : ℕ) : Type 
   is_told : held name ≡ Content content
   is_within : length content ≤ limit
 
-held_name : (limit : ℕ) (held : List ℕ → Told) (names told : List (List ℕ)) (name : List ℕ) (place : ℕ) → slice_get names place ≡ Some name → AreTold held names told → AreWithin limit told → IsHeld held name limit
-held_name limit held [] told name place e tells within = absurd (cc)
-held_name limit held (n ∷ names) [] name place e tells within = absurd (cc)
-held_name limit held (n ∷ names) (t ∷ told) name zero e tells within =
+held_name : (limits : ℕ → ℕ) (held : List ℕ → Told) (names told : List (List ℕ)) (name : List ℕ) (place : ℕ) → slice_get names place ≡ Some name → AreTold held names told → AreWithin limits told → IsHeld held name (limits place)
+held_name limits held [] told name place e tells within = absurd (cc)
+held_name limits held (n ∷ names) [] name place e tells within = absurd (cc)
+held_name limits held (n ∷ names) (t ∷ told) name zero e tells within =
     let first : held n ≡ Content t = cc in
     let named : n ≡ name = cc in
     record { content = t; is_told = ap held (sym named) ∙ first; is_within = within.0 }
-held_name limit held (n ∷ names) (t ∷ told) name (suc place) e tells within =
+held_name limits held (n ∷ names) (t ∷ told) name (suc place) e tells within =
     let others : map held names ≡ map Content told = cc in
-    held_name limit held names told name place e others within.1
+    held_name (behind limits) held names told name place e others within.1
 
 -- what is held within its limit is read, where the count did not rise
 held_is_read : (held : Told) (limit before after : ℕ) (fault : FileFault) (content : List ℕ) → held ≡ Content content → length content ≤ limit → (Rose before after → ⊥) → ReadFails fault held limit before after → ⊥
@@ -160,12 +208,13 @@ held_is_read held limit before after Memory content told within none fails = fai
 
 -- the files of a command that are told within their limits are read
 all_read : {F : Type 0} (held : F → List ℕ → Told) (faults : F → ℕ) (leaves : F → List ℕ → F → Type 0) (words : List (List ℕ)) (r s : Request) (m n told : List (List ℕ)) (old new : F) (name : List ℕ) (fault : FileFault)
-    → IsCommand words r m → IsUnread held faults leaves file_limit m old new name fault → AreHanded words (held old) s n told → (Rose (faults old) (faults new) → ⊥) → ⊥
+    → IsCommand words r m → IsUnread held faults leaves (file_limits r) m old new name fault → AreHanded words (held old) s n told → (Rose (faults old) (faults new) → ⊥) → ⊥
 all_read held faults leaves words r s m n told old new name fault command unread handed none =
     let one = commands_one words r s m n command handed.is_command in
     let named : slice_get n unread.place ≡ Some name = subst (λ (names : List (List ℕ)). slice_get names unread.place ≡ Some name) one.1 unread.is_named in
-    let is : IsHeld (held old) name file_limit = held_name file_limit (held old) n told name unread.place named handed.told handed.within in
-    held_is_read (held old name) file_limit (faults unread.between) (faults new) fault is.content is.is_told is.is_within
+    let within : AreWithin (file_limits r) told = subst (λ (q : Request). AreWithin (file_limits q) told) (sym one.0) handed.within in
+    let is : IsHeld (held old) name (file_limits r unread.place) = held_name (file_limits r) (held old) n told name unread.place named handed.told within in
+    held_is_read (held old name) (file_limits r unread.place) (faults unread.between) (faults new) fault is.content is.is_told is.is_within
     (λ rose. none (subst (λ (count : ℕ). Rose count (faults new)) unread.still rose)) unread.cause
 
 abbrev no_memory : Refused
@@ -182,7 +231,7 @@ some_refusal place fault e = cc
 
 -- the verdict of a call is the one that the contents have
 pub complete_written : {S : Type 0} (faults : S → ℕ) (taken : S → Option (List ℕ)) (old new : S) (words : List (List ℕ)) (r s : Request) (m n told : List (List ℕ)) (held : List ℕ → Told) (given verdict : Verdict) (status : ℕ)
-    → IsCommand words r m → IsAnswered file_limit r m held given → IsWritten faults taken old new given status → AreHanded words held s n told → IsAnswer s told (Ok verdict)
+    → IsCommand words r m → IsAnswered (file_limits r) r m held given → IsWritten faults taken old new given status → AreHanded words held s n told → IsAnswer s told (Ok verdict)
     → (Rose (faults old) (faults new) → ⊥) → ((status ≡ verdict.status) × Appends (taken old) (taken new) verdict.out) ⊎ (status ≡ 7)
 complete_written faults taken old new words r s m n told held given verdict status command answered (inl put) handed answer none =
     let here : IsAnswer s told (Ok given) = told_answer words held r s m n answered.contents told (Ok given) command handed.is_command answered.read handed.told answered.answer in
@@ -192,7 +241,7 @@ complete_written faults taken old new words r s m n told held given verdict stat
 
 -- where the contents have a verdict, a call without one wants memory
 pub complete : {F : Type 0} (held : F → List ℕ → Told) (faults : F → ℕ) (leaves : F → List ℕ → F → Type 0) (words : List (List ℕ)) (r s : Request) (m n told : List (List ℕ)) (old new : F) (stop : Stop) (status : ℕ) (verdict : Verdict) (Puts : List ℕ → Type 0) (R : Type 0)
-    → IsCommand words r m → HasCause held faults leaves file_limit r m old new stop → Reports Puts stop status → AreHanded words (held old) s n told → IsAnswer s told (Ok verdict)
+    → IsCommand words r m → HasCause held faults leaves (file_limits r) r m old new stop → Reports Puts stop status → AreHanded words (held old) s n told → IsAnswer s told (Ok verdict)
     → (Rose (faults old) (faults new) → ⊥) → R ⊎ (status ≡ 7)
 complete held faults leaves words r s m n told old new (Unread name fault) status verdict Puts R command cause says handed answer none =
     absurd (all_read held faults leaves words r s m n told old new name fault command cause handed none)
@@ -205,7 +254,7 @@ complete held faults leaves words r s m n told old new NoMemory status verdict P
 
 -- where the contents have a cause of refusal, a call has no verdict
 pub never_answered : (words : List (List ℕ)) (r s : Request) (m n told : List (List ℕ)) (held : List ℕ → Told) (given : Verdict) (place : Place) (fault : Fault)
-    → IsCommand words r m → IsAnswered file_limit r m held given → AreHanded words held s n told → IsAnswer s told (Err (At place fault)) → ⊥
+    → IsCommand words r m → IsAnswered (file_limits r) r m held given → AreHanded words held s n told → IsAnswer s told (Err (At place fault)) → ⊥
 never_answered words r s m n told held given place fault command answered handed answer =
     let here : IsAnswer s told (Ok given) = told_answer words held r s m n answered.contents told (Ok given) command handed.is_command answered.read handed.told answered.answer in
     let same : (let result : Result Verdict Refused = Ok given in result) ≡ Err (At place fault) = answers_one s told (Ok given) (Err (At place fault)) here answer (some_answer given) (some_refusal place fault) in
@@ -216,7 +265,7 @@ at_is place fault p f e = (cc, cc)
 
 -- and is refused for it, or memory is wanting
 pub refuses : {F : Type 0} (held : F → List ℕ → Told) (faults : F → ℕ) (leaves : F → List ℕ → F → Type 0) (words : List (List ℕ)) (r s : Request) (m n told : List (List ℕ)) (old new : F) (stop : Stop) (status : ℕ) (p : Place) (f : Fault) (Puts : List ℕ → Type 0)
-    → IsCommand words r m → HasCause held faults leaves file_limit r m old new stop → Reports Puts stop status → AreHanded words (held old) s n told → IsAnswer s told (Err (At p f))
+    → IsCommand words r m → HasCause held faults leaves (file_limits r) r m old new stop → Reports Puts stop status → AreHanded words (held old) s n told → IsAnswer s told (Err (At p f))
     → (Rose (faults old) (faults new) → ⊥) → ((status ≡ 3) × Puts (refusal_line p f)) ⊎ (status ≡ 7)
 refuses held faults leaves words r s m n told old new (Unread name fault) status p f Puts command cause says handed answer none =
     absurd (all_read held faults leaves words r s m n told old new name fault command cause handed none)
@@ -231,7 +280,7 @@ refuses held faults leaves words r s m n told old new NoMemory status p f Puts c
 -- ---- verdicts
 
 -- a verdict that was written is the answer for the contents of the files that the words name
-pub decided : (words : List (List ℕ)) (request : Request) (names : List (List ℕ)) (held : List ℕ → Told) (verdict : Verdict) (told : Option Verdict) → IsCommand words request names → IsAnswered file_limit request names held verdict → told ≡ Some verdict → IfSome told (λ v. Decided words held (Ok v))
+pub decided : (words : List (List ℕ)) (request : Request) (names : List (List ℕ)) (held : List ℕ → Told) (verdict : Verdict) (told : Option Verdict) → IsCommand words request names → IsAnswered (file_limits request) request names held verdict → told ≡ Some verdict → IfSome told (λ v. Decided words held (Ok v))
 decided words request names held verdict told is answered same =
     let P : Option Verdict → Type 0 = λ o. IfSome o (λ v. Decided words held (Ok v)) in
     subst P (sym same) (record {
@@ -243,8 +292,35 @@ decided words request names held verdict told is answered same =
       answer = answered.answer;
     })
 
--- status 6 is that of an output that was not taken: the verdict's own is 0
-pub unwritten : {A B R P Q : Type 0} (status own : ℕ) → own ≡ 0 → ((status ≡ own) × A) ⊎ ((status ≡ 6) × R × B) → ((status ≡ own) × P) ⊎ ((status ≡ 6) × Q) → status ≡ 6 → R × Q
-unwritten status own none written (inl line) six = absurd (omega (arith, none, line.0, six))
-unwritten status own none (inl w) (inr line) six = absurd (omega (arith, none, w.0, six))
-unwritten status own none (inr w) (inr line) six = (w.1, line.1)
+-- status 6 is that of an output that was not taken: the verdict's own is at most 2
+pub unwritten : {A B R P Q : Type 0} (status own : ℕ) → own ≤ 2 → ((status ≡ own) × A) ⊎ ((status ≡ 6) × R × B) → ((status ≡ own) × P) ⊎ ((status ≡ 6) × Q) → status ≡ 6 → R × Q
+unwritten status own low written (inl line) six = absurd (omega (arith, low, line.0, six))
+unwritten status own low (inl w) (inr line) six = absurd (omega (arith, low, w.0, six))
+unwritten status own low (inr w) (inr line) six = (w.1, line.1)
+
+-- a verdict of status 2 is that of a refused certificate
+refused_verdict : (request : Request) (files : List (List ℕ)) (verdict : Verdict) → IsAnswer request files (Ok verdict) → verdict.status ≡ 2 → (item : ℕ) × ((cause : List ℕ) × (verdict ≡ refused_at item cause))
+refused_verdict (Prove nodes) [] verdict answer two = absurd answer
+refused_verdict (Prove nodes) (desc ∷ classes) verdict answer two = let none = answer.0 in absurd (omega (arith, none, two))
+refused_verdict Check [] verdict answer two = absurd answer
+refused_verdict Check (cert ∷ []) verdict answer two = absurd answer
+refused_verdict Check (cert ∷ desc ∷ classes) verdict answer two = judged_refused cert desc classes verdict answer two
+refused_verdict (Run fuel) [] verdict answer two = absurd answer
+refused_verdict (Run fuel) (state ∷ classes) verdict answer two = let none = answer.0 in absurd (omega (arith, none, two))
+refused_verdict Asm [] verdict answer two = absurd answer
+refused_verdict Asm (listing ∷ []) verdict answer two = let none = answer.0 in absurd (omega (arith, none, two))
+refused_verdict Asm (listing ∷ more ∷ files) verdict answer two = absurd answer
+
+-- status 2 comes where the certificate is refused
+pub not_accepted : {S : Type 0} (faults : S → ℕ) (taken : S → Option (List ℕ)) (old new : S) (words : List (List ℕ)) (request : Request) (names : List (List ℕ)) (held : List ℕ → Told) (verdict : Verdict) (status : ℕ)
+    → IsCommand words request names → IsAnswered (file_limits request) request names held verdict → IsWritten faults taken old new verdict status
+    → status ≡ 2 → (item : ℕ) × (cause : List ℕ) × Decided words held (Ok (refused_at item cause)) × Appends (taken old) (taken new) (refused_line item cause)
+not_accepted faults taken old new words request names held verdict status command answered (inl put) two =
+    let is = refused_verdict request answered.contents verdict answered.answer (sym put.0 ∙ two) in
+    let answer : IsAnswer request answered.contents (Ok (refused_at is.0 is.1.0)) = subst (λ (v : Verdict). IsAnswer request answered.contents (Ok v)) is.1.1 answered.answer in (
+      is.0,
+      is.1.0,
+      record { request = request; names = names; is_command = command; contents = answered.contents; read = answered.read; answer = answer },
+      subst (λ (v : Verdict). Appends (taken old) (taken new) v.out) is.1.1 put.1,
+    )
+not_accepted faults taken old new words request names held verdict status command answered (inr failed) two = absurd (omega (arith, failed.0, two))

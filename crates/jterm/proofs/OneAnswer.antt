@@ -10,12 +10,15 @@ use Rattle.input_steps.specs.declared.refused.Fault.TheVariants as faults
 use Rattle.input_steps.proofs.OneAnswer.{IsOne, at_one}
 use Rattle.prove_call.specs.Answers as prove
 use Rattle.prove_call.proofs.OneAnswer as proving
+use Rattle.check_call.specs.declared.outcome.Outcome.{Outcome}
+use Rattle.check_call.specs.Answers as check
+use Rattle.check_call.proofs.OneAnswer as checking
 use Rattle.run_call.specs.Answers as run
 use Rattle.run_call.proofs.OneAnswer as running
 use Rattle.jterm.specs.declared.verdict.Request.{Request}
-use Rattle.jterm.specs.declared.verdict.Request.TheVariants.{Prove, Run, Asm}
+use Rattle.jterm.specs.declared.verdict.Request.TheVariants.{Prove, Check, Run, Asm}
 use Rattle.jterm.specs.declared.verdict.Verdict.{Verdict}
-use Rattle.jterm.specs.Decision.{Assembles, Done, IsAnswer}
+use Rattle.jterm.specs.Decision.{Assembles, Done, Judged, IsAnswer}
 
 -- ---- verdicts
 
@@ -42,6 +45,33 @@ done_one P one (Err (At p f)) (Err (At q g)) h k nr ns =
     λ i. Err (same i)
 done_one P one (Err (At place fault)) (Err Memory) h k nr ns = absurd (ns refl)
 done_one P one (Err Memory) s h k nr ns = absurd (nr refl)
+
+some_outcome : (outcome : Outcome) → (let r : Result Outcome Refused = Ok outcome in r) ≢ Err Memory
+some_outcome outcome e = cc
+
+-- where an outcome is one, a verdict is
+judged_one : (P : Result Outcome Refused → Type 0) → IsOne P → IsOne (Judged P)
+judged_one P one (Ok x) (Ok y) h k nr ns =
+    let a : Outcome = record { status = x.status; out = x.out } in
+    let b : Outcome = record { status = y.status; out = y.out } in
+    let e : (let r : Result Outcome Refused = Ok a in r) ≡ Ok b = one (Ok a) (Ok b) h k (some_outcome a) (some_outcome b) in
+    let same : a ≡ b = cc in
+    λ i. Ok (record { status = (same i).status; out = (same i).out })
+judged_one P one (Ok x) (Err (At place fault)) h k nr ns =
+    let a : Outcome = record { status = x.status; out = x.out } in
+    let e : (let r : Result Outcome Refused = Ok a in r) ≡ Err (At place fault) = one (Ok a) (Err (At place fault)) h k (some_outcome a) (λ m. cc) in
+    absurd (cc)
+judged_one P one (Ok x) (Err Memory) h k nr ns = absurd (ns refl)
+judged_one P one (Err (At place fault)) (Ok y) h k nr ns =
+    let b : Outcome = record { status = y.status; out = y.out } in
+    let e : (let r : Result Outcome Refused = Err (At place fault) in r) ≡ Ok b = one (Err (At place fault)) (Ok b) h k (λ m. cc) (some_outcome b) in
+    absurd (cc)
+judged_one P one (Err (At p f)) (Err (At q g)) h k nr ns =
+    let e : (let r : Result Outcome Refused = Err (At p f) in r) ≡ Err (At q g) = one (Err (At p f)) (Err (At q g)) h k (λ m. cc) (λ m. cc) in
+    let same : At p f ≡ At q g = cc in
+    λ i. Err (same i)
+judged_one P one (Err (At place fault)) (Err Memory) h k nr ns = absurd (ns refl)
+judged_one P one (Err Memory) s h k nr ns = absurd (nr refl)
 
 -- ---- listings
 
@@ -70,6 +100,9 @@ assembles_one listing (Err Memory) s h k nr ns = absurd (nr refl)
 pub answers_one : (request : Request) (contents : List (List ℕ)) (a b : Result Verdict Refused) → IsAnswer request contents a → IsAnswer request contents b → a ≢ Err Memory → b ≢ Err Memory → a ≡ b
 answers_one (Prove nodes) [] a b x y some more = absurd x
 answers_one (Prove nodes) (desc ∷ files) a b x y some more = done_one (prove.Answers desc files) (proving.answers_one desc files) a b x y some more
+answers_one Check [] a b x y some more = absurd x
+answers_one Check (cert ∷ []) a b x y some more = absurd x
+answers_one Check (cert ∷ desc ∷ files) a b x y some more = judged_one (check.Answers cert desc files) (checking.answers_one cert desc files) a b x y some more
 answers_one (Run fuel) [] a b x y some more = absurd x
 answers_one (Run fuel) (state ∷ files) a b x y some more = done_one (run.Answers fuel state files) (running.answers_one fuel state files) a b x y some more
 answers_one Asm [] a b x y some more = absurd x

@@ -4,8 +4,8 @@ use Rattle.std.proofs.lemmas.List.{length-map}
 use Rattle.std.specs.Prelude.{◌↔◌, not, codes, Option, Some, None, MatchOption}
 use Rattle.std.specs.List.{list_all}
 use Rattle.jterm.specs.declared.verdict.Request.{Request}
-use Rattle.jterm.specs.declared.verdict.Request.TheVariants.{Prove, Run, Asm}
-use Rattle.jterm.specs.Words.{is_file_word, AreFiles, IsListing, IsFuel, IsProveRow, IsRunRow, IsAsmRow, IsCommand}
+use Rattle.jterm.specs.declared.verdict.Request.TheVariants.{Prove, Check, Run, Asm}
+use Rattle.jterm.specs.Words.{is_file_word, AreFiles, AreCheckFiles, IsListing, IsFuel, IsProveRow, IsCheckRow, IsRunRow, IsAsmRow, IsCommand}
 use Rattle.std.specs.Cmp.Lexicographic.{bytes_decides}
 use Rattle.std.specs.Str.{bytes_eq}
 use Rattle.std.proofs.lemmas.Fmt.{decimal_injective}
@@ -48,6 +48,25 @@ of_prove_row verb names request files row =
     let rest : names ≡ row.desc ∷ row.classes = cc in
     (first, subst AreFiles (sym rest) row.is_prove.files, row.asked, row.named ∙ sym rest)
 
+pub check_row : (verb : List ℕ) (names : List (List ℕ)) → verb ≡ codes "check" → AreCheckFiles names → IsCheckRow (verb ∷ names) Check names
+check_row verb [] v r = absurd r
+check_row verb (c ∷ []) v r = absurd (let some = r.1.some in omega arith)
+check_row verb (c ∷ d ∷ cs) v r = record {
+  cert = c;
+  desc = d;
+  classes = cs;
+  is_check = record { spelled = ap (λ (w : List ℕ). w ∷ c ∷ d ∷ cs) v; files = r };
+  asked = refl;
+  named = refl;
+}
+
+pub of_check_row : (verb : List ℕ) (names : List (List ℕ)) (request : Request) (files : List (List ℕ)) → IsCheckRow (verb ∷ names) request files → (verb ≡ codes "check") × AreCheckFiles names × (request ≡ Check) × (files ≡ names)
+of_check_row verb names request files row =
+    let same : verb ∷ names ≡ codes "check" ∷ row.cert ∷ row.desc ∷ row.classes = row.is_check.spelled in
+    let first : verb ≡ codes "check" = cc in
+    let rest : names ≡ row.cert ∷ row.desc ∷ row.classes = cc in
+    (first, subst AreCheckFiles (sym rest) row.is_check.files, row.asked, row.named ∙ sym rest)
+
 pub asm_row : (verb : List ℕ) (names : List (List ℕ)) → verb ≡ codes "asm" → IsListing names → IsAsmRow (verb ∷ names) Asm names
 asm_row verb [] v r = absurd (let one = r.one in omega arith)
 asm_row verb (l ∷ []) v r = record { listing = l; is_asm = record { spelled = ap (λ (w : List ℕ). w ∷ l ∷ []) v; file = r }; asked = refl; named = refl }
@@ -81,19 +100,20 @@ run_row verb word (state ∷ classes) fuel v f r = record {
 }
 
 -- where no row is there, the words are no command
-pub no_row : (verb : List ℕ) (names : List (List ℕ)) → (IsProveRow (verb ∷ names) (Prove 4000) names → ⊥) → (IsAsmRow (verb ∷ names) Asm names → ⊥)
+pub no_row : (verb : List ℕ) (names : List (List ℕ)) → (IsProveRow (verb ∷ names) (Prove 4000) names → ⊥) → (IsCheckRow (verb ∷ names) Check names → ⊥) → (IsAsmRow (verb ∷ names) Asm names → ⊥)
     → ((request : Request) (files : List (List ℕ)) → IsRunRow (verb ∷ names) request files → ⊥) → (request : Request) (files : List (List ℕ)) → IsCommand (verb ∷ names) request files → ⊥
-no_row verb names p a run request files (inl row) = let r = of_prove_row verb names request files row in p (prove_row verb names r.0 r.1)
-no_row verb names p a run request files (inr (inl row)) = run request files row
-no_row verb names p a run request files (inr (inr row)) = let r = of_asm_row verb names request files row in a (asm_row verb names r.0 r.1)
+no_row verb names p c a run request files (inl row) = let r = of_prove_row verb names request files row in p (prove_row verb names r.0 r.1)
+no_row verb names p c a run request files (inr (inl row)) = let r = of_check_row verb names request files row in c (check_row verb names r.0 r.1)
+no_row verb names p c a run request files (inr (inr (inl row))) = run request files row
+no_row verb names p c a run request files (inr (inr (inr row))) = let r = of_asm_row verb names request files row in a (asm_row verb names r.0 r.1)
 
 -- no command of the rows above it, or a `run`
 pub run_or_none : {C : Type 0} (run : Option C) (asked : C → Request) (named : C → List (List ℕ)) (verb : List ℕ) (names : List (List ℕ))
-    → (IsProveRow (verb ∷ names) (Prove 4000) names → ⊥) → (IsAsmRow (verb ∷ names) Asm names → ⊥)
+    → (IsProveRow (verb ∷ names) (Prove 4000) names → ⊥) → (IsCheckRow (verb ∷ names) Check names → ⊥) → (IsAsmRow (verb ∷ names) Asm names → ⊥)
     → MatchOption run ((request : Request) (files : List (List ℕ)) → IsRunRow (verb ∷ names) request files → ⊥) (λ c. IsRunRow (verb ∷ names) (asked c) (named c))
     → MatchOption run ((request : Request) (files : List (List ℕ)) → IsCommand (verb ∷ names) request files → ⊥) (λ c. IsCommand (verb ∷ names) (asked c) (named c))
-run_or_none None asked named verb names p a h = no_row verb names p a h
-run_or_none (Some c) asked named verb names p a h = inr (inl h)
+run_or_none None asked named verb names p c a h = no_row verb names p c a h
+run_or_none (Some run) asked named verb names p c a h = inr (inr (inl h))
 
 -- ---- the words of a `run`
 
@@ -122,8 +142,9 @@ no_run_files verb word names none request files row =
 -- a command's words are not empty
 pub no_words : (request : Request) (files : List (List ℕ)) → IsCommand [] request files → ⊥
 no_words request files (inl row) = let e = row.is_prove.spelled in cc
-no_words request files (inr (inl row)) = let e = row.is_run.spelled in cc
-no_words request files (inr (inr row)) = let e = row.is_asm.spelled in cc
+no_words request files (inr (inl row)) = let e = row.is_check.spelled in cc
+no_words request files (inr (inr (inl row))) = let e = row.is_run.spelled in cc
+no_words request files (inr (inr (inr row))) = let e = row.is_asm.spelled in cc
 
 -- words that a test does not tell apart are one
 pub same_word : (xs ys : List ℕ) → true ≡ bytes_eq xs ys → xs ≡ ys
@@ -141,6 +162,9 @@ not_apart xs ys e = (bytes_decides xs ys).0 (un_not (bytes_eq xs ys) e)
 
 pub is_prove : (verb : List ℕ) (names : List (List ℕ)) (answer : Bool) → verb ≡ codes "prove" → (IsTrue answer ↔ AreFiles names) → IsTrue answer ↔ IsProveRow (verb ∷ names) (Prove 4000) names
 is_prove verb names answer v h = (λ t. prove_row verb names v (h.0 t), λ row. h.1 (of_prove_row verb names (Prove 4000) names row).1)
+
+pub is_check : (verb : List ℕ) (names : List (List ℕ)) (answer : Bool) → verb ≡ codes "check" → (IsTrue answer ↔ AreCheckFiles names) → IsTrue answer ↔ IsCheckRow (verb ∷ names) Check names
+is_check verb names answer v h = (λ t. check_row verb names v (h.0 t), λ row. h.1 (of_check_row verb names Check names row).1)
 
 pub is_asm : (verb : List ℕ) (names : List (List ℕ)) (answer : Bool) → verb ≡ codes "asm" → (IsTrue answer ↔ IsListing names) → IsTrue answer ↔ IsAsmRow (verb ∷ names) Asm names
 is_asm verb names answer v h = (λ t. asm_row verb names v (h.0 t), λ row. h.1 (of_asm_row verb names Asm names row).1)
@@ -178,20 +202,31 @@ commands_one words r s m n (inl a) (inl b) =
     let there : words ≡ _ = b.is_prove.spelled in
     let same : a.desc ∷ a.classes ≡ b.desc ∷ b.classes = cc in
     (a.asked ∙ sym b.asked, a.named ∙ same ∙ sym b.named)
-commands_one words r s m n (inl a) (inr (inl b)) = absurd (other_letter words _ _ 112 114 a.is_prove.spelled b.is_run.spelled refl refl (λ e. omega (arith, e)))
-commands_one words r s m n (inl a) (inr (inr b)) = absurd (other_letter words _ _ 112 97 a.is_prove.spelled b.is_asm.spelled refl refl (λ e. omega (arith, e)))
-commands_one words r s m n (inr (inl a)) (inl b) = absurd (other_letter words _ _ 114 112 a.is_run.spelled b.is_prove.spelled refl refl (λ e. omega (arith, e)))
+commands_one words r s m n (inl a) (inr (inl b)) = absurd (other_letter words _ _ 112 99 a.is_prove.spelled b.is_check.spelled refl refl (λ e. omega (arith, e)))
+commands_one words r s m n (inl a) (inr (inr (inl b))) = absurd (other_letter words _ _ 112 114 a.is_prove.spelled b.is_run.spelled refl refl (λ e. omega (arith, e)))
+commands_one words r s m n (inl a) (inr (inr (inr b))) = absurd (other_letter words _ _ 112 97 a.is_prove.spelled b.is_asm.spelled refl refl (λ e. omega (arith, e)))
+commands_one words r s m n (inr (inl a)) (inl b) = absurd (other_letter words _ _ 99 112 a.is_check.spelled b.is_prove.spelled refl refl (λ e. omega (arith, e)))
 commands_one words r s m n (inr (inl a)) (inr (inl b)) =
+    let here : words ≡ _ = a.is_check.spelled in
+    let there : words ≡ _ = b.is_check.spelled in
+    let same : a.cert ∷ a.desc ∷ a.classes ≡ b.cert ∷ b.desc ∷ b.classes = cc in
+    (a.asked ∙ sym b.asked, a.named ∙ same ∙ sym b.named)
+commands_one words r s m n (inr (inl a)) (inr (inr (inl b))) = absurd (other_letter words _ _ 99 114 a.is_check.spelled b.is_run.spelled refl refl (λ e. omega (arith, e)))
+commands_one words r s m n (inr (inl a)) (inr (inr (inr b))) = absurd (other_letter words _ _ 99 97 a.is_check.spelled b.is_asm.spelled refl refl (λ e. omega (arith, e)))
+commands_one words r s m n (inr (inr (inl a))) (inl b) = absurd (other_letter words _ _ 114 112 a.is_run.spelled b.is_prove.spelled refl refl (λ e. omega (arith, e)))
+commands_one words r s m n (inr (inr (inl a))) (inr (inl b)) = absurd (other_letter words _ _ 114 99 a.is_run.spelled b.is_check.spelled refl refl (λ e. omega (arith, e)))
+commands_one words r s m n (inr (inr (inl a))) (inr (inr (inl b))) =
     let here : words ≡ codes "run" ∷ a.is_run.word ∷ a.state ∷ a.classes = a.is_run.spelled in
     let there : words ≡ codes "run" ∷ b.is_run.word ∷ b.state ∷ b.classes = b.is_run.spelled in
     let word : a.is_run.word ≡ b.is_run.word = cc in
     let same : a.state ∷ a.classes ≡ b.state ∷ b.classes = cc in
     let fuel : a.fuel ≡ b.fuel = fuel_one b.is_run.word a.fuel b.fuel (subst (λ (w : List ℕ). IsFuel w a.fuel) word a.is_run.is_fuel) b.is_run.is_fuel in
     (a.asked ∙ ap Run fuel ∙ sym b.asked, a.named ∙ same ∙ sym b.named)
-commands_one words r s m n (inr (inl a)) (inr (inr b)) = absurd (other_letter words _ _ 114 97 a.is_run.spelled b.is_asm.spelled refl refl (λ e. omega (arith, e)))
-commands_one words r s m n (inr (inr a)) (inl b) = absurd (other_letter words _ _ 97 112 a.is_asm.spelled b.is_prove.spelled refl refl (λ e. omega (arith, e)))
-commands_one words r s m n (inr (inr a)) (inr (inl b)) = absurd (other_letter words _ _ 97 114 a.is_asm.spelled b.is_run.spelled refl refl (λ e. omega (arith, e)))
-commands_one words r s m n (inr (inr a)) (inr (inr b)) =
+commands_one words r s m n (inr (inr (inl a))) (inr (inr (inr b))) = absurd (other_letter words _ _ 114 97 a.is_run.spelled b.is_asm.spelled refl refl (λ e. omega (arith, e)))
+commands_one words r s m n (inr (inr (inr a))) (inl b) = absurd (other_letter words _ _ 97 112 a.is_asm.spelled b.is_prove.spelled refl refl (λ e. omega (arith, e)))
+commands_one words r s m n (inr (inr (inr a))) (inr (inl b)) = absurd (other_letter words _ _ 97 99 a.is_asm.spelled b.is_check.spelled refl refl (λ e. omega (arith, e)))
+commands_one words r s m n (inr (inr (inr a))) (inr (inr (inl b))) = absurd (other_letter words _ _ 97 114 a.is_asm.spelled b.is_run.spelled refl refl (λ e. omega (arith, e)))
+commands_one words r s m n (inr (inr (inr a))) (inr (inr (inr b))) =
     let here : words ≡ _ = a.is_asm.spelled in
     let there : words ≡ _ = b.is_asm.spelled in
     let same : a.listing ∷ [] ≡ b.listing ∷ [] = cc in

@@ -1,5 +1,5 @@
 -- What `decide` answers, and why.
-use Rattle.std.specs.Prelude.{◌≡◌, ℕ, ◌≤◌, List, [], ◌∷◌, ◌++◌, length, Result, Ok, Err}
+use Rattle.std.specs.Prelude.{◌≡◌, ◌⊎◌, ℕ, ◌≤◌, List, [], ◌∷◌, ◌++◌, length, Result, Ok, Err}
 use Rattle.asm_lines.specs.declared.fault.AsmFault.{AsmFault}
 use Rattle.asm_lines.specs.declared.fault.AsmFault.TheVariants as listings
 use Rattle.class_asm.specs.Classes.{assembled}
@@ -10,21 +10,25 @@ use Rattle.input_steps.specs.declared.refused.Place.TheVariants as places
 use Rattle.input_steps.specs.declared.refused.Fault.{Fault}
 use Rattle.input_steps.specs.declared.refused.Fault.TheVariants as faults
 use Rattle.input_steps.specs.Steps.{IsAt}
+use Rattle.check_call.specs.declared.outcome.Outcome.{Outcome}
+use Rattle.check_call.specs.Answers as check
+use Rattle.check_call.specs.Lines.{refused_line}
 use Rattle.prove_call.specs.Answers as prove
 use Rattle.run_call.specs.Answers as run
 use Rattle.jterm.specs.declared.verdict.Request.{Request}
-use Rattle.jterm.specs.declared.verdict.Request.TheVariants.{Prove, Run, Asm}
+use Rattle.jterm.specs.declared.verdict.Request.TheVariants.{Prove, Check, Run, Asm}
 use Rattle.jterm.specs.declared.verdict.Verdict.{Verdict}
 
 -- the request's number is in its range, and there are as many files as its command has file words
 abbrev pub Takes : Request → List (List ℕ) → Type 0
 Takes (Prove nodes) files = (1 ≤ nodes) × (nodes ≤ 20000) × (2 ≤ length files) × (length files ≤ 257)
+Takes Check files = (3 ≤ length files) × (length files ≤ 258)
 Takes (Run fuel) files = (fuel ≤ 1000000000) × (2 ≤ length files) × (length files ≤ 257)
 Takes Asm files = length files ≡ 1
 
--- the output begins with `YES` and a newline
-abbrev pub SaysYes : Verdict → Type 0
-SaysYes verdict = (rest : List ℕ) × (verdict.out ≡ prove.yes_line ++ rest)
+-- a line is said: the status is 0, or the output begins with it
+abbrev pub Says : List ℕ → Verdict → Type 0
+Says line verdict = (verdict.status ≡ 0) ⊎ ((rest : List ℕ) × (verdict.out ≡ line ++ rest))
 
 -- ---- listings
 
@@ -55,9 +59,24 @@ abbrev pub Done : (Result (List ℕ) Refused → Type 0) → Result Verdict Refu
 Done Answers (Ok verdict) = (verdict.status ≡ 0) × Answers (Ok verdict.out)
 Done Answers (Err refused) = Answers (Err refused)
 
--- the answer to a request for the contents of its files: a description or a state and classes, or a listing
+-- the verdict that a certificate is refused at an item for a cause
+abbrev pub refused_at : ℕ → List ℕ → Verdict
+refused_at item cause = record { status = 2; out = refused_line item cause }
+
+-- the outcome of a check as a verdict; or its refusal
+abbrev pub verdict_of : Result Outcome Refused → Result Verdict Refused
+verdict_of (Ok outcome) = Ok (record { status = outcome.status; out = outcome.out })
+verdict_of (Err refused) = Err refused
+
+-- a verdict with the status and the output of an outcome of which this holds; or a refusal of which it does
+abbrev pub Judged : (Result Outcome Refused → Type 0) → Result Verdict Refused → Type 0
+Judged Answers (Ok verdict) = Answers (Ok (record { status = verdict.status; out = verdict.out }))
+Judged Answers (Err refused) = Answers (Err refused)
+
+-- the answer to a request for the contents of its files: a certificate, a description or a state, and classes; or a listing
 abbrev pub IsAnswer : Request → List (List ℕ) → Result Verdict Refused → Type 0
 IsAnswer (Prove nodes) (desc ∷ classes) result = Done (prove.Answers desc classes) result
+IsAnswer Check (cert ∷ desc ∷ classes) result = Judged (check.Answers cert desc classes) result
 IsAnswer (Run fuel) (state ∷ classes) result = Done (run.Answers fuel state classes) result
 IsAnswer Asm (listing ∷ []) result = Done (Assembles listing) result
 IsAnswer request files result = ⊥

@@ -12,7 +12,7 @@ file_fault_text Memory = codes "Memory"
 
 -- the words are no command; each command that is built follows, with its words
 abbrev pub usage_lines : List ℕ
-usage_lines = codes "jterm: usage\nprove DESC CLASS..\nrun FUEL STATE CLASS..\nasm LISTING\n"
+usage_lines = codes "jterm: usage\nprove DESC CLASS..\ncheck CERT DESC CLASS..\nrun FUEL STATE CLASS..\nasm LISTING\n"
 
 -- want of memory
 abbrev pub memory_line : List ℕ

@@ -1,5 +1,5 @@
 -- What a call of the program comes to: the words, the files that they name, the output and the line of errors.
-use Rattle.std.specs.Prelude.{◌≡◌, ◌⊎◌, ℕ, ◌≤◌, List, [], ◌∷◌, ◌++◌, length, map, take, slice_get, Option, Some, Result, ⊤}
+use Rattle.std.specs.Prelude.{◌≡◌, ◌⊎◌, ℕ, zero, suc, ◌≤◌, List, [], ◌∷◌, ◌++◌, length, map, take, slice_get, Option, Some, Result, ⊤}
 use Rattle.std.specs.Io.KnownBytes.{Appends}
 use Rattle.io_ports.specs.Count.{Rose}
 use Rattle.io_ports.specs.Taken.{AppendsPrefix}
@@ -8,10 +8,10 @@ use Rattle.io_ports.specs.Told.Told.{Content}
 use Rattle.io_ports.specs.declared.files.FileFault.{FileFault}
 use Rattle.io_ports.specs.declared.files.FileFault.TheVariants.{Failed, TooLong, Missing, Memory}
 use Rattle.jterm.specs.declared.verdict.Request.{Request}
+use Rattle.jterm.specs.declared.verdict.Request.TheVariants.{Check}
 use Rattle.jterm.specs.declared.verdict.Verdict.{Verdict}
 use Rattle.input_steps.specs.declared.refused.Refused.{Refused}
 use Rattle.jterm.specs.Words.{IsCommand}
-use Rattle.prove_call.specs.Answers.{yes_line}
 use Rattle.jterm.specs.Decision.{IsAnswer}
 
 -- ---- files
@@ -20,21 +20,30 @@ use Rattle.jterm.specs.Decision.{IsAnswer}
 abbrev pub AreTold : (List ℕ → Told) → List (List ℕ) → List (List ℕ) → Type 0
 AreTold held names contents = map held names ≡ map Content contents
 
--- how many bytes a file that the words name may have: 1 MiB
-abbrev pub file_limit : ℕ
-file_limit = 1048576
+-- how many bytes the file at a place among those of a request may have: so many a certificate, so many each other one
+abbrev pub limit_at : ℕ → ℕ → Request → ℕ → ℕ
+limit_at certificate other Check zero = certificate
+limit_at certificate other request place = other
 
--- the contents under these names, each within the limit, are no others than those that are told
-abbrev pub AreContents : ℕ → (List ℕ → Told) → List (List ℕ) → List (List ℕ) → Type 0
-AreContents limit held [] [] = ⊤
-AreContents limit held (name ∷ names) (content ∷ contents) = IsContent (held name) content × (length content ≤ limit) × AreContents limit held names contents
-AreContents limit held [] (content ∷ contents) = ⊥
-AreContents limit held (name ∷ names) [] = ⊥
+-- a certificate may have 16 MiB, each other file 1 MiB
+abbrev pub file_limits : Request → ℕ → ℕ
+file_limits = limit_at 16777216 1048576
 
--- the contents are within the limit
-abbrev pub AreWithin : ℕ → List (List ℕ) → Type 0
-AreWithin limit [] = ⊤
-AreWithin limit (content ∷ contents) = (length content ≤ limit) × AreWithin limit contents
+-- the limits at the places behind the first one
+abbrev pub behind : (ℕ → ℕ) → ℕ → ℕ
+behind limits place = limits (suc place)
+
+-- the contents under these names, each within the limit at its place, are no others than those that are told
+abbrev pub AreContents : (ℕ → ℕ) → (List ℕ → Told) → List (List ℕ) → List (List ℕ) → Type 0
+AreContents limits held [] [] = ⊤
+AreContents limits held (name ∷ names) (content ∷ contents) = IsContent (held name) content × (length content ≤ limits 0) × AreContents (behind limits) held names contents
+AreContents limits held [] (content ∷ contents) = ⊥
+AreContents limits held (name ∷ names) [] = ⊥
+
+-- the contents are within the limits at their places
+abbrev pub AreWithin : (ℕ → ℕ) → List (List ℕ) → Type 0
+AreWithin limits [] = ⊤
+AreWithin limits (content ∷ contents) = (length content ≤ limits 0) × AreWithin (behind limits) contents
 
 -- why a file was not read: the read failed, and the count of the files' faults rose in it; or it stood still, and the content,
 -- where one is told, is past its limit; or it stood still, and none is held, where that is told
@@ -52,16 +61,16 @@ AreRead {F} leaves (name ∷ names) old new = (between : F) × leaves old name b
 -- The file of this name is the first of the named ones that was not read, for this cause. The files before it were read, one
 -- after the other, which led from the old files to those between, and none of them failed: the count of faults stood still.
 -- The read of this very file led on from there to the new ones, and is the one that failed.
-pub record IsUnread {F : Type 0} (held : F → List ℕ → Told) (faults : F → ℕ) (leaves : F → List ℕ → F → Type 0) (limit : ℕ) (names : List (List ℕ)) (old new : F) (name : List ℕ) (fault : FileFault) : Type 0 where
+pub record IsUnread {F : Type 0} (held : F → List ℕ → Told) (faults : F → ℕ) (leaves : F → List ℕ → F → Type 0) (limits : ℕ → ℕ) (names : List (List ℕ)) (old new : F) (name : List ℕ) (fault : FileFault) : Type 0 where
   pub place : ℕ
   pub is_named : slice_get names place ≡ Some name
   pub contents : List (List ℕ)
-  pub earlier : AreContents limit (held old) (take place names) contents
+  pub earlier : AreContents limits (held old) (take place names) contents
   pub between : F
   pub led : AreRead leaves (take place names) old between
   pub still : faults between ≡ faults old
   pub last : leaves between name new
-  pub cause : ReadFails fault (held old name) limit (faults between) (faults new)
+  pub cause : ReadFails fault (held old name) (limits place) (faults between) (faults new)
 
 -- nothing but reads of the first of these names, in their order, changed the files
 abbrev pub FirstAreRead : {F : Type 0} → (F → List ℕ → F → Type 0) → List (List ℕ) → F → F → Type 0
@@ -69,11 +78,11 @@ FirstAreRead leaves names old new = (count : ℕ) × AreRead leaves (take count 
 
 -- ---- the answer
 
--- the words are this command, and what the files tell under the names that it has are these contents, within the limit
+-- the words are this command, and what the files tell under the names that it has are these contents, within their limits
 pub record AreHanded (words : List (List ℕ)) (held : List ℕ → Told) (request : Request) (names contents : List (List ℕ)) : Type 0 where
   pub is_command : IsCommand words request names
   pub told : AreTold held names contents
-  pub within : AreWithin file_limit contents
+  pub within : AreWithin (file_limits request) contents
 
 -- this is the answer for the contents of the files that the words of a command name
 pub record Decided (words : List (List ℕ)) (held : List ℕ → Told) (result : Result Verdict Refused) : Type 0 where
@@ -81,7 +90,7 @@ pub record Decided (words : List (List ℕ)) (held : List ℕ → Told) (result 
   pub names : List (List ℕ)
   pub is_command : IsCommand words request names
   pub contents : List (List ℕ)
-  pub read : AreContents file_limit held names contents
+  pub read : AreContents (file_limits request) held names contents
   pub answer : IsAnswer request contents result
 
 -- ---- outputs
@@ -90,10 +99,10 @@ pub record Decided (words : List (List ℕ)) (held : List ℕ → Told) (result 
 abbrev pub Puts : {S : Type 0} → (S → ℕ) → (S → Option (List ℕ)) → S → S → List ℕ → Type 0
 Puts faults taken old new line = (Rose (faults old) (faults new) → ⊥) → Appends (taken old) (taken new) line
 
--- YES is claimed: the status is 0, or what the call put on the output begins with `YES` and a newline
-abbrev pub Claims : {S : Type 0} → (S → Option (List ℕ)) → S → S → ℕ → Type 0
-Claims taken old new status =
-    (status ≡ 0) ⊎ ((before rest : List ℕ) × (taken old ≡ Some before) × (taken new ≡ Some (before ++ yes_line ++ rest)))
+-- a line is claimed: the status is 0, or what the call put on the output begins with it
+abbrev pub Claims : {S : Type 0} → List ℕ → (S → Option (List ℕ)) → S → S → ℕ → Type 0
+Claims line taken old new status =
+    (status ≡ 0) ⊎ ((before rest : List ℕ) × (taken old ≡ Some before) × (taken new ≡ Some (before ++ line ++ rest)))
 
 -- the statuses of a call without a verdict: refused input, no command, an unread file, want of memory
 abbrev pub IsWithoutVerdict : ℕ → Type 0

@@ -1,25 +1,28 @@
 -- Why a call ends without a verdict, and words of numbers.
-use Rattle.std.specs.Prelude.{◌≡◌, ℕ, ◌==◌, Bool, true, false, if◌then◌else◌, List, [], ◌∷◌, length, Ok, Err, ⊤}
+use Rattle.std.specs.Prelude.{◌≡◌, ℕ, ◌≤◌, ◌==◌, Bool, true, false, if◌then◌else◌, List, [], ◌∷◌, length, Ok, Err, ⊤}
 use Rattle.io_ports.specs.Told.{Told}
 use Rattle.io_ports.specs.declared.files.FileFault.{FileFault}
 use Rattle.io_ports.specs.declared.files.FileFault.TheVariants.{Failed, TooLong, Missing, Memory}
 use Rattle.jterm.specs.declared.inputs.Stop.{Stop}
 use Rattle.jterm.specs.declared.inputs.Stop.TheVariants.{Unread, Broken, NoMemory}
 use Rattle.jterm.specs.declared.verdict.Request.{Request}
+use Rattle.jterm.specs.declared.verdict.Request.TheVariants.{Check}
 use Rattle.input_steps.specs.declared.refused.Refused.TheVariants.{At}
 use Rattle.jterm.specs.declared.verdict.Verdict.{Verdict}
-use Rattle.jterm.specs.Decision.{IsAnswer}
+use Rattle.jterm.specs.Decision.{IsAnswer, Says}
+use Rattle.check_call.specs.Lines.{accepted_line}
+use Rattle.prove_call.specs.Headline.{AllEnd}
 use Rattle.jterm.specs.Words.{IsCommand}
 use Rattle.input_steps.specs.Lines.{refusal_line}
 use Rattle.jterm.specs.Lines.{read_line, memory_line}
 use Rattle.jterm.specs.Outside.{AreContents, IsUnread}
 
--- a call with this limit on files, this request and these file words, which led from old files to new ones, has this cause to stop
-abbrev pub HasCause : {F : Type 0} → (F → List ℕ → Told) → (F → ℕ) → (F → List ℕ → F → Type 0) → ℕ → Request → List (List ℕ) → F → F → Stop → Type 0
-HasCause held faults leaves limit request names old new (Unread name fault) = IsUnread held faults leaves limit names old new name fault
-HasCause held faults leaves limit request names old new (Broken place fault) =
-    (contents : List (List ℕ)) × AreContents limit (held old) names contents × IsAnswer request contents (Err (At place fault))
-HasCause held faults leaves limit request names old new NoMemory = ⊤
+-- a call with these limits on files, this request and these file words, which led from old files to new ones, has this cause to stop
+abbrev pub HasCause : {F : Type 0} → (F → List ℕ → Told) → (F → ℕ) → (F → List ℕ → F → Type 0) → (ℕ → ℕ) → Request → List (List ℕ) → F → F → Stop → Type 0
+HasCause held faults leaves limits request names old new (Unread name fault) = IsUnread held faults leaves limits names old new name fault
+HasCause held faults leaves limits request names old new (Broken place fault) =
+    (contents : List (List ℕ)) × AreContents limits (held old) names contents × IsAnswer request contents (Err (At place fault))
+HasCause held faults leaves limits request names old new NoMemory = ⊤
 
 -- the exit status
 abbrev pub status_of : Stop → ℕ
@@ -44,12 +47,18 @@ stopped_at name Memory = NoMemory
 abbrev pub AreOfCommand : Request → List (List ℕ) → Type 0
 AreOfCommand request names = (words : List (List ℕ)) × IsCommand words request names
 
--- the verdict is the answer for the contents of the files, and its status is 0
-pub record IsAnswered (limit : ℕ) (request : Request) (names : List (List ℕ)) (held : List ℕ → Told) (verdict : Verdict) : Type 0 where
+-- a check that says `ACCEPTED` says the truth
+abbrev pub IsTrueCheck : Request → List (List ℕ) → Verdict → Type 0
+IsTrueCheck request contents verdict =
+    (cert desc : List ℕ) (classes : List (List ℕ)) → request ≡ Check → contents ≡ cert ∷ desc ∷ classes → Says accepted_line verdict → AllEnd classes desc
+
+-- the verdict is the answer for the contents of the files, its status is at most 2, and what it says of a check is true
+pub record IsAnswered (limits : ℕ → ℕ) (request : Request) (names : List (List ℕ)) (held : List ℕ → Told) (verdict : Verdict) : Type 0 where
   pub contents : List (List ℕ)
-  pub read : AreContents limit held names contents
+  pub read : AreContents limits held names contents
   pub answer : IsAnswer request contents (Ok verdict)
-  pub done : verdict.status ≡ 0
+  pub low : verdict.status ≤ 2
+  pub true_check : IsTrueCheck request contents verdict
 
 -- neither a plus nor a zero stands first, but in `0`
 abbrev pub is_plain : List ℕ → Bool

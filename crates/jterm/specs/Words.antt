@@ -3,7 +3,7 @@ use Rattle.std.specs.Prelude.{◌≡◌, ◌⊎◌, ℕ, ◌≤◌, ◌==◌, no
 use Rattle.std.specs.Fmt.{decimal}
 use Rattle.std.specs.List.{list_all}
 use Rattle.jterm.specs.declared.verdict.Request.{Request}
-use Rattle.jterm.specs.declared.verdict.Request.TheVariants.{Prove, Run, Asm}
+use Rattle.jterm.specs.declared.verdict.Request.TheVariants.{Prove, Check, Run, Asm}
 
 -- a word that names a file does not begin with `-`
 abbrev pub is_file_word : List ℕ → Bool
@@ -29,6 +29,25 @@ pub record IsProveRow (words : List (List ℕ)) (request : Request) (files : Lis
   pub is_prove : IsProve words desc classes
   pub asked : request ≡ Prove 4000
   pub named : files ≡ desc ∷ classes
+
+-- words that name a certificate, a description and 1 to 256 classes
+abbrev pub AreCheckFiles : List (List ℕ) → Type 0
+AreCheckFiles [] = ⊥
+AreCheckFiles (cert ∷ files) = IsTrue (is_file_word cert) × AreFiles files
+
+-- `check CERT DESC CLASS..`
+pub record IsCheck (words : List (List ℕ)) (cert desc : List ℕ) (classes : List (List ℕ)) : Type 0 where
+  pub spelled : words ≡ codes "check" ∷ cert ∷ desc ∷ classes
+  pub files : AreCheckFiles (cert ∷ desc ∷ classes)
+
+-- the same as a row of the table of commands
+pub record IsCheckRow (words : List (List ℕ)) (request : Request) (files : List (List ℕ)) : Type 0 where
+  pub cert : List ℕ
+  pub desc : List ℕ
+  pub classes : List (List ℕ)
+  pub is_check : IsCheck words cert desc classes
+  pub asked : request ≡ Check
+  pub named : files ≡ cert ∷ desc ∷ classes
 
 -- a number of steps, at most 1,000,000,000, in digits without a sign or a leading zero
 pub record IsFuel (word : List ℕ) (fuel : ℕ) : Type 0 where
@@ -70,4 +89,5 @@ pub record IsAsmRow (words : List (List ℕ)) (request : Request) (files : List 
 
 -- the words are a row of the table of the commands that are built
 abbrev pub IsCommand : List (List ℕ) → Request → List (List ℕ) → Type 0
-IsCommand words request files = IsProveRow words request files ⊎ (IsRunRow words request files ⊎ IsAsmRow words request files)
+IsCommand words request files =
+    IsProveRow words request files ⊎ (IsCheckRow words request files ⊎ (IsRunRow words request files ⊎ IsAsmRow words request files))

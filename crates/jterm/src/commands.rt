@@ -2,8 +2,8 @@
 ghost use Rattle.std.specs.Prelude.{◌≡◌, ◌↔◌, ℕ, List, ◌∷◌, map, string_bytes, IsTrue, MatchOption};
 ghost use Rattle.std.specs.List.{list_all};
 ghost use Rattle.jterm.specs.declared.verdict.Request.{Request};
-ghost use Rattle.jterm.specs.declared.verdict.Request.TheVariants.{Prove, Asm};
-ghost use Rattle.jterm.specs.Words.{is_file_word, AreFiles, IsListing, IsFuel, IsProveRow, IsRunRow, IsAsmRow, IsCommand};
+ghost use Rattle.jterm.specs.declared.verdict.Request.TheVariants.{Prove, Check, Asm};
+ghost use Rattle.jterm.specs.Words.{is_file_word, AreFiles, AreCheckFiles, IsListing, IsFuel, IsProveRow, IsCheckRow, IsRunRow, IsAsmRow, IsCommand};
 ghost use Rattle.jterm.specs.Stop.{is_plain};
 
 use crate::Request;
@@ -51,6 +51,12 @@ fn command_of<'a>(verb: &str, rest: &'a [String]) -> Option<Command<'a>>
             request: Request::Prove {
                 nodes: DEFAULT_NODES,
             },
+            files: rest,
+        });
+    }
+    if is_check(verb, rest) {
+        return Some(Command {
+            request: Request::Check,
             files: rest,
         });
     }
@@ -116,6 +122,12 @@ fn is_prove(verb: &str, files: &[String]) -> bool
     verb == "prove" && are_files(files)
 }
 
+fn is_check(verb: &str, files: &[String]) -> bool
+    ensures { IsTrue result ↔ IsCheckRow (verb.now ∷ map string_bytes files.now) Check (map string_bytes files.now) }
+{
+    verb == "check" && are_check_files(files)
+}
+
 fn is_asm(verb: &str, files: &[String]) -> bool
     ensures { IsTrue result ↔ IsAsmRow (verb.now ∷ map string_bytes files.now) Asm (map string_bytes files.now) }
 {
@@ -127,6 +139,16 @@ fn is_listing(words: &[String]) -> bool
     ensures { IsTrue result ↔ IsListing (map string_bytes words.now) }
 {
     words.len() == 1 && are_file_words(words)
+}
+
+// A certificate, a description and 1 to 256 classes, each word one that can name a file.
+fn are_check_files(words: &[String]) -> bool
+    ensures { IsTrue result ↔ AreCheckFiles (map string_bytes words.now) }
+{
+    match words.split_first() {
+        Some((cert, files)) => is_file_word(cert) && are_files(files),
+        None => false,
+    }
 }
 
 // A description or a state and 1 to 256 classes, each word one that can name a file.

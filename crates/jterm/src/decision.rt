@@ -1,10 +1,13 @@
 //! The decision over the bytes of the input files.
 ghost use Rattle.std.specs.Prelude.{◌≡◌, List, ℕ, ◌∷◌, map, IfOk};
 ghost use Rattle.prove_call.specs.Headline.{AllEnd};
-ghost use Rattle.jterm.specs.Decision.{Takes, SaysYes, IsAnswer, done_of};
+ghost use Rattle.check_call.specs.Lines.{accepted_line};
+ghost use Rattle.prove_call.specs.Answers.{yes_line};
+ghost use Rattle.jterm.specs.Decision.{Takes, Says, IsAnswer, done_of, verdict_of};
 
 use crate::listing::assemble_listing;
 use crate::verdict::{Request, Verdict};
+use check_call::{Outcome, check_line};
 use input_steps::Refused;
 use list_views::Seq;
 use prove_call::prove_line;
@@ -21,8 +24,21 @@ fn done(out: Result<Seq<u8>, Refused>) -> Result<Verdict, Refused>
     }
 }
 
+/// The outcome of a check as a verdict.
+fn judged(outcome: Result<Outcome, Refused>) -> Result<Verdict, Refused>
+    ensures { result ≡ verdict_of outcome }
+{
+    match outcome {
+        Ok(outcome) => Ok(Verdict {
+            status: outcome.status,
+            out: outcome.out,
+        }),
+        Err(refused) => Err(refused),
+    }
+}
+
 /// Does what the request asks for with the bytes of the files that its command names, in the order of the words:
-/// the description or the state, and then the classes; or the listing.
+/// the certificate of a check, the description or the state, and then the classes; or the listing.
 ///
 /// # Errors
 ///
@@ -32,13 +48,23 @@ pub fn decide(alloc: Global, request: &Request, inputs: &[Vec<u8>]) -> Result<Ve
 
     // Where YES is answered, every state that the description fits ends.
     ensures headline { (nodes : ℕ) (desc : List ℕ) (classes : List (List ℕ)) → request.now ≡ Request.Prove nodes
-        → map (λ file. file.items) inputs.now ≡ desc ∷ classes → IfOk result (λ verdict. SaysYes verdict → AllEnd classes desc) }
+        → map (λ file. file.items) inputs.now ≡ desc ∷ classes → IfOk result (λ verdict. Says yes_line verdict → AllEnd classes desc) }
+
+    // So it does where ACCEPTED is answered.
+    ensures headline_of_check { (cert desc : List ℕ) (classes : List (List ℕ)) → request.now ≡ Request.Check
+        → map (λ file. file.items) inputs.now ≡ cert ∷ desc ∷ classes → IfOk result (λ verdict. Says accepted_line verdict → AllEnd classes desc) }
 
     // The cause of each answer.
     ensures answer { IsAnswer request.now (map (λ file. file.items) inputs.now) result }
 {
     match request {
         Request::Prove { .. } => done(prove_line(alloc, inputs[0].as_slice(), &inputs[1..])),
+        Request::Check => judged(check_line(
+            alloc,
+            inputs[0].as_slice(),
+            inputs[1].as_slice(),
+            &inputs[2..],
+        )),
         Request::Run { fuel } => done(run_line(alloc, *fuel, inputs[0].as_slice(), &inputs[1..])),
         Request::Asm => done(assemble_listing(alloc, inputs[0].as_slice())),
     }

@@ -1,9 +1,10 @@
 //! The files that a command names, read in the order of its words.
 ghost use Rattle.std.specs.Prelude.{◌≡◌, ◌≤◌, ◌^◌, map, string_bytes, IfOk, IfErr};
-ghost use Rattle.jterm.specs.Outside.{AreContents, FirstAreRead};
+ghost use Rattle.jterm.specs.Outside.{AreContents, FirstAreRead, limit_at};
 ghost use Rattle.jterm.specs.Stop.{HasCause, stopped_at};
 ghost use Rattle.jterm.specs.declared.inputs.Stop.TheVariants.{NoMemory};
 
+use crate::Request;
 use crate::commands::Command;
 use input_steps::{Fault, Place};
 use io_ports::{FileFault, Files};
@@ -60,23 +61,40 @@ fn stop_at(name: &str, fault: FileFault) -> Stop<'_>
     }
 }
 
-/// The contents of the files that a command names, each of at most `limit` bytes, in their order.
+// How many bytes the file at a place among those of a request may have.
+fn limit_at(request: &Request, place: usize, certificate: usize, other: usize) -> usize
+    requires certificate { certificate ≤ 2 ^ 31 }
+    requires other { other ≤ 2 ^ 31 }
+    ensures limit { result ≡ limit_at certificate other request.now place }
+    ensures small { result ≤ 2 ^ 31 }
+{
+    match request {
+        Request::Check if place == 0 => certificate,
+        _ => other,
+    }
+}
+
+/// The contents of the files that a command names, in their order: a certificate has at most `certificate` bytes, each other
+/// file at most `other`.
 pub(crate) fn read_inputs<'a, F: Files>(
     alloc: Global,
     command: &Command<'a>,
     files: &mut F,
-    limit: usize,
+    certificate: usize,
+    other: usize,
 ) -> Result<Vec<Vec<u8>>, Stop<'a>>
-    requires { limit ≤ 2 ^ 31 }
-    ensures contents { IfOk result (λ inputs. AreContents limit (F.held files.old)
+    requires certificate { certificate ≤ 2 ^ 31 }
+    requires other { other ≤ 2 ^ 31 }
+    ensures contents { IfOk result (λ inputs. AreContents (limit_at certificate other command.now.request) (F.held files.old)
         (map string_bytes command.now.files.now) (map (λ file. file.items) inputs.items)) }
-    ensures cause { IfErr result (λ stop. HasCause F.held F.faults F.leaves limit command.now.request
+    ensures cause { IfErr result (λ stop. HasCause F.held F.faults F.leaves (limit_at certificate other command.now.request) command.now.request
         (map string_bytes command.now.files.now) files.old files.new stop) }
     ensures reads { FirstAreRead F.leaves (map string_bytes command.now.files.now) files.old files.new }
 {
     let mut inputs = Vec::new(alloc);
     for word in command.files {
         let name = word.as_str();
+        let limit = limit_at(&command.request, inputs.len(), certificate, other);
         match files.read(alloc, name, limit) {
             Ok(content) => inputs.push(content)?,
             Err(fault) => return Err(stop_at(name, fault)),

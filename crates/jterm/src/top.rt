@@ -8,12 +8,14 @@ ghost use Rattle.jterm.specs.declared.verdict.Verdict.{Verdict};
 ghost use Rattle.input_steps.specs.declared.refused.Place.{Place};
 ghost use Rattle.input_steps.specs.declared.refused.Fault.{Fault};
 ghost use Rattle.input_steps.specs.declared.refused.Refused.TheVariants.{At};
-ghost use Rattle.jterm.specs.Words.{IsProve, IsCommand};
-ghost use Rattle.jterm.specs.Decision.{IsAnswer};
+ghost use Rattle.jterm.specs.Words.{IsProve, IsCheck, IsCommand};
+ghost use Rattle.jterm.specs.Decision.{IsAnswer, refused_at};
+ghost use Rattle.check_call.specs.Lines.{accepted_line, refused_line};
+ghost use Rattle.prove_call.specs.Answers.{yes_line};
 ghost use Rattle.prove_call.specs.Headline.{AllEnd};
 ghost use Rattle.input_steps.specs.Lines.{refusal_line};
 ghost use Rattle.jterm.specs.Lines.{usage_lines, memory_line, write_line, read_line};
-ghost use Rattle.jterm.specs.Outside.{AreTold, AreHanded, IsUnread, FirstAreRead, Decided, Puts, Claims, IsWithoutVerdict, IsWritten, file_limit};
+ghost use Rattle.jterm.specs.Outside.{AreTold, AreHanded, IsUnread, FirstAreRead, Decided, Puts, Claims, IsWithoutVerdict, IsWritten, limit_at, file_limits};
 ghost use Rattle.jterm.specs.Stop.{HasCause, AreOfCommand, IsAnswered, HasLine, status_of, line_of};
 
 use crate::commands::Command;
@@ -34,21 +36,24 @@ pub struct Done {
     pub verdict: Option<Verdict>,
 }
 
-// Reads the files of a command, each of at most `limit` bytes, and decides over their contents.
+// Reads the files of a command, a certificate of at most `certificate` bytes and each other file of at most `other`, and
+// decides over their contents.
 fn answer<'a, F: Files>(
     alloc: Global,
     command: &Command<'a>,
     files: &mut F,
-    limit: usize,
+    certificate: usize,
+    other: usize,
 ) -> Result<Verdict, Stop<'a>>
-    requires small { limit ≤ 2 ^ 31 }
+    requires certificate { certificate ≤ 2 ^ 31 }
+    requires other { other ≤ 2 ^ 31 }
     requires command { AreOfCommand command.now.request (map string_bytes command.now.files.now) }
-    ensures answered { IfOk result (λ verdict. IsAnswered limit command.now.request (map string_bytes command.now.files.now) (F.held files.old) verdict) }
-    ensures cause { IfErr result (λ stop. HasCause F.held F.faults F.leaves limit command.now.request
+    ensures answered { IfOk result (λ verdict. IsAnswered (limit_at certificate other command.now.request) command.now.request (map string_bytes command.now.files.now) (F.held files.old) verdict) }
+    ensures cause { IfErr result (λ stop. HasCause F.held F.faults F.leaves (limit_at certificate other command.now.request) command.now.request
         (map string_bytes command.now.files.now) files.old files.new stop) }
     ensures reads { FirstAreRead F.leaves (map string_bytes command.now.files.now) files.old files.new }
 {
-    let inputs = read_inputs(alloc, command, files, limit)?;
+    let inputs = read_inputs(alloc, command, files, certificate, other)?;
     match decide(alloc, &command.request, &inputs) {
         Ok(verdict) => Ok(verdict),
         Err(Refused::At { place, fault }) => Err(Stop::Broken { place, fault }),
@@ -125,7 +130,8 @@ fn write_out<O: Sink, E: Sink>(verdict: Verdict, out: &mut O, err: &mut E) -> Do
 /// Reads the words of the command line and the files that they name, decides over their contents, writes the output
 /// to `out` and a line for a call without one to `err`, and gives the exit status:
 ///
-/// - 0: YES, how a run ended, or the class file's bytes;
+/// - 0: YES, ACCEPTED, how a run ended, or the class file's bytes;
+/// - 2: the certificate is refused;
 /// - 3: the input is refused;
 /// - 4: the words are no command;
 /// - 5: a file was not read;
@@ -143,12 +149,22 @@ pub fn jterm<F: Files, O: Sink, E: Sink>(
     // Where YES is claimed, every state that the description fits comes to an end, for the contents of the files.
     ensures headline { (d : List ℕ) (cs : List (List ℕ)) (desc : List ℕ) (classes : List (List ℕ))
         → IsProve (map string_bytes words.now) d cs → AreTold (F.held files.old) (d ∷ cs) (desc ∷ classes)
-        → Claims O.taken out.old out.new result.status → AllEnd classes desc }
+        → Claims yes_line O.taken out.old out.new result.status → AllEnd classes desc }
+
+    // So it does where ACCEPTED is claimed.
+    ensures headline_of_check { (c d : List ℕ) (cs : List (List ℕ)) (cert desc : List ℕ) (classes : List (List ℕ))
+        → IsCheck (map string_bytes words.now) c d cs → AreTold (F.held files.old) (c ∷ d ∷ cs) (cert ∷ desc ∷ classes)
+        → Claims accepted_line O.taken out.old out.new result.status → AllEnd classes desc }
 
     // A verdict is the answer for the contents of the files. Its output is written, or writing failed.
     ensures verdict { IfSome result.verdict (λ v. Decided (map string_bytes words.now) (F.held files.old) (Ok v)) }
     ensures written { IfSome result.verdict (λ v. IsWritten O.faults O.taken out.old out.new v result.status) }
     ensures silent { IfNone result.verdict (IsWithoutVerdict result.status × (out.new ≡ out.old)) }
+
+    // Status 2: the certificate is refused. The line names the first item that fails, and its cause.
+    ensures not_accepted { result.status ≡ 2 → (item : ℕ) × (cause : List ℕ)
+        × Decided (map string_bytes words.now) (F.held files.old) (Ok (refused_at item cause))
+        × Appends (O.taken out.old) (O.taken out.new) (refused_line item cause) }
 
     // Status 3: the input has this fault.
     ensures refused { result.status ≡ 3 → (place : Place) × (fault : Fault)
@@ -162,7 +178,7 @@ pub fn jterm<F: Files, O: Sink, E: Sink>(
     // Status 5: a file was not read. It is the first that was not, and its own read is what failed.
     ensures read { result.status ≡ 5 → (request : Request) × (names : List (List ℕ)) × (name : List ℕ) × (fault : FileFault)
         × IsCommand (map string_bytes words.now) request names
-        × IsUnread F.held F.faults F.leaves file_limit names files.old files.new name fault
+        × IsUnread F.held F.faults F.leaves (file_limits request) names files.old files.new name fault
         × Puts E.faults E.taken err.old err.new (read_line name fault) }
 
     // Status 6: the output was not taken.
@@ -175,7 +191,7 @@ pub fn jterm<F: Files, O: Sink, E: Sink>(
     // Status 0: nothing is said on `err`.
     ensures says_nothing { result.status ≡ 0 → err.new ≡ err.old }
 
-    // Where the contents of the named files are told and within the limit, and no count rose: what has a verdict
+    // Where the contents of the named files are told and within their limits, and no count rose: what has a verdict
     // gives it, and what has a cause of refusal is refused for it; or memory is wanting.
     ensures complete { (request : Request) (names contents : List (List ℕ)) (verdict : Verdict)
         → AreHanded (map string_bytes words.now) (F.held files.old) request names contents → IsAnswer request contents (Ok verdict)
@@ -198,7 +214,7 @@ pub fn jterm<F: Files, O: Sink, E: Sink>(
             verdict: None,
         };
     };
-    match answer(alloc, &command, files, 1_048_576) {
+    match answer(alloc, &command, files, 16_777_216, 1_048_576) {
         Ok(verdict) => write_out(verdict, out, err),
         Err(stop) => Done {
             status: report(alloc, &stop, err),

@@ -9,6 +9,8 @@ pub enum Request {
         /// At least 1 and at most 20,000.
         nodes: u32,
     },
+    /// To say whether a certificate is valid.
+    Check,
     /// To run a method from a state, for at most `fuel` steps.
     Run {
         /// At most 1,000,000,000.

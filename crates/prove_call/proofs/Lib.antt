@@ -1,5 +1,4 @@
 pub mod Answering
-pub mod Descriptions
 pub mod OneAnswer
 pub mod Runs
 pub mod Forms

@@ -4,11 +4,9 @@ use Rattle.class_read.specs.Content.{ClassContent}
 use Rattle.class_world.specs.World.{World}
 use Rattle.class_world.specs.declared.world.MethodRef.{MethodRef}
 use Rattle.class_program.specs.Programs.{Program}
-use Rattle.input_text.specs.Answers.{SaysOf, AnswersText}
+use Rattle.input_text.specs.Answers.{SaysOf}
 use Rattle.input_text.specs.Descriptions.{description_of}
 use Rattle.input_text.specs.declared.texts.DescText.{DescText}
-use Rattle.input_text.specs.declared.fault.DescFault.{DescFault}
-use Rattle.input_text.specs.declared.fault.DescFault.TheVariants as descs
 use Rattle.input_desc.specs.declared.desc.Desc.{Desc}
 use Rattle.input_desc.specs.Descs.{desc_fault, Describes}
 use Rattle.input_desc.specs.Entries.{entry_of}
@@ -19,31 +17,24 @@ use Rattle.input_steps.specs.declared.refused.Place.TheVariants as places
 use Rattle.input_steps.specs.declared.refused.Fault.{Fault}
 use Rattle.input_steps.specs.declared.refused.Fault.TheVariants as faults
 use Rattle.input_steps.specs.Steps.{IsAt, Then}
+use Rattle.input_steps.specs.Texts.{OfInput, IsTextFault}
 use Rattle.input_steps.specs.Classes.{AllSpell, RefusesClasses, IsWorldOf, RefusesWorld}
 use Rattle.input_steps.specs.Programs.{IsProgramOf, RefusesProgram, IsAcyclic, RefusesCalls, HasTypings, RefusesTypes}
 use Rattle.prove_call.specs.FirstPath.{IsFirstPath}
 
 -- ---- what a description says
 
--- a fault of the description
-abbrev pub OfDescription : (DescFault → Type 0) → Place → Fault → Type 0
-OfDescription = IsAt {C = DescFault} (λ fault. places.Description) faults.Desc
-
 -- the bytes say this
 abbrev pub IsDescText : List ℕ → DescText → Type 0
 IsDescText desc text = SaysOf description_of desc (Ok text)
 
 -- a fault of the bytes
-abbrev pub IsTextFault : List ℕ → DescFault → Type 0
-IsTextFault desc descs.Memory = ⊥
-IsTextFault desc fault = AnswersText description_of desc (Err fault)
-
 abbrev pub RefusesText : List ℕ → Place → Fault → Type 0
-RefusesText desc = OfDescription (IsTextFault desc)
+RefusesText desc = OfInput places.Description (IsTextFault description_of desc)
 
 -- the description names no method of the world that can run
 abbrev pub RefusesEntry : World → DescText → Place → Fault → Type 0
-RefusesEntry world text = OfDescription (λ fault. entry_of world text.entry ≡ Err fault)
+RefusesEntry world text = OfInput places.Description (λ fault. entry_of world text.entry ≡ Err fault)
 
 -- the program's inputs are described so
 abbrev pub IsDesc : Program → DescText → Desc → Type 0
@@ -51,7 +42,7 @@ IsDesc p text described = Describes p text (Ok described)
 
 -- the first fault of the description against the program
 abbrev pub RefusesDesc : Program → DescText → Place → Fault → Type 0
-RefusesDesc p text = OfDescription (λ fault. desc_fault p text ≡ Some fault)
+RefusesDesc p text = OfInput places.Description (λ fault. desc_fault p text ≡ Some fault)
 
 -- ---- the decision
 

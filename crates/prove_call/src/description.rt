@@ -3,6 +3,7 @@ ghost use Rattle.std.specs.Prelude.{◌≡◌, Ok, IfOk, IfErr, IsTrue};
 ghost use Rattle.class_world.specs.Resolve.{has_body};
 ghost use Rattle.class_world.specs.Worlds.{classes_of};
 ghost use Rattle.class_program.specs.Views.{program_of};
+ghost use Rattle.input_desc.specs.Descs.{IsOwnDesc, IsGoodDesc};
 ghost use Rattle.input_desc.specs.Entries.{entry_of};
 ghost use Rattle.input_steps.specs.Steps.{IsCaused};
 ghost use Rattle.prove_call.specs.Answers.{IsDescText, RefusesText, RefusesEntry, IsDesc, RefusesDesc};
@@ -15,7 +16,11 @@ use input_text::DescText;
 use std::alloc::Global;
 
 /// The text that the bytes of a description say.
-pub(crate) fn read_desc(alloc: Global, bytes: &[u8]) -> Result<DescText, Refused>
+///
+/// # Errors
+///
+/// At `Description` the first fault of the bytes; want of memory.
+pub fn read_desc(alloc: Global, bytes: &[u8]) -> Result<DescText, Refused>
     ensures text { IfOk result (IsDescText bytes.now) }
     ensures refused { IfErr result (IsCaused (RefusesText bytes.now)) }
 {
@@ -26,7 +31,11 @@ pub(crate) fn read_desc(alloc: Global, bytes: &[u8]) -> Result<DescText, Refused
 }
 
 /// The method that a description names.
-pub(crate) fn entry_of(world: &World<'_>, text: &DescText) -> Result<MethodRef, Refused>
+///
+/// # Errors
+///
+/// At `Description` that there is no such method with a body.
+pub fn entry_of(world: &World<'_>, text: &DescText) -> Result<MethodRef, Refused>
     ensures entry { IfOk result (λ entry. entry_of (classes_of world.now) text.now.entry ≡ Ok entry) }
     ensures body { IfOk result (λ entry. IsTrue (has_body (classes_of world.now) entry)) }
     ensures refused { IfErr result (IsCaused (RefusesEntry (classes_of world.now) text.now)) }
@@ -38,12 +47,14 @@ pub(crate) fn entry_of(world: &World<'_>, text: &DescText) -> Result<MethodRef, 
 }
 
 /// What a description says of a program's inputs.
-pub(crate) fn described(
-    alloc: Global,
-    program: &Program<'_>,
-    text: DescText,
-) -> Result<Desc, Refused>
+///
+/// # Errors
+///
+/// At `Description` the first fault of the description against the program; want of memory.
+pub fn described(alloc: Global, program: &Program<'_>, text: DescText) -> Result<Desc, Refused>
     ensures described { IfOk result (IsDesc (program_of program.now) text) }
+    ensures own { IfOk result (IsOwnDesc (program_of program.now)) }
+    ensures good { IfOk result (IsGoodDesc (program_of program.now)) }
     ensures refused { IfErr result (IsCaused (RefusesDesc (program_of program.now) text)) }
 {
     match Desc::fit(alloc, text, program) {

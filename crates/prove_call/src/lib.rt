@@ -12,6 +12,7 @@ mod laws;
 mod typing;
 
 pub use call::prove_line;
+pub use description::{described, entry_of, read_desc};
 pub use form::StraightForm;
 pub use laws::{answers_are_one, some_state_fits, yes_is_true};
 pub use typing::{Known, has_typing};

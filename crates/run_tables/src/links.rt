@@ -1,10 +1,10 @@
 //! `link-52`: the entry method and class files, and the methods that the entry reaches; or the first fault of linking, a cycle of
 //! calls, or the first reached method without a typing.
-use crate::lines::{fault_line, refused_line};
 use anyhow::Result;
 use class_program::Program;
 use entry_cases::{Entry, put_method};
 use input_steps::{Fault, Place, Refused, test_calls, typings};
+use line_cases::{fault_line, refused_line};
 use std::alloc::{AllocError, Global};
 use table_cases::Case;
 

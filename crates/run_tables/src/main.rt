@@ -2,7 +2,6 @@
 //! case, divided by tabs. The answer to each comes on a line of its own.
 #![tactic(auto)]
 
-mod lines;
 mod links;
 mod runs;
 

@@ -1,5 +1,5 @@
 use Rattle.std.proofs.Common.{map}
-use Rattle.jterm.proofs.Deciding.{some_inputs, inputs_are, prove_answer, run_answer, headline_at}
+use Rattle.jterm.proofs.Deciding.{some_inputs, inputs_are, inputs_are_two, three_inputs, prove_answer, check_answer, run_answer, headline_at, accepted_at}
 use Rattle.jterm.proofs.decision.decide.Goals as goal
 
 pub returns-in-Prove-clause-headline : goal.returns-in-Prove-clause-headline
@@ -13,6 +13,18 @@ returns-in-Prove-clause-answer c =
     let some = some_inputs c.args.request.now (map (λ file. file.items) c.args.inputs.now) c.requires in
     let split = inputs_are (λ file. file.items) c.args.inputs.now c.index-inputs-0.result c.as_slice.result.now some c.index-inputs-0.is c.as_slice.ensures.value in
     prove_answer c.args.request.now _ (map (λ file. file.items) c.args.inputs.now) c.as_slice.result.now _ c.prove_line.result c.done.result c.in-Prove.is split c.done.ensures c.prove_line.ensures
+
+pub returns-in-Check-clause-headline_of_check : goal.returns-in-Check-clause-headline_of_check
+returns-in-Check-clause-headline_of_check c cert desc classes asked given =
+    let some = three_inputs (λ file. file.items) c.args.inputs.now c.args.request.now c.in-Check.is c.requires in
+    let split = inputs_are_two (λ file. file.items) c.args.inputs.now c.index-inputs-0-in-Check.result c.index-inputs-1.result c.as_slice-in-Check.result.now c.as_slice-in-Check-2.result.now some c.index-inputs-0-in-Check.is c.as_slice-in-Check.ensures.value c.index-inputs-1.is c.as_slice-in-Check-2.ensures.value in
+    accepted_at (map (λ file. file.items) c.args.inputs.now) c.as_slice-in-Check.result.now c.as_slice-in-Check-2.result.now _ cert desc classes c.check_line.result c.judged.result split given c.judged.ensures c.check_line.ensures.answers c.check_line.ensures.headline
+
+pub returns-in-Check-clause-answer : goal.returns-in-Check-clause-answer
+returns-in-Check-clause-answer c =
+    let some = three_inputs (λ file. file.items) c.args.inputs.now c.args.request.now c.in-Check.is c.requires in
+    let split = inputs_are_two (λ file. file.items) c.args.inputs.now c.index-inputs-0-in-Check.result c.index-inputs-1.result c.as_slice-in-Check.result.now c.as_slice-in-Check-2.result.now some c.index-inputs-0-in-Check.is c.as_slice-in-Check.ensures.value c.index-inputs-1.is c.as_slice-in-Check-2.ensures.value in
+    check_answer c.args.request.now (map (λ file. file.items) c.args.inputs.now) c.as_slice-in-Check.result.now c.as_slice-in-Check-2.result.now _ c.check_line.result c.judged.result c.in-Check.is split c.judged.ensures c.check_line.ensures.answers
 
 pub returns-in-Run-clause-answer : goal.returns-in-Run-clause-answer
 returns-in-Run-clause-answer c =

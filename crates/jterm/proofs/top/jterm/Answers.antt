@@ -1,13 +1,32 @@
 use Rattle.std.proofs.Common.{arith}
+use Rattle.prove_call.specs.Answers.{yes_line}
+use Rattle.check_call.specs.Lines.{accepted_line}
 use Rattle.jterm.specs.Outside.{Puts}
-use Rattle.jterm.proofs.Endings.{unclaimed, refused, unread, not_zero, not_four, says_memory, headline, complete, complete_written, never_answered, refuses, decided, unwritten, done_is_no_usage}
+use Rattle.jterm.proofs.Endings.{unclaimed, refused, unread, not_zero, not_two, not_four, says_memory, headline, headline_of_check, not_accepted, complete, complete_written, never_answered, refuses, decided, unwritten, done_is_no_usage}
 use Rattle.jterm.proofs.top.jterm.Goals as goal
 
 pub returns-in_default-clause-headline : goal.returns-in_default-clause-headline
-returns-in_default-clause-headline g c d cs desc classes prove told claims = absurd (unclaimed g.O.Sink.taken c.args.out.now 4 (λ e. omega arith) claims)
+returns-in_default-clause-headline g c d cs desc classes prove told claims = absurd (unclaimed yes_line g.O.Sink.taken c.args.out.now 4 (omega arith) (λ e. omega arith) claims)
 
 pub returns-in-Err-clause-headline : goal.returns-in-Err-clause-headline
-returns-in-Err-clause-headline g c d cs desc classes prove told claims = absurd (unclaimed g.O.Sink.taken c.args.out.now c.report.result (not_zero c.in-Err.stop c.report.result _ _ _ c.report.ensures) claims)
+returns-in-Err-clause-headline g c d cs desc classes prove told claims = absurd (unclaimed yes_line g.O.Sink.taken c.args.out.now c.report.result (omega arith) (not_zero c.in-Err.stop c.report.result _ _ _ c.report.ensures) claims)
+
+pub returns-in_default-clause-headline_of_check : goal.returns-in_default-clause-headline_of_check
+returns-in_default-clause-headline_of_check g c cert d cs content desc classes check told claims = absurd (unclaimed accepted_line g.O.Sink.taken c.args.out.now 4 (omega arith) (λ e. omega arith) claims)
+
+pub returns-in-Err-clause-headline_of_check : goal.returns-in-Err-clause-headline_of_check
+returns-in-Err-clause-headline_of_check g c cert d cs content desc classes check told claims = absurd (unclaimed accepted_line g.O.Sink.taken c.args.out.now c.report.result (omega arith) (not_zero c.in-Err.stop c.report.result _ _ _ c.report.ensures) claims)
+
+pub returns-in-Ok-clause-headline_of_check : goal.returns-in-Ok-clause-headline_of_check
+returns-in-Ok-clause-headline_of_check g c cert d cs content desc classes check told claims =
+    headline_of_check g.O.Sink.faults g.O.Sink.taken c.args.out.now _ _ _ _ _ _ _ cert d cs content desc classes c.in-Some.ensures c.in-Ok.ensures.answered c.write_out.ensures.written check told claims
+
+pub returns-in-Err-clause-not_accepted : goal.returns-in-Err-clause-not_accepted
+returns-in-Err-clause-not_accepted g c two = absurd (not_two c.in-Err.stop c.report.result _ _ _ c.report.ensures two)
+
+pub returns-in-Ok-clause-not_accepted : goal.returns-in-Ok-clause-not_accepted
+returns-in-Ok-clause-not_accepted g c =
+    not_accepted g.O.Sink.faults g.O.Sink.taken c.args.out.now _ _ _ _ (g.F.Files.held c.args.files.now) _ _ c.in-Some.ensures c.in-Ok.ensures.answered c.write_out.ensures.written
 
 pub returns-in-Err-clause-refused : goal.returns-in-Err-clause-refused
 returns-in-Err-clause-refused g c =
@@ -36,7 +55,7 @@ returns-in-Ok-clause-verdict g c =
 
 pub returns-in-Ok-clause-write : goal.returns-in-Ok-clause-write
 returns-in-Ok-clause-write g c =
-    unwritten _ _ c.in-Ok.ensures.answered.done c.write_out.ensures.written c.write_out.ensures.line
+    unwritten _ _ c.in-Ok.ensures.answered.low c.write_out.ensures.written c.write_out.ensures.line
 
 pub returns-in-Err-clause-complete : goal.returns-in-Err-clause-complete
 returns-in-Err-clause-complete g c request names contents verdict handed answer files out =
@@ -66,4 +85,4 @@ returns-in-Err-clause-says_memory g c =
 
 pub returns-in-Ok-clause-usage : goal.returns-in-Ok-clause-usage
 returns-in-Ok-clause-usage g c =
-    done_is_no_usage _ _ _ _ c.write_out.result.status c.in-Some.ensures c.in-Ok.ensures.answered.done c.write_out.ensures.line
+    done_is_no_usage _ _ _ _ c.write_out.result.status c.in-Some.ensures c.in-Ok.ensures.answered.low c.write_out.ensures.line

@@ -1,0 +1,5 @@
+pub mod Answering
+pub mod Lacking
+pub mod Naming
+pub mod OneAnswer
+pub mod Saying

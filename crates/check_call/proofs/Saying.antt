@@ -1,0 +1,157 @@
+-- What is said of a certificate.
+use Rattle.std.proofs.Common.{◌≡◌, ◌∙◌, ◌≤◌, ◌==◌, ◌&&◌, ℕ, zero, suc, Bool, true, false, List, [], ◌∷◌, length, map, take, Option, Some, None, Result, Ok, Err, slice_get, inl, inr, refl, sym, ap, subst, arith}
+use Rattle.std.specs.Prelude.{OnOk}
+use Rattle.std.specs.List.{list_all}
+use Rattle.std.proofs.lemmas.Bool.{eqb-true, and_parts}
+use Rattle.std.proofs.lemmas.List.{length-map}
+use Rattle.jvm_values.specs.States.{MachineState}
+use Rattle.class_program.specs.declared.program.Method.{Method}
+use Rattle.class_program.specs.Programs.{Program, IsClosed}
+use Rattle.frame_types.specs.Tables.{CodeTypes}
+use Rattle.code_verify.specs.Typings.{IsTypingOf}
+use Rattle.jvm_run.specs.Laws.{HasInts}
+use Rattle.input_desc.specs.declared.desc.Desc.{Desc}
+use Rattle.input_desc.specs.Descs.{IsOwnDesc}
+use Rattle.input_desc.specs.Initial.{initial_of}
+use Rattle.input_steps.specs.declared.refused.Refused.{Refused}
+use Rattle.input_steps.specs.declared.refused.Refused.TheVariants.{At, Memory}
+use Rattle.input_steps.specs.Steps.{Then}
+use Rattle.input_steps.proofs.Steps.{then_refused, then_goes}
+use Rattle.descent.specs.declared.proof.ProofStep.{ProofStep}
+use Rattle.term_graph.specs.declared.nodes.By.{By}
+use Rattle.term_graph.specs.Graphs.{GraphNode, GraphPart}
+use Rattle.abs_expand.specs.IntForms.{HasIntForms}
+use Rattle.abs_expand.proofs.IntPrograms.{are_int_insns, are_int_methods, program_int}
+use Rattle.graph_check.specs.Conditions.{HasIntStates}
+use Rattle.graph_check.specs.Filling.{IsFilled}
+use Rattle.graph_fill.specs.Answers.{IsRefused, FillsOr}
+use Rattle.expand_laws.specs.Laws.{HasShortIncrements}
+use Rattle.cert_form.specs.declared.fault.CertFault.{CertFault}
+use Rattle.cert_form.specs.declared.fault.CertFault.TheVariants as certs
+use Rattle.cert_form.specs.Certificates.{CertContent, cert_of, AnswersText}
+use Rattle.cert_form.specs.Faults.{fault_text}
+use Rattle.cert_check.specs.declared.refusal.Refusal.{Refusal}
+use Rattle.cert_check.specs.declared.refusal.Refusal.TheVariants as refusals
+use Rattle.cert_check.specs.Certified.{IsCertified}
+use Rattle.cert_check.specs.Laws.{CertifiedIntRunsEnd}
+use Rattle.cert_check.specs.Valid.{Case, Tells}
+use Rattle.cert_verdict.specs.Parts.{case_of}
+use Rattle.check_call.specs.declared.outcome.Outcome.{Outcome}
+use Rattle.check_call.specs.Answers.{is_number, is_int_method, is_one_int_method, IsIntProgram, RefusesOthers, RefusesStates, FillsInts, IsCertText, names_of, AnswersChecked, AnswersContent, AnswersCert, AnswersBuilt}
+use Rattle.check_call.specs.Headline.{Accepts, AllFittingEnd, EndsIfAccepted}
+use Rattle.check_call.specs.Lines.{accepted, refused_at, AnswersAs}
+use Rattle.check_call.specs.Said.{IsSaid, IsSaidOfText, not_built}
+
+abbrev Answer : Type 0
+Answer = Result Outcome Refused
+
+-- ---- a check
+
+pub said_tells : (case : Case) (checked : Result (Unit {0}) Refusal) (result : Answer) → Tells case checked → IsSaid checked result → AnswersChecked case result
+said_tells case (Ok done) (Ok outcome) t s = inl (t, s)
+said_tells case (Ok done) (Err (At place fault)) t s = absurd s
+said_tells case (Ok done) (Err Memory) t s = tt
+said_tells case (Err (refusals.Item item cause)) (Ok outcome) t s = inr (item, (cause, (t, s)))
+said_tells case (Err (refusals.Item item cause)) (Err (At place fault)) t s = absurd s
+said_tells case (Err (refusals.Item item cause)) (Err Memory) t s = tt
+said_tells case (Err refusals.Memory) (Ok outcome) t s = absurd (cc)
+said_tells case (Err refusals.Memory) (Err (At place fault)) t s = absurd (cc)
+said_tells case (Err refusals.Memory) (Err Memory) t s = tt
+
+said_accepts : (C : Type 0) (checked : Result (Unit {0}) Refusal) (result : Answer) → OnOk checked C → IsSaid checked result → Accepts result → C
+said_accepts C (Ok done) result on s a = on
+said_accepts C (Err (refusals.Item item cause)) (Ok outcome) on s a = absurd (omega (arith, ap (λ (o : Outcome). o.status) s, a))
+said_accepts C (Err (refusals.Item item cause)) (Err refused) on s a = absurd a
+said_accepts C (Err refusals.Memory) (Ok outcome) on s a = absurd (cc)
+said_accepts C (Err refusals.Memory) (Err refused) on s a = absurd a
+
+pub said_ends : (p : Program) (typing : ℕ → CodeTypes) (desc : Desc) (nodes : List GraphNode) (cuts : List ℕ) (checked : Result (Unit {0}) Refusal) (result : Answer)
+    → CertifiedIntRunsEnd → IsClosed p → HasInts p → HasIntForms p → HasShortIncrements p → IsTypingOf p typing → IsOwnDesc p desc → HasIntStates p typing nodes
+    → OnOk checked (IsCertified p typing nodes cuts (initial_of p desc)) → IsSaid checked result → EndsIfAccepted p desc result
+said_ends p typing desc nodes cuts checked result law closed ints forms short typing_is own states on s accepts state fits =
+    law p typing desc nodes cuts closed ints typing_is own forms short states (said_accepts (IsCertified p typing nodes cuts (initial_of p desc)) checked result on s accepts) state fits
+
+pub text_said : (fault : CertFault) (cause : List ℕ) (result : Answer) → (fault ≡ certs.Memory → ⊥) → cause ≡ fault_text fault → AnswersAs (refused_at 0 cause) result → IsSaidOfText fault result
+text_said (certs.Json fault) cause result other is s = subst (λ (text : List ℕ). AnswersAs (refused_at 0 text) result) is s
+text_said (certs.Limit place) cause result other is s = subst (λ (text : List ℕ). AnswersAs (refused_at 0 text) result) is s
+text_said certs.Memory cause result other is s = absurd (other refl)
+
+pub refused_ends : (p : Program) (desc : Desc) (refused : Refused) → EndsIfAccepted p desc (Err refused)
+refused_ends p desc refused accepts = absurd accepts
+
+-- ---- what a certificate says
+
+ways_length : (parts : List GraphPart) (nodes : List GraphNode) → map (λ (node : GraphNode). node.by) nodes ≡ map (λ (part : GraphPart). part.by) parts → length nodes ≡ length parts
+ways_length parts nodes e = sym (length-map nodes (λ (node : GraphNode). node.by)) ∙ (ap (λ (ways : List By). length ways) e ∙ length-map parts (λ (part : GraphPart). part.by))
+
+pub few_filled : (p : Program) (typing : ℕ → CodeTypes) (parts : List GraphPart) (nodes : List GraphNode) → length parts ≤ 20000 → FillsOr p typing parts (Ok nodes) → length nodes ≤ 4294967280
+few_filled p typing parts nodes few filled =
+    let same : length nodes ≡ length parts = ways_length parts nodes filled.0.ways in
+    omega (arith, few, same)
+
+module _ (p : Program) (typing : ℕ → CodeTypes) (desc : Desc) (content : CertContent) where
+  abbrev Next : List GraphNode → Answer → Type 0
+  Next nodes = AnswersChecked (case_of p typing (initial_of p desc) nodes content.cuts content.proof)
+
+  pub filled_goes : (nodes : List GraphNode) (result : Answer) → FillsOr p typing content.parts (Ok nodes) → AnswersChecked (case_of p typing (initial_of p desc) nodes content.cuts content.proof) result → AnswersContent p typing desc content result
+  filled_goes nodes result f h = then_goes {A = List GraphNode} (FillsInts p typing content.parts) (RefusesStates p typing content.parts) Next nodes result f h
+
+  pub states_refused : (node : ℕ) → IsRefused p typing content.parts node → AnswersContent p typing desc content (Err not_built)
+  states_refused node h = then_refused {A = List GraphNode} (FillsInts p typing content.parts) (RefusesStates p typing content.parts) Next not_built (record { cause = node; place_is = refl; fault_is = refl; holds = h })
+
+-- ---- the bytes
+
+module _ (cert : List ℕ) (p : Program) (typing : ℕ → CodeTypes) (desc : Desc) where
+  pub text_goes : (names : List (List ℕ)) (content : CertContent) (result : Answer) → names ≡ names_of p.world → AnswersText (cert_of names) cert (Ok content) → AnswersContent p typing desc content result → AnswersCert cert p typing desc result
+  text_goes names content result e i h = go result h
+    where
+      is : IsCertText p cert content
+      is = subst (λ (ns : List (List ℕ)). AnswersText (cert_of ns) cert (Ok content)) e i
+
+      go : (result : Answer) → AnswersContent p typing desc content result → AnswersCert cert p typing desc result
+      go (Ok outcome) h = inr (content, (is, h))
+      go (Err (At place fault)) h = (content, (is, h))
+      go (Err Memory) h = tt
+
+  pub text_refused : (names : List (List ℕ)) (fault : CertFault) (result : Answer) → names ≡ names_of p.world → AnswersText (cert_of names) cert (Err fault) → IsSaidOfText fault result → AnswersCert cert p typing desc result
+  text_refused names fault result e i s = go fault result (subst (λ (ns : List (List ℕ)). AnswersText (cert_of ns) cert (Err fault)) e i) s
+    where
+      go : (fault : CertFault) (result : Answer) → AnswersText (cert_of (names_of p.world)) cert (Err fault) → IsSaidOfText fault result → AnswersCert cert p typing desc result
+      go (certs.Json f) (Ok outcome) h s = inl (certs.Json f, (h, s))
+      go (certs.Json f) (Err (At place fault)) h s = absurd s
+      go (certs.Json f) (Err Memory) h s = tt
+      go (certs.Limit at) (Ok outcome) h s = inl (certs.Limit at, (h, s))
+      go (certs.Limit at) (Err (At place fault)) h s = absurd s
+      go (certs.Limit at) (Err Memory) h s = tt
+      go certs.Memory (Ok outcome) h s = absurd (cc)
+      go certs.Memory (Err (At place fault)) h s = absurd (cc)
+      go certs.Memory (Err Memory) h s = tt
+
+  pub text_ends : (fault : CertFault) (result : Answer) → IsSaidOfText fault result → EndsIfAccepted p desc result
+  text_ends (certs.Json f) (Ok outcome) s accepts = absurd (omega (arith, ap (λ (o : Outcome). o.status) s, accepts))
+  text_ends (certs.Limit at) (Ok outcome) s accepts = absurd (omega (arith, ap (λ (o : Outcome). o.status) s, accepts))
+  text_ends certs.Memory (Ok outcome) s accepts = absurd (cc)
+  text_ends fault (Err refused) s accepts = absurd accepts
+
+  -- ---- the program
+
+  pub others_refused : (IsIntProgram p → ⊥) → AnswersBuilt cert p typing desc (Err not_built)
+  others_refused none = then_refused {A = Unit {0}} (λ nothing. IsIntProgram p) (RefusesOthers p) (λ nothing. AnswersCert cert p typing desc) not_built (record { cause = tt; place_is = refl; fault_is = refl; holds = none })
+
+  pub built_goes : (result : Answer) → IsIntProgram p → AnswersCert cert p typing desc result → AnswersBuilt cert p typing desc result
+  built_goes result ints h = then_goes {A = Unit {0}} (λ nothing. IsIntProgram p) (RefusesOthers p) (λ nothing. AnswersCert cert p typing desc) tt result ints h
+
+none_left : (methods : List Method) → (length methods == 0) ≡ true → methods ≡ []
+none_left [] e = refl
+none_left (m ∷ methods) e = let bad : length (m ∷ methods) ≡ 0 = eqb-true (length (m ∷ methods)) 0 e in absurd (omega (arith, bad))
+
+one_int : (methods : List Method) → is_one_int_method methods ≡ true → are_int_methods methods ≡ true
+one_int [] h = refl
+one_int (m ∷ rest) h =
+    let alone = and_parts (length rest == 0) (is_int_method m) h in
+    let typed = and_parts (list_all is_number m.params) (length m.table == 0 && are_int_insns m.insns) alone.1 in
+    let insns = and_parts (length m.table == 0) (are_int_insns m.insns) typed.1 in
+    ap (λ (b : Bool). b && are_int_methods rest) insns.1 ∙ ap are_int_methods (none_left rest alone.0)
+
+pub int_forms : (p : Program) → IsIntProgram p → HasIntForms p
+int_forms p h = program_int p (one_int p.methods h)

@@ -1,0 +1,6 @@
+pub mod Answers
+pub mod Causes
+pub mod Headline
+pub mod Laws
+pub mod Lines
+pub mod Said

@@ -1,0 +1,27 @@
+-- The outcomes of a check, with their lines.
+use Rattle.std.specs.Prelude.{◌≡◌, ℕ, List, [], ◌∷◌, codes, Result, Ok, Err}
+use Rattle.std.specs.Fmt.{decimal}
+use Rattle.fault_words.specs.Words.{joined}
+use Rattle.input_steps.specs.declared.refused.Refused.{Refused}
+use Rattle.input_steps.specs.declared.refused.Refused.TheVariants.{At, Memory}
+use Rattle.check_call.specs.declared.outcome.Outcome.{Outcome}
+
+-- `ACCEPTED` and a newline
+abbrev pub accepted_line : List ℕ
+accepted_line = codes "ACCEPTED\n"
+
+-- `REFUSED item N: CAUSE` and a newline
+abbrev pub refused_line : ℕ → List ℕ → List ℕ
+refused_line item cause = joined (codes "REFUSED item " ∷ decimal item ∷ codes ": " ∷ cause ∷ codes "\n" ∷ [])
+
+abbrev pub accepted : Outcome
+accepted = record { status = 0; out = accepted_line }
+
+abbrev pub refused_at : ℕ → List ℕ → Outcome
+refused_at item cause = record { status = 2; out = refused_line item cause }
+
+-- this outcome, or want of memory
+abbrev pub AnswersAs : Outcome → Result Outcome Refused → Type 0
+AnswersAs wanted (Ok outcome) = outcome ≡ wanted
+AnswersAs wanted (Err (At place fault)) = ⊥
+AnswersAs wanted (Err Memory) = Unit {0}

@@ -1,0 +1,183 @@
+//! What is said of a certificate, where its program and its description are good.
+ghost use Rattle.std.specs.Prelude.{◌≡◌, ◌≤◌, ◌^◌, ◌-◌, IfOk, length, Result, Ok};
+ghost use Rattle.class_program.specs.Views.{program_of};
+ghost use Rattle.class_program.specs.Programs.{IsClosed};
+ghost use Rattle.code_verify.specs.Typings.{IsTypingOf, typing_at};
+ghost use Rattle.input_desc.specs.Descs.{IsOwnDesc, IsGoodDesc};
+ghost use Rattle.input_desc.specs.Initial.{initial_of};
+ghost use Rattle.descent.specs.Conditions.{AreSteps};
+ghost use Rattle.abs_expand.specs.IntForms.{HasIntForms};
+ghost use Rattle.graph_check.specs.Conditions.{HasIntStates};
+ghost use Rattle.cert_form.specs.Certificates.{LackingAreNamed};
+ghost use Rattle.cert_verdict.specs.Parts.{case_of};
+ghost use Rattle.check_call.specs.Answers.{AnswersChecked, AnswersContent, AnswersCert, AnswersBuilt};
+ghost use Rattle.check_call.specs.Headline.{EndsIfAccepted};
+ghost use Rattle.check_call.specs.Said.{IsSaid, IsSaidOfText, not_built};
+
+use crate::causes::cause_text;
+use crate::ints::is_int_program;
+use crate::names::class_names;
+use crate::outcome::{Outcome, accepted, refused};
+use abs_cells::PackedPairs;
+use cert_check::{Refusal, certified_int_runs_end};
+use cert_form::{CertFault, CertText};
+use cert_verdict::check_cert;
+use class_program::Program;
+use code_verify::Typing;
+use descent::Proof;
+use graph_fill::{FillFault, fill};
+use input_desc::{Desc, initial};
+use input_steps::{Fault, Place, Refused};
+use int_links::has_short_increments;
+use jvm_run::has_ints;
+use std::alloc::Global;
+use term_graph::Graph;
+
+/// What is said of a certificate that was checked.
+fn said(alloc: Global, checked: Result<(), Refusal>) -> Result<Outcome, Refused>
+    ensures { IsSaid checked result }
+{
+    match checked {
+        Ok(()) => accepted(alloc),
+        Err(Refusal::Item { item, cause }) => {
+            let cause = cause_text(alloc, cause)?;
+            refused(alloc, item, cause.as_slice())
+        }
+        Err(Refusal::Memory) => Err(Refused::Memory),
+    }
+}
+
+/// The program or the certificate is none of those that are built so far.
+fn not_built() -> Refused
+    ensures { result ≡ not_built }
+{
+    Refused::At {
+        place: Place::Link,
+        fault: Fault::NotBuilt,
+    }
+}
+
+/// What is said of a graph with cuts and a proof.
+#[tactic(auto, using(crate::proofs::Saying::said_tells, crate::proofs::Saying::said_ends))]
+fn check_graph(
+    alloc: Global,
+    program: &Program<'_>,
+    typing: &Typing,
+    desc: &Desc,
+    graph: &mut Graph<PackedPairs>,
+    cuts: &[u32],
+    proof: &Proof,
+) -> Result<Outcome, Refused>
+    requires forms { HasIntForms (program_of program.now) }
+    requires typing { IsTypingOf (program_of program.now) (typing_at typing.now) }
+    requires own { IsOwnDesc (program_of program.now) desc.now }
+    requires good { IsGoodDesc (program_of program.now) desc.now }
+    requires ints { HasIntStates (program_of program.now) (typing_at typing.now) graph.old }
+    requires few { length graph.old ≤ 2 ^ 32 - 16 }
+    requires steps { AreSteps proof.now.steps }
+    ensures checked { AnswersChecked (case_of (program_of program.now) (typing_at typing.now) (initial_of (program_of program.now) desc.now) graph.old cuts.now proof.now.steps) result }
+    ensures ends { EndsIfAccepted (program_of program.now) desc.now result }
+{
+    has_ints(program);
+    has_short_increments(program);
+    program.is_good();
+    certified_int_runs_end();
+    let root = initial(alloc, desc, program)?;
+    let checked = check_cert(alloc, program, typing, graph, &root, cuts, proof);
+    said(alloc, checked)
+}
+
+/// What is said of what a certificate says.
+#[tactic(auto, using(crate::proofs::Saying::filled_goes, crate::proofs::Saying::states_refused, crate::proofs::Saying::refused_ends))]
+fn check_content(
+    alloc: Global,
+    program: &Program<'_>,
+    typing: &Typing,
+    desc: &Desc,
+    cert: &CertText<'_>,
+) -> Result<Outcome, Refused>
+    requires forms { HasIntForms (program_of program.now) }
+    requires typing { IsTypingOf (program_of program.now) (typing_at typing.now) }
+    requires own { IsOwnDesc (program_of program.now) desc.now }
+    requires good { IsGoodDesc (program_of program.now) desc.now }
+    requires named { LackingAreNamed cert.now.parts }
+    requires few { length cert.now.parts ≤ 20000 }
+    requires steps { AreSteps cert.now.proof }
+    ensures content { AnswersContent (program_of program.now) (typing_at typing.now) desc.now cert.now result }
+    ensures ends { EndsIfAccepted (program_of program.now) desc.now result }
+{
+    let filled: Result<Graph<PackedPairs>, FillFault> = fill(alloc, program, typing, cert);
+    match filled {
+        Ok(graph) => {
+            let mut graph = graph;
+            check_graph(
+                alloc,
+                program,
+                typing,
+                desc,
+                &mut graph,
+                cert.cuts(),
+                cert.proof(),
+            )
+        }
+        Err(FillFault::NotOfInts { .. }) => Err(not_built()),
+        Err(FillFault::Memory) => Err(Refused::Memory),
+    }
+}
+
+/// What is said of the bytes that are no certificate.
+fn refuse_text(alloc: Global, fault: CertFault) -> Result<Outcome, Refused>
+    ensures { IsSaidOfText fault result }
+{
+    match fault {
+        CertFault::Memory => Err(Refused::Memory),
+        fault => {
+            let cause = fault.text(alloc)?;
+            refused(alloc, 0, cause.as_slice())
+        }
+    }
+}
+
+/// What is said of the bytes of a certificate.
+#[tactic(auto, using(crate::proofs::Saying::text_goes, crate::proofs::Saying::text_refused, crate::proofs::Saying::text_ends))]
+fn check_text(
+    alloc: Global,
+    program: &Program<'_>,
+    typing: &Typing,
+    desc: &Desc,
+    cert: &[u8],
+) -> Result<Outcome, Refused>
+    requires forms { HasIntForms (program_of program.now) }
+    requires typing { IsTypingOf (program_of program.now) (typing_at typing.now) }
+    requires own { IsOwnDesc (program_of program.now) desc.now }
+    requires good { IsGoodDesc (program_of program.now) desc.now }
+    ensures cert { AnswersCert cert.now (program_of program.now) (typing_at typing.now) desc.now result }
+    ensures ends { EndsIfAccepted (program_of program.now) desc.now result }
+{
+    let names = class_names(alloc, &program.world)?;
+    match CertText::read(alloc, cert, &names) {
+        Ok(text) => check_content(alloc, program, typing, desc, &text),
+        Err(fault) => refuse_text(alloc, fault),
+    }
+}
+
+/// What is said of the bytes of a certificate for a program whose inputs are described.
+#[tactic(auto, using(crate::proofs::Saying::others_refused, crate::proofs::Saying::built_goes, crate::proofs::Saying::int_forms, crate::proofs::Saying::refused_ends))]
+pub(crate) fn check_bytes(
+    alloc: Global,
+    program: &Program<'_>,
+    typing: &Typing,
+    desc: &Desc,
+    cert: &[u8],
+) -> Result<Outcome, Refused>
+    requires typing { IsTypingOf (program_of program.now) (typing_at typing.now) }
+    requires own { IsOwnDesc (program_of program.now) desc.now }
+    requires good { IsGoodDesc (program_of program.now) desc.now }
+    ensures built { AnswersBuilt cert.now (program_of program.now) (typing_at typing.now) desc.now result }
+    ensures ends { EndsIfAccepted (program_of program.now) desc.now result }
+{
+    if !is_int_program(program) {
+        return Err(not_built());
+    }
+    check_text(alloc, program, typing, desc, cert)
+}

@@ -1,0 +1,17 @@
+//! `check-int`, `check-2-int`: the bytes of a certificate, of a description and of class files; the line that is said of the certificate, or
+//! why there is none.
+use anyhow::Result;
+use check_call::check_line;
+use line_cases::{files_from, refused_line, without_newline};
+use std::alloc::Global;
+use table_cases::Case;
+
+pub fn answer(alloc: Global, case: &Case<'_>) -> Result<String> {
+    let cert = case.bytes(alloc, 0)?;
+    let desc = case.bytes(alloc, 1)?;
+    let files = files_from(alloc, case, 2)?;
+    match check_line(alloc, cert.as_slice(), desc.as_slice(), files.as_slice()) {
+        Ok(outcome) => Ok(without_newline(alloc, &outcome.out)?),
+        Err(refused) => refused_line(alloc, &refused),
+    }
+}

@@ -1,0 +1,27 @@
+//! Answers the cases of the tables `check-int` and `check-2-int`: each line of the input is the name of a table, a tab and the input fields of
+//! a case, divided by tabs. The answer to each comes on a line of its own.
+#![tactic(auto)]
+
+mod checks;
+
+use anyhow::{Result, bail};
+use std::alloc::Global;
+use table_cases::{Answers, Case, answer_all};
+
+/// The cases of this program.
+struct Cases;
+
+impl Answers for Cases {
+    /// The answer to the case, as its table writes it.
+    fn answer(alloc: Global, case: &Case<'_>) -> Result<String> {
+        match case.table() {
+            "check-int" => checks::answer(alloc, case),
+            "check-2-int" => checks::answer(alloc, case),
+            table => bail!("there is no table {table}"),
+        }
+    }
+}
+
+fn main(rt: HostRuntime) -> Result<()> {
+    answer_all::<Cases>(rt)
+}

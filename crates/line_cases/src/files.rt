@@ -1,0 +1,20 @@
+//! The class files of a case.
+ghost use Rattle.std.specs.Prelude.{◌≤◌, IfOk, length};
+
+use anyhow::{Result, bail};
+use std::alloc::Global;
+use table_cases::Case;
+
+/// The contents of the class files that are in all fields of a case from `first` on, of which there are at most 256.
+pub fn files_from(alloc: Global, case: &Case<'_>, first: usize) -> Result<Vec<Vec<u8>>>
+    ensures { IfOk result (λ files. length files.items ≤ 256) }
+{
+    let mut files = Vec::new(alloc);
+    for n in first..case.field_count() {
+        files.push(case.bytes(alloc, n)?)?;
+    }
+    if files.len() > 256 {
+        bail!("there are too many class files");
+    }
+    Ok(files)
+}
