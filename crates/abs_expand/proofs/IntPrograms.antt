@@ -12,13 +12,7 @@ use Rattle.class_program.specs.declared.op.Op.{Op}
 use Rattle.class_program.specs.declared.program.Method.{Method}
 use Rattle.class_program.specs.Instructions.{first_place, instruction_at}
 use Rattle.class_program.specs.Programs.{Program, insn_at}
-use Rattle.abs_expand.specs.IntForms.{has_int_form, HasIntForms, IsIntState}
-
-abbrev pub are_int_insns : List (ℕ × Op) → Bool
-are_int_insns insns = list_all (λ (x : ℕ × Op). has_int_form x.1) insns
-
-abbrev pub are_int_methods : List Method → Bool
-are_int_methods methods = list_all (λ (m : Method). are_int_insns m.insns) methods
+use Rattle.abs_expand.specs.IntForms.{has_int_form, are_int_insns, are_int_methods, HasIntForms, IsIntState}
 
 insn_int : (insns : List (ℕ × Op)) (pc : ℕ) (x : Op × Option ℕ) → are_int_insns insns ≡ true → instruction_at insns pc ≡ Some x → has_int_form x.0 ≡ true
 insn_int [] pc x h e = absurd (none_is_not_some x e)

@@ -1,5 +1,6 @@
 -- Programs whose instructions are about ints alone, and the states that they meet: what the expansion is built for so far.
-use Rattle.std.specs.Prelude.{◌≡◌, ℕ, Bool, true, false, [], Some, None}
+use Rattle.std.specs.Prelude.{◌≡◌, ℕ, Bool, true, false, List, [], Some, None}
+use Rattle.std.specs.List.{list_all}
 use Rattle.std.specs.Option.{option_map_or}
 use Rattle.jvm_values.specs.declared.ints.IntOp.{IntOp}
 use Rattle.jvm_values.specs.declared.ints.IntOp.TheVariants.{Div, Rem}
@@ -7,6 +8,7 @@ use Rattle.abs_cells.specs.declared.cells.Cell.{Cell}
 use Rattle.abs_cells.specs.AbstractStates.{AbstractState}
 use Rattle.abs_cells.specs.Cells.{is_int, cell_at}
 use Rattle.class_program.specs.declared.op.Op.{Op}
+use Rattle.class_program.specs.declared.program.Method.{Method}
 use Rattle.class_program.specs.Programs.{Program, op_at}
 use Rattle.op_forms.specs.Forms.{Form, form_of}
 use Rattle.op_forms.specs.Forms.Form.{Nop, Iconst, Iload, Istore, Iinc, Shuffle, Arith, Ineg, Narrow, If, IfIcmp, Goto, Tableswitch, Lookupswitch, Ireturn, Return}
@@ -40,7 +42,14 @@ is_int_form _ = false
 abbrev pub has_int_form : Op → Bool
 has_int_form op = option_map_or is_int_form (form_of op) false
 
--- each instruction of the program is one of these
+-- the test of all instructions of a method, and of some methods
+abbrev pub are_int_insns : List (ℕ × Op) → Bool
+are_int_insns insns = list_all (λ (x : ℕ × Op). has_int_form x.1) insns
+
+abbrev pub are_int_methods : List Method → Bool
+are_int_methods methods = list_all (λ (m : Method). are_int_insns m.insns) methods
+
+-- each instruction that stands in the program is one of these, as it is where the test says so
 abbrev pub HasIntForms : Program → Type 0
 HasIntForms p = (number pc : ℕ) (op : Op) → op_at p.methods number pc ≡ Some op → has_int_form op ≡ true
 

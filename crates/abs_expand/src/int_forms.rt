@@ -3,10 +3,9 @@ ghost use Rattle.std.specs.Prelude.{◌≡◌, IsTrue, slice_get};
 ghost use Rattle.std.specs.Option.{is_none};
 ghost use Rattle.std.specs.List.{list_all};
 ghost use Rattle.abs_cells.specs.Cells.{is_int};
-ghost use Rattle.class_program.specs.declared.program.Method.{Method};
 ghost use Rattle.class_program.specs.Views.{program_of};
 ghost use Rattle.op_forms.specs.Forms.{form_seen};
-ghost use Rattle.abs_expand.specs.IntForms.{is_total, is_int_form, has_int_form, HasIntForms, IsIntState};
+ghost use Rattle.abs_expand.specs.IntForms.{is_total, is_int_form, has_int_form, are_int_insns, are_int_methods, HasIntForms, IsIntState};
 
 use abs_cells::{AbsState, Cell, Id, Pairs};
 use class_program::{Method, Op, Program};
@@ -59,11 +58,10 @@ fn has_int_form(op: &Op) -> bool
     }
 }
 
-/// Whether each instruction of a method is about ints alone.
-fn are_int_forms(method: &Method<'_>) -> bool
-    ensures { result ≡ list_all (λ x. has_int_form x.1) method.now.insns }
+/// Whether each of some instructions is about ints alone.
+pub fn are_int_insns(insns: &[(u16, Op)]) -> bool
+    ensures { result ≡ are_int_insns insns.now }
 {
-    let insns = method.insns.as_slice();
     for item in insns {
         if !has_int_form(&item.1) {
             return false;
@@ -74,10 +72,10 @@ fn are_int_forms(method: &Method<'_>) -> bool
 
 /// Whether each instruction of some methods is about ints alone.
 fn are_int_methods(methods: &[Method<'_>]) -> bool
-    ensures { result ≡ list_all (λ (m : Method). list_all (λ x. has_int_form x.1) m.insns) methods.now }
+    ensures { result ≡ are_int_methods methods.now }
 {
     for method in methods {
-        if !are_int_forms(method) {
+        if !are_int_insns(method.insns.as_slice()) {
             return false;
         }
     }
@@ -87,7 +85,8 @@ fn are_int_methods(methods: &[Method<'_>]) -> bool
 /// Whether each instruction of a program is about ints alone: it moves them, computes with them but divides none, compares them,
 /// jumps or returns.
 pub fn has_int_forms(program: &Program<'_>) -> bool
-    ensures { IsTrue result → HasIntForms (program_of program.now) }
+    ensures exact { result ≡ are_int_methods (program_of program.now).methods }
+    ensures forms { IsTrue result → HasIntForms (program_of program.now) }
 {
     are_int_methods(program.methods.as_slice())
 }

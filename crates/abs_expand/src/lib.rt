@@ -21,4 +21,4 @@ mod turns;
 pub use clauses::bad_clause;
 pub use expanding::expand;
 pub use fault::ExpandFault;
-pub use int_forms::{has_int_forms, is_int_state};
+pub use int_forms::{are_int_insns, has_int_forms, is_int_state};
