@@ -2,4 +2,5 @@ mod Dividing
 mod Joining
 mod Owning
 mod Places
+mod Plainly
 mod Turning

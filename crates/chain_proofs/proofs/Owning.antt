@@ -23,18 +23,6 @@ zip_more {A} {B} R xs ys more i x y e h r f =
     let same : suc i ≡ i + 1 = omega arith in
     subst (λ (k : ℕ). AllZip R (take k xs) more) same (subst (AllZip R (take (suc i) xs)) (sym f) (zip_next R xs ys i x y e h r))
 
--- ---- all of them
-
-rules_all : (rules : List PathRule) (set : List ℕ) (own : List PathRule) → AreRules rules → AreOwn rules set own → AllByRecursion IsRule own
-rules_all rules [] [] are h = tt
-rules_all rules [] (rule ∷ own) are h = absurd h
-rules_all rules (n ∷ set) [] are h = absurd h
-rules_all rules (n ∷ set) (rule ∷ own) are h =
-    (subst IsRule (get_or_from_slice_get rules n rule rule h.0) (All-get_or IsRule rules n rule (slice_get_within rules n rule h.0) are), rules_all rules set own are h.1)
-
-pub own_are_rules : (rules : List PathRule) (set : List ℕ) (own : List PathRule) → AreRules rules → AreOwn rules set own → AreRules own
-own_are_rules rules set own are h = All-from_recursion IsRule own (rules_all rules set own are h)
-
 -- ---- forms
 
 pub linear_found : {E : Type 0} (own : List PathRule) (result : Result (Option RankStep) E) → NoPlainForm own → IfOk result (λ found. IfSome found (λ step. IsRankStep own step)) → IfOk result (λ found. found ≡ None → NoStepwiseForm own) → IfOk result (RanksOwn own)

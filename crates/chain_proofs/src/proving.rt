@@ -1,10 +1,10 @@
 //! Proofs that no chain of rules is infinite, class by class.
 ghost use Rattle.std.specs.Prelude.{◌≡◌, Some, IfOk, IsTrue, slice_get};
 ghost use Rattle.descent.specs.Components.{AreClasses};
-ghost use Rattle.descent.specs.Conditions.{AreRules};
+ghost use Rattle.rank_search.specs.Graphs.{ArePlainRules};
 ghost use Rattle.descent.specs.Steps.{set_of, weak_ones, if_weak};
 ghost use Rattle.chain_proofs.specs.Answers.{ProvesOr};
-ghost use Rattle.chain_proofs.specs.Sets.{AreOwn, AreJoined, Follows, TurnsOr};
+ghost use Rattle.chain_proofs.specs.Sets.{Rises, AreOwn, AreJoined, Follows, TurnsOr};
 
 use crate::copying::{left_rules, own_rules};
 use crate::ranking::rank_step;
@@ -103,8 +103,9 @@ fn ranked(
     number: u32,
     sets: &mut Sets,
 ) -> Result<Turn, AllocError>
-    requires rules { AreRules rules.now }
+    requires rules { ArePlainRules rules.now }
     requires own { AreOwn rules.now set.now own.now }
+    requires rise { Rises 0 set.now }
     requires joined { AreJoined own.now }
     requires given { set_of (slice_get sets.old.given.items number) ≡ Some set.now }
     ensures { IfOk result (λ turn. TurnsOr rules.now number set.now sets.old.given.items turn sets.new.given.items) }
@@ -127,7 +128,7 @@ fn taken(
     number: u32,
     sets: &mut Sets,
 ) -> Result<Turn, AllocError>
-    requires rules { AreRules rules.now }
+    requires rules { ArePlainRules rules.now }
     requires given { set_of (slice_get sets.old.given.items number) ≡ Some set.now }
     ensures { IfOk result (λ turn. TurnsOr rules.now number set.now sets.old.given.items turn sets.new.given.items) }
 {
@@ -160,7 +161,7 @@ fn most_steps(rules: u32) -> Option<u32> {
 /// Want of memory.
 #[tactic(auto, using(crate::proofs::Turning::proof_first, crate::proofs::Turning::unproved))]
 pub fn prove(alloc: Global, rules: &[PathRule]) -> Result<Proved, AllocError>
-    requires { AreRules rules.now }
+    requires { ArePlainRules rules.now }
     ensures { IfOk result (ProvesOr rules.now) }
 {
     let Ok(count) = u32::try_from(rules.len()) else {

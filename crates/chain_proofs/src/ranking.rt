@@ -3,11 +3,12 @@ ghost use Rattle.std.specs.Prelude.{◌≡◌, IfOk};
 ghost use Rattle.std.specs.List.{All};
 ghost use Rattle.descent.specs.Conditions.{AreRules, IsRanked, IsListed};
 ghost use Rattle.descent.specs.Handing.{AreOver};
-ghost use Rattle.chain_proofs.specs.Sets.{AreOwn, IsRankOf, RanksOr, RanksOwn};
+ghost use Rattle.rank_search.specs.Graphs.{ArePlainRules};
+ghost use Rattle.chain_proofs.specs.Sets.{Rises, AreOwn, IsRankOf, RanksOr, RanksOwn};
 
 use descent::{PathRule, RankRule, RankStep, Scratch, check_rank_step};
 use list_views::Seq;
-use rank_search::{are_plain_rules, linear, plain};
+use rank_search::{linear, plain};
 use std::alloc::{AllocError, Global};
 
 /// The number at a place of a set. A place that the set doesn't have is answered as want of memory.
@@ -106,12 +107,9 @@ fn checked(
 /// A step of a plain form for rules, or else of a linear one.
 #[tactic(auto, using(crate::proofs::Owning::linear_found))]
 fn form_of(alloc: Global, own: &[PathRule]) -> Result<Option<RankStep>, AllocError>
-    requires { AreRules own.now }
+    requires { ArePlainRules own.now }
     ensures { IfOk result (RanksOwn own.now) }
 {
-    if !are_plain_rules(own) {
-        return Err(AllocError);
-    }
     match plain(alloc, own)? {
         Some(step) => Ok(Some(step)),
         None => linear(alloc, own),
@@ -129,7 +127,8 @@ pub(crate) fn rank_step(
     set: &[u32],
     own: &[PathRule],
 ) -> Result<Option<RankStep>, AllocError>
-    requires rules { AreRules rules.now }
+    requires rules { ArePlainRules rules.now }
+    requires rise { Rises 0 set.now }
     requires own { AreOwn rules.now set.now own.now }
     ensures { IfOk result (RanksOr rules.now set.now own.now) }
 {
