@@ -1,0 +1,7 @@
+mod Beginning
+mod Giving
+mod Grown
+mod Lacking
+mod Readying
+mod Standing
+mod Targets

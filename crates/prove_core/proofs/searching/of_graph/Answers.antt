@@ -1,0 +1,12 @@
+use Rattle.std.proofs.Common.{List, sym, subst}
+use Rattle.class_program.specs.Views.{program_of}
+use Rattle.code_verify.specs.Typings.{typing_at}
+use Rattle.graph_check.specs.Conditions.{HasIntStates}
+use Rattle.term_graph.specs.Graphs.{GraphNode}
+use Rattle.prove_core.proofs.searching.of_graph.Goals as goal
+
+pub of_links-requires-clause-ints : goal.of_links-requires-clause-ints
+of_links-requires-clause-ints g c =
+    let p = program_of c.args.program.now in
+    let typing = typing_at c.args.typing.now in
+    subst (λ (nodes : List GraphNode). HasIntStates p typing nodes) (sym c.check_graph.ensures.same) (c.has_int_states.ensures c.if-not-has_int_states.false p typing)

@@ -1,0 +1,51 @@
+-- What a search answers.
+use Rattle.std.specs.Prelude.{◌≡◌, ℕ, ◌≤◌, List, length, Result, Ok, Err}
+use Rattle.serde_json.specs.Written.{compact_text}
+use Rattle.cert_form.specs.Certificates.{CertContent, cert_of, SaysOf}
+use Rattle.cert_write.specs.Data.{certificate}
+use Rattle.cert_check.specs.Certified.{IsCertified}
+use Rattle.cert_check.specs.Valid.{IsValid}
+use Rattle.cert_verdict.specs.Parts.{case_of}
+use Rattle.graph_check.specs.Conditions.{HasIntStates}
+use Rattle.graph_check.specs.Filling.{IsFilled}
+use Rattle.term_graph.specs.Graphs.{GraphNode}
+use Rattle.prove_core.specs.declared.found.Found.{Found}
+use Rattle.prove_core.specs.declared.found.Found.TheVariants.{Certificate, Maybe}
+use Rattle.prove_core.specs.declared.found.Reason.{Reason}
+use Rattle.prove_core.specs.declared.found.Reason.TheVariants as reasons
+use Rattle.prove_core.specs.declared.found.SearchFault.{SearchFault}
+use Rattle.prove_core.specs.Reasons.{Aim, HasManyNodes, HasManyIds, HasLongPaths, IsTooLong, IsComponent}
+
+-- the bytes are a certificate as one is written, in form 2
+pub record IsWritten (names : List (List ℕ)) (bytes : List ℕ) : Type 0 where
+  pub content : CertContent
+  pub is : bytes ≡ compact_text (certificate names content)
+
+-- the bytes say a certificate which, filled, is valid; so its graph, cuts and proof show that the program ends
+pub record SaysValid (aim : Aim) (names : List (List ℕ)) (bytes : List ℕ) : Type 0 where
+  pub content : CertContent
+  pub says : SaysOf (cert_of names) bytes (Ok content)
+  pub nodes : List GraphNode
+  pub filled : IsFilled aim.program aim.typing content.parts nodes
+  pub ints : HasIntStates aim.program aim.typing nodes
+  pub valid : IsValid (case_of aim.program aim.typing aim.root nodes content.cuts content.proof)
+  pub certified : IsCertified aim.program aim.typing nodes content.cuts aim.root
+
+-- a valid certificate of form 2, of at most 16 MiB
+pub record IsCertificate (aim : Aim) (names : List (List ℕ)) (bytes : List ℕ) : Type 0 where
+  pub short : length bytes ≤ 16777216
+  pub form : IsWritten names bytes
+  pub says : SaysValid aim names bytes
+
+abbrev pub HoldsReason : {P : Type 0} → Aim → List (List ℕ) → ℕ → Reason P → Type 0
+HoldsReason aim names limit (reasons.Nodes nodes) = HasManyNodes aim limit nodes
+HoldsReason aim names limit (reasons.Ids nodes) = HasManyIds aim limit nodes
+HoldsReason aim names limit (reasons.Paths nodes) = HasLongPaths aim nodes
+HoldsReason aim names limit (reasons.Bytes cert size) = IsTooLong aim names cert.graph cert.cuts cert.proof.steps size
+HoldsReason aim names limit (reasons.Component cert left) = IsComponent aim cert.graph cert.cuts cert.proof.steps left
+
+-- a certificate, or a reason that holds. Want of memory says nothing
+abbrev pub SearchesOr : {P : Type 0} → Aim → List (List ℕ) → ℕ → Result (Found P) SearchFault → Type 0
+SearchesOr aim names limit (Ok (Certificate bytes)) = IsCertificate aim names bytes
+SearchesOr aim names limit (Ok (Maybe reason)) = HoldsReason aim names limit reason
+SearchesOr aim names limit (Err fault) = Unit {0}

@@ -1,0 +1,6 @@
+pub mod Heads
+pub mod Growth
+pub mod Cuts
+pub mod Reasons
+pub mod Answers
+pub mod Words

@@ -1,0 +1,95 @@
+-- Why no certificate is given.
+use Rattle.std.specs.Prelude.{◌≡◌, ℕ, ◌<◌, ◌≤◌, List, length, Ok, Err}
+use Rattle.abs_cells.specs.AbstractStates.{AbstractState}
+use Rattle.class_program.specs.Programs.{Program}
+use Rattle.frame_types.specs.Tables.{CodeTypes}
+use Rattle.descent.specs.Conditions.{AreSteps}
+use Rattle.descent.specs.declared.proof.ProofStep.{ProofStep}
+use Rattle.descent.specs.declared.rules.PathRule.{PathRule}
+use Rattle.term_graph.specs.declared.links.Link.{Link}
+use Rattle.term_graph.specs.Graphs.{GraphNode}
+use Rattle.graph_build.specs.Disciplined.{IsDisciplined}
+use Rattle.graph_build.specs.Answers.{IsClosed, IsStopped, PassesLimit, HasLarge}
+use Rattle.graph_check.specs.Good.{GraphOk}
+use Rattle.path_rules.specs.declared.fault.PathFault.{PathFault}
+use Rattle.path_rules.specs.declared.fault.PathFault.TheVariants.{Uncut, TooManyPaths, TooManyRows, Memory}
+use Rattle.path_rules.specs.Answers.{Answers as PathAnswers}
+use Rattle.serde_json.specs.Written.{compact_text}
+use Rattle.cert_write.specs.Data.{certificate, content_of}
+use Rattle.cert_check.specs.Valid.{IsValid}
+use Rattle.cert_verdict.specs.Parts.{case_of}
+use Rattle.chain_proofs.specs.declared.proving.LeftRule.{LeftRule}
+use Rattle.chain_proofs.specs.Answers.{LeavesStuck}
+use Rattle.prove_core.specs.Cuts.{AreTargets}
+use Rattle.prove_core.specs.Growth.{growth_of}
+
+-- what is proved to end: a program with its typing, from a state on
+pub record Aim : Type 0 where
+  pub program : Program
+  pub typing : ℕ → CodeTypes
+  pub root : AbstractState
+
+-- ---- graphs that stop
+
+-- the next growth would give the graph more nodes than the limit
+abbrev pub HasManyNodes : Aim → ℕ → List GraphNode → Type 0
+HasManyNodes aim limit nodes =
+    IsStopped (growth_of aim.program aim.typing) aim.root nodes (λ parent n state. PassesLimit (growth_of aim.program aim.typing) nodes parent n state limit) × (length nodes ≤ limit)
+
+-- the next growth has a state with more than 512 ids
+abbrev pub HasManyIds : Aim → ℕ → List GraphNode → Type 0
+HasManyIds aim limit nodes =
+    IsStopped (growth_of aim.program aim.typing) aim.root nodes (λ parent n state. HasLarge (growth_of aim.program aim.typing) nodes parent n state) × (length nodes ≤ limit)
+
+-- ---- whole graphs
+
+-- the graph of the program's growth, with no open node; its links, and its cuts
+pub record IsWhole (aim : Aim) (nodes : List GraphNode) (links : List (List Link)) (cuts : List ℕ) : Type 0 where
+  pub disciplined : IsDisciplined (growth_of aim.program aim.typing) aim.root nodes
+  pub closed : IsClosed nodes
+  pub good : GraphOk aim.program aim.typing nodes aim.root links
+  pub targets : AreTargets nodes cuts
+
+abbrev pub IsWholeWithSome : Aim → List GraphNode → List ℕ → Type 0
+IsWholeWithSome aim nodes cuts = (links : List (List Link)) × IsWhole aim nodes links cuts
+
+-- there are too many paths between its cuts, or too many rows in their rules
+abbrev pub IsLong : PathFault → Type 0
+IsLong (Uncut node) = ⊥
+IsLong TooManyPaths = Unit {0}
+IsLong (TooManyRows path) = Unit {0}
+IsLong Memory = ⊥
+
+pub record HasLongPaths (aim : Aim) (nodes : List GraphNode) : Type 0 where
+  pub links : List (List Link)
+  pub cuts : List ℕ
+  pub whole : IsWhole aim nodes links cuts
+  pub fault : PathFault
+  pub fails : PathAnswers nodes links cuts (Err fault)
+  pub long : IsLong fault
+
+-- ---- certificates that are too long
+
+-- a certificate as it is written, in form 2
+abbrev pub written : List (List ℕ) → List GraphNode → List ℕ → List ProofStep → List ℕ
+written names nodes cuts steps = compact_text (certificate names (content_of nodes cuts steps))
+
+-- the certificate is valid, and has so many bytes, which are more than 16 MiB
+pub record IsTooLong (aim : Aim) (names : List (List ℕ)) (nodes : List GraphNode) (cuts : List ℕ) (steps : List ProofStep) (size : ℕ) : Type 0 where
+  pub links : List (List Link)
+  pub whole : IsWhole aim nodes links cuts
+  pub valid : IsValid (case_of aim.program aim.typing aim.root nodes cuts steps)
+  -- its steps are within the limits of proofs: a split has a step, or -1, for each part
+  pub limits : AreSteps steps
+  pub size_is : size ≡ length (written names nodes cuts steps)
+  pub many : 16777216 < size
+
+-- ---- rules that no form ranks
+
+-- the steps so far hold, and leave rules to the next one that are stuck
+pub record IsComponent (aim : Aim) (nodes : List GraphNode) (cuts : List ℕ) (steps : List ProofStep) (left : List LeftRule) : Type 0 where
+  pub links : List (List Link)
+  pub whole : IsWhole aim nodes links cuts
+  pub rules : List PathRule
+  pub paths : PathAnswers nodes links cuts (Ok rules)
+  pub stuck : LeavesStuck rules steps left

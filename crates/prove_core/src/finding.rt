@@ -1,0 +1,130 @@
+//! What is found is written, read again and checked before it is given.
+ghost use Rattle.std.specs.Prelude.{◌≡◌, ◌≤◌, ℕ, length, IsTrue};
+ghost use Rattle.std.specs.List.{list_all};
+ghost use Rattle.class_base.specs.ClassNames.{is_class_name};
+ghost use Rattle.class_program.specs.Views.{program_of};
+ghost use Rattle.code_verify.specs.Typings.{typing_at};
+ghost use Rattle.descent.specs.Conditions.{AreSteps};
+ghost use Rattle.abs_expand.specs.IntForms.{HasIntForms};
+ghost use Rattle.cert_check.specs.Certified.{IsCertified};
+ghost use Rattle.cert_check.specs.Valid.{IsValid};
+ghost use Rattle.cert_verdict.specs.Parts.{case_of};
+ghost use Rattle.graph_check.specs.Conditions.{HasIntStates};
+ghost use Rattle.prove_core.specs.Reasons.{IsWholeWithSome};
+ghost use Rattle.prove_core.specs.Answers.{SaysValid, SearchesOr};
+ghost use Rattle.prove_core.specs.Words.{aim_of};
+
+use crate::found::{Cert, Found, Reason, SearchFault};
+use abs_cells::{AbsState, Pairs};
+use cert_form::{CertText, ClassNames};
+use cert_verdict::check_cert;
+use cert_write::encode;
+use class_program::Program;
+use code_verify::Typing;
+use descent::Proof;
+use graph_fill::{FillFault, fill};
+use std::alloc::Global;
+use term_graph::Graph;
+
+/// Whether a graph with cuts and a proof is a valid certificate.
+fn is_valid<P: Pairs>(
+    alloc: Global,
+    program: &Program<'_>,
+    typing: &Typing,
+    root: &AbsState<P>,
+    graph: &mut Graph<P>,
+    cuts: &[u32],
+    proof: &Proof,
+) -> bool
+    requires forms { HasIntForms (program_of program.now) }
+    requires ints { HasIntStates (program_of program.now) (typing_at typing.now) graph.old }
+    requires few { length graph.old ≤ 20000 }
+    requires steps { AreSteps proof.now.steps }
+    ensures valid { IsTrue result → IsValid (case_of (program_of program.now) (typing_at typing.now) root.now graph.old cuts.now proof.now.steps) }
+    ensures certified { IsTrue result → IsCertified (program_of program.now) (typing_at typing.now) graph.old cuts.now root.now }
+    ensures same { graph.new ≡ graph.old }
+{
+    match check_cert(alloc, program, typing, graph, root, cuts, proof) {
+        Ok(()) => true,
+        Err(_refusal) => false,
+    }
+}
+
+/// Whether bytes say a certificate which, filled, is valid.
+#[tactic(auto, using(crate::proofs::Giving::few_filled, crate::proofs::Giving::says))]
+fn says_valid<P: Pairs>(
+    alloc: Global,
+    program: &Program<'_>,
+    typing: &Typing,
+    root: &AbsState<P>,
+    names: &ClassNames,
+    bytes: &[u8],
+) -> bool
+    requires { HasIntForms (program_of program.now) }
+    ensures { IsTrue result → SaysValid (aim_of (program_of program.now) (typing_at typing.now) root.now) names.now bytes.now }
+{
+    let Ok(text) = CertText::read(alloc, bytes, names) else {
+        return false;
+    };
+    let filled: Result<Graph<P>, FillFault> = fill(alloc, program, typing, &text);
+    match filled {
+        Ok(graph) => {
+            let mut graph = graph;
+            is_valid(
+                alloc,
+                program,
+                typing,
+                root,
+                &mut graph,
+                text.cuts(),
+                text.proof(),
+            )
+        }
+        Err(_fault) => false,
+    }
+}
+
+/// The bytes of a certificate, which are read and checked; or the certificate, where they are too many. One that isn't valid is answered as
+/// want of memory.
+#[tactic(auto, using(crate::proofs::Giving::too_long))]
+pub(crate) fn given<P: Pairs>(
+    alloc: Global,
+    program: &Program<'_>,
+    typing: &Typing,
+    root: &AbsState<P>,
+    names: &ClassNames,
+    cert: Cert<P>,
+) -> Result<Found<P>, SearchFault>
+    requires forms { HasIntForms (program_of program.now) }
+    requires names { IsTrue (list_all is_class_name names.now) }
+    requires whole { IsWholeWithSome (aim_of (program_of program.now) (typing_at typing.now) root.now) cert.graph cert.cuts }
+    requires ints { HasIntStates (program_of program.now) (typing_at typing.now) cert.graph }
+    requires few { length cert.graph ≤ 20000 }
+    requires steps { AreSteps cert.proof.steps }
+    ensures { (limit : ℕ) → SearchesOr (aim_of (program_of program.now) (typing_at typing.now) root.now) names.now limit result }
+{
+    let Cert { graph, cuts, proof } = cert;
+    let mut graph = graph;
+    let bytes = encode(alloc, &mut graph, cuts.as_slice(), &proof, names)?;
+    if bytes.len() > 16_777_216 {
+        if !is_valid(
+            alloc,
+            program,
+            typing,
+            root,
+            &mut graph,
+            cuts.as_slice(),
+            &proof,
+        ) {
+            return Err(SearchFault::Memory);
+        }
+        let size = bytes.len() as u64;
+        let cert = Cert { graph, cuts, proof };
+        return Ok(Found::Maybe(Reason::Bytes { cert, size }));
+    }
+    if says_valid(alloc, program, typing, root, names, bytes.as_slice()) {
+        Ok(Found::Certificate(bytes))
+    } else {
+        Err(SearchFault::Memory)
+    }
+}

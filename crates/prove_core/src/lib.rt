@@ -1,0 +1,17 @@
+//! The search for a certificate that every run of a program about ints ends: one that was written, read again and checked, or why there
+//! is none.
+//!
+//! The graph that is searched, and each reason, are definitions: `specs/Growth`, `specs/Reasons`, `specs/Answers`.
+#![tactic(auto)]
+
+mod cutting;
+mod finding;
+mod found;
+mod grower;
+mod heads;
+mod searching;
+mod states;
+
+pub use chain_proofs::LeftRule;
+pub use found::{Cert, Found, Reason, SearchFault};
+pub use searching::search;
