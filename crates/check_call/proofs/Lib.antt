@@ -1,5 +1,3 @@
-pub mod Answering
 pub mod Lacking
-pub mod Naming
 pub mod OneAnswer
 pub mod Saying

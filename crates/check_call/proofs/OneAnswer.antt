@@ -5,30 +5,16 @@ use Rattle.serde_json.specs.Data.{Data}
 use Rattle.json_view.specs.Answers.{Reads}
 use Rattle.json_view.specs.Located.{root_of}
 use Rattle.json_view.specs.declared.fault.JsonFault.TheVariants as json
-use Rattle.class_world.specs.Linking.{is_linked}
-use Rattle.class_world.specs.World.{World}
-use Rattle.class_world.specs.WorldLaws.{world_laws}
-use Rattle.class_world.specs.declared.world.MethodRef.{MethodRef}
-use Rattle.class_program.specs.declared.program.Method.{Method}
-use Rattle.class_program.specs.Programs.{Program, IsClosed}
+use Rattle.class_program.specs.Programs.{Program}
 use Rattle.frame_types.specs.Tables.{CodeTypes}
-use Rattle.code_verify.specs.Typings.{IsTypingOf}
-use Rattle.code_verify.proofs.LeastTypings.{least_is_one}
-use Rattle.input_text.specs.Descriptions.{description_of}
-use Rattle.input_text.specs.declared.texts.DescText.{DescText}
 use Rattle.input_desc.specs.declared.desc.Desc.{Desc}
-use Rattle.input_desc.specs.Entries.{entry_of}
 use Rattle.input_desc.specs.Initial.{initial_of}
 use Rattle.input_steps.specs.declared.refused.Refused.{Refused}
 use Rattle.input_steps.specs.declared.refused.Refused.TheVariants.{At, Memory}
-use Rattle.input_steps.specs.declared.refused.Place.TheVariants as places
-use Rattle.input_steps.specs.declared.refused.Fault.TheVariants as faults
-use Rattle.input_steps.specs.Classes.{AllSpell, RefusesClasses, IsWorldOf, RefusesWorld}
-use Rattle.input_steps.specs.Programs.{IsProgramOf, RefusesProgram, IsAcyclic, RefusesCalls, RefusesTypes}
-use Rattle.input_steps.proofs.OneAnswer.{IsExact, IsOne, at_one, then_one, ok_one, err_one, ok_err, some_one, classes_exact, world_exact, program_exact, calls_exact, types_exact}
-use Rattle.input_steps.proofs.OneText.{said_exact, text_exact}
-use Rattle.prove_call.specs.Answers.{IsDescText, RefusesText, RefusesEntry, IsDesc, RefusesDesc}
-use Rattle.prove_call.proofs.OneAnswer.{desc_exact}
+use Rattle.input_steps.proofs.OneAnswer.{IsExact, IsOne, then_one, ok_one, err_one, ok_err, some_one}
+use Rattle.desc_steps.specs.Names.{names_of}
+use Rattle.desc_steps.proofs.IntForms.{int_forms}
+use Rattle.desc_steps.proofs.OneAnswer.{files_one}
 use Rattle.term_graph.specs.Graphs.{GraphNode, GraphPart}
 use Rattle.abs_expand.specs.IntForms.{HasIntForms}
 use Rattle.graph_check.specs.Conditions.{HasIntStates}
@@ -47,11 +33,10 @@ use Rattle.cert_check.specs.Valid.{Case, IsValid, IsFirstFault}
 use Rattle.cert_laws.proofs.Verdicts.{verdicts_one}
 use Rattle.cert_verdict.specs.Parts.{case_of}
 use Rattle.check_call.specs.declared.outcome.Outcome.{Outcome}
-use Rattle.check_call.specs.Answers.{IsIntProgram, RefusesOthers, RefusesStates, names_of, IsCertText, IsCertFault, AnswersChecked, FillsInts, AnswersContent, AnswersCert, AnswersBuilt, AnswersProgram, AnswersEntry, AnswersNamed}
+use Rattle.check_call.specs.Answers.{RefusesStates, IsCertText, IsCertFault, AnswersChecked, FillsInts, AnswersContent, AnswersCert}
 use Rattle.check_call.specs.Causes.{cause_text}
 use Rattle.check_call.specs.Laws.{AnswersAreOne}
 use Rattle.check_call.specs.Lines.{refused_at}
-use Rattle.check_call.proofs.Saying.{int_forms}
 
 -- ---- what the bytes say
 
@@ -178,53 +163,7 @@ module _ (p : Program) (typing : ℕ → CodeTypes) (forms : HasIntForms p) wher
       cert_one (Err (At place fault)) (Err Memory) h k nr ns = absurd (ns refl)
       cert_one (Err Memory) s h k nr ns = absurd (nr refl)
 
--- ---- typings
-
-past_end : (methods : List Method) (n : ℕ) → slice_get methods n ≡ None → length methods ≤ n
-past_end [] n e = omega arith
-past_end (m ∷ methods) zero e = let no : ⊥ = cc in absurd no
-past_end (m ∷ methods) (suc n) e = let l = past_end methods n e in omega (arith, l)
-
-typing_at : (p : Program) → IsTrue (is_linked p.world) → (a b : ℕ → CodeTypes) → IsTypingOf p a → IsTypingOf p b → (n place : ℕ) (found : Option Method) → slice_get p.methods n ≡ found → a n place ≡ b n place
-typing_at p linked a b h k n place (Some m) e = least_is_one p m (world_laws p.world linked) (a n) (b n) (h.each n m e) (k.each n m e) place
-typing_at p linked a b h k n place None e = let l = past_end p.methods n e in h.no_more n place l ∙ sym (k.no_more n place l)
-
-typing_one : (p : Program) → IsTrue (is_linked p.world) → (a b : ℕ → CodeTypes) → IsTypingOf p a → IsTypingOf p b → a ≡ b
-typing_one p linked a b h k = λ i n place. typing_at p linked a b h k n place (slice_get p.methods n) refl i
-
-typing_exact : (p : Program) → IsTrue (is_linked p.world) → IsExact {A = ℕ → CodeTypes} (IsTypingOf p) (RefusesTypes p)
-typing_exact p linked = record {
-  one = typing_one p linked;
-  apart = λ typing place fault t r. (types_exact p).apart tt place fault (typing, t) r;
-  named = (types_exact p).named;
-}
-
 -- ---- the whole
 
-others_exact : (p : Program) → IsExact {A = Unit {0}} (λ nothing. IsIntProgram p) (RefusesOthers p)
-others_exact p = record {
-  one = λ a b h k. refl;
-  apart = λ nothing place fault h r. r.holds h;
-  named = at_one {C = Unit {0}} (λ nothing. places.Link) (λ nothing. faults.NotBuilt) (λ nothing. IsIntProgram p → ⊥) (λ f g h k. refl);
-}
-
-built_one : (cert : List ℕ) (p : Program) (typing : ℕ → CodeTypes) (desc : Desc) → IsOne (AnswersBuilt cert p typing desc)
-built_one cert p typing desc =
-    then_one {A = Unit {0}} (λ nothing. IsIntProgram p) (RefusesOthers p) (λ nothing. AnswersCert cert p typing desc) (others_exact p) (λ nothing ints. cert_one p typing (int_forms p ints) desc cert)
-
-program_one : (cert : List ℕ) (text : DescText) (p : Program) → IsClosed p → IsOne (AnswersProgram cert text p)
-program_one cert text p closed =
-    then_one {A = Unit {0}} (λ nothing. IsAcyclic p) (RefusesCalls p) _ (calls_exact p) (λ nothing a.
-    then_one {A = ℕ → CodeTypes} (IsTypingOf p) (RefusesTypes p) _ (typing_exact p closed.known.linked) (λ typing t.
-    then_one (IsDesc p text) (RefusesDesc p text) (AnswersBuilt cert p typing) (desc_exact p text) (λ described h. built_one cert p typing described)))
-
-entry_one : (cert : List ℕ) (text : DescText) (world : World) (entry : MethodRef) → IsOne (AnswersEntry cert text world entry)
-entry_one cert text world entry =
-    then_one (IsProgramOf world entry) (RefusesProgram world entry) (AnswersProgram cert text) (program_exact world entry) (λ p h. program_one cert text p h.closed)
-
 pub answers_one : AnswersAreOne
-answers_one cert desc files =
-    then_one (AllSpell files) (RefusesClasses files) _ (classes_exact files) (λ classes s.
-    then_one (IsDescText desc) (RefusesText desc) (λ text. AnswersNamed cert text classes) (text_exact description_of desc places.Description) (λ text t.
-    then_one (IsWorldOf classes) (RefusesWorld classes) _ (world_exact classes) (λ world w.
-    then_one (λ entry. entry_of world text.entry ≡ Ok entry) (RefusesEntry world text) (AnswersEntry cert text world) (said_exact places.Description (entry_of world text.entry)) (λ entry e. entry_one cert text world entry))))
+answers_one cert desc files = files_one (AnswersCert cert) (λ p typing described ints. cert_one p typing (int_forms p ints) described cert) desc files

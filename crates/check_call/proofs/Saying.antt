@@ -1,11 +1,8 @@
 -- What is said of a certificate.
-use Rattle.std.proofs.Common.{◌≡◌, ◌∙◌, ◌≤◌, ◌==◌, ◌&&◌, ℕ, zero, suc, Bool, true, false, List, [], ◌∷◌, length, map, take, Option, Some, None, Result, Ok, Err, slice_get, inl, inr, refl, sym, ap, subst, arith}
+use Rattle.std.proofs.Common.{◌≡◌, ◌∙◌, ◌≤◌, ℕ, List, length, map, Result, Ok, Err, inl, inr, refl, sym, ap, subst, arith}
 use Rattle.std.specs.Prelude.{OnOk}
-use Rattle.std.specs.List.{list_all}
-use Rattle.std.proofs.lemmas.Bool.{eqb-true, and_parts}
 use Rattle.std.proofs.lemmas.List.{length-map}
 use Rattle.jvm_values.specs.States.{MachineState}
-use Rattle.class_program.specs.declared.program.Method.{Method}
 use Rattle.class_program.specs.Programs.{Program, IsClosed}
 use Rattle.frame_types.specs.Tables.{CodeTypes}
 use Rattle.code_verify.specs.Typings.{IsTypingOf}
@@ -17,11 +14,12 @@ use Rattle.input_steps.specs.declared.refused.Refused.{Refused}
 use Rattle.input_steps.specs.declared.refused.Refused.TheVariants.{At, Memory}
 use Rattle.input_steps.specs.Steps.{Then}
 use Rattle.input_steps.proofs.Steps.{then_refused, then_goes}
+use Rattle.desc_steps.specs.Ints.{not_built}
+use Rattle.desc_steps.specs.Names.{names_of}
 use Rattle.descent.specs.declared.proof.ProofStep.{ProofStep}
 use Rattle.term_graph.specs.declared.nodes.By.{By}
 use Rattle.term_graph.specs.Graphs.{GraphNode, GraphPart}
 use Rattle.abs_expand.specs.IntForms.{HasIntForms}
-use Rattle.abs_expand.proofs.IntPrograms.{are_int_insns, are_int_methods, program_int}
 use Rattle.graph_check.specs.Conditions.{HasIntStates}
 use Rattle.graph_check.specs.Filling.{IsFilled}
 use Rattle.graph_fill.specs.Answers.{IsRefused, FillsOr}
@@ -37,10 +35,10 @@ use Rattle.cert_check.specs.Laws.{CertifiedIntRunsEnd}
 use Rattle.cert_check.specs.Valid.{Case, Tells}
 use Rattle.cert_verdict.specs.Parts.{case_of}
 use Rattle.check_call.specs.declared.outcome.Outcome.{Outcome}
-use Rattle.check_call.specs.Answers.{is_number, is_int_method, is_one_int_method, IsIntProgram, RefusesOthers, RefusesStates, FillsInts, IsCertText, names_of, AnswersChecked, AnswersContent, AnswersCert, AnswersBuilt}
-use Rattle.check_call.specs.Headline.{Accepts, AllFittingEnd, EndsIfAccepted}
+use Rattle.check_call.specs.Answers.{RefusesStates, FillsInts, IsCertText, AnswersChecked, AnswersContent, AnswersCert}
+use Rattle.check_call.specs.Headline.{Accepts, EndsIfAccepted}
 use Rattle.check_call.specs.Lines.{accepted, refused_at, AnswersAs}
-use Rattle.check_call.specs.Said.{IsSaid, IsSaidOfText, not_built}
+use Rattle.check_call.specs.Said.{IsSaid, IsSaidOfText}
 
 abbrev Answer : Type 0
 Answer = Result Outcome Refused
@@ -132,26 +130,3 @@ module _ (cert : List ℕ) (p : Program) (typing : ℕ → CodeTypes) (desc : De
   text_ends (certs.Limit at) (Ok outcome) s accepts = absurd (omega (arith, ap (λ (o : Outcome). o.status) s, accepts))
   text_ends certs.Memory (Ok outcome) s accepts = absurd (cc)
   text_ends fault (Err refused) s accepts = absurd accepts
-
-  -- ---- the program
-
-  pub others_refused : (IsIntProgram p → ⊥) → AnswersBuilt cert p typing desc (Err not_built)
-  others_refused none = then_refused {A = Unit {0}} (λ nothing. IsIntProgram p) (RefusesOthers p) (λ nothing. AnswersCert cert p typing desc) not_built (record { cause = tt; place_is = refl; fault_is = refl; holds = none })
-
-  pub built_goes : (result : Answer) → IsIntProgram p → AnswersCert cert p typing desc result → AnswersBuilt cert p typing desc result
-  built_goes result ints h = then_goes {A = Unit {0}} (λ nothing. IsIntProgram p) (RefusesOthers p) (λ nothing. AnswersCert cert p typing desc) tt result ints h
-
-none_left : (methods : List Method) → (length methods == 0) ≡ true → methods ≡ []
-none_left [] e = refl
-none_left (m ∷ methods) e = let bad : length (m ∷ methods) ≡ 0 = eqb-true (length (m ∷ methods)) 0 e in absurd (omega (arith, bad))
-
-one_int : (methods : List Method) → is_one_int_method methods ≡ true → are_int_methods methods ≡ true
-one_int [] h = refl
-one_int (m ∷ rest) h =
-    let alone = and_parts (length rest == 0) (is_int_method m) h in
-    let typed = and_parts (list_all is_number m.params) (length m.table == 0 && are_int_insns m.insns) alone.1 in
-    let insns = and_parts (length m.table == 0) (are_int_insns m.insns) typed.1 in
-    ap (λ (b : Bool). b && are_int_methods rest) insns.1 ∙ ap are_int_methods (none_left rest alone.0)
-
-pub int_forms : (p : Program) → IsIntProgram p → HasIntForms p
-int_forms p h = program_int p (one_int p.methods h)

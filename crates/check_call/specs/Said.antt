@@ -1,9 +1,7 @@
 -- Words for the calls that say what becomes of a certificate.
 use Rattle.std.specs.Prelude.{◌≡◌, Result, Ok, Err}
 use Rattle.input_steps.specs.declared.refused.Refused.{Refused}
-use Rattle.input_steps.specs.declared.refused.Refused.TheVariants.{At, Memory}
-use Rattle.input_steps.specs.declared.refused.Place.TheVariants as places
-use Rattle.input_steps.specs.declared.refused.Fault.TheVariants as faults
+use Rattle.input_steps.specs.declared.refused.Refused.TheVariants.{Memory}
 use Rattle.cert_form.specs.declared.fault.CertFault.{CertFault}
 use Rattle.cert_form.specs.declared.fault.CertFault.TheVariants as certs
 use Rattle.cert_form.specs.Faults.{fault_text}
@@ -23,6 +21,3 @@ IsSaid (Err refusals.Memory) result = result ≡ Err Memory
 abbrev pub IsSaidOfText : CertFault → Result Outcome Refused → Type 0
 IsSaidOfText certs.Memory result = result ≡ Err Memory
 IsSaidOfText fault result = AnswersAs (refused_at 0 (fault_text fault)) result
-
-abbrev pub not_built : Refused
-not_built = At places.Link faults.NotBuilt

@@ -10,13 +10,11 @@ ghost use Rattle.abs_expand.specs.IntForms.{HasIntForms};
 ghost use Rattle.graph_check.specs.Conditions.{HasIntStates};
 ghost use Rattle.cert_form.specs.Certificates.{LackingAreNamed};
 ghost use Rattle.cert_verdict.specs.Parts.{case_of};
-ghost use Rattle.check_call.specs.Answers.{AnswersChecked, AnswersContent, AnswersCert, AnswersBuilt};
+ghost use Rattle.check_call.specs.Answers.{AnswersChecked, AnswersContent, AnswersCert};
 ghost use Rattle.check_call.specs.Headline.{EndsIfAccepted};
-ghost use Rattle.check_call.specs.Said.{IsSaid, IsSaidOfText, not_built};
+ghost use Rattle.check_call.specs.Said.{IsSaid, IsSaidOfText};
 
 use crate::causes::cause_text;
-use crate::ints::is_int_program;
-use crate::names::class_names;
 use crate::outcome::{Outcome, accepted, refused};
 use abs_cells::PackedPairs;
 use cert_check::{Refusal, certified_int_runs_end};
@@ -24,10 +22,11 @@ use cert_form::{CertFault, CertText};
 use cert_verdict::check_cert;
 use class_program::Program;
 use code_verify::Typing;
+use desc_steps::{class_names, not_built};
 use descent::Proof;
 use graph_fill::{FillFault, fill};
 use input_desc::{Desc, initial};
-use input_steps::{Fault, Place, Refused};
+use input_steps::Refused;
 use int_links::has_short_increments;
 use jvm_run::has_ints;
 use std::alloc::Global;
@@ -44,16 +43,6 @@ fn said(alloc: Global, checked: Result<(), Refusal>) -> Result<Outcome, Refused>
             refused(alloc, item, cause.as_slice())
         }
         Err(Refusal::Memory) => Err(Refused::Memory),
-    }
-}
-
-/// The program or the certificate is none of those that are built so far.
-fn not_built() -> Refused
-    ensures { result ≡ not_built }
-{
-    Refused::At {
-        place: Place::Link,
-        fault: Fault::NotBuilt,
     }
 }
 
@@ -138,9 +127,9 @@ fn refuse_text(alloc: Global, fault: CertFault) -> Result<Outcome, Refused>
     }
 }
 
-/// What is said of the bytes of a certificate.
+/// What is said of the bytes of a certificate for a program about ints whose inputs are described.
 #[tactic(auto, using(crate::proofs::Saying::text_goes, crate::proofs::Saying::text_refused, crate::proofs::Saying::text_ends))]
-fn check_text(
+pub(crate) fn check_bytes(
     alloc: Global,
     program: &Program<'_>,
     typing: &Typing,
@@ -159,25 +148,4 @@ fn check_text(
         Ok(text) => check_content(alloc, program, typing, desc, &text),
         Err(fault) => refuse_text(alloc, fault),
     }
-}
-
-/// What is said of the bytes of a certificate for a program whose inputs are described.
-#[tactic(auto, using(crate::proofs::Saying::others_refused, crate::proofs::Saying::built_goes, crate::proofs::Saying::int_forms, crate::proofs::Saying::refused_ends))]
-pub(crate) fn check_bytes(
-    alloc: Global,
-    program: &Program<'_>,
-    typing: &Typing,
-    desc: &Desc,
-    cert: &[u8],
-) -> Result<Outcome, Refused>
-    requires typing { IsTypingOf (program_of program.now) (typing_at typing.now) }
-    requires own { IsOwnDesc (program_of program.now) desc.now }
-    requires good { IsGoodDesc (program_of program.now) desc.now }
-    ensures built { AnswersBuilt cert.now (program_of program.now) (typing_at typing.now) desc.now result }
-    ensures ends { EndsIfAccepted (program_of program.now) desc.now result }
-{
-    if !is_int_program(program) {
-        return Err(not_built());
-    }
-    check_text(alloc, program, typing, desc, cert)
 }

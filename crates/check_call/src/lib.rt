@@ -7,9 +7,7 @@
 mod call;
 mod causes;
 mod certs;
-mod ints;
 mod laws;
-mod names;
 mod outcome;
 
 pub use call::check_line;

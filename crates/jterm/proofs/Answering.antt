@@ -10,10 +10,18 @@ use Rattle.jterm.specs.declared.inputs.Stop.TheVariants.{Broken}
 use Rattle.jterm.specs.declared.verdict.Request.TheVariants.{Prove, Check, Run, Asm}
 use Rattle.jterm.specs.Decision.{Takes, IsAnswer}
 use Rattle.jterm.specs.Outside.{AreContents}
-use Rattle.jterm.specs.Words.{IsCommand}
-use Rattle.jterm.specs.Stop.{AreOfCommand, IsTrueCheck, IsAnswered, HasCause}
+use Rattle.jterm.specs.Words.{Limits, IsCommand}
+use Rattle.jterm.specs.Stop.{AreOfCommand, IsTrueProof, IsTrueCheck, IsAnswered, HasCause}
 use Rattle.jterm.proofs.ReadingOrder.{contents_length}
 use Rattle.jterm.proofs.Checking.{judged_low}
+use Rattle.jterm.proofs.Proving.{proved_low}
+
+-- a limit on nodes is in its range
+nodes_low : (options : List (List ℕ)) (nodes : ℕ) → Limits options nodes → (1 ≤ nodes) × (nodes ≤ 20000)
+nodes_low [] nodes e = (omega (arith, e), omega (arith, e))
+nodes_low (option ∷ []) nodes none = absurd none
+nodes_low (option ∷ word ∷ []) nodes l = (l.1.1, l.1.0.few)
+nodes_low (option ∷ word ∷ more ∷ words) nodes none = absurd none
 
 -- as many files as a command names are what its request takes
 takes_as_many : (words : List (List ℕ)) (request : Request) (names given : List (List ℕ)) → length given ≡ length names → IsCommand words request names → Takes request given
@@ -21,7 +29,8 @@ takes_as_many words request names given many (inl row) =
     let same : length names ≡ length (row.desc ∷ row.classes) = ap length row.named in
     let some = row.is_prove.files.some in
     let few = row.is_prove.files.few in
-    subst (λ (r : Request). Takes r given) (sym row.asked) (omega arith, omega arith, omega arith, omega arith)
+    let limit = nodes_low row.is_prove.options row.is_prove.nodes row.is_prove.limits in
+    subst (λ (r : Request). Takes r given) (sym row.asked) (limit.0, limit.1, omega arith, omega arith)
 takes_as_many words request names given many (inr (inl row)) =
     let same : length names ≡ length (row.cert ∷ row.desc ∷ row.classes) = ap length row.named in
     let some = row.is_check.files.1.some in
@@ -43,7 +52,7 @@ takes_read limits request names held contents given same of are = takes_as_many 
 -- a verdict's status is at most 2
 status_low : (request : Request) (files : List (List ℕ)) (verdict : Verdict) → IsAnswer request files (Ok verdict) → verdict.status ≤ 2
 status_low (Prove nodes) [] verdict answer = absurd answer
-status_low (Prove nodes) (desc ∷ classes) verdict answer = let none = answer.0 in omega (arith, none)
+status_low (Prove nodes) (desc ∷ classes) verdict answer = let low = proved_low nodes desc classes verdict answer in omega (arith, low)
 status_low Check [] verdict answer = absurd answer
 status_low Check (cert ∷ []) verdict answer = absurd answer
 status_low Check (cert ∷ desc ∷ classes) verdict answer = judged_low cert desc classes verdict answer
@@ -54,13 +63,14 @@ status_low Asm (listing ∷ []) verdict answer = let none = answer.0 in omega (a
 status_low Asm (listing ∷ more ∷ files) verdict answer = absurd answer
 
 pub is_answered : (limits : ℕ → ℕ) (request : Request) (names : List (List ℕ)) (held : List ℕ → Told) (contents given : List (List ℕ)) (verdict : Verdict) → given ≡ contents
-    → AreContents limits held names contents → IsAnswer request given (Ok verdict) → IsTrueCheck request given verdict → IsAnswered limits request names held verdict
-is_answered limits request names held contents given verdict same are answer true_check =
+    → AreContents limits held names contents → IsAnswer request given (Ok verdict) → IsTrueProof request given verdict → IsTrueCheck request given verdict → IsAnswered limits request names held verdict
+is_answered limits request names held contents given verdict same are answer true_proof true_check =
     record {
       contents = given;
       read = subst (AreContents limits held names) (sym same) are;
       answer = answer;
       low = status_low request given verdict answer;
+      true_proof = true_proof;
       true_check = true_check;
     }
 

@@ -1,11 +1,11 @@
 -- What the answer to a check says.
-use Rattle.std.proofs.Common.{◌≡◌, ◌⊎◌, ◌≤◌, ◌++◌, ℕ, List, [], ◌∷◌, Result, Ok, Err, IfOk, get_or, refl, sym, ap, ◌∙◌, subst, inl, inr, arith}
+use Rattle.std.proofs.Common.{◌≡◌, ◌⊎◌, ◌≤◌, ◌++◌, ℕ, List, [], ◌∷◌, Option, None, Result, Ok, Err, IfOk, get_or, refl, sym, ap, ◌∙◌, subst, inl, inr, arith}
 use Rattle.class_program.specs.Programs.{Program}
 use Rattle.frame_types.specs.Tables.{CodeTypes}
 use Rattle.input_desc.specs.declared.desc.Desc.{Desc}
 use Rattle.input_steps.specs.declared.refused.Refused.{Refused}
 use Rattle.cert_form.specs.Faults.{fault_text}
-use Rattle.prove_call.specs.Headline.{AllEnd}
+use Rattle.desc_steps.specs.Headline.{AllEnd}
 use Rattle.check_call.specs.declared.outcome.Outcome.{Outcome}
 use Rattle.check_call.specs.Answers as check
 use Rattle.check_call.specs.Causes.{cause_text}
@@ -46,13 +46,20 @@ module _ (cert desc : List ℕ) (files : List (List ℕ)) (verdict : Verdict) (a
   own = record { status = verdict.status; out = verdict.out }
 
   judged : IsOutcome own
-  judged = is_outcome cert desc files own answer
+  judged = is_outcome cert desc files own answer.1
 
   -- its status is at most 2
   pub judged_low : verdict.status ≤ 2
   judged_low = elim judged [
     | inl e ↦ let none : verdict.status ≡ 0 = ap (λ (o : Outcome). o.status) e in omega (arith, none)
     | inr h ↦ let two : verdict.status ≡ 2 = ap (λ (o : Outcome). o.status) h.1.1 in omega (arith, two)
+  ]
+
+  -- and never 1
+  pub judged_not_one : verdict.status ≡ 1 → ⊥
+  judged_not_one one = elim judged [
+    | inl e ↦ let none : verdict.status ≡ 0 = ap (λ (o : Outcome). o.status) e in omega (arith, none, one)
+    | inr h ↦ let two : verdict.status ≡ 2 = ap (λ (o : Outcome). o.status) h.1.1 in omega (arith, two, one)
   ]
 
   -- where its output begins with `ACCEPTED` its status is 0
@@ -74,21 +81,21 @@ module _ (cert desc : List ℕ) (files : List (List ℕ)) (verdict : Verdict) (a
     | inr h ↦
         let status : verdict.status ≡ 2 = two in
         let out : verdict.out ≡ lines.refused_line h.0 h.1.0 = ap (λ (o : Outcome). o.out) h.1.1 in
-        (h.0, (h.1.0, λ i. record { status = status i; out = out i }))
+        (h.0, (h.1.0, λ i. record { status = status i; out = out i; reason = answer.0 i }))
   ]
 
 -- ---- decisions
 
 -- an outcome of which something holds is a verdict of which it does
 pub judged_with : (P : Result Outcome Refused → Type 0) (checked : Result Outcome Refused) (result : Result Verdict Refused) → result ≡ verdict_of checked → P checked → Judged P result
-judged_with P (Ok outcome) result e h = subst (Judged P) (sym e) h
+judged_with P (Ok outcome) result e h = subst (Judged P) (sym e) (refl, h)
 judged_with P (Err refused) result e h = subst (Judged P) (sym e) h
 
 -- what `ACCEPTED` says
 pub accepted_true : (cert desc : List ℕ) (files : List (List ℕ)) (checked : Result Outcome Refused) (result : Result Verdict Refused) → result ≡ verdict_of checked → check.Answers cert desc files checked → AllEndIfAccepted files desc checked
     → IfOk result (λ verdict. Says lines.accepted_line verdict → AllEnd files desc)
 accepted_true cert desc files (Ok outcome) result e a ends =
-    let verdict : Verdict = record { status = outcome.status; out = outcome.out } in
-    subst (λ (r : Result Verdict Refused). IfOk r (λ v. Says lines.accepted_line v → AllEnd files desc)) (sym e) (λ says. ends (judged_accepts cert desc files verdict a says))
+    let verdict : Verdict = record { status = outcome.status; out = outcome.out; reason = None } in
+    subst (λ (r : Result Verdict Refused). IfOk r (λ v. Says lines.accepted_line v → AllEnd files desc)) (sym e) (λ says. ends (judged_accepts cert desc files verdict (refl, a) says))
 accepted_true cert desc files (Err refused) result e a ends =
     subst (λ (r : Result Verdict Refused). IfOk r (λ v. Says lines.accepted_line v → AllEnd files desc)) (sym e) tt

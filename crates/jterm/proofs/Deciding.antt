@@ -2,8 +2,10 @@
 use Rattle.std.proofs.Common.{◌≡◌, ◌≤◌, ◌-◌, ℕ, List, [], ◌∷◌, length, Result, Ok, Err, IfOk, map, drop, take, get_or, refl, sym, subst, ap, ◌∙◌, arith}
 use Rattle.input_steps.specs.declared.refused.Refused.{Refused}
 use Rattle.prove_call.specs.Answers as prove
-use Rattle.prove_call.specs.Headline.{AllEnd}
-use Rattle.prove_call.proofs.Good.{yes_true}
+use Rattle.prove_call.specs.declared.answer.Answer.{Answer}
+use Rattle.prove_call.specs.Headline.{AllEndIfYes}
+use Rattle.prove_call.specs.Lines.{yes_line}
+use Rattle.desc_steps.specs.Headline.{AllEnd}
 use Rattle.run_call.specs.Answers as run
 use Rattle.check_call.specs.declared.outcome.Outcome.{Outcome}
 use Rattle.check_call.specs.Answers as check
@@ -12,20 +14,21 @@ use Rattle.check_call.specs.Lines.{accepted_line}
 use Rattle.jterm.specs.declared.verdict.Request.{Request}
 use Rattle.jterm.specs.declared.verdict.Request.TheVariants.{Prove, Check, Run, Asm}
 use Rattle.jterm.specs.declared.verdict.Verdict.{Verdict}
-use Rattle.jterm.specs.Decision.{Takes, Says, done_of, Done, verdict_of, IsAnswer}
+use Rattle.jterm.specs.Decision.{Takes, Says, verdict_of_prove, Proved, done_of, Done, verdict_of, IsAnswer}
+use Rattle.jterm.proofs.Proving.{proved_true}
 use Rattle.jterm.proofs.Checking.{judged_with, accepted_true}
 
 -- ---- outputs
 
 -- an output of which something holds is that of a verdict of which it does
 pub done_with : (P : Result (List ℕ) Refused → Type 0) (out : Result (List ℕ) Refused) (result : Result Verdict Refused) → result ≡ done_of out → P out → Done P result
-done_with P (Ok out) result e h = subst (Done P) (sym e) (refl, h)
+done_with P (Ok out) result e h = subst (Done P) (sym e) (refl, refl, h)
 done_with P (Err refused) result e h = subst (Done P) (sym e) h
 
--- what yes says
-pub headline_of : (desc : List ℕ) (files : List (List ℕ)) (result : Result Verdict Refused) → Done (prove.Answers desc files) result → IfOk result (λ verdict. Says prove.yes_line verdict → AllEnd files desc)
-headline_of desc files (Ok verdict) a = λ says. yes_true desc files verdict.out a.1
-headline_of desc files (Err refused) a = tt
+-- an answer of which something holds is that of a verdict of which it does
+pub proved_with : (P : Result Answer Refused → Type 0) (answer : Result Answer Refused) (result : Result Verdict Refused) → result ≡ verdict_of_prove answer → P answer → Proved P result
+proved_with P (Ok answer) result e h = subst (Proved P) (sym e) h
+proved_with P (Err refused) result e h = subst (Proved P) (sym e) h
 
 -- ---- inputs
 
@@ -65,10 +68,10 @@ inputs_are_two {A} f (x ∷ y ∷ xs) one two first second some at is at_two is_
 pub three_inputs : {A : Type 0} (f : A → List ℕ) (inputs : List A) (request : Request) → request ≡ Check → Takes request (map f inputs) → 3 ≤ length (map f inputs)
 three_inputs f inputs request asked t = (subst (λ (r : Request). Takes r (map f inputs)) asked t).0
 
-pub prove_answer : (request : Request) (nodes : ℕ) (given : List (List ℕ)) (desc : List ℕ) (files : List (List ℕ)) (out : Result (List ℕ) Refused) (result : Result Verdict Refused)
-    → request ≡ Prove nodes → given ≡ desc ∷ files → result ≡ done_of out → prove.Answers desc files out → IsAnswer request given result
-prove_answer request nodes given desc files out result asked e d a =
-    let here : IsAnswer (Prove nodes) given result = subst (λ (fs : List (List ℕ)). IsAnswer (Prove nodes) fs result) (sym e) (done_with (prove.Answers desc files) out result d a) in
+pub prove_answer : (request : Request) (nodes : ℕ) (given : List (List ℕ)) (desc : List ℕ) (files : List (List ℕ)) (answer : Result Answer Refused) (result : Result Verdict Refused)
+    → request ≡ Prove nodes → given ≡ desc ∷ files → result ≡ verdict_of_prove answer → prove.Answers nodes desc files answer → IsAnswer request given result
+prove_answer request nodes given desc files answer result asked e d a =
+    let here : IsAnswer (Prove nodes) given result = subst (λ (fs : List (List ℕ)). IsAnswer (Prove nodes) fs result) (sym e) (proved_with (prove.Answers nodes desc files) answer result d a) in
     subst (λ (r : Request). IsAnswer r given result) (sym asked) here
 
 pub run_answer : (request : Request) (fuel : ℕ) (given : List (List ℕ)) (state : List ℕ) (files : List (List ℕ)) (out : Result (List ℕ) Refused) (result : Result Verdict Refused)
@@ -78,15 +81,16 @@ run_answer request fuel given state files out result asked e d a =
     subst (λ (r : Request). IsAnswer r given result) (sym asked) here
 
 -- what YES says of a description and classes
-pub headline_at : (given : List (List ℕ)) (first : List ℕ) (others : List (List ℕ)) (desc : List ℕ) (classes : List (List ℕ)) (out : Result (List ℕ) Refused) (result : Result Verdict Refused)
-    → given ≡ first ∷ others → given ≡ desc ∷ classes → result ≡ done_of out → prove.Answers first others out → IfOk result (λ verdict. Says prove.yes_line verdict → AllEnd classes desc)
-headline_at given first others desc classes out result e f d a =
+pub proved_at : (given : List (List ℕ)) (first : List ℕ) (others : List (List ℕ)) (nodes : ℕ) (desc : List ℕ) (classes : List (List ℕ)) (answer : Result Answer Refused) (result : Result Verdict Refused)
+    → given ≡ first ∷ others → given ≡ desc ∷ classes → result ≡ verdict_of_prove answer → prove.Answers nodes first others answer → AllEndIfYes others first answer
+    → IfOk result (λ verdict. Says yes_line verdict → AllEnd classes desc)
+proved_at given first others nodes desc classes answer result e f d a ends =
     let same : (first ∷ others) ≡ (desc ∷ classes) = sym e ∙ f in
     let one : first ≡ desc = cc in
     let rest : others ≡ classes = cc in
-    let here : prove.Answers desc others out = subst (λ (x : List ℕ). prove.Answers x others out) one a in
-    let there : prove.Answers desc classes out = subst (λ (xs : List (List ℕ)). prove.Answers desc xs out) rest here in
-    headline_of desc classes result (done_with (prove.Answers desc classes) out result d there)
+    let here = proved_true nodes first others answer result d a ends in
+    subst (λ (xs : List (List ℕ)). IfOk result (λ verdict. Says yes_line verdict → AllEnd xs desc)) rest
+    (subst (λ (x : List ℕ). IfOk result (λ verdict. Says yes_line verdict → AllEnd others x)) one here)
 
 pub check_answer : (request : Request) (given : List (List ℕ)) (cert desc : List ℕ) (files : List (List ℕ)) (out : Result Outcome Refused) (result : Result Verdict Refused)
     → request ≡ Check → given ≡ cert ∷ desc ∷ files → result ≡ verdict_of out → check.Answers cert desc files out → IsAnswer request given result

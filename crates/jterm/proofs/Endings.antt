@@ -22,15 +22,18 @@ use Rattle.input_steps.specs.declared.refused.Refused.TheVariants.{At}
 use Rattle.jterm.specs.Words.{IsProve, IsCheck, IsCommand}
 use Rattle.input_steps.specs.Lines.{refusal_line}
 use Rattle.jterm.specs.Lines.{memory_line, read_line}
-use Rattle.prove_call.specs.Answers.{yes_line}
+use Rattle.abs_cells.specs.declared.packed.PackedPairs.{PackedPairs}
+use Rattle.prove_core.specs.declared.found.Reason.{Reason}
+use Rattle.prove_call.specs.Lines.{yes_line, yes_text}
 use Rattle.check_call.specs.Lines.{accepted_line, refused_line}
-use Rattle.prove_call.proofs.Good.{yes_true}
-use Rattle.jterm.specs.Decision.{Says, refused_at, IsAnswer}
-use Rattle.prove_call.specs.Headline.{AllEnd}
+use Rattle.jterm.specs.Decision.{Says, not_proved_for, accepted, refused_at, IsAnswer, IsUnrefused}
+use Rattle.jterm.specs.Laws.{AreAlike}
+use Rattle.desc_steps.specs.Headline.{AllEnd}
 use Rattle.jterm.specs.Outside.{AreTold, AreContents, AreWithin, AreHanded, IsUnread, ReadFails, Decided, Claims, IsWritten, file_limits, behind}
 use Rattle.jterm.specs.Stop.{IsAnswered, HasCause, HasLine, status_of, line_of}
 use Rattle.jterm.proofs.OneAnswer.{answers_one}
-use Rattle.jterm.proofs.Checking.{judged_refused}
+use Rattle.jterm.proofs.Checking.{judged_refused, judged_not_one}
+use Rattle.jterm.proofs.Proving.{proved_low, unproved, reason_kept, certifies}
 use Rattle.jterm.proofs.WordsLemmas.{commands_one}
 
 -- nothing is claimed where nothing is put
@@ -92,16 +95,11 @@ done_is_no_usage {P = P} {Q = Q} words r m own status command low line = (λ fou
     never (inl said) four = omega (arith, said.0, low, four)
     never (inr said) four = omega (arith, said.0, four)
 
--- a call without a verdict does not end with 0, nor with 2
-pub not_two : (stop : Stop) (status : ℕ) (P Q R : Type 0) → ((status ≡ status_of stop) × P × Q) ⊎ ((status ≡ 7) × R) → status ≡ 2 → ⊥
-not_two (Unread name fault) status P Q R says two = elim says [ inl said ↦ omega arith | inr said ↦ omega arith ]
-not_two (Broken place fault) status P Q R says two = elim says [ inl said ↦ omega arith | inr said ↦ omega arith ]
-not_two NoMemory status P Q R says two = elim says [ inl said ↦ omega arith | inr said ↦ omega arith ]
-
-pub not_zero : (stop : Stop) (status : ℕ) (P Q R : Type 0) → ((status ≡ status_of stop) × P × Q) ⊎ ((status ≡ 7) × R) → status ≡ 0 → ⊥
-not_zero (Unread name fault) status P Q R says none = elim says [ inl said ↦ omega arith | inr said ↦ omega arith ]
-not_zero (Broken place fault) status P Q R says none = elim says [ inl said ↦ omega arith | inr said ↦ omega arith ]
-not_zero NoMemory status P Q R says none = elim says [ inl said ↦ omega arith | inr said ↦ omega arith ]
+-- a call without a verdict ends with no status of a verdict
+pub not_low : (stop : Stop) (status : ℕ) (P Q R : Type 0) → ((status ≡ status_of stop) × P × Q) ⊎ ((status ≡ 7) × R) → status ≤ 2 → ⊥
+not_low (Unread name fault) status P Q R says low = elim says [ inl said ↦ omega arith | inr said ↦ omega arith ]
+not_low (Broken place fault) status P Q R says low = elim says [ inl said ↦ omega arith | inr said ↦ omega arith ]
+not_low NoMemory status P Q R says low = elim says [ inl said ↦ omega arith | inr said ↦ omega arith ]
 
 -- ---- told contents
 
@@ -134,19 +132,11 @@ told_answer words held r s m n contents told result here there are tells answer 
     subst (λ (q : Request). IsAnswer q told result) one.0 (subst (λ (fs : List (List ℕ)). IsAnswer r fs result) same answer)
 
 -- the words of a `prove` and of a `check` are a command
-pub prove_is_command : (words : List (List ℕ)) (d : List ℕ) (cs : List (List ℕ)) → IsProve words d cs → IsCommand words (Prove 4000) (d ∷ cs)
+pub prove_is_command : (words : List (List ℕ)) (d : List ℕ) (cs : List (List ℕ)) (prove : IsProve words d cs) → IsCommand words (Prove prove.nodes) (d ∷ cs)
 prove_is_command words d cs prove = inl (record { desc = d; classes = cs; is_prove = prove; asked = refl; named = refl })
 
 check_is_command : (words : List (List ℕ)) (c d : List ℕ) (cs : List (List ℕ)) → IsCheck words c d cs → IsCommand words Check (c ∷ d ∷ cs)
 check_is_command words c d cs check = inr (inl (record { cert = c; desc = d; classes = cs; is_check = check; asked = refl; named = refl }))
-
--- what YES says of the contents of a `prove`
-pub headline : (words : List (List ℕ)) (request : Request) (names : List (List ℕ)) (held : List ℕ → Told) (verdict : Verdict) (d : List ℕ) (cs : List (List ℕ)) (desc : List ℕ) (classes : List (List ℕ))
-    → IsCommand words request names → IsAnswered (file_limits request) request names held verdict → IsProve words d cs → AreTold held (d ∷ cs) (desc ∷ classes) → AllEnd classes desc
-headline words request names held verdict d cs desc classes command answered prove tells =
-    let answer : IsAnswer (Prove 4000) (desc ∷ classes) (Ok verdict) =
-    told_answer words held request (Prove 4000) names (d ∷ cs) answered.contents (desc ∷ classes) (Ok verdict) command (prove_is_command words d cs prove) answered.read tells answered.answer in
-    yes_true desc classes verdict.out answer.1
 
 -- what was put began with a line: so does what was to be put
 begins : (old new : Option (List ℕ)) (before line rest out : List ℕ) (count : ℕ) → Appends old new (take count out) → old ≡ Some before → new ≡ Some (before ++ line ++ rest) → (more : List ℕ) × (out ≡ line ++ more)
@@ -167,6 +157,28 @@ claimed_says line faults taken old new verdict status (inl put) (inr c) =
     inr (begins (taken old) (taken new) c.0 line c.1 verdict.out (length verdict.out) (subst (λ (l : List ℕ). Appends (taken old) (taken new) l) (sym (take_all (length verdict.out) verdict.out (omega arith))) put.1) c.2 c.3)
 claimed_says line faults taken old new verdict status (inr failed) (inr c) =
     inr (begins (taken old) (taken new) c.0 line c.1 verdict.out failed.2.0 failed.2.2 c.2 c.3)
+
+-- what YES says of the contents of a `prove`
+pub headline : {S : Type 0} (faults : S → ℕ) (taken : S → Option (List ℕ)) (old new : S) (words : List (List ℕ)) (request : Request) (names : List (List ℕ)) (held : List ℕ → Told) (verdict : Verdict) (status : ℕ) (d : List ℕ) (cs : List (List ℕ)) (desc : List ℕ) (classes : List (List ℕ))
+    → IsCommand words request names → IsAnswered (file_limits request) request names held verdict → IsWritten faults taken old new verdict status → IsProve words d cs → AreTold held (d ∷ cs) (desc ∷ classes)
+    → Claims yes_line taken old new status → AllEnd classes desc
+headline faults taken old new words request names held verdict status d cs desc classes command answered written prove tells claims =
+    let there = prove_is_command words d cs prove in
+    let one = commands_one words request (Prove prove.nodes) names (d ∷ cs) command there in
+    let same = told_same words held request (Prove prove.nodes) names (d ∷ cs) answered.contents (desc ∷ classes) command there answered.read tells in
+    answered.true_proof prove.nodes desc classes one.0 same (claimed_says yes_line faults taken old new verdict status written claims)
+
+-- and what stands behind it
+pub certificate : {S : Type 0} (faults : S → ℕ) (taken : S → Option (List ℕ)) (old new : S) (words : List (List ℕ)) (request : Request) (names : List (List ℕ)) (held : List ℕ → Told) (verdict : Verdict) (status : ℕ) (d : List ℕ) (cs : List (List ℕ)) (desc : List ℕ) (classes : List (List ℕ))
+    → IsCommand words request names → IsAnswered (file_limits request) request names held verdict → IsWritten faults taken old new verdict status → IsProve words d cs → AreTold held (d ∷ cs) (desc ∷ classes)
+    → status ≡ 0 → (cert : List ℕ) × (length cert ≤ 16777216) × IsAnswer Check (cert ∷ desc ∷ classes) (Ok accepted) × Appends (taken old) (taken new) (yes_text cert)
+certificate faults taken old new words request names held verdict status d cs desc classes command answered (inl put) prove tells none =
+    let there = prove_is_command words d cs prove in
+    let answer : IsAnswer (Prove prove.nodes) (desc ∷ classes) (Ok verdict) =
+    told_answer words held request (Prove prove.nodes) names (d ∷ cs) answered.contents (desc ∷ classes) (Ok verdict) command there answered.read tells answered.answer in
+    let is = certifies prove.nodes desc classes verdict answer (sym put.0 ∙ none) in
+    (is.cert, is.short, (refl, is.accepted), subst (λ (out : List ℕ). Appends (taken old) (taken new) out) is.out_is put.1)
+certificate faults taken old new words request names held verdict status d cs desc classes command answered (inr failed) prove tells none = absurd (omega (arith, failed.0, none))
 
 -- what ACCEPTED says of the contents of a `check`
 pub headline_of_check : {S : Type 0} (faults : S → ℕ) (taken : S → Option (List ℕ)) (old new : S) (words : List (List ℕ)) (request : Request) (names : List (List ℕ)) (held : List ℕ → Told) (verdict : Verdict) (status : ℕ) (c d : List ℕ) (cs : List (List ℕ)) (cert desc : List ℕ) (classes : List (List ℕ))
@@ -220,23 +232,40 @@ all_read held faults leaves words r s m n told old new name fault command unread
 abbrev no_memory : Refused
 no_memory = answers.Memory
 
-ok_is : (a b : Verdict) → (let r : Result Verdict Refused = Ok a in r) ≡ Ok b → a ≡ b
-ok_is a b e = cc
-
 some_answer : (verdict : Verdict) → (let r : Result Verdict Refused = Ok verdict in r) ≢ Err no_memory
 some_answer verdict e = cc
 
 some_refusal : (place : Place) (fault : Fault) → (let r : Result Verdict Refused = Err (At place fault) in r) ≢ Err no_memory
 some_refusal place fault e = cc
 
--- the verdict of a call is the one that the contents have
+-- what has no cause of refusal is answered
+pub answered_written : {S : Type 0} (faults : S → ℕ) (taken : S → Option (List ℕ)) (old new : S) (words : List (List ℕ)) (r s : Request) (m n told : List (List ℕ)) (held : List ℕ → Told) (given : Verdict) (said : Option Verdict) (status : ℕ)
+    → IsCommand words r m → IsAnswered (file_limits r) r m held given → said ≡ Some given → IsWritten faults taken old new given status → AreHanded words held s n told → (Rose (faults old) (faults new) → ⊥)
+    → ((own : Verdict) × (said ≡ Some own) × IsAnswer s told (Ok own) × (status ≡ own.status) × Appends (taken old) (taken new) own.out) ⊎ (status ≡ 7)
+answered_written faults taken old new words r s m n told held given said status command answered is (inl put) handed none =
+    inl (given, is, told_answer words held r s m n answered.contents told (Ok given) command handed.is_command answered.read handed.told answered.answer, put.0, put.1)
+answered_written faults taken old new words r s m n told held given said status command answered is (inr failed) handed none = absurd (none failed.1)
+
+-- and a call without a verdict for it wants memory
+pub unanswered : {F : Type 0} (held : F → List ℕ → Told) (faults : F → ℕ) (leaves : F → List ℕ → F → Type 0) (words : List (List ℕ)) (r s : Request) (m n told : List (List ℕ)) (old new : F) (stop : Stop) (status : ℕ) (Puts : List ℕ → Type 0) (R : Type 0)
+    → IsCommand words r m → HasCause held faults leaves (file_limits r) r m old new stop → Reports Puts stop status → AreHanded words (held old) s n told → IsUnrefused s told
+    → (Rose (faults old) (faults new) → ⊥) → R ⊎ (status ≡ 7)
+unanswered held faults leaves words r s m n told old new (Unread name fault) status Puts R command cause says handed good none =
+    absurd (all_read held faults leaves words r s m n told old new name fault command cause handed none)
+unanswered held faults leaves words r s m n told old new (Broken place fault) status Puts R command cause says handed good none =
+    absurd (good place fault (told_answer words (held old) r s m n cause.0 told (Err (At place fault)) command handed.is_command cause.1 handed.told cause.2))
+unanswered held faults leaves words r s m n told old new NoMemory status Puts R command cause (inl said) handed good none = absurd said.1
+unanswered held faults leaves words r s m n told old new NoMemory status Puts R command cause (inr said) handed good none = inr said.0
+
+-- the verdict of a call is one that the contents have
 pub complete_written : {S : Type 0} (faults : S → ℕ) (taken : S → Option (List ℕ)) (old new : S) (words : List (List ℕ)) (r s : Request) (m n told : List (List ℕ)) (held : List ℕ → Told) (given verdict : Verdict) (status : ℕ)
     → IsCommand words r m → IsAnswered (file_limits r) r m held given → IsWritten faults taken old new given status → AreHanded words held s n told → IsAnswer s told (Ok verdict)
-    → (Rose (faults old) (faults new) → ⊥) → ((status ≡ verdict.status) × Appends (taken old) (taken new) verdict.out) ⊎ (status ≡ 7)
+    → (Rose (faults old) (faults new) → ⊥)
+    → ((own : Verdict) × IsAnswer s told (Ok own) × AreAlike s verdict own × (status ≡ own.status) × Appends (taken old) (taken new) own.out) ⊎ (status ≡ 7)
 complete_written faults taken old new words r s m n told held given verdict status command answered (inl put) handed answer none =
     let here : IsAnswer s told (Ok given) = told_answer words held r s m n answered.contents told (Ok given) command handed.is_command answered.read handed.told answered.answer in
-    let same : given ≡ verdict = ok_is given verdict (answers_one s told (Ok given) (Ok verdict) here answer (some_answer given) (some_answer verdict)) in
-    inl (put.0 ∙ ap (λ v. v.status) same, subst (λ (l : List ℕ). Appends (taken old) (taken new) l) (ap (λ v. v.out) same) put.1)
+    let alike : AreAlike s verdict given = answers_one s told (Ok verdict) (Ok given) answer here (some_answer verdict) (some_answer given) in
+    inl (given, here, alike, put.0, put.1)
 complete_written faults taken old new words r s m n told held given verdict status command answered (inr failed) handed answer none = absurd (none failed.1)
 
 -- where the contents have a verdict, a call without one wants memory
@@ -247,8 +276,7 @@ complete held faults leaves words r s m n told old new (Unread name fault) statu
     absurd (all_read held faults leaves words r s m n told old new name fault command cause handed none)
 complete held faults leaves words r s m n told old new (Broken place fault) status verdict Puts R command cause says handed answer none =
     let here : IsAnswer s told (Err (At place fault)) = told_answer words (held old) r s m n cause.0 told (Err (At place fault)) command handed.is_command cause.1 handed.told cause.2 in
-    let same : (let result : Result Verdict Refused = Err (At place fault) in result) ≡ Ok verdict = answers_one s told (Err (At place fault)) (Ok verdict) here answer (some_refusal place fault) (some_answer verdict) in
-    absurd (cc)
+    absurd (answers_one s told (Err (At place fault)) (Ok verdict) here answer (some_refusal place fault) (some_answer verdict))
 complete held faults leaves words r s m n told old new NoMemory status verdict Puts R command cause (inl said) handed answer none = absurd said.1
 complete held faults leaves words r s m n told old new NoMemory status verdict Puts R command cause (inr said) handed answer none = inr said.0
 
@@ -257,10 +285,9 @@ pub never_answered : (words : List (List ℕ)) (r s : Request) (m n told : List 
     → IsCommand words r m → IsAnswered (file_limits r) r m held given → AreHanded words held s n told → IsAnswer s told (Err (At place fault)) → ⊥
 never_answered words r s m n told held given place fault command answered handed answer =
     let here : IsAnswer s told (Ok given) = told_answer words held r s m n answered.contents told (Ok given) command handed.is_command answered.read handed.told answered.answer in
-    let same : (let result : Result Verdict Refused = Ok given in result) ≡ Err (At place fault) = answers_one s told (Ok given) (Err (At place fault)) here answer (some_answer given) (some_refusal place fault) in
-    cc
+    answers_one s told (Ok given) (Err (At place fault)) here answer (some_answer given) (some_refusal place fault)
 
-at_is : (place : Place) (fault : Fault) (p : Place) (f : Fault) → (let r : Result Verdict Refused = Err (At place fault) in r) ≡ Err (At p f) → (place ≡ p) × (fault ≡ f)
+at_is : (place : Place) (fault : Fault) (p : Place) (f : Fault) → At place fault ≡ At p f → (place ≡ p) × (fault ≡ f)
 at_is place fault p f e = (cc, cc)
 
 -- and is refused for it, or memory is wanting
@@ -301,7 +328,7 @@ unwritten status own low (inr w) (inr line) six = (w.1, line.1)
 -- a verdict of status 2 is that of a refused certificate
 refused_verdict : (request : Request) (files : List (List ℕ)) (verdict : Verdict) → IsAnswer request files (Ok verdict) → verdict.status ≡ 2 → (item : ℕ) × ((cause : List ℕ) × (verdict ≡ refused_at item cause))
 refused_verdict (Prove nodes) [] verdict answer two = absurd answer
-refused_verdict (Prove nodes) (desc ∷ classes) verdict answer two = let none = answer.0 in absurd (omega (arith, none, two))
+refused_verdict (Prove nodes) (desc ∷ classes) verdict answer two = let low = proved_low nodes desc classes verdict answer in absurd (omega (arith, low, two))
 refused_verdict Check [] verdict answer two = absurd answer
 refused_verdict Check (cert ∷ []) verdict answer two = absurd answer
 refused_verdict Check (cert ∷ desc ∷ classes) verdict answer two = judged_refused cert desc classes verdict answer two
@@ -324,3 +351,50 @@ not_accepted faults taken old new words request names held verdict status comman
       subst (λ (v : Verdict). Appends (taken old) (taken new) v.out) is.1.1 put.1,
     )
 not_accepted faults taken old new words request names held verdict status command answered (inr failed) two = absurd (omega (arith, failed.0, two))
+
+-- a verdict of status 1 is that no certificate is given, for a reason
+unproved_verdict : (request : Request) (files : List (List ℕ)) (verdict : Verdict) → IsAnswer request files (Ok verdict) → verdict.status ≡ 1 → (reason : Reason PackedPairs) × ((text : List ℕ) × (verdict ≡ not_proved_for reason text))
+unproved_verdict (Prove nodes) [] verdict answer one = absurd answer
+unproved_verdict (Prove nodes) (desc ∷ classes) verdict answer one = unproved nodes desc classes verdict answer one
+unproved_verdict Check [] verdict answer one = absurd answer
+unproved_verdict Check (cert ∷ []) verdict answer one = absurd answer
+unproved_verdict Check (cert ∷ desc ∷ classes) verdict answer one = absurd (judged_not_one cert desc classes verdict answer one)
+unproved_verdict (Run fuel) [] verdict answer one = absurd answer
+unproved_verdict (Run fuel) (state ∷ classes) verdict answer one = let none = answer.0 in absurd (omega (arith, none, one))
+unproved_verdict Asm [] verdict answer one = absurd answer
+unproved_verdict Asm (listing ∷ []) verdict answer one = let none = answer.0 in absurd (omega (arith, none, one))
+unproved_verdict Asm (listing ∷ more ∷ files) verdict answer one = absurd answer
+
+-- status 1 comes where no certificate is given
+pub not_proved : {S : Type 0} (faults : S → ℕ) (taken : S → Option (List ℕ)) (old new : S) (words : List (List ℕ)) (request : Request) (names : List (List ℕ)) (held : List ℕ → Told) (verdict : Verdict) (told : Option Verdict) (status : ℕ)
+    → IsCommand words request names → IsAnswered (file_limits request) request names held verdict → told ≡ Some verdict → IsWritten faults taken old new verdict status
+    → status ≡ 1 → (reason : Reason PackedPairs) × (text : List ℕ) × (told ≡ Some (not_proved_for reason text)) × Decided words held (Ok (not_proved_for reason text)) × Appends (taken old) (taken new) text
+not_proved faults taken old new words request names held verdict told status command answered tells (inl put) one =
+    let is = unproved_verdict request answered.contents verdict answered.answer (sym put.0 ∙ one) in
+    let same : verdict ≡ not_proved_for is.0 is.1.0 = is.1.1 in
+    let answer : IsAnswer request answered.contents (Ok (not_proved_for is.0 is.1.0)) = subst (λ (v : Verdict). IsAnswer request answered.contents (Ok v)) same answered.answer in (
+      is.0,
+      is.1.0,
+      tells ∙ ap (λ (v : Verdict). Some v) same,
+      record { request = request; names = names; is_command = command; contents = answered.contents; read = answered.read; answer = answer },
+      subst (λ (v : Verdict). Appends (taken old) (taken new) v.out) same put.1,
+    )
+not_proved faults taken old new words request names held verdict told status command answered tells (inr failed) one = absurd (omega (arith, failed.0, one))
+
+-- ---- reasons
+
+-- where there is no reason, and the status is another
+no_reason : (verdict : Verdict) → (verdict.status ≡ 1 → ⊥) → verdict.reason ≡ None → (verdict.status ≡ 1) ↔ ((reason : Reason PackedPairs) × (verdict.reason ≡ Some reason))
+no_reason verdict other none = (λ one. absurd (other one), λ h. absurd (let e : (let o : Option (Reason PackedPairs) = None in o) ≡ Some h.0 = sym none ∙ h.1 in cc))
+
+pub reasons_kept : (request : Request) (contents : List (List ℕ)) (verdict : Verdict) → IsAnswer request contents (Ok verdict) → (verdict.status ≡ 1) ↔ ((reason : Reason PackedPairs) × (verdict.reason ≡ Some reason))
+reasons_kept (Prove nodes) [] verdict answer = absurd answer
+reasons_kept (Prove nodes) (desc ∷ classes) verdict answer = reason_kept nodes desc classes verdict answer
+reasons_kept Check [] verdict answer = absurd answer
+reasons_kept Check (cert ∷ []) verdict answer = absurd answer
+reasons_kept Check (cert ∷ desc ∷ classes) verdict answer = no_reason verdict (judged_not_one cert desc classes verdict answer) answer.0
+reasons_kept (Run fuel) [] verdict answer = absurd answer
+reasons_kept (Run fuel) (state ∷ classes) verdict answer = no_reason verdict (λ one. let none = answer.0 in omega (arith, none, one)) answer.1
+reasons_kept Asm [] verdict answer = absurd answer
+reasons_kept Asm (listing ∷ []) verdict answer = no_reason verdict (λ one. let none = answer.0 in omega (arith, none, one)) answer.1
+reasons_kept Asm (listing ∷ more ∷ files) verdict answer = absurd answer

@@ -1,4 +1,4 @@
--- Words that are numbers of steps.
+-- Words that are numbers.
 use Rattle.std.proofs.Common.{◌≡◌, ℕ, zero, suc, ◌<◌, ◌≤◌, ◌^◌, ◌==◌, Bool, true, false, List, [], ◌∷◌, length, get_or, Result, Ok, refl, sym, ap, ◌∙◌, subst, arith, if◌then◌else◌}
 use Rattle.std.specs.Prelude.{◌≢◌}
 use Rattle.std.specs.Fmt.{decimal}
@@ -7,7 +7,7 @@ use Rattle.std.proofs.lemmas.Bool.Decides.{nat_tests}
 use Rattle.std.proofs.lemmas.Fmt.{decimal_digit, first_decimal, parse-decimal, decimal-digits_value}
 use Rattle.std.proofs.lemmas.Str.Parse.{IsNumeralModel, numerals_by_value, tells_digits, parse_plain}
 use Rattle.jterm.specs.Stop.{is_plain}
-use Rattle.jterm.specs.Words.{IsFuel}
+use Rattle.jterm.specs.Words.{IsNumber}
 
 own : IsNumeralModel (AllDigits 10) (digits_value 10)
 own = numerals_by_value (AllDigits 10) tells_digits
@@ -27,31 +27,30 @@ plain_decimal : (n : ℕ) → n < 2 ^ 64 → is_plain (decimal n) ≡ true
 plain_decimal zero low = ap is_plain (decimal_digit 0 (omega arith))
 plain_decimal (suc n) low = plain_first (decimal (suc n)) (first_decimal (suc n) (omega arith) low)
 
-low_enough : (n : ℕ) → n ≤ 1000000000 → n < 2 ^ 64
-low_enough n few = omega (arith, few)
-
--- a word that isn't plain is no number of steps
-pub not_plain : (word : List ℕ) → is_plain word ≡ false → (fuel : ℕ) → IsFuel word fuel → ⊥
-not_plain word bent fuel f =
-    let plain : is_plain word ≡ true = ap is_plain f.spelled ∙ plain_decimal fuel (low_enough fuel f.few) in
+-- a word that isn't plain is no number
+pub not_plain : (greatest : ℕ) → greatest < 2 ^ 64 → (word : List ℕ) → is_plain word ≡ false → (number : ℕ) → IsNumber greatest word number → ⊥
+not_plain greatest low word bent number f =
+    let plain : is_plain word ≡ true = ap is_plain f.spelled ∙ plain_decimal number (let few = f.few in omega (arith, few, low)) in
     let e : false ≡ true = sym bent ∙ plain in
     cc
 
 -- ---- numbers as they are read
 
 -- what is written is read
-read_fuel : {E : Type 0} (word : List ℕ) (r : Result ℕ E) → ParsesUnsigned 64 10 word r → (fuel : ℕ) → IsFuel word fuel → r ≡ Ok fuel
-read_fuel word r h fuel f = parse-decimal 64 fuel word r (low_enough fuel f.few) (low_enough fuel f.few) f.spelled h
+read_number : {E : Type 0} (greatest : ℕ) → greatest < 2 ^ 64 → (word : List ℕ) (r : Result ℕ E) → ParsesUnsigned 64 10 word r → (number : ℕ) → IsNumber greatest word number → r ≡ Ok number
+read_number greatest low word r h number f =
+    let few = f.few in
+    parse-decimal 64 number word r (omega (arith, few, low)) (omega (arith, few, low)) f.spelled h
 
--- a word that isn't read is no number of steps
-pub not_read : {E : Type 0} (word : List ℕ) (r : Result ℕ E) → ParsesUnsigned 64 10 word r → ((n : ℕ) → r ≡ Ok n → ⊥) → (fuel : ℕ) → IsFuel word fuel → ⊥
-not_read word r h none fuel f = none fuel (read_fuel word r h fuel f)
+-- a word that isn't read is no number
+pub not_read : {E : Type 0} (greatest : ℕ) → greatest < 2 ^ 64 → (word : List ℕ) (r : Result ℕ E) → ParsesUnsigned 64 10 word r → ((n : ℕ) → r ≡ Ok n → ⊥) → (number : ℕ) → IsNumber greatest word number → ⊥
+not_read greatest low word r h none number f = none number (read_number greatest low word r h number f)
 
 -- nor is one that is read as too great a number
-pub too_great : {E : Type 0} (word : List ℕ) (r : Result ℕ E) (n : ℕ) → ParsesUnsigned 64 10 word r → r ≡ Ok n → 1000000000 < n → (fuel : ℕ) → IsFuel word fuel → ⊥
-too_great {E} word r n h e more fuel f =
-    let both : (let s : Result ℕ E = Ok n in s) ≡ Ok fuel = sym e ∙ read_fuel word r h fuel f in
-    let same : n ≡ fuel = cc in
+pub too_great : {E : Type 0} (greatest : ℕ) → greatest < 2 ^ 64 → (word : List ℕ) (r : Result ℕ E) (n : ℕ) → ParsesUnsigned 64 10 word r → r ≡ Ok n → greatest < n → (number : ℕ) → IsNumber greatest word number → ⊥
+too_great {E} greatest low word r n h e more number f =
+    let both : (let s : Result ℕ E = Ok n in s) ≡ Ok number = sym e ∙ read_number greatest low word r h number f in
+    let same : n ≡ number = cc in
     let few = f.few in
     omega (arith, same, few, more)
 
@@ -69,9 +68,9 @@ zero_alone (d ∷ ds) p e =
     one_of : (n : ℕ) → (n == 1) ≡ true → n ≡ 1
     one_of n t = grind (arith, nat_tests)
 
--- a plain word that is read as a number within the limit is one
-pub is_fuel : {E : Type 0} (word : List ℕ) (r : Result ℕ E) (n : ℕ) → ParsesUnsigned 64 10 word r → r ≡ Ok n → is_plain word ≡ true → n ≤ 1000000000 → IsFuel word n
-is_fuel {E} word r n h e plain few =
+-- a plain word that is read as a number that isn't too great is one
+pub is_number : {E : Type 0} (greatest : ℕ) (word : List ℕ) (r : Result ℕ E) (n : ℕ) → ParsesUnsigned 64 10 word r → r ≡ Ok n → is_plain word ≡ true → n ≤ greatest → IsNumber greatest word n
+is_number {E} greatest word r n h e plain few =
     let read : ParsesUnsigned 64 10 word (let s : Result ℕ E = Ok n in s) = subst (λ (s : Result ℕ E). ParsesUnsigned 64 10 word s) e h in
     let said = parse_plain own 64 word (let s : Result ℕ E = Ok n in s) read (plus_apart word plain) in
     let written : decimal (digits_value 10 word) ≡ word = decimal-digits_value own word said.0.0 said.0.1 (zero_alone word plain) said.0.2 in

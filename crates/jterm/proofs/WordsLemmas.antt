@@ -1,11 +1,12 @@
 -- Lists of words.
-use Rattle.std.proofs.Common.{◌≡◌, ℕ, ◌≤◌, Bool, true, false, ◌&&◌, List, [], ◌∷◌, length, map, refl, arith, ap, sym, ◌∙◌, subst, inl, inr, IsTrue}
+use Rattle.std.proofs.Common.{◌≡◌, ◌⊎◌, ℕ, ◌<◌, ◌≤◌, ◌^◌, Bool, true, false, ◌&&◌, List, [], ◌∷◌, ◌++◌, length, map, get_or, refl, arith, ap, sym, ◌∙◌, subst, inl, inr, IsTrue}
 use Rattle.std.proofs.lemmas.List.{length-map}
 use Rattle.std.specs.Prelude.{◌↔◌, not, codes, Option, Some, None, MatchOption}
 use Rattle.std.specs.List.{list_all}
 use Rattle.jterm.specs.declared.verdict.Request.{Request}
 use Rattle.jterm.specs.declared.verdict.Request.TheVariants.{Prove, Check, Run, Asm}
-use Rattle.jterm.specs.Words.{is_file_word, AreFiles, AreCheckFiles, IsListing, IsFuel, IsProveRow, IsCheckRow, IsRunRow, IsAsmRow, IsCommand}
+use Rattle.jterm.specs.Stop.{NamesLimit}
+use Rattle.jterm.specs.Words.{is_file_word, AreFiles, AreCheckFiles, IsListing, IsNumber, IsLimit, Limits, IsFuel, IsProveRow, IsCheckRow, IsRunRow, IsAsmRow, IsCommand}
 use Rattle.std.specs.Cmp.Lexicographic.{bytes_decides}
 use Rattle.std.specs.Str.{bytes_eq}
 use Rattle.std.proofs.lemmas.Fmt.{decimal_injective}
@@ -36,17 +37,64 @@ prove_row verb [] v r = absurd (let some = r.some in omega arith)
 prove_row verb (d ∷ cs) v r = record {
   desc = d;
   classes = cs;
-  is_prove = record { spelled = ap (λ (w : List ℕ). w ∷ d ∷ cs) v; files = r };
+  is_prove = record { options = []; nodes = 4000; limits = refl; spelled = ap (λ (w : List ℕ). w ∷ d ∷ cs) v; files = r };
   asked = refl;
   named = refl;
 }
 
-pub of_prove_row : (verb : List ℕ) (names : List (List ℕ)) (request : Request) (files : List (List ℕ)) → IsProveRow (verb ∷ names) request files → (verb ≡ codes "prove") × AreFiles names × (request ≡ Prove 4000) × (files ≡ names)
+pub limited_row : (verb option word : List ℕ) (names : List (List ℕ)) (nodes : ℕ) → verb ≡ codes "prove" → option ≡ codes "--nodes" → IsLimit word nodes → AreFiles names
+    → IsProveRow (verb ∷ option ∷ word ∷ names) (Prove nodes) names
+limited_row verb option word [] nodes v o f r = absurd (let some = r.some in omega arith)
+limited_row verb option word (d ∷ cs) nodes v o f r = record {
+  desc = d;
+  classes = cs;
+  is_prove = record { options = option ∷ word ∷ []; nodes = nodes; limits = (o, f); spelled = ap (λ (w : List ℕ). w ∷ option ∷ word ∷ d ∷ cs) v; files = r };
+  asked = refl;
+  named = refl;
+}
+
+-- what stands behind `prove`: files alone, or a limit on nodes and files
+abbrev IsPlain : List (List ℕ) → Request → List (List ℕ) → Type 0
+IsPlain names request files = (names ≡ files) × (request ≡ Prove 4000)
+
+record IsLimited (names : List (List ℕ)) (request : Request) (files : List (List ℕ)) : Type 0 where
+  word : List ℕ
+  nodes : ℕ
+  behind : names ≡ codes "--nodes" ∷ word ∷ files
+  is_limit : IsLimit word nodes
+  asked : request ≡ Prove nodes
+
+by_options : (options : List (List ℕ)) (nodes : ℕ) (names : List (List ℕ)) (request : Request) (files : List (List ℕ)) → Limits options nodes → names ≡ options ++ files → request ≡ Prove nodes
+    → IsPlain names request files ⊎ IsLimited names request files
+by_options [] nodes names request files limits e asked = inl (e, asked ∙ ap Prove limits)
+by_options (option ∷ []) nodes names request files limits e asked = absurd limits
+by_options (option ∷ word ∷ []) nodes names request files limits e asked =
+    inr (record { word = word; nodes = nodes; behind = e ∙ ap (λ (w : List ℕ). w ∷ word ∷ files) limits.0; is_limit = limits.1; asked = asked })
+by_options (option ∷ word ∷ more ∷ words) nodes names request files limits e asked = absurd limits
+
+record OfProve (verb : List ℕ) (names : List (List ℕ)) (request : Request) (files : List (List ℕ)) : Type 0 where
+  is_verb : verb ≡ codes "prove"
+  are_files : AreFiles files
+  behind : IsPlain names request files ⊎ IsLimited names request files
+
+of_prove_row : (verb : List ℕ) (names : List (List ℕ)) (request : Request) (files : List (List ℕ)) → IsProveRow (verb ∷ names) request files → OfProve verb names request files
 of_prove_row verb names request files row =
-    let same : verb ∷ names ≡ codes "prove" ∷ row.desc ∷ row.classes = row.is_prove.spelled in
+    let is = row.is_prove in
+    let same : verb ∷ names ≡ codes "prove" ∷ (is.options ++ (row.desc ∷ row.classes)) = is.spelled in
     let first : verb ≡ codes "prove" = cc in
-    let rest : names ≡ row.desc ∷ row.classes = cc in
-    (first, subst AreFiles (sym rest) row.is_prove.files, row.asked, row.named ∙ sym rest)
+    let rest : names ≡ is.options ++ (row.desc ∷ row.classes) = cc in
+    record {
+      is_verb = first;
+      are_files = subst AreFiles (sym row.named) is.files;
+      behind = by_options is.options is.nodes names request files is.limits (rest ∙ ap (λ (fs : List (List ℕ)). is.options ++ fs) (sym row.named)) row.asked;
+    }
+
+-- no file is named as the option is
+no_file : (option : List ℕ) (names : List (List ℕ)) → option ≡ codes "--nodes" → AreFiles (option ∷ names) → ⊥
+no_file option names o r =
+    let all : IsTrue (list_all is_file_word (codes "--nodes" ∷ names)) = subst (λ (w : List ℕ). IsTrue (list_all is_file_word (w ∷ names))) o r.each in
+    let e : false ≡ true = all in
+    cc
 
 pub check_row : (verb : List ℕ) (names : List (List ℕ)) → verb ≡ codes "check" → AreCheckFiles names → IsCheckRow (verb ∷ names) Check names
 check_row verb [] v r = absurd r
@@ -100,44 +148,38 @@ run_row verb word (state ∷ classes) fuel v f r = record {
 }
 
 -- where no row is there, the words are no command
-pub no_row : (verb : List ℕ) (names : List (List ℕ)) → (IsProveRow (verb ∷ names) (Prove 4000) names → ⊥) → (IsCheckRow (verb ∷ names) Check names → ⊥) → (IsAsmRow (verb ∷ names) Asm names → ⊥)
+pub no_row : (verb : List ℕ) (names : List (List ℕ)) → (verb ≡ codes "prove" → ⊥) → (IsCheckRow (verb ∷ names) Check names → ⊥) → (IsAsmRow (verb ∷ names) Asm names → ⊥)
     → ((request : Request) (files : List (List ℕ)) → IsRunRow (verb ∷ names) request files → ⊥) → (request : Request) (files : List (List ℕ)) → IsCommand (verb ∷ names) request files → ⊥
-no_row verb names p c a run request files (inl row) = let r = of_prove_row verb names request files row in p (prove_row verb names r.0 r.1)
+no_row verb names p c a run request files (inl row) = let r = of_prove_row verb names request files row in p r.is_verb
 no_row verb names p c a run request files (inr (inl row)) = let r = of_check_row verb names request files row in c (check_row verb names r.0 r.1)
 no_row verb names p c a run request files (inr (inr (inl row))) = run request files row
 no_row verb names p c a run request files (inr (inr (inr row))) = let r = of_asm_row verb names request files row in a (asm_row verb names r.0 r.1)
 
 -- no command of the rows above it, or a `run`
 pub run_or_none : {C : Type 0} (run : Option C) (asked : C → Request) (named : C → List (List ℕ)) (verb : List ℕ) (names : List (List ℕ))
-    → (IsProveRow (verb ∷ names) (Prove 4000) names → ⊥) → (IsCheckRow (verb ∷ names) Check names → ⊥) → (IsAsmRow (verb ∷ names) Asm names → ⊥)
+    → (verb ≡ codes "prove" → ⊥) → (IsCheckRow (verb ∷ names) Check names → ⊥) → (IsAsmRow (verb ∷ names) Asm names → ⊥)
     → MatchOption run ((request : Request) (files : List (List ℕ)) → IsRunRow (verb ∷ names) request files → ⊥) (λ c. IsRunRow (verb ∷ names) (asked c) (named c))
     → MatchOption run ((request : Request) (files : List (List ℕ)) → IsCommand (verb ∷ names) request files → ⊥) (λ c. IsCommand (verb ∷ names) (asked c) (named c))
 run_or_none None asked named verb names p c a h = no_row verb names p c a h
 run_or_none (Some run) asked named verb names p c a h = inr (inr (inl h))
 
+-- behind `prove`, a `prove` or no command
+pub prove_or_none : {C : Type 0} (prove : Option C) (asked : C → Request) (named : C → List (List ℕ)) (verb : List ℕ) (names : List (List ℕ)) → verb ≡ codes "prove"
+    → MatchOption prove ((request : Request) (files : List (List ℕ)) → IsProveRow (verb ∷ names) request files → ⊥) (λ c. IsProveRow (verb ∷ names) (asked c) (named c))
+    → MatchOption prove ((request : Request) (files : List (List ℕ)) → IsCommand (verb ∷ names) request files → ⊥) (λ c. IsCommand (verb ∷ names) (asked c) (named c))
+prove_or_none (Some prove) asked named verb names v h = inl h
+prove_or_none None asked named verb names v h = none
+  where
+    other : (word : List ℕ) → verb ≡ word → get_or word 0 0 ≡ 112
+    other word e = ap (λ (w : List ℕ). get_or w 0 0) (sym e ∙ v)
+
+    none : (request : Request) (files : List (List ℕ)) → IsCommand (verb ∷ names) request files → ⊥
+    none request files (inl row) = h request files row
+    none request files (inr (inl row)) = let e = other (codes "check") (of_check_row verb names request files row).0 in omega (arith, e)
+    none request files (inr (inr (inl row))) = let e = other (codes "run") (of_run_row verb names request files row).0 in omega (arith, e)
+    none request files (inr (inr (inr row))) = let e = other (codes "asm") (of_asm_row verb names request files row).0 in omega (arith, e)
+
 -- ---- the words of a `run`
-
-pub other_verb : (verb : List ℕ) (names : List (List ℕ)) → (verb ≡ codes "run" → ⊥) → (request : Request) (files : List (List ℕ)) → IsRunRow (verb ∷ names) request files → ⊥
-other_verb verb names other request files row = other (of_run_row verb names request files row).0
-
-pub no_number : (verb : List ℕ) (request : Request) (files : List (List ℕ)) → IsRunRow (verb ∷ []) request files → ⊥
-no_number verb request files row = let r = of_run_row verb [] request files row in let e = r.1.1.1.0 in cc
-
--- the word behind `run` is no number of steps
-pub no_fuel : (verb word : List ℕ) (names : List (List ℕ)) → ((fuel : ℕ) → IsFuel word fuel → ⊥) → (request : Request) (files : List (List ℕ)) → IsRunRow (verb ∷ word ∷ names) request files → ⊥
-no_fuel verb word names none request files row =
-    let r = of_run_row verb (word ∷ names) request files row in
-    let e : word ∷ names ≡ r.1.0 ∷ files = r.1.1.1.0 in
-    let same : r.1.0 ≡ word = cc in
-    none r.1.1.0 (subst (λ (w : List ℕ). IsFuel w r.1.1.0) same r.1.1.1.1)
-
--- the words behind it name no files
-pub no_run_files : (verb word : List ℕ) (names : List (List ℕ)) → (AreFiles names → ⊥) → (request : Request) (files : List (List ℕ)) → IsRunRow (verb ∷ word ∷ names) request files → ⊥
-no_run_files verb word names none request files row =
-    let r = of_run_row verb (word ∷ names) request files row in
-    let e : word ∷ names ≡ r.1.0 ∷ files = r.1.1.1.0 in
-    let same : files ≡ names = cc in
-    none (subst AreFiles same r.1.1.1.2)
 
 -- a command's words are not empty
 pub no_words : (request : Request) (files : List (List ℕ)) → IsCommand [] request files → ⊥
@@ -154,14 +196,15 @@ un_not : (b : Bool) → false ≡ not b → b ≡ true
 un_not true e = refl
 un_not false e = absurd (cc)
 
+-- and those that a test tells apart are not
+pub other_word : (xs ys : List ℕ) → false ≡ bytes_eq xs ys → xs ≡ ys → ⊥
+other_word xs ys e same = let t : bytes_eq xs ys ≡ true = (bytes_decides xs ys).1 same in let f : false ≡ true = e ∙ t in cc
+
 -- and those that a test does not keep apart
 pub not_apart : (xs ys : List ℕ) → false ≡ not (bytes_eq xs ys) → xs ≡ ys
 not_apart xs ys e = (bytes_decides xs ys).0 (un_not (bytes_eq xs ys) e)
 
 -- ---- tests of the first word and of the words behind it
-
-pub is_prove : (verb : List ℕ) (names : List (List ℕ)) (answer : Bool) → verb ≡ codes "prove" → (IsTrue answer ↔ AreFiles names) → IsTrue answer ↔ IsProveRow (verb ∷ names) (Prove 4000) names
-is_prove verb names answer v h = (λ t. prove_row verb names v (h.0 t), λ row. h.1 (of_prove_row verb names (Prove 4000) names row).1)
 
 pub is_check : (verb : List ℕ) (names : List (List ℕ)) (answer : Bool) → verb ≡ codes "check" → (IsTrue answer ↔ AreCheckFiles names) → IsTrue answer ↔ IsCheckRow (verb ∷ names) Check names
 is_check verb names answer v h = (λ t. check_row verb names v (h.0 t), λ row. h.1 (of_check_row verb names Check names row).1)
@@ -193,15 +236,34 @@ first_letter ((letter ∷ word) ∷ words) = letter
 other_letter : (words verbs others : List (List ℕ)) (a b : ℕ) → words ≡ verbs → words ≡ others → first_letter verbs ≡ a → first_letter others ≡ b → (a ≡ b → ⊥) → ⊥
 other_letter words verbs others a b e f first second other = other (sym first ∙ ap first_letter (sym e ∙ f) ∙ second)
 
+number_one : (greatest : ℕ) → greatest < 2 ^ 64 → (word : List ℕ) (a b : ℕ) → IsNumber greatest word a → IsNumber greatest word b → a ≡ b
+number_one greatest low word a b h k =
+    decimal_injective a b (let few = h.few in omega (arith, few, low)) (let few = k.few in omega (arith, few, low)) (sym h.spelled ∙ k.spelled)
+
 fuel_one : (word : List ℕ) (a b : ℕ) → IsFuel word a → IsFuel word b → a ≡ b
-fuel_one word a b h k = decimal_injective a b (let few = h.few in omega (arith, few)) (let few = k.few in omega (arith, few)) (sym h.spelled ∙ k.spelled)
+fuel_one word a b h k = number_one 1000000000 (omega arith) word a b h k
+
+-- a `prove` is one
+proves_one : (verb : List ℕ) (names : List (List ℕ)) (r s : Request) (m n : List (List ℕ)) → OfProve verb names r m → OfProve verb names s n → (r ≡ s) × (m ≡ n)
+proves_one verb names r s m n a b = by a.behind b.behind
+  where
+    apart : (files others : List (List ℕ)) (q : Request) → names ≡ files → AreFiles files → IsLimited names q others → ⊥
+    apart files others q e are limited = no_file (codes "--nodes") (limited.word ∷ others) refl (subst AreFiles (sym e ∙ limited.behind) are)
+
+    by : IsPlain names r m ⊎ IsLimited names r m → IsPlain names s n ⊎ IsLimited names s n → (r ≡ s) × (m ≡ n)
+    by (inl x) (inl y) = (x.1 ∙ sym y.1, sym x.0 ∙ y.0)
+    by (inl x) (inr y) = absurd (apart m n s x.0 a.are_files y)
+    by (inr x) (inl y) = absurd (apart n m r y.0 b.are_files x)
+    by (inr x) (inr y) =
+        let same : codes "--nodes" ∷ x.word ∷ m ≡ codes "--nodes" ∷ y.word ∷ n = sym x.behind ∙ y.behind in
+        let word : x.word ≡ y.word = cc in
+        let files : m ≡ n = cc in
+        let nodes : x.nodes ≡ y.nodes = number_one 20000 (omega arith) y.word x.nodes y.nodes (subst (λ (w : List ℕ). IsNumber 20000 w x.nodes) word x.is_limit.0) y.is_limit.0 in
+        (x.asked ∙ (ap Prove nodes ∙ sym y.asked), files)
 
 pub commands_one : (words : List (List ℕ)) (r s : Request) (m n : List (List ℕ)) → IsCommand words r m → IsCommand words s n → (r ≡ s) × (m ≡ n)
-commands_one words r s m n (inl a) (inl b) =
-    let here : words ≡ _ = a.is_prove.spelled in
-    let there : words ≡ _ = b.is_prove.spelled in
-    let same : a.desc ∷ a.classes ≡ b.desc ∷ b.classes = cc in
-    (a.asked ∙ sym b.asked, a.named ∙ same ∙ sym b.named)
+commands_one [] r s m n a b = absurd (no_words r m a)
+commands_one (verb ∷ names) r s m n (inl a) (inl b) = proves_one verb names r s m n (of_prove_row verb names r m a) (of_prove_row verb names s n b)
 commands_one words r s m n (inl a) (inr (inl b)) = absurd (other_letter words _ _ 112 99 a.is_prove.spelled b.is_check.spelled refl refl (λ e. omega (arith, e)))
 commands_one words r s m n (inl a) (inr (inr (inl b))) = absurd (other_letter words _ _ 112 114 a.is_prove.spelled b.is_run.spelled refl refl (λ e. omega (arith, e)))
 commands_one words r s m n (inl a) (inr (inr (inr b))) = absurd (other_letter words _ _ 112 97 a.is_prove.spelled b.is_asm.spelled refl refl (λ e. omega (arith, e)))
@@ -231,3 +293,31 @@ commands_one words r s m n (inr (inr (inr a))) (inr (inr (inr b))) =
     let there : words ≡ _ = b.is_asm.spelled in
     let same : a.listing ∷ [] ≡ b.listing ∷ [] = cc in
     (a.asked ∙ sym b.asked, a.named ∙ same ∙ sym b.named)
+
+-- ---- a limit on nodes
+
+-- no limit of no nodes
+pub no_nodes : (word : List ℕ) (number : ℕ) → IsNumber 20000 word number → number ≡ 0 → (nodes : ℕ) → IsLimit word nodes → ⊥
+no_nodes word number is none nodes limit =
+    let same : number ≡ nodes = number_one 20000 (omega arith) word number nodes is limit.0 in
+    let some = limit.1 in
+    omega (arith, same, none, some)
+
+-- whether the words behind `prove` begin with that of a limit
+pub has_limit : {A : Type 0} (f : A → List ℕ) (words : List A) (word : A) (behind : List A) (first : List ℕ) (answer : Bool) → words ≡ word ∷ behind → first ≡ f word → answer ≡ bytes_eq first (codes "--nodes")
+    → IsTrue answer ↔ NamesLimit (map f words)
+has_limit f words word behind first answer e is said = (
+  λ t. subst (λ (ws : List (List ℕ)). NamesLimit ws) (sym split) ((bytes_decides first (codes "--nodes")).0 (sym said ∙ t)),
+  λ named. said ∙ (bytes_decides first (codes "--nodes")).1 (subst (λ (ws : List (List ℕ)). NamesLimit ws) split named),
+)
+  where
+    split : map f words ≡ first ∷ map f behind
+    split = words_are f words word behind first e is
+
+-- the words behind a limit
+pub limited_words : {A : Type 0} (f : A → List ℕ) (verb : List ℕ) (words : List A) (option : A) (behind : List A) (number : A) (files : List A) (word : List ℕ) (nodes : ℕ) → verb ≡ codes "prove" → NamesLimit (map f words)
+    → words ≡ option ∷ behind → behind ≡ number ∷ files → word ≡ f number → IsLimit word nodes → AreFiles (map f files) → IsProveRow (verb ∷ map f words) (Prove nodes) (map f files)
+limited_words {A} f verb words option behind number files word nodes v o e g w limit are =
+    let split : map f words ≡ f option ∷ word ∷ map f files = ap (map f) e ∙ ap (λ (ws : List (List ℕ)). f option ∷ ws) (words_are f behind number files word g w) in
+    let first : f option ≡ codes "--nodes" = subst NamesLimit split o in
+    subst (λ (ws : List (List ℕ)). IsProveRow (verb ∷ ws) (Prove nodes) (map f files)) (sym split) (limited_row verb (f option) word (map f files) nodes v first limit are)

@@ -1,5 +1,6 @@
 -- What `decide` answers, and why.
-use Rattle.std.specs.Prelude.{◌≡◌, ◌⊎◌, ℕ, ◌≤◌, List, [], ◌∷◌, ◌++◌, length, Result, Ok, Err}
+use Rattle.std.specs.Prelude.{◌≡◌, ◌⊎◌, ℕ, ◌≤◌, List, [], ◌∷◌, ◌++◌, length, Option, Some, None, Result, Ok, Err}
+use Rattle.abs_cells.specs.declared.packed.PackedPairs.{PackedPairs}
 use Rattle.asm_lines.specs.declared.fault.AsmFault.{AsmFault}
 use Rattle.asm_lines.specs.declared.fault.AsmFault.TheVariants as listings
 use Rattle.class_asm.specs.Classes.{assembled}
@@ -12,7 +13,9 @@ use Rattle.input_steps.specs.declared.refused.Fault.TheVariants as faults
 use Rattle.input_steps.specs.Steps.{IsAt}
 use Rattle.check_call.specs.declared.outcome.Outcome.{Outcome}
 use Rattle.check_call.specs.Answers as check
-use Rattle.check_call.specs.Lines.{refused_line}
+use Rattle.check_call.specs.Lines.{accepted_line, refused_line}
+use Rattle.prove_core.specs.declared.found.Reason.{Reason}
+use Rattle.prove_call.specs.declared.answer.Answer.{Answer}
 use Rattle.prove_call.specs.Answers as prove
 use Rattle.run_call.specs.Answers as run
 use Rattle.jterm.specs.declared.verdict.Request.{Request}
@@ -49,34 +52,56 @@ listing_refusal fault = At places.Listing (faults.Listing fault)
 
 -- ---- verdicts
 
+-- the answer of `prove` as a verdict; or its refusal
+abbrev pub verdict_of_prove : Result Answer Refused → Result Verdict Refused
+verdict_of_prove (Ok answer) = Ok (record { status = answer.status; out = answer.out; reason = answer.reason })
+verdict_of_prove (Err refused) = Err refused
+
+-- a verdict with the parts of an answer of `prove` of which this holds; or a refusal of which it does
+abbrev pub Proved : (Result Answer Refused → Type 0) → Result Verdict Refused → Type 0
+Proved Answers (Ok verdict) = Answers (Ok (record { status = verdict.status; out = verdict.out; reason = verdict.reason }))
+Proved Answers (Err refused) = Answers (Err refused)
+
+-- the verdict that no certificate was found, for a reason with this text
+abbrev pub not_proved_for : Reason PackedPairs → List ℕ → Verdict
+not_proved_for reason text = record { status = 1; out = text; reason = Some reason }
+
 -- the verdict of a command that is done, with its output; or its refusal
 abbrev pub done_of : Result (List ℕ) Refused → Result Verdict Refused
-done_of (Ok out) = Ok (record { status = 0; out = out })
+done_of (Ok out) = Ok (record { status = 0; out = out; reason = None })
 done_of (Err refused) = Err refused
 
 -- a verdict of status 0 with an output of which this holds; or a refusal of which it does
 abbrev pub Done : (Result (List ℕ) Refused → Type 0) → Result Verdict Refused → Type 0
-Done Answers (Ok verdict) = (verdict.status ≡ 0) × Answers (Ok verdict.out)
+Done Answers (Ok verdict) = (verdict.status ≡ 0) × (verdict.reason ≡ None) × Answers (Ok verdict.out)
 Done Answers (Err refused) = Answers (Err refused)
+
+-- the verdict that a certificate is accepted
+abbrev pub accepted : Verdict
+accepted = record { status = 0; out = accepted_line; reason = None }
 
 -- the verdict that a certificate is refused at an item for a cause
 abbrev pub refused_at : ℕ → List ℕ → Verdict
-refused_at item cause = record { status = 2; out = refused_line item cause }
+refused_at item cause = record { status = 2; out = refused_line item cause; reason = None }
 
 -- the outcome of a check as a verdict; or its refusal
 abbrev pub verdict_of : Result Outcome Refused → Result Verdict Refused
-verdict_of (Ok outcome) = Ok (record { status = outcome.status; out = outcome.out })
+verdict_of (Ok outcome) = Ok (record { status = outcome.status; out = outcome.out; reason = None })
 verdict_of (Err refused) = Err refused
 
 -- a verdict with the status and the output of an outcome of which this holds; or a refusal of which it does
 abbrev pub Judged : (Result Outcome Refused → Type 0) → Result Verdict Refused → Type 0
-Judged Answers (Ok verdict) = Answers (Ok (record { status = verdict.status; out = verdict.out }))
+Judged Answers (Ok verdict) = (verdict.reason ≡ None) × Answers (Ok (record { status = verdict.status; out = verdict.out }))
 Judged Answers (Err refused) = Answers (Err refused)
 
 -- the answer to a request for the contents of its files: a certificate, a description or a state, and classes; or a listing
 abbrev pub IsAnswer : Request → List (List ℕ) → Result Verdict Refused → Type 0
-IsAnswer (Prove nodes) (desc ∷ classes) result = Done (prove.Answers desc classes) result
+IsAnswer (Prove nodes) (desc ∷ classes) result = Proved (prove.Answers nodes desc classes) result
 IsAnswer Check (cert ∷ desc ∷ classes) result = Judged (check.Answers cert desc classes) result
 IsAnswer (Run fuel) (state ∷ classes) result = Done (run.Answers fuel state classes) result
 IsAnswer Asm (listing ∷ []) result = Done (Assembles listing) result
 IsAnswer request files result = ⊥
+
+-- the contents have no cause of refusal
+abbrev pub IsUnrefused : Request → List (List ℕ) → Type 0
+IsUnrefused request contents = (place : Place) (fault : Fault) → IsAnswer request contents (Err (At place fault)) → ⊥

@@ -1,17 +1,18 @@
 -- Why a call ends without a verdict, and words of numbers.
-use Rattle.std.specs.Prelude.{◌≡◌, ℕ, ◌≤◌, ◌==◌, Bool, true, false, if◌then◌else◌, List, [], ◌∷◌, length, Ok, Err, ⊤}
+use Rattle.std.specs.Prelude.{◌≡◌, ℕ, ◌≤◌, ◌==◌, Bool, true, false, if◌then◌else◌, List, [], ◌∷◌, length, codes, Ok, Err, ⊤}
 use Rattle.io_ports.specs.Told.{Told}
 use Rattle.io_ports.specs.declared.files.FileFault.{FileFault}
 use Rattle.io_ports.specs.declared.files.FileFault.TheVariants.{Failed, TooLong, Missing, Memory}
 use Rattle.jterm.specs.declared.inputs.Stop.{Stop}
 use Rattle.jterm.specs.declared.inputs.Stop.TheVariants.{Unread, Broken, NoMemory}
 use Rattle.jterm.specs.declared.verdict.Request.{Request}
-use Rattle.jterm.specs.declared.verdict.Request.TheVariants.{Check}
+use Rattle.jterm.specs.declared.verdict.Request.TheVariants.{Prove, Check}
 use Rattle.input_steps.specs.declared.refused.Refused.TheVariants.{At}
 use Rattle.jterm.specs.declared.verdict.Verdict.{Verdict}
 use Rattle.jterm.specs.Decision.{IsAnswer, Says}
 use Rattle.check_call.specs.Lines.{accepted_line}
-use Rattle.prove_call.specs.Headline.{AllEnd}
+use Rattle.prove_call.specs.Lines.{yes_line}
+use Rattle.desc_steps.specs.Headline.{AllEnd}
 use Rattle.jterm.specs.Words.{IsCommand}
 use Rattle.input_steps.specs.Lines.{refusal_line}
 use Rattle.jterm.specs.Lines.{read_line, memory_line}
@@ -47,18 +48,29 @@ stopped_at name Memory = NoMemory
 abbrev pub AreOfCommand : Request → List (List ℕ) → Type 0
 AreOfCommand request names = (words : List (List ℕ)) × IsCommand words request names
 
--- a check that says `ACCEPTED` says the truth
+-- a `prove` that says `YES` says the truth
+abbrev pub IsTrueProof : Request → List (List ℕ) → Verdict → Type 0
+IsTrueProof request contents verdict =
+    (nodes : ℕ) (desc : List ℕ) (classes : List (List ℕ)) → request ≡ Prove nodes → contents ≡ desc ∷ classes → Says yes_line verdict → AllEnd classes desc
+
+-- so does a check that says `ACCEPTED`
 abbrev pub IsTrueCheck : Request → List (List ℕ) → Verdict → Type 0
 IsTrueCheck request contents verdict =
     (cert desc : List ℕ) (classes : List (List ℕ)) → request ≡ Check → contents ≡ cert ∷ desc ∷ classes → Says accepted_line verdict → AllEnd classes desc
 
--- the verdict is the answer for the contents of the files, its status is at most 2, and what it says of a check is true
+-- the verdict is the answer for the contents of the files, its status is at most 2, and what it says is true
 pub record IsAnswered (limits : ℕ → ℕ) (request : Request) (names : List (List ℕ)) (held : List ℕ → Told) (verdict : Verdict) : Type 0 where
   pub contents : List (List ℕ)
   pub read : AreContents limits held names contents
   pub answer : IsAnswer request contents (Ok verdict)
   pub low : verdict.status ≤ 2
+  pub true_proof : IsTrueProof request contents verdict
   pub true_check : IsTrueCheck request contents verdict
+
+-- the words behind `prove` begin with that of a limit on nodes
+abbrev pub NamesLimit : List (List ℕ) → Type 0
+NamesLimit [] = ⊥
+NamesLimit (word ∷ words) = word ≡ codes "--nodes"
 
 -- neither a plus nor a zero stands first, but in `0`
 abbrev pub is_plain : List ℕ → Bool

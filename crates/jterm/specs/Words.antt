@@ -1,5 +1,5 @@
 -- The words of the command line.
-use Rattle.std.specs.Prelude.{◌≡◌, ◌⊎◌, ℕ, ◌≤◌, ◌==◌, not, Bool, true, List, [], ◌∷◌, length, codes, IsTrue}
+use Rattle.std.specs.Prelude.{◌≡◌, ◌⊎◌, ℕ, ◌≤◌, ◌==◌, not, Bool, true, List, [], ◌∷◌, ◌++◌, length, codes, IsTrue}
 use Rattle.std.specs.Fmt.{decimal}
 use Rattle.std.specs.List.{list_all}
 use Rattle.jterm.specs.declared.verdict.Request.{Request}
@@ -16,18 +16,37 @@ pub record AreFiles (files : List (List ℕ)) : Type 0 where
   pub few : length files ≤ 257
   pub each : IsTrue (list_all is_file_word files)
 
--- `prove DESC CLASS..`
+-- a number that is at most so great, in digits without a sign or a leading zero
+pub record IsNumber (greatest : ℕ) (word : List ℕ) (number : ℕ) : Type 0 where
+  pub spelled : word ≡ decimal number
+  pub few : number ≤ greatest
+
+-- ---- rows of the table of commands: the words ask for this, and these of them name files, in this order
+
+-- a limit on the nodes of a graph, from 1 to 20,000
+abbrev pub IsLimit : List ℕ → ℕ → Type 0
+IsLimit word nodes = IsNumber 20000 word nodes × (1 ≤ nodes)
+
+-- the words before the files of a `prove`: none, which is a limit of 4,000 nodes; or `--nodes N`
+abbrev pub Limits : List (List ℕ) → ℕ → Type 0
+Limits [] nodes = nodes ≡ 4000
+Limits (option ∷ number ∷ []) nodes = (option ≡ codes "--nodes") × IsLimit number nodes
+Limits words nodes = ⊥
+
+-- `prove DESC CLASS..` or `prove --nodes N DESC CLASS..`
 pub record IsProve (words : List (List ℕ)) (desc : List ℕ) (classes : List (List ℕ)) : Type 0 where
-  pub spelled : words ≡ codes "prove" ∷ desc ∷ classes
+  pub options : List (List ℕ)
+  pub nodes : ℕ
+  pub limits : Limits options nodes
+  pub spelled : words ≡ codes "prove" ∷ (options ++ (desc ∷ classes))
   pub files : AreFiles (desc ∷ classes)
 
--- A row of the table of commands: the words ask for this, and these of them name files, in this order. `prove`
--- without a number of nodes asks for 4,000.
+-- the same as a row of the table of commands
 pub record IsProveRow (words : List (List ℕ)) (request : Request) (files : List (List ℕ)) : Type 0 where
   pub desc : List ℕ
   pub classes : List (List ℕ)
   pub is_prove : IsProve words desc classes
-  pub asked : request ≡ Prove 4000
+  pub asked : request ≡ Prove is_prove.nodes
   pub named : files ≡ desc ∷ classes
 
 -- words that name a certificate, a description and 1 to 256 classes
@@ -49,10 +68,9 @@ pub record IsCheckRow (words : List (List ℕ)) (request : Request) (files : Lis
   pub asked : request ≡ Check
   pub named : files ≡ cert ∷ desc ∷ classes
 
--- a number of steps, at most 1,000,000,000, in digits without a sign or a leading zero
-pub record IsFuel (word : List ℕ) (fuel : ℕ) : Type 0 where
-  pub spelled : word ≡ decimal fuel
-  pub few : fuel ≤ 1000000000
+-- a number of steps
+abbrev pub IsFuel : List ℕ → ℕ → Type 0
+IsFuel word fuel = IsNumber 1000000000 word fuel
 
 -- `run FUEL STATE CLASS..`
 pub record IsRun (words : List (List ℕ)) (fuel : ℕ) (state : List ℕ) (classes : List (List ℕ)) : Type 0 where

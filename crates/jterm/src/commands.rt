@@ -1,15 +1,18 @@
 //! The words of the command line.
-ghost use Rattle.std.specs.Prelude.{◌≡◌, ◌↔◌, ℕ, List, ◌∷◌, map, string_bytes, IsTrue, MatchOption};
+ghost use Rattle.std.specs.Prelude.{◌≡◌, ◌↔◌, ℕ, List, ◌∷◌, map, string_bytes, codes, IsTrue, MatchOption};
 ghost use Rattle.std.specs.List.{list_all};
 ghost use Rattle.jterm.specs.declared.verdict.Request.{Request};
-ghost use Rattle.jterm.specs.declared.verdict.Request.TheVariants.{Prove, Check, Asm};
-ghost use Rattle.jterm.specs.Words.{is_file_word, AreFiles, AreCheckFiles, IsListing, IsFuel, IsProveRow, IsCheckRow, IsRunRow, IsAsmRow, IsCommand};
-ghost use Rattle.jterm.specs.Stop.{is_plain};
+ghost use Rattle.jterm.specs.declared.verdict.Request.TheVariants.{Check, Asm};
+ghost use Rattle.jterm.specs.Words.{is_file_word, AreFiles, AreCheckFiles, IsListing, IsNumber, IsLimit, IsProveRow, IsCheckRow, IsRunRow, IsAsmRow, IsCommand};
+ghost use Rattle.jterm.specs.Stop.{is_plain, NamesLimit};
 
 use crate::Request;
 
 /// The limit on the nodes of a graph where the words name none.
 pub const DEFAULT_NODES: u32 = 4000;
+
+/// The greatest such limit that words name.
+pub const GREATEST_NODES: u64 = 20_000;
 
 /// The greatest number of steps that `run` is asked for.
 pub const GREATEST_FUEL: u64 = 1_000_000_000;
@@ -46,14 +49,6 @@ fn command_of<'a>(verb: &str, rest: &'a [String]) -> Option<Command<'a>>
         ((request : Request) (files : List (List ℕ)) → ¬ IsCommand (verb.now ∷ map string_bytes rest.now) request files)
         (λ c. IsCommand (verb.now ∷ map string_bytes rest.now) c.request (map string_bytes c.files.now)) }
 {
-    if is_prove(verb, rest) {
-        return Some(Command {
-            request: Request::Prove {
-                nodes: DEFAULT_NODES,
-            },
-            files: rest,
-        });
-    }
     if is_check(verb, rest) {
         return Some(Command {
             request: Request::Check,
@@ -66,7 +61,71 @@ fn command_of<'a>(verb: &str, rest: &'a [String]) -> Option<Command<'a>>
             files: rest,
         });
     }
+    if verb == "prove" {
+        return prove_of(verb, rest);
+    }
     run_of(verb, rest)
+}
+
+// A `prove` with these words behind it.
+fn prove_of<'a>(verb: &str, rest: &'a [String]) -> Option<Command<'a>>
+    requires { verb.now ≡ codes "prove" }
+    ensures { MatchOption result
+        ((request : Request) (files : List (List ℕ)) → ¬ IsProveRow (verb.now ∷ map string_bytes rest.now) request files)
+        (λ c. IsProveRow (verb.now ∷ map string_bytes rest.now) c.request (map string_bytes c.files.now)) }
+{
+    if has_limit(rest) {
+        return limited_of(verb, rest);
+    }
+    if !are_files(rest) {
+        return None;
+    }
+    Some(Command {
+        request: Request::Prove {
+            nodes: DEFAULT_NODES,
+        },
+        files: rest,
+    })
+}
+
+// The words behind `prove` begin with that of a limit on nodes.
+fn has_limit(words: &[String]) -> bool
+    ensures { IsTrue result ↔ NamesLimit (map string_bytes words.now) }
+{
+    match words.split_first() {
+        Some((word, _)) => word.as_str() == "--nodes",
+        None => false,
+    }
+}
+
+// A `prove` with a limit on nodes.
+fn limited_of<'a>(verb: &str, rest: &'a [String]) -> Option<Command<'a>>
+    requires verb { verb.now ≡ codes "prove" }
+    requires limit { NamesLimit (map string_bytes rest.now) }
+    ensures { MatchOption result
+        ((request : Request) (files : List (List ℕ)) → ¬ IsProveRow (verb.now ∷ map string_bytes rest.now) request files)
+        (λ c. IsProveRow (verb.now ∷ map string_bytes rest.now) c.request (map string_bytes c.files.now)) }
+{
+    let (_, behind) = rest.split_first()?;
+    let (number, files) = behind.split_first()?;
+    let nodes = nodes_of(number.as_str())?;
+    if !are_files(files) {
+        return None;
+    }
+    Some(Command {
+        request: Request::Prove { nodes },
+        files,
+    })
+}
+
+// The limit on nodes that a word says.
+fn nodes_of(word: &str) -> Option<u32>
+    ensures { MatchOption result ((nodes : ℕ) → ¬ IsLimit word.now nodes) (λ nodes. IsLimit word.now nodes) }
+{
+    match number_of(word, GREATEST_NODES)? {
+        0 => None,
+        nodes => Some(nodes as u32),
+    }
 }
 
 // A `run` with its number of steps.
@@ -79,7 +138,7 @@ fn run_of<'a>(verb: &str, rest: &'a [String]) -> Option<Command<'a>>
         return None;
     }
     let (fuel, files) = rest.split_first()?;
-    let fuel = fuel_of(fuel.as_str())?;
+    let fuel = number_of(fuel.as_str(), GREATEST_FUEL)?;
     if !are_files(files) {
         return None;
     }
@@ -89,20 +148,20 @@ fn run_of<'a>(verb: &str, rest: &'a [String]) -> Option<Command<'a>>
     })
 }
 
-// The number of steps that a word asks for.
-fn fuel_of(word: &str) -> Option<u64>
-    ensures { MatchOption result ((fuel : ℕ) → ¬ IsFuel word.now fuel) (λ fuel. IsFuel word.now fuel) }
+// The number that a word says, where it is at most so great.
+fn number_of(word: &str, greatest: u64) -> Option<u64>
+    ensures { MatchOption result ((number : ℕ) → ¬ IsNumber greatest word.now number) (λ number. IsNumber greatest word.now number) }
 {
     if !is_plain(word.as_bytes()) {
         return None;
     }
-    let Ok(fuel) = word.parse::<u64>() else {
+    let Ok(number) = word.parse::<u64>() else {
         return None;
     };
-    if fuel > GREATEST_FUEL {
+    if number > greatest {
         return None;
     }
-    Some(fuel)
+    Some(number)
 }
 
 // No sign and no leading zero.
@@ -114,12 +173,6 @@ fn is_plain(word: &[u8]) -> bool
         Some(b'0') => word.len() == 1,
         _ => true,
     }
-}
-
-fn is_prove(verb: &str, files: &[String]) -> bool
-    ensures { IsTrue result ↔ IsProveRow (verb.now ∷ map string_bytes files.now) (Prove 4000) (map string_bytes files.now) }
-{
-    verb == "prove" && are_files(files)
 }
 
 fn is_check(verb: &str, files: &[String]) -> bool

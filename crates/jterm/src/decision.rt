@@ -1,8 +1,8 @@
 //! The decision over the bytes of the input files.
 ghost use Rattle.std.specs.Prelude.{◌≡◌, List, ℕ, ◌∷◌, map, IfOk};
-ghost use Rattle.prove_call.specs.Headline.{AllEnd};
+ghost use Rattle.desc_steps.specs.Headline.{AllEnd};
 ghost use Rattle.check_call.specs.Lines.{accepted_line};
-ghost use Rattle.prove_call.specs.Answers.{yes_line};
+ghost use Rattle.prove_call.specs.Lines.{yes_line};
 ghost use Rattle.jterm.specs.Decision.{Takes, Says, IsAnswer, done_of, verdict_of};
 
 use crate::listing::assemble_listing;
@@ -19,7 +19,11 @@ fn done(out: Result<Seq<u8>, Refused>) -> Result<Verdict, Refused>
     ensures { result ≡ done_of out }
 {
     match out {
-        Ok(out) => Ok(Verdict { status: 0, out }),
+        Ok(out) => Ok(Verdict {
+            status: 0,
+            out,
+            reason: None,
+        }),
         Err(refused) => Err(refused),
     }
 }
@@ -32,6 +36,7 @@ fn judged(outcome: Result<Outcome, Refused>) -> Result<Verdict, Refused>
         Ok(outcome) => Ok(Verdict {
             status: outcome.status,
             out: outcome.out,
+            reason: None,
         }),
         Err(refused) => Err(refused),
     }
@@ -58,7 +63,19 @@ pub fn decide(alloc: Global, request: &Request, inputs: &[Vec<u8>]) -> Result<Ve
     ensures answer { IsAnswer request.now (map (λ file. file.items) inputs.now) result }
 {
     match request {
-        Request::Prove { .. } => done(prove_line(alloc, inputs[0].as_slice(), &inputs[1..])),
+        Request::Prove { nodes } => match prove_line(
+            alloc,
+            inputs[0].as_slice(),
+            &inputs[1..],
+            *nodes,
+        ) {
+            Ok(answer) => Ok(Verdict {
+                status: answer.status,
+                out: answer.out,
+                reason: answer.reason,
+            }),
+            Err(fault) => Err(fault),
+        },
         Request::Check => judged(check_line(
             alloc,
             inputs[0].as_slice(),

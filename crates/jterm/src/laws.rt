@@ -1,8 +1,18 @@
-//! A law about the answers, for the proofs of other crates and for readers. It runs nothing.
-ghost use Rattle.jterm.specs.Laws.{AnswersAreOne};
+//! Laws about the answers, for the proofs of other crates and for readers. They run nothing.
+ghost use Rattle.jterm.specs.Laws.{AnswersAreOne, CertificatesAreAccepted, ReasonsAreKept};
 
 /// For given contents it is determined, up to want of memory, whether a request is refused, with which place and fault,
-/// and else what its verdict is.
+/// and for each command but `prove` else what its verdict is.
 pub fn answers_are_one()
     ensures { AnswersAreOne }
+{}
+
+/// A verdict keeps a reason exactly where its status is 1.
+pub fn reasons_are_kept()
+    ensures { ReasonsAreKept }
+{}
+
+/// Where `prove` says YES, `check` accepts the certificate behind it, for the same files.
+pub fn certificates_are_accepted()
+    ensures { CertificatesAreAccepted }
 {}

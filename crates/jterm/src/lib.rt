@@ -12,6 +12,6 @@ mod verdict;
 
 pub use decision::decide;
 pub use input_steps::{Fault, Place, Refused};
-pub use laws::answers_are_one;
+pub use laws::{answers_are_one, certificates_are_accepted, reasons_are_kept};
 pub use top::{Done, jterm};
 pub use verdict::{Request, Verdict};

@@ -1,5 +1,7 @@
 //! What is asked, and what is answered.
+use abs_cells::PackedPairs;
 use list_views::Seq;
+use prove_core::Reason;
 
 /// What a command does with the files that it names.
 #[derive(Clone, Copy, Debug, PartialEq, Eq)]
@@ -27,4 +29,6 @@ pub struct Verdict {
     pub status: u8,
     /// The bytes for the output.
     pub out: Seq<u8>,
+    /// Why `prove` gives no certificate, where it gives none.
+    pub reason: Option<Reason<PackedPairs>>,
 }

@@ -2,4 +2,10 @@
 #![tactic(auto)]
 
 #[cfg(test)]
+mod calls;
+#[cfg(test)]
+mod checking;
+#[cfg(test)]
+mod proving;
+#[cfg(test)]
 mod rows;

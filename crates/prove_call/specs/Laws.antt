@@ -1,27 +1,17 @@
 -- What the answers of `prove` say of themselves.
-use Rattle.std.specs.Prelude.{◌≡◌, ◌≢◌, ℕ, List, Result, Ok, Err}
-use Rattle.jvm_values.specs.States.{MachineState}
-use Rattle.class_program.specs.Programs.{Program}
-use Rattle.input_desc.specs.declared.desc.Desc.{Desc}
-use Rattle.input_desc.specs.Fitting.{FitsDescription}
+use Rattle.std.specs.Prelude.{◌≡◌, ◌≢◌, ℕ, List, Option, Some, None, Result, Ok, Err}
 use Rattle.input_steps.specs.declared.refused.Refused.{Refused}
 use Rattle.input_steps.specs.declared.refused.Refused.TheVariants.{Memory}
-use Rattle.prove_call.specs.FirstPath.{IsFirstPath}
-use Rattle.prove_call.specs.Headline.{NameProgram, AllEnd}
+use Rattle.prove_call.specs.declared.answer.Answer.{Answer}
 use Rattle.prove_call.specs.Answers.{Answers}
 
--- Want of memory aside, a description and class files have one answer: yes, or one place and fault.
-abbrev pub AnswersAreOne : Type 0
-AnswersAreOne =
-    (desc : List ℕ) (files : List (List ℕ)) (a b : Result (List ℕ) Refused)
-    → Answers desc files a → Answers desc files b → a ≢ Err Memory → b ≢ Err Memory → a ≡ b
+-- how an answer refuses the input, if it does
+abbrev pub refusal_of : {X : Type 0} → Result X Refused → Option Refused
+refusal_of (Ok answer) = None
+refusal_of (Err refused) = Some refused
 
--- Where yes is answered, every state that the description fits comes to an end, and none is stuck.
-abbrev pub YesIsTrue : Type 0
-YesIsTrue = (desc : List ℕ) (files : List (List ℕ)) (out : List ℕ) → Answers desc files (Ok out) → AllEnd files desc
-
--- The headline is said of something: a description of a program that is decided fits some state.
-abbrev pub SomeStateFits : Type 0
-SomeStateFits =
-    (desc : List ℕ) (files : List (List ℕ)) (program : Program) (described : Desc)
-    → NameProgram files desc program described → IsFirstPath program → (state : MachineState) × FitsDescription program described state
+-- Want of memory aside, a description and class files are refused with one place and fault, whatever the limits of nodes, or never.
+abbrev pub RefusalsAreOne : Type 0
+RefusalsAreOne =
+    (nodes others : ℕ) (desc : List ℕ) (files : List (List ℕ)) (a b : Result Answer Refused)
+    → Answers nodes desc files a → Answers others desc files b → a ≢ Err Memory → b ≢ Err Memory → refusal_of a ≡ refusal_of b

@@ -1,7 +1,5 @@
-pub mod Options
-pub mod Forms
-pub mod FirstPath
-pub mod Headline
 pub mod Answers
+pub mod Headline
 pub mod Laws
-pub mod Pass
+pub mod Lines
+pub mod Said

@@ -1,18 +1,13 @@
 //! The command `prove`, from the bytes of a description and of class files to its output.
 //!
-//! The definitions stand in `specs/Headline` (what YES says), `specs/FirstPath` (which programs are decided) and `specs/Answers` (the
-//! answer, step by step).
+//! The definitions stand in `specs/Answers` (the answer), `specs/Lines` (its texts) and `specs/Headline` (what YES says).
 #![tactic(auto)]
 
+mod answer;
 mod call;
-mod description;
-mod first_path;
-mod form;
 mod laws;
-mod typing;
+mod lines;
 
+pub use answer::Answer;
 pub use call::prove_line;
-pub use description::{described, entry_of, read_desc};
-pub use form::StraightForm;
-pub use laws::{answers_are_one, some_state_fits, yes_is_true};
-pub use typing::{Known, has_typing};
+pub use laws::refusals_are_one;

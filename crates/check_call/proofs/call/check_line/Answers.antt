@@ -1,17 +1,14 @@
-use Rattle.std.proofs.Common.{map, arith}
-use Rattle.std.proofs.lemmas.List.{length-map}
-use Rattle.input_steps.proofs.Files.{spell_length, spell_read}
-use Rattle.check_call.proofs.Answering.{files_end}
+use Rattle.std.proofs.Common.{map}
+use Rattle.class_program.specs.Views.{program_of}
+use Rattle.desc_steps.proofs.Answering.{given_goes, given_refused, all_end}
+use Rattle.check_call.specs.Answers.{AnswersCert}
 use Rattle.check_call.proofs.call.check_line.Goals as goal
 
-pub check_named-requires-clause-few : goal.check_named-requires-clause-few
-check_named-requires-clause-few c =
-    let read = spell_length _ _ c.in-Ok.ensures.classes in
-    let files = length-map c.args.files.now (λ file. file.items) in
-    omega (arith, read, files, c.requires)
+pub returns-in-Ok-clause-answers : goal.returns-in-Ok-clause-answers
+returns-in-Ok-clause-answers c = given_goes (AnswersCert c.args.cert.now) c.args.desc.now (map (λ file. file.items) c.args.files.now) c.in-Ok.given c.check_bytes.result c.in-Ok.ensures.answers c.check_bytes.ensures.cert
 
-pub check_named-requires-clause-read : goal.check_named-requires-clause-read
-check_named-requires-clause-read c = spell_read _ _ c.in-Ok.ensures.classes
+pub returns-in-Ok-clause-headline : goal.returns-in-Ok-clause-headline
+returns-in-Ok-clause-headline c = λ accepts. all_end c.args.desc.now (map (λ file. file.items) c.args.files.now) (program_of c.in-Ok.given.program) c.in-Ok.given.desc c.in-Ok.ensures.named (c.check_bytes.ensures.ends accepts)
 
-pub returns-in-Ok-read_desc-clause-headline : goal.returns-in-Ok-read_desc-clause-headline
-returns-in-Ok-read_desc-clause-headline c = files_end c.args.cert.now c.args.desc.now (map (λ file. file.items) c.args.files.now) c.in-Ok.classes.items c.in-Ok-read_desc.text c.check_named.result c.in-Ok.ensures.classes c.in-Ok-read_desc.ensures.text c.check_named.ensures.ends
+pub returns-in-Err-clause-answers : goal.returns-in-Err-clause-answers
+returns-in-Err-clause-answers c = given_refused (AnswersCert c.args.cert.now) c.args.desc.now (map (λ file. file.items) c.args.files.now) c.in-Err.refused c.in-Err.ensures.answers

@@ -1,18 +1,25 @@
-use Rattle.std.proofs.Common.{map}
-use Rattle.jterm.proofs.Deciding.{some_inputs, inputs_are, inputs_are_two, three_inputs, prove_answer, check_answer, run_answer, headline_at, accepted_at}
+use Rattle.std.proofs.Common.{map, sym, ap}
+use Rattle.jterm.specs.Decision.{verdict_of_prove}
+use Rattle.jterm.proofs.Deciding.{some_inputs, inputs_are, inputs_are_two, three_inputs, prove_answer, check_answer, run_answer, proved_at, accepted_at}
 use Rattle.jterm.proofs.decision.decide.Goals as goal
 
-pub returns-in-Prove-clause-headline : goal.returns-in-Prove-clause-headline
-returns-in-Prove-clause-headline c nodes desc classes asked given =
+pub returns-in-Ok-clause-headline : goal.returns-in-Ok-clause-headline
+returns-in-Ok-clause-headline c nodes desc classes asked given =
     let some = some_inputs c.args.request.now (map (λ file. file.items) c.args.inputs.now) c.requires in
     let split = inputs_are (λ file. file.items) c.args.inputs.now c.index-inputs-0.result c.as_slice.result.now some c.index-inputs-0.is c.as_slice.ensures.value in
-    headline_at (map (λ file. file.items) c.args.inputs.now) c.as_slice.result.now _ desc classes c.prove_line.result c.done.result split given c.done.ensures c.prove_line.ensures
+    proved_at (map (λ file. file.items) c.args.inputs.now) c.as_slice.result.now _ _ desc classes c.prove_line.result _ split given (sym (ap verdict_of_prove c.in-Ok.is)) c.prove_line.ensures.answers c.prove_line.ensures.headline
 
-pub returns-in-Prove-clause-answer : goal.returns-in-Prove-clause-answer
-returns-in-Prove-clause-answer c =
+pub returns-in-Ok-clause-answer : goal.returns-in-Ok-clause-answer
+returns-in-Ok-clause-answer c =
     let some = some_inputs c.args.request.now (map (λ file. file.items) c.args.inputs.now) c.requires in
     let split = inputs_are (λ file. file.items) c.args.inputs.now c.index-inputs-0.result c.as_slice.result.now some c.index-inputs-0.is c.as_slice.ensures.value in
-    prove_answer c.args.request.now _ (map (λ file. file.items) c.args.inputs.now) c.as_slice.result.now _ c.prove_line.result c.done.result c.in-Prove.is split c.done.ensures c.prove_line.ensures
+    prove_answer c.args.request.now _ (map (λ file. file.items) c.args.inputs.now) c.as_slice.result.now _ c.prove_line.result _ c.in-Prove.is split (sym (ap verdict_of_prove c.in-Ok.is)) c.prove_line.ensures.answers
+
+pub returns-in-Err-clause-answer : goal.returns-in-Err-clause-answer
+returns-in-Err-clause-answer c =
+    let some = some_inputs c.args.request.now (map (λ file. file.items) c.args.inputs.now) c.requires in
+    let split = inputs_are (λ file. file.items) c.args.inputs.now c.index-inputs-0.result c.as_slice.result.now some c.index-inputs-0.is c.as_slice.ensures.value in
+    prove_answer c.args.request.now _ (map (λ file. file.items) c.args.inputs.now) c.as_slice.result.now _ c.prove_line.result _ c.in-Prove.is split (sym (ap verdict_of_prove c.in-Err.is)) c.prove_line.ensures.answers
 
 pub returns-in-Check-clause-headline_of_check : goal.returns-in-Check-clause-headline_of_check
 returns-in-Check-clause-headline_of_check c cert desc classes asked given =
@@ -30,4 +37,4 @@ pub returns-in-Run-clause-answer : goal.returns-in-Run-clause-answer
 returns-in-Run-clause-answer c =
     let some = some_inputs c.args.request.now (map (λ file. file.items) c.args.inputs.now) c.requires in
     let split = inputs_are (λ file. file.items) c.args.inputs.now c.index-inputs-0-in-Run.result c.as_slice-in-Run.result.now some c.index-inputs-0-in-Run.is c.as_slice-in-Run.ensures.value in
-    run_answer c.args.request.now _ (map (λ file. file.items) c.args.inputs.now) c.as_slice-in-Run.result.now _ c.run_line.result c.done-in-Run.result c.in-Run.is split c.done-in-Run.ensures c.run_line.ensures
+    run_answer c.args.request.now _ (map (λ file. file.items) c.args.inputs.now) c.as_slice-in-Run.result.now _ c.run_line.result c.done.result c.in-Run.is split c.done.ensures c.run_line.ensures

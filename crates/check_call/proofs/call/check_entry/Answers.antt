@@ -1,7 +1,0 @@
-use Rattle.class_world.specs.Worlds.{classes_of}
-use Rattle.class_program.specs.Views.{program_of}
-use Rattle.check_call.proofs.Answering.{entry_goes}
-use Rattle.check_call.proofs.call.check_entry.Goals as goal
-
-pub returns-in-Ok-clause-answers : goal.returns-in-Ok-clause-answers
-returns-in-Ok-clause-answers c = entry_goes c.args.cert.now c.args.text (classes_of c.args.world) c.args.entry (program_of c.in-Ok.program) c.check_program.result c.in-Ok.ensures.program c.check_program.ensures.answers

@@ -1,0 +1,6 @@
+pub mod Answering
+pub mod Fitting
+pub mod IntForms
+pub mod IntInputs
+pub mod Naming
+pub mod OneAnswer

@@ -1,0 +1,136 @@
+//! From bytes to a program about ints whose inputs are described.
+ghost use Rattle.std.specs.Prelude.{◌≡◌, ◌≤◌, length, map, IfOk, IsTrue};
+ghost use Rattle.std.specs.List.{AllByRecursion, list_all};
+ghost use Rattle.class_base.specs.ClassNames.{is_class_name};
+ghost use Rattle.class_world.specs.Linking.{CanBeRead};
+ghost use Rattle.class_world.specs.Resolve.{has_body};
+ghost use Rattle.class_world.specs.Worlds.{classes_of};
+ghost use Rattle.class_program.specs.Views.{program_of};
+ghost use Rattle.desc_steps.specs.Answers.{OfProgram, OfEntry, OfClasses, OfFiles};
+ghost use Rattle.desc_steps.specs.Given.{IsGiven, IsReady};
+ghost use Rattle.desc_steps.specs.Headline.{NameProgram};
+ghost use Rattle.desc_steps.specs.Names.{names_of};
+
+use crate::description::{described, entry_of, read_desc};
+use crate::ints::{is_int_program, not_built};
+use class_program::Program;
+use class_read::ClassView;
+use class_world::{MethodRef, World};
+use code_verify::Typing;
+use input_desc::Desc;
+use input_steps::{Refused, close, link, read_classes, test_calls, typings};
+use input_text::DescText;
+use std::alloc::Global;
+
+/// A program about ints alone with its typing, and what is described of its inputs.
+#[derive(Drop)]
+pub struct DescribedProgram<'a> {
+    /// The program.
+    pub program: Program<'a>,
+    /// The types of its places.
+    pub typing: Typing,
+    /// What is described of its inputs.
+    pub desc: Desc,
+}
+
+/// A program that a description names, with what is described of its inputs.
+#[tactic(auto, using(crate::proofs::Answering::calls_refused, crate::proofs::Answering::types_refused, crate::proofs::Answering::desc_is_refused))]
+fn of_program(
+    alloc: Global,
+    text: DescText,
+    program: Program<'_>,
+) -> Result<DescribedProgram<'_>, Refused>
+    ensures answers { OfProgram IsGiven text (program_of program.entry) result }
+    ensures ready { IfOk result IsReady }
+{
+    match test_calls(alloc, &program) {
+        Ok(()) => {}
+        Err(refused) => return Err(refused),
+    }
+    let typing = match typings(alloc, &program) {
+        Ok(typing) => typing,
+        Err(refused) => return Err(refused),
+    };
+    let desc = match described(alloc, &program, text) {
+        Ok(desc) => desc,
+        Err(refused) => return Err(refused),
+    };
+    if !is_int_program(&program) {
+        return Err(not_built());
+    }
+    Ok(DescribedProgram {
+        program,
+        typing,
+        desc,
+    })
+}
+
+/// The program of an entry.
+#[tactic(auto, using(crate::proofs::Answering::program_refused, crate::proofs::Answering::entry_goes))]
+fn of_entry(
+    alloc: Global,
+    text: DescText,
+    world: World<'_>,
+    entry: MethodRef,
+) -> Result<DescribedProgram<'_>, Refused>
+    requires { IsTrue (has_body (classes_of world) entry) }
+    ensures answers { OfEntry IsGiven text (classes_of world.entry) entry result }
+    ensures ready { IfOk result IsReady }
+{
+    match close(alloc, world, entry) {
+        Ok(program) => of_program(alloc, text, program),
+        Err(refused) => Err(refused),
+    }
+}
+
+/// The program of the entry that a description names among classes.
+#[tactic(auto, using(crate::proofs::Answering::world_refused, crate::proofs::Answering::entry_is_refused, crate::proofs::Answering::named_goes))]
+fn of_classes(
+    alloc: Global,
+    text: DescText,
+    classes: Vec<ClassView<'_>>,
+) -> Result<DescribedProgram<'_>, Refused>
+    requires few { length classes.items ≤ 256 }
+    requires read { AllByRecursion CanBeRead classes.items }
+    ensures answers { OfClasses IsGiven text classes.entry.items result }
+    ensures ready { IfOk result IsReady }
+{
+    let world = match link(alloc, classes) {
+        Ok(world) => world,
+        Err(refused) => return Err(refused),
+    };
+    match entry_of(&world, &text) {
+        Ok(entry) => of_entry(alloc, text, world, entry),
+        Err(refused) => Err(refused),
+    }
+}
+
+/// The program that a description names among the classes of files, its typing, and what is described of its inputs. There are at most
+/// 256 class files.
+///
+/// # Errors
+///
+/// The first fault with its place: of a class file, in order; of the description's text; of the classes as a world; of the method's
+/// name; of its program; a cycle of calls; a method without a typing; of the description against the program. At `Link` `NotBuilt`,
+/// where the program isn't one method about ints alone. Want of memory.
+#[tactic(auto, using(crate::proofs::Answering::classes_refused, crate::proofs::Answering::text_is_refused, crate::proofs::Answering::files_go))]
+pub fn described_program<'a>(
+    alloc: Global,
+    desc: &[u8],
+    files: &'a [Vec<u8>],
+) -> Result<DescribedProgram<'a>, Refused>
+    requires { length files.now ≤ 256 }
+    ensures answers { OfFiles IsGiven desc.now (map (λ file. file.items) files.now) result }
+    ensures ready { IfOk result IsReady }
+    ensures named { IfOk result (λ given. NameProgram (map (λ file. file.items) files.now) desc.now (program_of given.program) given.desc) }
+    ensures names { IfOk result (λ given. IsTrue (list_all is_class_name (names_of (classes_of given.program.world)))) }
+{
+    let classes = match read_classes(alloc, files) {
+        Ok(classes) => classes,
+        Err(refused) => return Err(refused),
+    };
+    match read_desc(alloc, desc) {
+        Ok(text) => of_classes(alloc, text, classes),
+        Err(refused) => Err(refused),
+    }
+}

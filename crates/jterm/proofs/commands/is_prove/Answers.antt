@@ -1,7 +1,0 @@
-use Rattle.std.proofs.Common.{map, string_bytes, codes}
-use Rattle.jterm.proofs.WordsLemmas.{is_prove, same_word}
-use Rattle.jterm.proofs.commands.is_prove.Goals as goal
-
-pub returns-then-eq : goal.returns-then-eq
-returns-then-eq c =
-    is_prove c.args.verb.now (map string_bytes c.args.files.now) c.are_files.result (same_word c.args.verb.now (codes "prove") c.if-eq.ensures) c.are_files.ensures

@@ -1,0 +1,161 @@
+//! Calls over ports in memory, with classes written as listings.
+use io_ports::{MemoryFiles, MemorySink};
+use jterm::jterm;
+use std::alloc::{AllocError, Global};
+
+/// A description of a method without parameters.
+pub(crate) const DESC: &[u8] =
+    b"{\"form\":1,\"class\":\"A\",\"method\":\"f\",\"desc\":\"()I\",\"params\":[],\"same\":[],\"share\":[]}";
+
+/// A state of the same method.
+pub(crate) const STATE: &[u8] =
+    b"{\"form\":1,\"class\":\"A\",\"method\":\"f\",\"desc\":\"()I\",\"args\":[],\"heap\":[]}";
+
+/// A certificate of the method that `LISTING` has, up to its cuts and its proof.
+pub(crate) const NODES: &[u8] =
+    b"{\"form\":2,\"nodes\":[{\"by\":[\"expand\",[1]],\"state\":{\"frames\":[[0,0,[],[]]],\"throw\":-1,\"cells\":[],\"eq\":[],\"share\":[]}},{\"by\":[\"end\"]}]";
+
+/// Its cuts and its proof.
+pub(crate) const REST: &[u8] = b",\"cuts\":[0],\"proof\":[[\"empty\"]]}";
+
+/// A static method that returns 7.
+pub(crate) const LISTING: &[u8] =
+    b"class A\nmethod f ()I static stack 1 locals 0\nbipush 7\nireturn\nend\n";
+
+// What a call came to: its status, what it put on the two outputs, and whether a reason is kept.
+#[derive(Drop)]
+pub(crate) struct Outcome {
+    pub(crate) status: u8,
+    pub(crate) out: MemorySink,
+    pub(crate) err: MemorySink,
+    pub(crate) has_reason: bool,
+}
+
+// A call with these words over these files, of which the reads with these numbers fail, and with so much room on its
+// output.
+pub(crate) fn call(
+    alloc: Global,
+    words: &[&str],
+    held: Vec<(String, Vec<u8>)>,
+    failing: &[u64],
+    room: usize,
+) -> Result<Outcome, AllocError> {
+    heard(alloc, words, held, failing, room, 200)
+}
+
+// The same with so much room for lines of errors.
+pub(crate) fn heard(
+    alloc: Global,
+    words: &[&str],
+    held: Vec<(String, Vec<u8>)>,
+    failing: &[u64],
+    room: usize,
+    lines: usize,
+) -> Result<Outcome, AllocError> {
+    let mut texts = Vec::new(alloc);
+    for word in words {
+        texts.push(String::from_str(alloc, word)?)?;
+    }
+    let mut files = MemoryFiles::new(held, Vec::from_slice(alloc, failing)?);
+    let mut out = MemorySink::new(alloc, room, Vec::new(alloc))?;
+    let mut err = MemorySink::new(alloc, lines, Vec::new(alloc))?;
+    let done = jterm(alloc, &texts, &mut files, &mut out, &mut err);
+    let has_reason = match &done.verdict {
+        Some(verdict) => verdict.reason.is_some(),
+        None => false,
+    };
+    Ok(Outcome {
+        status: done.status,
+        out,
+        err,
+        has_reason,
+    })
+}
+
+pub(crate) fn file(
+    alloc: Global,
+    name: &str,
+    content: &[u8],
+) -> Result<(String, Vec<u8>), AllocError> {
+    Ok((
+        String::from_str(alloc, name)?,
+        Vec::from_slice(alloc, content)?,
+    ))
+}
+
+// The class file of a listing.
+pub(crate) fn assembled(alloc: Global, listing: &[u8]) -> Result<Outcome, AllocError> {
+    let mut held = Vec::new(alloc);
+    held.push(file(alloc, "a.listing", listing)?)?;
+    call(alloc, &["asm", "a.listing"], held, &[], 100_000)
+}
+
+// What is said of `A.f()I` in the class of a listing, where the reads with these numbers fail.
+pub(crate) fn proved(
+    alloc: Global,
+    listing: &[u8],
+    failing: &[u64],
+    room: usize,
+) -> Result<Outcome, AllocError> {
+    described(alloc, listing, DESC, failing, room)
+}
+
+// What is said of the class of a listing and this description, where the reads with these numbers fail.
+pub(crate) fn described(
+    alloc: Global,
+    listing: &[u8],
+    desc: &[u8],
+    failing: &[u64],
+    room: usize,
+) -> Result<Outcome, AllocError> {
+    let class = assembled(alloc, listing)?;
+    let mut held = Vec::new(alloc);
+    held.push(file(alloc, "d", desc)?)?;
+    held.push(file(alloc, "a", class.out.bytes())?)?;
+    call(alloc, &["prove", "d", "a"], held, failing, room)
+}
+
+// What is said of a certificate for `A.f()I` in the class of `LISTING` and this description, where the reads with these
+// numbers fail, and with so much room on the two outputs.
+pub(crate) fn checked(
+    alloc: Global,
+    cert: &[u8],
+    desc: &[u8],
+    failing: &[u64],
+    room: usize,
+    lines: usize,
+) -> Result<Outcome, AllocError> {
+    let class = assembled(alloc, LISTING)?;
+    let mut held = Vec::new(alloc);
+    held.push(file(alloc, "c", cert)?)?;
+    held.push(file(alloc, "d", desc)?)?;
+    held.push(file(alloc, "a", class.out.bytes())?)?;
+    heard(alloc, &["check", "c", "d", "a"], held, failing, room, lines)
+}
+
+// Whether a certificate is answered with this status and this line.
+pub(crate) fn says(
+    alloc: Global,
+    cert: &[u8],
+    status: u8,
+    line: &[u8],
+) -> Result<bool, AllocError> {
+    let outcome = checked(alloc, cert, DESC, &[], 100, 100)?;
+    Ok(outcome.status == status && outcome.out.bytes() == line)
+}
+
+// How a run of so many steps from a state ends in the class of a listing, where the reads with these numbers fail.
+pub(crate) fn ran(
+    alloc: Global,
+    fuel: &str,
+    listing: &[u8],
+    state: &[u8],
+    failing: &[u64],
+    room: usize,
+) -> Result<Outcome, AllocError> {
+    let class = assembled(alloc, listing)?;
+    let mut held = Vec::new(alloc);
+    held.push(file(alloc, "s", state)?)?;
+    held.push(file(alloc, "a", class.out.bytes())?)?;
+    call(alloc, &["run", fuel, "s", "a"], held, failing, room)
+}

@@ -1,7 +1,0 @@
--- Results.
-use Rattle.std.proofs.Common.{Result, Ok, Err, IfOk}
-
--- what holds of a value where another fact does
-pub ok_map : {A E : Type 0} (P Q : A → Type 0) (r : Result A E) → ((x : A) → P x → Q x) → IfOk r P → IfOk r Q
-ok_map P Q (Ok x) f h = f x h
-ok_map P Q (Err e) f h = tt

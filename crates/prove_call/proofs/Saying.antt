@@ -1,0 +1,60 @@
+-- What is said of a program with described inputs, by what was found.
+use Rattle.std.proofs.Common.{◌≡◌, ◌∙◌, ℕ, List, Result, Ok, Err, inl, inr, refl, sym, ap, subst, arith}
+use Rattle.abs_cells.specs.declared.packed.PackedPairs.{PackedPairs}
+use Rattle.class_program.specs.Programs.{Program, IsClosed}
+use Rattle.frame_types.specs.Tables.{CodeTypes}
+use Rattle.code_verify.specs.Typings.{IsTypingOf}
+use Rattle.jvm_run.specs.Laws.{HasInts}
+use Rattle.input_desc.specs.declared.desc.Desc.{Desc}
+use Rattle.input_desc.specs.Descs.{IsOwnDesc}
+use Rattle.input_steps.specs.declared.refused.Refused.{Refused}
+use Rattle.input_steps.specs.declared.refused.Refused.TheVariants.{At, Memory}
+use Rattle.abs_expand.specs.IntForms.{HasIntForms}
+use Rattle.expand_laws.specs.Laws.{HasShortIncrements}
+use Rattle.cert_check.specs.Laws.{CertifiedIntRunsEnd}
+use Rattle.desc_steps.specs.Headline.{AllFittingEnd}
+use Rattle.desc_steps.specs.Names.{names_of}
+use Rattle.prove_core.specs.declared.found.Reason.{Reason}
+use Rattle.prove_core.specs.Answers.{IsCertificate, HoldsReason}
+use Rattle.prove_call.specs.declared.answer.Answer.{Answer}
+use Rattle.prove_call.specs.Answers.{aim_at, SaysOf}
+use Rattle.prove_call.specs.Headline.{IsProved}
+use Rattle.prove_call.specs.Said.{yes_with, maybe_with, AnswersAs}
+
+module _ (nodes : ℕ) (p : Program) (typing : ℕ → CodeTypes) (desc : Desc) (names : List (List ℕ)) (are : names ≡ names_of p.world) where
+  -- a certificate is found
+  pub yes_says : (cert : List ℕ) (result : Result Answer Refused) → IsCertificate (aim_at p typing desc) names cert → AnswersAs (yes_with cert) result → SaysOf nodes p typing desc result
+  yes_says cert (Ok answer) is s = inl (record {
+    status = ap (λ (a : Answer). a.status) s;
+    reason = ap (λ (a : Answer). a.reason) s;
+    cert = cert;
+    is = subst (λ (ns : List (List ℕ)). IsCertificate (aim_at p typing desc) ns cert) are is;
+    out = ap (λ (a : Answer). a.out) s;
+  })
+  yes_says cert (Err (At place fault)) is s = absurd s
+  yes_says cert (Err Memory) is s = tt
+
+  -- a reason is found
+  pub maybe_says : (reason : Reason PackedPairs) (result : Result Answer Refused) → HoldsReason (aim_at p typing desc) names nodes reason → AnswersAs (maybe_with p reason) result → SaysOf nodes p typing desc result
+  maybe_says reason (Ok answer) holds s = inr (record {
+    status = ap (λ (a : Answer). a.status) s;
+    reason = reason;
+    kept = ap (λ (a : Answer). a.reason) s;
+    holds = subst (λ (ns : List (List ℕ)). HoldsReason (aim_at p typing desc) ns nodes reason) are holds;
+    out = ap (λ (a : Answer). a.out) s;
+  })
+  maybe_says reason (Err (At place fault)) holds s = absurd s
+  maybe_says reason (Err Memory) holds s = tt
+
+-- where there is a certificate every fitting state ends
+pub certificate_ends : (p : Program) (typing : ℕ → CodeTypes) (desc : Desc) (names : List (List ℕ)) (cert : List ℕ)
+    → CertifiedIntRunsEnd → IsClosed p → HasInts p → HasIntForms p → HasShortIncrements p → IsTypingOf p typing → IsOwnDesc p desc
+    → IsCertificate (aim_at p typing desc) names cert → AllFittingEnd p desc
+certificate_ends p typing desc names cert law closed ints forms short typing_is own is =
+    let says = is.says in
+    law p typing desc says.nodes says.content.cuts closed ints typing_is own forms short says.ints says.certified
+
+-- maybe isn't yes
+pub maybe_ends : (p : Program) (desc : Desc) (reason : Reason PackedPairs) (result : Result Answer Refused) → AnswersAs (maybe_with p reason) result → IsProved result → AllFittingEnd p desc
+maybe_ends p desc reason (Ok answer) s proved = let one = ap (λ (a : Answer). a.status) s in absurd (omega (arith, one, proved))
+maybe_ends p desc reason (Err refused) s proved = absurd proved

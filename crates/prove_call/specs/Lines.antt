@@ -1,0 +1,59 @@
+-- The texts of `prove`.
+use Rattle.std.specs.Prelude.{ℕ, List, [], ◌∷◌, ◌++◌, codes, slice_get}
+use Rattle.std.specs.Fmt.{decimal}
+use Rattle.std.specs.List.{flat_map}
+use Rattle.std.specs.Option.{option_map_or}
+use Rattle.fault_words.specs.Words.{joined}
+use Rattle.class_world.specs.World.{World}
+use Rattle.class_program.specs.declared.program.Method.{Method}
+use Rattle.class_program.specs.Programs.{Program}
+use Rattle.abs_cells.specs.AbstractStates.{AbstractFrame}
+use Rattle.term_graph.specs.Graphs.{GraphNode}
+use Rattle.chain_proofs.specs.declared.proving.LeftRule.{LeftRule}
+use Rattle.prove_core.specs.declared.found.Reason.{Reason}
+use Rattle.prove_core.specs.declared.found.Reason.TheVariants.{Nodes, Ids, Paths, Bytes, Component}
+
+-- ---- yes
+
+-- `YES` and a newline
+abbrev pub yes_line : List ℕ
+yes_line = codes "YES\n"
+
+-- and then the certificate and a newline
+abbrev pub yes_text : List ℕ → List ℕ
+yes_text cert = joined (yes_line ∷ cert ∷ codes "\n" ∷ [])
+
+-- ---- maybe
+
+-- the name of the class of a number, and nothing where there is none
+abbrev pub class_text : World → ℕ → List ℕ
+class_text world class = option_map_or (λ c. c.name) (slice_get world class) []
+
+-- `CLASS.NAMEDESC`
+abbrev pub method_text : World → Method → List ℕ
+method_text world m = joined (class_text world m.class ∷ codes "." ∷ m.name ∷ m.desc ∷ [])
+
+-- where a frame is: `CLASS.NAMEDESC@PC`
+abbrev pub frame_text : Program → AbstractFrame → List ℕ
+frame_text p frame = option_map_or (λ (m : Method). joined (method_text p.world m ∷ codes "@" ∷ decimal frame.pc ∷ [])) (slice_get p.methods frame.method) []
+
+-- where the running one of frames is, which is the first
+abbrev pub running_text : Program → List AbstractFrame → List ℕ
+running_text p [] = []
+running_text p (frame ∷ below) = frame_text p frame
+
+-- where the running frame of a node is
+abbrev pub node_text : Program → List GraphNode → ℕ → List ℕ
+node_text p nodes n = option_map_or (λ (node : GraphNode). running_text p node.state.frames) (slice_get nodes n) []
+
+-- a rule, by its number and the cuts at its ends: `rule R FROM TO` and a newline
+abbrev pub rule_line : Program → List GraphNode → LeftRule → List ℕ
+rule_line p nodes left = joined (codes "rule " ∷ decimal left.rule ∷ codes " " ∷ node_text p nodes left.from ∷ codes " " ∷ node_text p nodes left.to ∷ codes "\n" ∷ [])
+
+-- why no certificate is given
+abbrev pub reason_text : {P : Type 0} → Program → Reason P → List ℕ
+reason_text p (Nodes nodes) = codes "MAYBE nodes\n"
+reason_text p (Ids nodes) = codes "MAYBE ids\n"
+reason_text p (Paths nodes) = codes "MAYBE paths\n"
+reason_text p (Bytes cert size) = codes "MAYBE bytes\n"
+reason_text p (Component cert left) = codes "MAYBE component\n" ++ flat_map (rule_line p cert.graph) left

@@ -1,0 +1,53 @@
+//! What is said of a program.
+ghost use Rattle.std.specs.Prelude.{◌≡◌, Result, Ok, Err, Some, None};
+ghost use Rattle.class_program.specs.Views.{program_of};
+ghost use Rattle.prove_call.specs.Lines.{yes_text, reason_text};
+ghost use Rattle.prove_call.specs.Said.{AnswersAs, yes_with, maybe_with};
+
+use crate::lines::reason_text;
+use abs_cells::PackedPairs;
+use class_program::Program;
+use fault_words::joined;
+use input_steps::Refused;
+use list_views::Seq;
+use prove_core::Reason;
+use std::alloc::Global;
+
+/// What is said of a program.
+#[derive(Debug, Drop)]
+pub struct Answer {
+    /// The exit status: 0 for yes, 1 for maybe.
+    pub status: u8,
+    /// The bytes for the output.
+    pub out: Seq<u8>,
+    /// Why no certificate is given, where the answer is maybe.
+    pub reason: Option<Reason<PackedPairs>>,
+}
+
+/// Yes, with the bytes of a certificate.
+pub(crate) fn yes(alloc: Global, cert: &[u8]) -> Result<Answer, Refused>
+    ensures { AnswersAs (yes_with cert.now) result }
+{
+    let out = joined(alloc, &[b"YES\n", cert, b"\n"])?;
+    Ok(Answer {
+        status: 0,
+        out,
+        reason: None,
+    })
+}
+
+/// Maybe, for a reason.
+pub(crate) fn maybe(
+    alloc: Global,
+    program: &Program<'_>,
+    reason: Reason<PackedPairs>,
+) -> Result<Answer, Refused>
+    ensures { AnswersAs (maybe_with (program_of program.now) reason) result }
+{
+    let out = reason_text(alloc, program, &reason)?;
+    Ok(Answer {
+        status: 1,
+        out,
+        reason: Some(reason),
+    })
+}
