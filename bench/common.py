@@ -43,8 +43,8 @@ def answer_and_seconds(path, line):
 
 
 # Runs a program and prints the most KiB that it had at once. A process of its own does this: a program starts with the mark that
-# its parent reached, and this script's is high.
-PEAK = 'import os,sys; p=os.posix_spawn(sys.argv[1],sys.argv[1:],{}); _,s,u=os.wait4(p,0); sys.exit(s!=0 or str(u.ru_maxrss))'
+# its parent reached, and this script's is high. Statuses 1 and 2 are answers too: MAYBE, and a refused certificate.
+PEAK = 'import os,sys; p=os.posix_spawn(sys.argv[1],sys.argv[1:],{}); _,s,u=os.wait4(p,0); sys.exit(os.waitstatus_to_exitcode(s) not in (0,1,2) or str(u.ru_maxrss))'
 
 
 def peak_memory(path, line):

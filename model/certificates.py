@@ -1,6 +1,7 @@
 """The check of a certificate: its first item that fails.
 
-Reads again: crates/term_graph/specs/Graphs, crates/descent/specs/Steps; the good graph and the items have no crate yet.
+Reads again: crates/term_graph/specs/Graphs, crates/descent/specs/Steps, crates/graph_fill/specs,
+crates/graph_check/specs/Good, crates/cert_check/specs/Valid.
 Certificates that can't be read are not understood here.
 """
 import proof as proof_check

@@ -22,6 +22,7 @@ import paths
 import proof
 import rank_steps
 import ranking
+import search
 import simulate
 import states
 import widen
@@ -228,6 +229,20 @@ def check(fields):
     return certificates.check_cert(program, types, root, nodes, read['cuts'], read['proof'])
 
 
+def prove(fields):
+    """The first line; YES only where the certificate is accepted."""
+    text = json.loads(bytes.fromhex(fields[1]))
+    program = program_of([text['class'], text['method'], text['desc']] + fields[2:])
+    types = least_typings(program)
+    if isinstance(types, tuple):
+        return 'jterm: ' + typing_answer(program, types)
+    said = search.search(program, types, certificates.initial_of(program, text), int(fields[0] or 4000)).split('\n')
+    if said[0] == 'YES':
+        found = check([said[1].encode().hex()] + fields[1:])
+        return 'YES' if found == 'ACCEPTED' else 'a certificate that is not accepted: ' + found
+    return said[0]
+
+
 UNREAD = 'refusals of reading, linking and inputs'
 
 
@@ -265,6 +280,8 @@ TABLES = [
     ('check', check, is_refused),
     ('check-2-int', check, is_refused),
     ('check-2', check, is_refused),
+    ('prove-int', prove, is_refused),
+    ('prove', prove, is_refused),
 ]
 
 

@@ -1,7 +1,7 @@
 """Expansion: the children of an abstract state, by one step or by a split into cases.
 
-Reads again: crates/abs_cells/specs (Sound, Cells: fresh ids), crates/abs_ints/specs, crates/abs_reach/specs/Reached;
-the rules of the abstract heap and of expansion have no crate yet. Otto et al. 2010.
+Reads again: crates/abs_cells/specs (Sound, Cells: fresh ids), crates/abs_ints/specs, crates/abs_reach/specs/Reached,
+crates/abs_heap/specs, crates/abs_expand/specs. Otto et al. 2010.
 """
 from intervals import compare, meet, operate, relation
 from states import *

@@ -1,7 +1,7 @@
 """The path rules of a graph: from cut to cut, with the rows that each node and each edge gives.
 
-Reads again: crates/term_graph/specs/Edges (as rows), crates/abs_cells/specs/Patterns (sizes); path rules have no
-crate yet. Otto et al. 2010, Fuhs et al. 2009.
+Reads again: crates/term_graph/specs/Edges (as rows), crates/abs_cells/specs/Patterns (sizes),
+crates/path_rules/specs (Paths, Stops, Rules, Answers). Otto et al. 2010, Fuhs et al. 2009.
 """
 import json
 from collections import Counter

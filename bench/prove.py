@@ -1,0 +1,139 @@
+#!/usr/bin/env python3
+"""Times `jterm prove` on generated methods of ints.
+
+usage: prove.py [PROGRAM]
+
+PROGRAM is the built `jterm`; without it, it is `.built/jterm`, which `./jterm` makes. The shapes:
+
+ints       255 int parameters and 1,900 `nop`s
+ids        512 locals, all set
+paths      two switches of 62 labels in a loop: 4,096 paths, which no form ranks
+loops N    N loops, each in the one before, up to a parameter of its own
+"""
+import json
+import pathlib
+import struct
+import subprocess
+import sys
+import tempfile
+
+from check import class_file, description, told
+from common import TOP, u2
+
+
+class Code:
+    """A code whose jumps are filled in where their labels are known."""
+
+    def __init__(self):
+        self.bytes, self.labels, self.jumps = bytearray(), {}, []
+
+    def put(self, *codes):
+        self.bytes += bytes(codes)
+
+    def label(self, name):
+        self.labels[name] = len(self.bytes)
+
+    def distance(self, name, start, width):
+        self.jumps.append((len(self.bytes), name, start, width))
+        self.bytes += bytes(width)
+
+    def jump(self, opcode, name):
+        start = len(self.bytes)
+        self.put(opcode)
+        self.distance(name, start, 2)
+
+    def switch(self, count, name):
+        """A `tableswitch` with so many keys from 0 on, all of which and the default go to one place."""
+        start = len(self.bytes)
+        self.put(0xaa)
+        self.put(*bytes(-len(self.bytes) % 4))
+        self.distance(name, start, 4)
+        self.bytes += struct.pack('>ii', 0, count - 1)
+        for _ in range(count):
+            self.distance(name, start, 4)
+
+    def done(self):
+        for at, name, start, width in self.jumps:
+            self.bytes[at:at + width] = struct.pack('>h' if width == 2 else '>i', self.labels[name] - start)
+        return bytes(self.bytes)
+
+
+def wide(opcode, local):
+    """A load or a store of an int, in the form that its local needs."""
+    return (0xc4, opcode, *u2(local)) if local > 255 else (opcode, local)
+
+
+def ints():
+    return 255, bytes(1900) + b'\xb1'
+
+
+def ids():
+    code = Code()
+    for local in range(512):
+        code.put(3, *wide(0x36, local))
+    code.put(0xb1)
+    return 0, code.done()
+
+
+def paths():
+    code = Code()
+    code.label('head')
+    code.put(0x15, 0)
+    code.switch(62, 'second')
+    code.label('second')
+    code.put(0x15, 1)
+    code.switch(62, 'last')
+    code.label('last')
+    code.jump(0xa7, 'head')
+    return 2, code.done()
+
+
+def loops(depth):
+    code = Code()
+
+    def loop(n):
+        """Loop n, with what is in it; its counter stands behind the parameters."""
+        if n == depth:
+            return
+        code.put(3, 0x36, depth + n)
+        code.label('head %d' % n)
+        code.put(0x15, depth + n, 0x15, n)
+        code.jump(0xa2, 'end %d' % n)
+        loop(n + 1)
+        code.put(0x84, depth + n, 1)
+        code.jump(0xa7, 'head %d' % n)
+        code.label('end %d' % n)
+    loop(0)
+    code.put(0xb1)
+    return depth, code.done()
+
+
+SHAPES = [
+    ('ints', ints(), 255, []),
+    ('ids', ids(), 512, []),
+    ('paths', paths(), 2, ['--nodes', '20000']),
+] + [('loops %d' % depth, loops(depth), 2 * depth, ['--nodes', '20000']) for depth in (2, 4, 6)]
+
+
+def nodes_of(out):
+    """The number of a certificate's nodes; a dash where there is none."""
+    lines = out.decode().split('\n')
+    return str(len(json.loads(lines[1])['nodes'])) if lines[0] == 'YES' else '-'
+
+
+def main():
+    program = sys.argv[1] if len(sys.argv) > 1 else str(TOP / '.built' / 'jterm')
+    if not pathlib.Path(program).is_file():
+        sys.exit(__doc__.strip())
+    print('%-10s %10s %10s %10s %10s  %s' % ('shape', 'nodes', 'bytes', 'ms', 'MiB', 'answer'))
+    with tempfile.TemporaryDirectory() as place:
+        place = pathlib.Path(place)
+        for name, (params, code), local_count, words in SHAPES:
+            (place / 'A.class').write_bytes(class_file(params, code, locals_=local_count))
+            (place / 'desc.json').write_text(json.dumps(description(params), separators=(',', ':')))
+            out, took, peak = told(program, ['prove'] + words + [str(place / 'desc.json'), str(place / 'A.class')])
+            print('%-10s %10s %10d %10.0f %10.1f  %s' % (name, nodes_of(out), len(out), 1000 * took, peak, out.decode().split('\n')[0]), flush=True)
+
+
+if __name__ == '__main__':
+    main()
