@@ -34,7 +34,7 @@ use Rattle.class_program.proofs.GoodPrograms.{good_program}
 use Rattle.frame_types.specs.Tables.{CodeTypes}
 use Rattle.code_verify.specs.Typings.{IsTypingOf}
 use Rattle.code_verify.specs.TypedStates.{IsTypedState}
-use Rattle.jvm_step.specs.Running.{step, Ends}
+use Rattle.jvm_step.specs.Running.{Ends}
 use Rattle.jvm_run.specs.Laws.{HasInts, GoesTyped, StepsAreTyped, RunsAreNeverStuck}
 use Rattle.input_desc.specs.Initial.{initial_of}
 use Rattle.input_root.specs.Roots.{input_values, FittingStatesAreTyped, FittingStatesAreDescribed}
@@ -52,11 +52,11 @@ use Rattle.path_rules.specs.Stops.{Stop, Leg, child, instance, AreSizes, LinkedG
 use Rattle.path_rules.specs.Rules.{IsRuleOf}
 use Rattle.path_rules.specs.Conditions.{HasIntsAlone}
 use Rattle.path_rules.specs.Walks.{Spot, FitsStop, Crosses, IsWalk, last_of, weight_of, SlotIs, SlotsAre, WalksMeetRules}
-use Rattle.abs_expand.specs.BadStates.{IsGoodState}
 use Rattle.abs_expand.specs.Laws.{IsAfter, IsMet}
-use Rattle.graph_check.specs.Good.{IsLeftBy, IsGoodNode}
+use Rattle.graph_check.specs.Good.{IsGoodNode}
 use Rattle.graph_check.specs.Laws.{GoesBy, EndsHere, ExpansionsHold, GraphsHoldRuns}
 use Rattle.graph_check.proofs.Following.{beside}
+use Rattle.graph_check.proofs.Excluding.{good_by}
 use Rattle.cert_check.specs.Certified.{IsCertified}
 use Rattle.cert_check.specs.Walks.{Station, IsAt, GoesTo, WalksEnd, IsLast}
 use Rattle.cert_check.specs.Laws.{CertifiedWalksEnd, LastNodesEnd, CertifiedRunsEnd}
@@ -319,12 +319,6 @@ module _ (p : Program) (typing : ℕ → CodeTypes) (nodes : List GraphNode) (cu
 
   -- ---- runs
 
-  good_by : (state : AbstractState) (by : By) (links : List Link) → IsLeftBy p typing nodes state by links → IsGoodState p typing state
-  good_by state (ways.Expand named) links left = left.are.0
-  good_by state (ways.Instance target entries) links left = left.0.good
-  good_by state ways.End links left = left.0.0
-  good_by state ways.Todo links left = absurd left
-
   after_typed : (b : Bool) (machine after : MachineState) → IsAfter p b machine after → IsTypedState p typing machine → IsTypedState p typing after
   after_typed false machine after is typed = subst (IsTypedState p typing) (sym is) typed
   after_typed true machine after is typed = subst (GoesTyped p typing) is (typed_steps p typing closed ints typing_is machine typed)
@@ -351,7 +345,7 @@ module _ (p : Program) (typing : ℕ → CodeTypes) (nodes : List GraphNode) (cu
   next_of s at =
       let found = beside (IsGoodNode p typing nodes) nodes c.links s.node at.node c.graph.each at.is in
       let met : IsMet p typing at.node.state s.spot.machine s.spot.meaning =
-      record { program = good_program p closed; typing_is = typing_is; good = good_by at.node.state at.node.by found.other found.alike; typed = at.typed; fits = at.fits } in
+      record { program = good_program p closed; typing_is = typing_is; good = good_by p typing nodes at.node.state at.node.by found.other found.alike; typed = at.typed; fits = at.fits } in
       elim (holds p typing nodes root c.links closed keeps c.graph s.node at.node found.other at.is found.there s.spot.machine s.spot.meaning met) [
         | inl e ↦ inl e
         | inr on ↦ inr (record {

@@ -21,8 +21,8 @@ use Rattle.term_graph.specs.declared.nodes.By.{By}
 use Rattle.term_graph.specs.declared.nodes.By.TheVariants.{Expand, Instance, End, Todo}
 use Rattle.term_graph.specs.Graphs.{GraphNode}
 use Rattle.path_rules.specs.Conditions.{HasIntsAlone, IsMapBetween, IsGoodBy}
-use Rattle.abs_expand.specs.BadStates.{IsGoodState}
 use Rattle.graph_check.specs.Good.{IsLeftBy, IsGoodNode}
+use Rattle.graph_check.proofs.Excluding.{good_by}
 use Rattle.cert_check.specs.Ready.{AreLinked, ValidIsCertified}
 use Rattle.cert_check.proofs.Ending.{found_int}
 
@@ -66,16 +66,10 @@ map_between sub state target entries ints match = record {
 -- ---- graphs
 
 module _ (p : Program) (typing : ℕ → CodeTypes) (nodes : List GraphNode) (ints : All (λ (n : GraphNode). HasIntsAlone n.state) nodes) where
-  good_by : (state : AbstractState) (by : By) (links : List Link) → IsLeftBy p typing nodes state by links → IsGoodState p typing state
-  good_by state (Expand named) links left = left.are.0
-  good_by state (Instance target entries) links left = left.0.good
-  good_by state End links left = left.0.0
-  good_by state Todo links left = absurd left
-
   pub well_formed : (links : List (List Link)) → AllZip (IsGoodNode p typing nodes) nodes links → All (λ (n : GraphNode). IsWellFormed n.state) nodes
   well_formed links each =
       All-from_recursion (λ (n : GraphNode). IsWellFormed n.state) nodes
-      (zip_all (IsGoodNode p typing nodes) (λ (n : GraphNode). IsWellFormed n.state) (λ n ls good. (good_by n.state n.by ls good).sound.well_formed) nodes links each)
+      (zip_all (IsGoodNode p typing nodes) (λ (n : GraphNode). IsWellFormed n.state) (λ n ls good. (good_by p typing nodes n.state n.by ls good).sound.well_formed) nodes links each)
 
   ints_at : (n : ℕ) (node : GraphNode) → slice_get nodes n ≡ Some node → HasIntsAlone node.state
   ints_at n node is = subst (λ (m : GraphNode). HasIntsAlone m.state) (get_or_from_slice_get nodes n node node is) (All-get_or (λ (m : GraphNode). HasIntsAlone m.state) nodes n node (slice_get_within nodes n node is) ints)

@@ -19,12 +19,13 @@ use Rattle.abs_expand.specs.Children.{IsActed, IsTurnChild, IsLean}
 use Rattle.abs_expand.specs.Expansions.{plan_of, AreExpanded}
 use Rattle.abs_expand.specs.IntForms.{HasIntForms, IsIntState}
 use Rattle.abs_expand.specs.Plans.{Act, nothing, makes, writes, item, object, array, Turn, Plan, ends, steps, by_null, by_class, by_equal}
+use Rattle.int_plans.proofs.EachTurn.{EachTurn}
 use Rattle.graph_check.specs.Exclusion.{IsPlain}
 use Rattle.graph_check.specs.Good.{HasChildren}
 use Rattle.graph_check.proofs.Alike.{steps_same}
 use Rattle.graph_fill.proofs.Plain.{int_plain}
 use Rattle.cert_laws.proofs.Numbers.{neither_below}
-use Rattle.cert_laws.proofs.Steady.{IsSteady, AreSteady, int_steady}
+use Rattle.cert_laws.proofs.Steady.{IsSteady, int_steady}
 
 -- a state has one list of children at most
 abbrev pub HasOneList : Program → (ℕ → CodeTypes) → AbstractState → Type 0
@@ -98,7 +99,7 @@ pairs_same (x ∷ c) (y ∷ d) e f =
     let rest = pairs_same c d states links in
     λ i. first i ∷ rest i
 
-expanded_one : (types : WorldTypes) (state : AbstractState) (plan : Plan) (a b : List GraphChild) → IsPlain plan → AreSteady plan → AreExpanded types state plan a → AreExpanded types state plan b → a ≡ b
+expanded_one : (types : WorldTypes) (state : AbstractState) (plan : Plan) (a b : List GraphChild) → IsPlain plan → EachTurn IsSteady plan → AreExpanded types state plan a → AreExpanded types state plan b → a ≡ b
 expanded_one types state ends a b plain steady g h = absurd g.are
 expanded_one types state (steps turns) a b plain steady g h =
     pairs_same a b (steps_same types state turns g.wholes h.wholes a b plain g.are h.are g.lean h.lean) (links_same types state turns g.wholes h.wholes a b plain steady g.are h.are g.lean h.lean)

@@ -3,7 +3,7 @@ use Rattle.std.proofs.Common.{◌≡◌, ◌∙◌, ℕ, zero, suc, Bool, List, 
 use Rattle.jvm_values.specs.declared.types.Ty.{Ty}
 use Rattle.abs_cells.specs.AbstractStates.{AbstractState}
 use Rattle.abs_match.specs.declared.clauses.MatchFault.{MatchFault}
-use Rattle.abs_reach.specs.Instances.{Clause, whole_map, positions, mode, cells, aliases, sharing, shapes, number_of, HoldsClause, InstanceOf, FailsAt, IsFirstFault}
+use Rattle.abs_reach.specs.Instances.{Clause, whole_map, positions, mode, cells, aliases, sharing, shapes, number_of, HoldsClause, FailsAt, IsFirstFault}
 use Rattle.cert_laws.proofs.Numbers.{neither_below}
 
 abbrev clause_of : ℕ → Clause
@@ -28,9 +28,6 @@ module _ (sub : Ty → Ty → Bool) (state target : AbstractState) (entries : Li
   holds_or_fails : (clause : Clause) (id : ℕ) → HoldsClause sub state target entries clause → FailsAt sub state target entries clause id → ⊥
   holds_or_fails clause id holds (inl f) = f.0 holds.0
   holds_or_fails clause id holds (inr f) = f.fails (holds.1 id)
-
-  pub no_match_fault : (number id : ℕ) → InstanceOf sub state target entries → IsFirstFault sub state target entries number id → ⊥
-  no_match_fault number id match fault = holds_or_fails fault.clause id (match fault.clause) fault.fails
 
   id_one : (clause : Clause) (i j : ℕ) → FailsAt sub state target entries clause i → FailsAt sub state target entries clause j → i ≡ j
   id_one clause i j (inl f) (inl g) = f.1 ∙ sym g.1

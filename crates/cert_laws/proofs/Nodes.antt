@@ -1,8 +1,5 @@
 -- A node whose state has one list of children has one list of links where it is good, and else one fault; and never both.
-use Rattle.std.proofs.Common.{◌≡◌, ◌≤◌, ◌∙◌, ◌⊎◌, ℕ, suc, List, [], ◌∷◌, map, length, None, slice_get, inl, inr, refl, sym, ap, subst, arith}
-use Rattle.std.specs.List.{AllZip}
-use Rattle.std.proofs.lemmas.List.Elements.{All-get_or}
-use Rattle.std.proofs.lemmas.Option.{slice_get_within, get_or_from_slice_get}
+use Rattle.std.proofs.Common.{◌≡◌, ◌∙◌, ◌⊎◌, ℕ, List, map, length, None, slice_get, inl, inr, refl, sym, ap, subst}
 use Rattle.jvm_values.proofs.Options.{some_is, none_is_not_some}
 use Rattle.jvm_values.specs.TypedHeaps.{WorldTypes}
 use Rattle.abs_cells.specs.AbstractStates.{AbstractState}
@@ -17,37 +14,21 @@ use Rattle.term_graph.specs.declared.nodes.By.TheVariants.{Expand, Instance, End
 use Rattle.term_graph.specs.Graphs.{GraphNode, GraphChild}
 use Rattle.abs_expand.specs.Plans.{Plan, ends}
 use Rattle.abs_expand.specs.BadStates.{IsGoodState, IsBadState, unsound, misplaced, uncalled}
-use Rattle.abs_expand.specs.Expansions.{plan_of, counts_of, AreFew, IsFirstTooMany, AreChildren, AreExpanded}
+use Rattle.abs_expand.specs.Expansions.{plan_of, counts_of, IsFirstTooMany}
 use Rattle.graph_check.specs.declared.fault.What.{What}
 use Rattle.graph_check.specs.declared.fault.What.TheVariants as whats
-use Rattle.graph_check.specs.Good.{HasChildren, HasEnded, HasTooMany, NamesChild, IsLeftBy, IsExpanded, IsInstance, IsMiscounted, HasOtherChild, FailsToMatch, FailsBy, FailsAs}
-use Rattle.graph_check.proofs.Following.{beside}
-use Rattle.graph_fill.proofs.Plain.{not_bad}
+use Rattle.graph_check.specs.Good.{HasChildren, HasEnded, HasTooMany, IsLeftBy, IsMiscounted, HasOtherChild, FailsToMatch, FailsBy, FailsAs}
+use Rattle.graph_check.proofs.Excluding.{states_of, no_children, few_or_many, not_bad, no_fault_as}
 use Rattle.cert_laws.proofs.Numbers.{neither_below}
-use Rattle.cert_laws.proofs.Matching.{no_match_fault, match_one}
+use Rattle.cert_laws.proofs.Matching.{match_one}
 use Rattle.cert_laws.proofs.Children.{HasOneList}
 
 -- ---- plans
-
-no_children : (types : WorldTypes) (state : AbstractState) (plan : Plan) (children : List GraphChild) → plan ≡ ends → AreExpanded types state plan children → ⊥
-no_children types state plan children e g = subst (λ (q : Plan). AreChildren types state q g.wholes) e g.are
 
 no_counts : (types : WorldTypes) (state : AbstractState) (plan : Plan) (n : ℕ) → plan ≡ ends → IsFirstTooMany (counts_of types state plan) n → ⊥
 no_counts types state plan n e many =
     let none = subst (λ (q : Plan). IsFirstTooMany (counts_of types state q) n) e many in
     none_is_not_some none.count none.is
-
-few_or_many : (counts : List ℕ) (n : ℕ) → AreFew counts → IsFirstTooMany counts n → ⊥
-few_or_many counts n few many =
-    let small : many.count ≤ 512 = subst (λ (c : ℕ). c ≤ 512) (get_or_from_slice_get counts n many.count many.count many.is) (All-get_or (λ (c : ℕ). c ≤ 512) counts n many.count (slice_get_within counts n many.count many.is) few) in
-    let large = many.many in
-    omega (arith, small, large)
-
-zip_length : {A B : Type 0} (R : A → B → Type 0) (xs : List A) (ys : List B) → AllZip R xs ys → length xs ≡ length ys
-zip_length R [] [] z = refl
-zip_length R [] (y ∷ ys) z = absurd z
-zip_length R (x ∷ xs) [] z = absurd z
-zip_length R (x ∷ xs) (y ∷ ys) z = ap suc (zip_length R xs ys z.1)
 
 -- ---- states without an expansion
 
@@ -70,12 +51,6 @@ module _ (p : Program) (typing : ℕ → CodeTypes) (nodes : List GraphNode) (st
   links_by (Instance target entries) a b g h = g.1 ∙ sym h.1
   links_by End a b g h = g.1 ∙ sym h.1
   links_by Todo a b g h = absurd g
-
-  good_by : (by : By) (links : List Link) → IsLeftBy p typing nodes state by links → IsGoodState p typing state
-  good_by (Expand named) links left = left.are.0
-  good_by (Instance target entries) links left = left.0.good
-  good_by End links left = left.0.0
-  good_by Todo links left = absurd left
 
   -- ---- faults of expansions
 
@@ -129,23 +104,6 @@ module _ (p : Program) (typing : ℕ → CodeTypes) (nodes : List GraphNode) (st
   expand_one named w v (as_child place e f) (as_counted d g) = absurd (count_child named place g f)
   expand_one named w v (as_child place e f) (as_child other d g) = e ∙ (ap whats.Child (child_one named place other f g) ∙ sym d)
 
-  counted_left : (named : List ℕ) (links : List Link) → IsExpanded p typing nodes state named links → CountFails named → ⊥
-  counted_left named links left (inl ended) = not_ended left.children left.are ended
-  counted_left named links left (inr m) = m.counts (ap (λ (children : List GraphChild). length children) (one m.children left.children m.are left.are) ∙ zip_length (NamesChild nodes) left.children named left.names)
-
-  child_left : (named : List ℕ) (links : List Link) (place : ℕ) → IsExpanded p typing nodes state named links → HasOtherChild p typing nodes state named place → ⊥
-  child_left named links place left other =
-      let same = one other.children left.children other.are left.are in
-      let first = other.first in
-      let at = beside (NamesChild nodes) left.children named place first.child left.names (ap (λ (children : List GraphChild). slice_get children place) (sym same) ∙ first.is_child) in
-      let number : at.other ≡ first.number = some_is (sym at.there ∙ first.is_named) in
-      first.fails (subst (λ (n : ℕ). NamesChild nodes first.child n) number at.alike)
-
-  expand_left : (named : List ℕ) (links : List Link) (what : What) → IsExpanded p typing nodes state named links → ExpandFails named what → ⊥
-  expand_left named links what left (as_many e f) = not_many left.children left.are f
-  expand_left named links what left (as_counted e f) = counted_left named links left f
-  expand_left named links what left (as_child place e f) = child_left named links place left f
-
   -- ---- faults of instances
 
   data InstanceFails (target : ℕ) (entries : List (ℕ × ℕ)) (what : What) : Type 0 where
@@ -170,12 +128,6 @@ module _ (p : Program) (typing : ℕ → CodeTypes) (nodes : List GraphNode) (st
       let node : f.node ≡ g.node = some_is (sym f.is ∙ g.is) in
       let first = subst (λ (n : GraphNode). IsFirstFault (types_of p.world).sub state n.state entries fault.clause fault.id) node f.first in
       e ∙ (ap whats.Match (match_one (types_of p.world).sub state g.node.state entries fault other first g.first) ∙ sym d)
-
-  instance_left : (target : ℕ) (entries : List (ℕ × ℕ)) (what : What) → IsInstance p typing nodes state target entries → InstanceFails target entries what → ⊥
-  instance_left target entries what left (as_none e f) = none_is_not_some left.node (sym f ∙ left.is)
-  instance_left target entries what left (as_match fault e f) =
-      let node : f.node ≡ left.node = some_is (sym f.is ∙ left.is) in
-      no_match_fault (types_of p.world).sub state left.node.state entries fault.clause fault.id left.instance (subst (λ (n : GraphNode). IsFirstFault (types_of p.world).sub state n.state entries fault.clause fault.id) node f.first)
 
   -- ---- nodes that are left in another way
 
@@ -207,12 +159,6 @@ module _ (p : Program) (typing : ℕ → CodeTypes) (nodes : List GraphNode) (st
   by_one End w v f g = (end_fails w f).0 ∙ sym (end_fails v g).0
   by_one Todo w v f g = todo_fails w f ∙ sym (todo_fails v g)
 
-  by_left : (by : By) (links : List Link) (what : What) → IsLeftBy p typing nodes state by links → FailsBy p typing nodes state by what → ⊥
-  by_left (Expand named) links what left f = expand_left named links what left (expand_fails named what f)
-  by_left (Instance target entries) links what left f = instance_left target entries what left.0 (instance_fails target entries what f)
-  by_left End links what left f = (end_fails what f).1 left.0
-  by_left Todo links what left f = absurd left
-
   data NodeFails (by : By) (what : What) : Type 0 where
     as_bad : (clause : ℕ) → what ≡ whats.BadState clause → IsBadState p typing state clause → NodeFails by what
     as_good : IsGoodState p typing state → FailsBy p typing nodes state by what → NodeFails by what
@@ -233,12 +179,8 @@ module _ (p : Program) (typing : ℕ → CodeTypes) (nodes : List GraphNode) (st
   fails_one by w v (as_good good f) (as_bad d h g) = absurd (not_bad p typing state d good g)
   fails_one by w v (as_good good f) (as_good other g) = by_one by w v f g
 
-  fails_left : (by : By) (links : List Link) (what : What) → IsLeftBy p typing nodes state by links → NodeFails by what → ⊥
-  fails_left by links what left (as_bad c e f) = not_bad p typing state c (good_by by links left) f
-  fails_left by links what left (as_good good f) = by_left by links what left f
-
   pub node_one : (by : By) (w v : What) → FailsAs p typing nodes (record { state = state; by = by }) w → FailsAs p typing nodes (record { state = state; by = by }) v → w ≡ v
   node_one by w v f g = fails_one by w v (node_fails by w f) (node_fails by v g)
 
   pub node_left : (by : By) (links : List Link) (what : What) → IsLeftBy p typing nodes state by links → FailsAs p typing nodes (record { state = state; by = by }) what → ⊥
-  node_left by links what left f = fails_left by links what left (node_fails by what f)
+  node_left by links what left f = no_fault_as p typing nodes state (λ a b g h. ap states_of (one a b g h)) by links what left f

@@ -1,11 +1,11 @@
 -- Good graphs over ints have links such as rules take.
-use Rattle.std.proofs.Common.{◌≡◌, ◌∙◌, ◌==◌, ◌≤◌, ◌<◌, ℕ, zero, suc, Bool, true, false, cond, eqb, if◌then◌else◌, IsTrue, List, [], ◌∷◌, map, length, Some, slice_get, inl, inr, refl, sym, ap, subst, arith, eq-eqb}
+use Rattle.std.proofs.Common.{◌≡◌, ◌==◌, ◌≤◌, ◌<◌, ℕ, suc, Bool, true, false, eqb, if◌then◌else◌, IsTrue, List, [], ◌∷◌, map, length, Some, slice_get, refl, sym, ap, subst, arith, eq-eqb}
 use Rattle.std.specs.Prelude.{All}
 use Rattle.std.specs.List.{AllByRecursion, AllZip}
 use Rattle.std.proofs.lemmas.Bool.{eqb-true}
 use Rattle.std.proofs.lemmas.Option.{slice_get_within, get_or_from_slice_get}
 use Rattle.std.proofs.lemmas.List.Elements.{All-get_or, All-from_recursion, recursion_from_All}
-use Rattle.jvm_values.proofs.Options.{some_is, none_is_not_some}
+use Rattle.jvm_values.proofs.Options.{none_is_not_some}
 use Rattle.abs_cells.specs.declared.cells.Cell.{Cell}
 use Rattle.abs_cells.specs.AbstractStates.{AbstractState}
 use Rattle.abs_cells.specs.Cells.{is_int, cell_in}
@@ -14,13 +14,13 @@ use Rattle.class_program.specs.Programs.{Program}
 use Rattle.frame_types.specs.Tables.{CodeTypes}
 use Rattle.term_graph.specs.declared.links.Link.{Link}
 use Rattle.term_graph.specs.declared.nodes.By.{By}
-use Rattle.term_graph.specs.declared.nodes.By.TheVariants.{Expand, Instance, End, Todo}
 use Rattle.term_graph.specs.Graphs.{GraphNode, GraphChild}
 use Rattle.path_rules.specs.Conditions.{HasIntsAlone, IsLinkBetween, IsGoodChild, CutsRise, IsReady}
 use Rattle.abs_expand.specs.BadStates.{IsGoodState}
 use Rattle.abs_expand.specs.IntForms.{HasIntForms, IsIntState}
 use Rattle.graph_check.specs.Conditions.{HasIntStates}
 use Rattle.graph_check.specs.Good.{NamesChild, IsExpanded, IsLeftBy, IsGoodNode, GraphOk}
+use Rattle.graph_check.proofs.Excluding.{good_by}
 use Rattle.expand_laws.specs.Laws.{HasShortIncrements}
 use Rattle.int_links.specs.Laws.{FitsRules, IntLinksFit}
 use Rattle.cert_check.specs.Ready.{AreLinked}
@@ -61,17 +61,11 @@ module _ (fit : IntLinksFit) (p : Program) (typing : ℕ → CodeTypes) (forms :
   abbrev IfGood : AbstractState → Type 0
   IfGood state = IsGoodState p typing state → IsIntState state
 
-  is_good : (state : AbstractState) (by : By) (links : List Link) → IsLeftBy p typing nodes state by links → IsGoodState p typing state
-  is_good state (Expand named) links left = left.are.0
-  is_good state (Instance target entries) links left = left.0.good
-  is_good state End links left = left.0.0
-  is_good state Todo links left = absurd left
-
   node_ints : (list : List GraphNode) (links : List (List Link)) → ((n : ℕ) (node : GraphNode) → slice_get list n ≡ Some node → IfGood node.state) → AllZip (IsGoodNode p typing nodes) list links → AllByRecursion (λ (n : GraphNode). HasIntsAlone n.state) list
   node_ints [] links h each = tt
   node_ints (node ∷ list) [] h each = absurd each
   node_ints (node ∷ list) (own ∷ links) h each =
-      let good = is_good node.state node.by own each.0 in
+      let good = good_by p typing nodes node.state node.by own each.0 in
       (ints_alone node.state good.sound.well_formed.rising (h 0 node refl good), node_ints list links (λ n later e. h (suc n) later e) each.1)
 
   module _ (ints : All (λ (n : GraphNode). HasIntsAlone n.state) nodes) where

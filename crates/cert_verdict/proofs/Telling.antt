@@ -1,5 +1,5 @@
 -- What the check of each part tells of the whole.
-use Rattle.std.proofs.Common.{◌≡◌, ◌∙◌, ◌+◌, ◌↔◌, ℕ, Bool, true, false, IsTrue, List, length, None, Result, Ok, Err, refl, sym, ap, subst, true≢false}
+use Rattle.std.proofs.Common.{◌≡◌, ◌∙◌, ◌+◌, ◌↔◌, ℕ, Bool, true, false, IsTrue, List, length, None, Ok, Err, refl, sym, ap, subst, true≢false}
 use Rattle.abs_cells.specs.AbstractStates.{AbstractState}
 use Rattle.class_program.specs.Programs.{Program}
 use Rattle.frame_types.specs.Tables.{CodeTypes}
@@ -21,9 +21,9 @@ use Rattle.graph_check.specs.declared.fault.CheckFault.TheVariants as graphs
 use Rattle.graph_check.specs.Good.{GraphOk, Tells as GraphTells}
 use Rattle.cert_check.specs.declared.refusal.Cause.TheVariants.{Cuts}
 use Rattle.cert_check.specs.declared.refusal.Refusal.{Refusal}
-use Rattle.cert_check.specs.declared.refusal.Refusal.TheVariants.{Item, Memory}
+use Rattle.cert_check.specs.declared.refusal.Refusal.TheVariants.{Item}
 use Rattle.cert_check.specs.Certified.{IsCertified}
-use Rattle.cert_check.specs.Valid.{Case, HasGoodGraph, AreCuts, HasPathRules, Tells}
+use Rattle.cert_check.specs.Valid.{Case, HasGoodGraph, Tells}
 use Rattle.cert_verdict.specs.Parts.{case_of, graph_refusal, path_refusal, proof_refusal, AreCutsOf, IsPrepared, GraphOr, RulesOr}
 use Rattle.cert_verdict.proofs.Preparing.{cuts_are, cuts_of, ready}
 

@@ -17,7 +17,7 @@ use Rattle.path_rules.specs.declared.fault.PathFault.TheVariants as paths
 use Rattle.path_rules.specs.Conditions.{HasIntsAlone, IsGoodBy}
 use Rattle.graph_check.specs.declared.fault.CheckFault.{CheckFault}
 use Rattle.graph_check.specs.declared.fault.CheckFault.TheVariants as graphs
-use Rattle.cert_check.specs.declared.refusal.Cause.TheVariants.{Graph, Cuts, Path, Proof}
+use Rattle.cert_check.specs.declared.refusal.Cause.TheVariants.{Graph, Path, Proof}
 use Rattle.cert_check.specs.declared.refusal.Refusal.{Refusal}
 use Rattle.cert_check.specs.declared.refusal.Refusal.TheVariants.{Item, Memory}
 use Rattle.cert_check.specs.Valid.{Case, HasGoodGraph, AreCuts, HasPathRules, Tells, graph_item}

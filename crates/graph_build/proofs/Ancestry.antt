@@ -1,5 +1,5 @@
 -- Ways up a tree, and that the order of growth is one: of two nodes at most one is before the other.
-use Rattle.std.proofs.Common.{◌≡◌, ◌⊎◌, inl, inr, ℕ, zero, suc, ◌<◌, ◌≤◌, List, length, subst, ap, arith, refl, ◌∙◌, sym}
+use Rattle.std.proofs.Common.{◌≡◌, ◌⊎◌, inl, inr, ℕ, zero, suc, ◌<◌, List, length, subst, arith, refl, ◌∙◌, sym}
 use Rattle.term_graph.specs.Graphs.{GraphNode}
 use Rattle.graph_build.specs.Disciplined.{IsTree, IsAboveBy, IsAbove, IsAtOrAbove, IsUnderLater, IsBefore}
 

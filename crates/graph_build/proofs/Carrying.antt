@@ -1,20 +1,19 @@
 -- A growth that may be carried out keeps what holds between growths.
-use Rattle.std.proofs.Common.{◌≡◌, inl, inr, ℕ, zero, suc, ◌+◌, ◌-◌, ◌<◌, ◌≤◌, List, [], ◌∷◌, ◌++◌, length, map, replicate, Some, subst, ap, arith, refl, ◌∙◌, sym}
+use Rattle.std.proofs.Common.{◌≡◌, inl, inr, ℕ, suc, ◌+◌, ◌-◌, ◌<◌, List, [], ◌∷◌, ◌++◌, length, map, replicate, Some, subst, ap, arith, refl, ◌∙◌, sym}
 use Rattle.std.specs.Prelude.{slice_get}
-use Rattle.std.specs.List.{AllByRecursion, AllZip}
+use Rattle.std.specs.List.{AllZip}
 use Rattle.abs_cells.specs.AbstractStates.{AbstractState}
 use Rattle.term_graph.specs.declared.nodes.By.{By}
 use Rattle.term_graph.specs.declared.nodes.By.TheVariants.{Expand, Instance, End, Todo}
 use Rattle.term_graph.specs.Graphs.{GraphNode, left_by}
 use Rattle.graph_build.specs.Rules.{GrowthRules}
-use Rattle.graph_build.specs.Disciplined.{IsNode, IsStateAt, IsBefore, IsLeftAsDue}
+use Rattle.graph_build.specs.Disciplined.{IsNode, IsStateAt}
 use Rattle.graph_build.specs.Disciplined.Due.{growing, matching, widening}
-use Rattle.graph_build.specs.Working.{Work, parent_in, todo, with_all, without, left, numbers, tail_of, grown, IsSound, MayGrow}
+use Rattle.graph_build.specs.Working.{Work, todo, with_all, without, left, numbers, tail_of, grown, IsSound, MayGrow}
 use Rattle.graph_build.specs.declared.growth.Plan.{Plan}
 use Rattle.graph_build.specs.declared.growth.Plan.TheVariants as plan
-use Rattle.graph_build.proofs.Nodes.{Fresh}
 use Rattle.graph_build.proofs.Growths.{pushed, with_all_is, number_is, fresh_end, fresh_joining, fresh_opening, fresh_expanding}
-use Rattle.graph_build.proofs.Sounding.{nodes', parents', sound_after, due_after, state_after, new_state, comes_after, order_after}
+use Rattle.graph_build.proofs.Sounding.{nodes', sound_after, due_after, state_after, new_state, comes_after, order_after}
 
 pub grown_as : (work : Work) (n : ℕ) (rest : List ℕ) (states : List AbstractState) (by : By) → work.waiting ≡ n ∷ rest → left (with_all (without work) states n) n by ≡ record { nodes = left_by (work.nodes ++ map todo states) n by; parents = work.parents ++ replicate (length states) n; waiting = pushed (length work.nodes) (length states) rest }
 grown_as work n rest states by e =

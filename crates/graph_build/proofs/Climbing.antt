@@ -1,14 +1,13 @@
 -- The way up a tree to the nearest expanded node with the positions of a state, and the first expanded node that matches.
-use Rattle.std.proofs.Common.{◌≡◌, ◌⊎◌, inl, inr, ℕ, zero, suc, ◌+◌, ◌<◌, ◌≤◌, true, List, length, Option, Some, None, subst, ap, arith, refl, ◌∙◌, sym}
+use Rattle.std.proofs.Common.{◌≡◌, ◌⊎◌, inl, inr, ℕ, zero, suc, ◌+◌, ◌<◌, ◌≤◌, List, length, Option, Some, None, subst, ap, arith, ◌∙◌, sym}
 use Rattle.std.specs.Prelude.{slice_get, Result, Ok, Err, IfOk}
 use Rattle.std.proofs.lemmas.Bool.{cases_lt}
 use Rattle.std.proofs.lemmas.Option.{slice_get_within, same_Some}
 use Rattle.abs_cells.specs.AbstractStates.{AbstractState}
 use Rattle.jvm_values.proofs.Options.{none_is_not_some}
-use Rattle.term_graph.specs.declared.nodes.By.{By}
 use Rattle.term_graph.specs.Graphs.{GraphNode}
 use Rattle.graph_build.specs.Rules.{GrowthRules, HaveSamePositions}
-use Rattle.graph_build.specs.Disciplined.{IsNode, IsAboveBy, IsAbove, IsAtOrAbove, is_expanded}
+use Rattle.graph_build.specs.Disciplined.{IsNode, IsAbove, IsAtOrAbove, is_expanded}
 use Rattle.graph_build.specs.Growing.{MatchesOr}
 use Rattle.graph_build.specs.Working.{IsPassed, IsFirstFound, IsAlike, IsNearest, IsNodeAlike, NodeMatches, IsFound}
 use Rattle.graph_build.proofs.Ancestry.{own_then}

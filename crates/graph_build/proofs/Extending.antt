@@ -147,8 +147,9 @@ module _ (nodes nodes' : List GraphNode) (parent parent' : ℕ → ℕ) (n : ℕ
 
   -- ---- before
 
-  later_kept : (u v : ℕ) → u < length nodes → v < length nodes → IsUnderLater nodes parent u v → IsUnderLater nodes' parent' u v
-  later_kept u v l m h = record {
+  -- a child's later sibling is there still; the nodes under the two may be others
+  later_moved : (u v x y : ℕ) → (h : IsUnderLater nodes parent u v) → IsAtOrAbove parent' h.first y → IsAtOrAbove parent' h.second x → IsUnderLater nodes' parent' x y
+  later_moved u v x y h first second = record {
     at = h.at;
     state = h.state;
     named = h.named;
@@ -160,9 +161,12 @@ module _ (nodes nodes' : List GraphNode) (parent parent' : ℕ → ℕ) (n : ℕ
     second = h.second;
     is_first = h.is_first;
     is_second = h.is_second;
-    under_first = at_or_kept h.first v m h.under_first;
-    under_second = at_or_kept h.second u l h.under_second;
+    under_first = first;
+    under_second = second;
   }
+
+  later_kept : (u v : ℕ) → u < length nodes → v < length nodes → IsUnderLater nodes parent u v → IsUnderLater nodes' parent' u v
+  later_kept u v l m h = later_moved u v u v h (at_or_kept h.first v m h.under_first) (at_or_kept h.second u l h.under_second)
 
   later_was : (u v : ℕ) → u < length nodes → v < length nodes → IsUnderLater nodes' parent' u v → IsUnderLater nodes parent u v
   later_was u v l m h = elim (expanded_was h.at h.state (Expand h.named) h.is (expand_not_todo h.named)) as (λ o. IsUnderLater nodes parent u v) [
@@ -213,40 +217,12 @@ module _ (nodes nodes' : List GraphNode) (parent parent' : ℕ → ℕ) (n : ℕ
     | inl e ↦ absurd (omega (arith, e, k, l))
     | inr up ↦ inl up
   ]
-  before_fresh u c k l m (inr h) = inr (record {
-    at = h.at;
-    state = h.state;
-    named = h.named;
-    is = g.kept h.at h.state (Expand h.named) (other_than h.at h.state (Expand h.named) h.is (expand_not_todo h.named)) h.is;
-    earlier = h.earlier;
-    later = h.later;
-    order = h.order;
-    first = h.first;
-    second = h.second;
-    is_first = h.is_first;
-    is_second = h.is_second;
-    under_first = under_fresh h.first c l m h.under_first;
-    under_second = at_or_kept h.second u k h.under_second;
-  })
+  before_fresh u c k l m (inr h) = inr (later_moved u n u c h (under_fresh h.first c l m h.under_first) (at_or_kept h.second u k h.under_second))
 
   -- they are before what it is before
   pub fresh_before : (c v : ℕ) → v < length nodes → length nodes ≤ c → c < length nodes' → IsBefore nodes parent n v → IsBefore nodes' parent' c v
   fresh_before c v k l m (inl h) = absurd (under_none nodes parent tree n state g.was h.0 v k h.1)
-  fresh_before c v k l m (inr h) = inr (record {
-    at = h.at;
-    state = h.state;
-    named = h.named;
-    is = g.kept h.at h.state (Expand h.named) (other_than h.at h.state (Expand h.named) h.is (expand_not_todo h.named)) h.is;
-    earlier = h.earlier;
-    later = h.later;
-    order = h.order;
-    first = h.first;
-    second = h.second;
-    is_first = h.is_first;
-    is_second = h.is_second;
-    under_first = at_or_kept h.first v k h.under_first;
-    under_second = under_fresh h.second c l m h.under_second;
-  })
+  fresh_before c v k l m (inr h) = inr (later_moved n v c v h (at_or_kept h.first v k h.under_first) (under_fresh h.second c l m h.under_second))
 
   -- of two, the later one is
   pub fresh_order : (list : List ℕ) (i j a b : ℕ) → by ≡ Expand list → i < j → slice_get list i ≡ Some a → slice_get list j ≡ Some b → IsBefore nodes' parent' b a

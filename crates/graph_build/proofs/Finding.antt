@@ -1,6 +1,6 @@
 -- What is found at the next open node is due there.
-use Rattle.std.proofs.Common.{◌≡◌, ◌≢◌, ◌⊎◌, inl, inr, ℕ, ◌<◌, ◌≤◌, ◌&&◌, Bool, true, false, not, List, length, Option, Some, None, subst, ap, arith, refl, ◌∙◌, sym, ltb}
-use Rattle.std.specs.Prelude.{slice_get, nat_lt}
+use Rattle.std.proofs.Common.{◌≡◌, ◌≢◌, ◌⊎◌, inl, inr, ℕ, ◌<◌, ◌≤◌, ◌&&◌, Bool, true, false, not, List, length, subst, ap, refl, ◌∙◌, sym, ltb}
+use Rattle.std.specs.Prelude.{nat_lt}
 use Rattle.std.proofs.lemmas.Bool.{false≢true, cases_lt, ltb-true, lt-ltb}
 use Rattle.std.proofs.lemmas.Option.{slice_get_within}
 use Rattle.abs_cells.specs.AbstractStates.{AbstractState}
@@ -8,8 +8,8 @@ use Rattle.term_graph.specs.declared.nodes.By.{By}
 use Rattle.term_graph.specs.declared.nodes.By.TheVariants.{Expand, Instance, End, Todo}
 use Rattle.term_graph.specs.Graphs.{GraphNode}
 use Rattle.graph_build.specs.Rules.{GrowthRules}
-use Rattle.graph_build.specs.Disciplined.{IsNode, Names, IsTree, IsAbove, IsWidening, IsMatch, IsAlikeAbove, IsSeeking, IsFirstMatch, HasNoMatch, IsWidenedBy, IsAlone, IsDue}
-use Rattle.graph_build.specs.Disciplined.Due.{growing, matching, widening}
+use Rattle.graph_build.specs.Disciplined.{IsNode, Names, IsWidening, IsMatch, IsAlikeAbove, IsSeeking, IsFirstMatch, HasNoMatch, IsWidenedBy, IsDue}
+use Rattle.graph_build.specs.Disciplined.Due.{growing, widening}
 use Rattle.graph_build.specs.Working.{parent_in, is_instance, is_instance_of, is_instance_at, IsPassed, IsFirstFound, IsAlike, IsNearest, IsNextOpen}
 use Rattle.graph_build.proofs.Extending.{todo_not_expanded}
 

@@ -1,5 +1,5 @@
 -- The four kinds of growth, and the nodes that wait after one.
-use Rattle.std.proofs.Common.{◌≡◌, ◌≢◌, ◌⊎◌, inl, inr, ℕ, zero, suc, ◌+◌, ◌-◌, ◌<◌, ◌≤◌, Bool, true, false, List, [], ◌∷◌, ◌++◌, length, map, replicate, Option, Some, None, subst, ap, arith, refl, ◌∙◌, sym, length-append}
+use Rattle.std.proofs.Common.{◌≡◌, ◌≢◌, ◌⊎◌, inl, inr, ℕ, zero, suc, ◌+◌, ◌-◌, ◌<◌, ◌≤◌, Bool, true, false, List, [], ◌∷◌, ◌++◌, length, map, replicate, Some, subst, ap, arith, refl, ◌∙◌, sym, length-append}
 use Rattle.std.specs.Prelude.{slice_get}
 use Rattle.std.proofs.lemmas.Bool.{false≢true, cases_lt}
 use Rattle.std.proofs.lemmas.List.{append_assoc, append-nil}
@@ -8,8 +8,8 @@ use Rattle.abs_cells.specs.AbstractStates.{AbstractState}
 use Rattle.term_graph.specs.declared.nodes.By.{By}
 use Rattle.term_graph.specs.declared.nodes.By.TheVariants.{Expand, Instance, End, Todo}
 use Rattle.term_graph.specs.Graphs.{GraphNode}
-use Rattle.graph_build.specs.Disciplined.{Names, IsBefore, is_expanded}
-use Rattle.graph_build.specs.Working.{Work, with_one, with_all, numbers, todo, Has, AreInOrder}
+use Rattle.graph_build.specs.Disciplined.{IsBefore, is_expanded}
+use Rattle.graph_build.specs.Working.{Work, with_all, numbers, todo, Has, AreInOrder}
 use Rattle.graph_build.proofs.Extending.{names_no_todo}
 use Rattle.graph_build.proofs.Nodes.{Fresh}
 

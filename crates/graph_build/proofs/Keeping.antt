@@ -1,6 +1,5 @@
 -- A disciplined graph stays one where its first open node grows as is due.
-use Rattle.std.proofs.Common.{◌≡◌, ◌≢◌, ◌⊎◌, inl, inr, ℕ, ◌<◌, ◌≤◌, true, List, [], ◌∷◌, length, Some, subst, ap, arith, refl, ◌∙◌, sym}
-use Rattle.std.specs.Prelude.{slice_get}
+use Rattle.std.proofs.Common.{◌≡◌, ◌≢◌, ◌⊎◌, inl, inr, ℕ, ◌<◌, ◌≤◌, true, List, [], ◌∷◌, length, subst, ap, arith, refl, ◌∙◌, sym}
 use Rattle.std.specs.List.{AllZip}
 use Rattle.std.proofs.lemmas.Bool.{false≢true, cases_eq, cases_lt}
 use Rattle.std.proofs.lemmas.Option.{slice_get_within}
@@ -9,7 +8,7 @@ use Rattle.term_graph.specs.declared.nodes.By.{By}
 use Rattle.term_graph.specs.declared.nodes.By.TheVariants.{Expand, Instance, End, Todo}
 use Rattle.term_graph.specs.Graphs.{GraphNode}
 use Rattle.graph_build.specs.Rules.{GrowthRules}
-use Rattle.graph_build.specs.Disciplined.{IsNode, IsTree, IsAtOrAbove, IsBefore, is_expanded, IsWidening, IsEarlier, IsMatch, IsAlikeAbove, IsSeeking, IsFirstMatch, HasNoMatch, IsWidenedBy, IsAlone, IsDue, Due, IsStateAt, IsGrown, IsMatched, IsWidened, IsLeftAsDue, IsDisciplinedBy}
+use Rattle.graph_build.specs.Disciplined.{IsNode, IsTree, IsAtOrAbove, IsBefore, is_expanded, IsWidening, IsEarlier, IsMatch, IsAlikeAbove, IsSeeking, IsDue, Due, IsStateAt, IsLeftAsDue, IsDisciplinedBy}
 use Rattle.graph_build.specs.Disciplined.Due.{growing, matching, widening}
 use Rattle.graph_build.proofs.Ancestry.{one_is_before}
 use Rattle.graph_build.proofs.Extending.{Extends, same_by, same_state, names_no_todo, todo_not_expanded, childless}

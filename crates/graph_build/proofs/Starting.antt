@@ -1,6 +1,5 @@
 -- A graph of one open node is disciplined.
-use Rattle.std.proofs.Common.{◌≡◌, ◌≢◌, inl, inr, ℕ, zero, suc, ◌<◌, List, [], ◌∷◌, length, Some, subst, arith, refl, sym}
-use Rattle.std.specs.Prelude.{slice_get}
+use Rattle.std.proofs.Common.{◌≡◌, inl, inr, ℕ, zero, suc, List, [], ◌∷◌, subst, arith, refl, sym}
 use Rattle.std.proofs.lemmas.Option.{slice_get_within}
 use Rattle.abs_cells.specs.AbstractStates.{AbstractState}
 use Rattle.term_graph.specs.declared.nodes.By.{By}

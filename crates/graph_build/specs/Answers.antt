@@ -1,10 +1,10 @@
 -- What building a graph answers.
-use Rattle.std.specs.Prelude.{◌≡◌, ◌≢◌, ◌⊎◌, ℕ, ◌+◌, ◌<◌, ◌≤◌, List, length, Result, Ok, Err}
+use Rattle.std.specs.Prelude.{◌≢◌, ◌⊎◌, ℕ, ◌+◌, ◌<◌, ◌≤◌, List, length, Result, Ok, Err}
 use Rattle.abs_cells.specs.AbstractStates.{AbstractState}
 use Rattle.term_graph.specs.declared.nodes.By.TheVariants.{Todo}
 use Rattle.term_graph.specs.Graphs.{GraphNode}
 use Rattle.graph_build.specs.Rules.{GrowthRules}
-use Rattle.graph_build.specs.Disciplined.{IsNode, IsBefore, IsDue, Due, IsStateAt, IsDisciplined, IsDisciplinedBy}
+use Rattle.graph_build.specs.Disciplined.{IsNode, IsBefore, IsDue, IsStateAt, IsDisciplined, IsDisciplinedBy}
 use Rattle.graph_build.specs.Disciplined.Due.{growing, widening}
 use Rattle.graph_build.specs.declared.building.Built.{Built}
 use Rattle.graph_build.specs.declared.building.Built.TheVariants as built

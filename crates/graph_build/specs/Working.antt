@@ -6,7 +6,7 @@ use Rattle.term_graph.specs.declared.nodes.By.{By}
 use Rattle.term_graph.specs.declared.nodes.By.TheVariants.{Expand, Instance, End, Todo}
 use Rattle.term_graph.specs.Graphs.{GraphNode, left_by}
 use Rattle.graph_build.specs.Rules.{GrowthRules, HaveSamePositions}
-use Rattle.graph_build.specs.Disciplined.{IsNode, IsStateAt, IsBefore, IsAbove, IsAtOrAbove, IsAlikeAbove, IsDue, Due, IsDisciplinedBy, is_expanded}
+use Rattle.graph_build.specs.Disciplined.{IsNode, IsStateAt, IsBefore, IsAbove, IsAtOrAbove, IsDue, IsDisciplinedBy, is_expanded}
 use Rattle.graph_build.specs.Disciplined.Due.{growing, matching, widening}
 use Rattle.graph_build.specs.Answers.{PassesLimit, HasLarge}
 use Rattle.graph_build.specs.declared.due.Next.{Next}

@@ -1,7 +1,7 @@
 -- What the calls that test a graph answer.
-use Rattle.std.proofs.Common.{◌≡◌, ◌≢◌, ◌<◌, ◌≤◌, ◌+◌, ◌∙◌, ℕ, zero, suc, List, [], ◌∷◌, ◌++◌, length, take, slice_index_or, get_or, Option, Some, None, slice_get, Result, Ok, Err, ◌⊎◌, inl, inr, refl, sym, ap, subst, arith, add-one}
+use Rattle.std.proofs.Common.{◌≡◌, ◌<◌, ◌≤◌, ◌+◌, ℕ, zero, suc, List, [], ◌∷◌, ◌++◌, length, take, Some, slice_get, Result, Ok, Err, inl, inr, refl, sym, subst, arith}
 use Rattle.std.proofs.lemmas.Option.{slice_get_cases}
-use Rattle.std.proofs.lemmas.List.{take_all, take_more}
+use Rattle.std.proofs.lemmas.List.{take_all}
 use Rattle.std.specs.List.{AllZip}
 use Rattle.jvm_values.proofs.Options.{some_is, none_is_not_some}
 use Rattle.abs_cells.specs.AbstractStates.{AbstractState}
@@ -9,7 +9,6 @@ use Rattle.class_program.specs.Programs.{Program}
 use Rattle.frame_types.specs.Tables.{CodeTypes}
 use Rattle.class_world.specs.WorldTypes.{types_of}
 use Rattle.term_graph.specs.declared.links.Link.{Link}
-use Rattle.term_graph.specs.declared.links.Links.{Links}
 use Rattle.term_graph.specs.declared.nodes.By.{By}
 use Rattle.term_graph.specs.declared.nodes.By.TheVariants.{Expand, Instance, End, Todo}
 use Rattle.term_graph.specs.Graphs.{GraphNode, GraphChild}
@@ -25,7 +24,7 @@ use Rattle.graph_check.specs.declared.fault.CheckFault.{CheckFault}
 use Rattle.graph_check.specs.declared.fault.CheckFault.TheVariants as faults
 use Rattle.graph_check.specs.declared.failure.Failure.{Failure}
 use Rattle.graph_check.specs.declared.failure.Failure.TheVariants.{Fails, Memory}
-use Rattle.graph_check.specs.Good.{HasChildren, HasEnded, HasTooMany, IsStateAt, IsGoodNode, IsRooted, FailsBy, IsFirstBadNode, Tells}
+use Rattle.graph_check.specs.Good.{HasChildren, HasEnded, IsStateAt, IsGoodNode, FailsBy, IsFirstBadNode, Tells}
 use Rattle.graph_check.specs.Checked.{failure_of, fault_of, LinksOr, MatchesOr, LeavesOr, NodeLeavesOr, GoodNodesOr}
 
 -- ---- one node

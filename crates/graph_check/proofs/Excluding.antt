@@ -27,20 +27,20 @@ use Rattle.graph_check.proofs.Following.{beside}
 
 -- ---- children
 
-abbrev states_of : List GraphChild → List AbstractState
+abbrev pub states_of : List GraphChild → List AbstractState
 states_of children = map (λ (child : GraphChild). child.state) children
 
-children_same : (types : WorldTypes) (state : AbstractState) (plan : Plan) (a b : List GraphChild) → IsPlain plan → AreExpanded types state plan a → AreExpanded types state plan b → states_of a ≡ states_of b
+pub children_same : (types : WorldTypes) (state : AbstractState) (plan : Plan) (a b : List GraphChild) → IsPlain plan → AreExpanded types state plan a → AreExpanded types state plan b → states_of a ≡ states_of b
 children_same types state ends a b plain g h = absurd g.are
 children_same types state (steps turns) a b plain g h = steps_same types state turns g.wholes h.wholes a b plain g.are h.are g.lean h.lean
 children_same types state (by_null x) a b plain g h = absurd plain
 children_same types state (by_class x wanted) a b plain g h = absurd plain
 children_same types state (by_equal x y) a b plain g h = absurd plain
 
-no_children : (types : WorldTypes) (state : AbstractState) (plan : Plan) (children : List GraphChild) → plan ≡ ends → AreExpanded types state plan children → ⊥
+pub no_children : (types : WorldTypes) (state : AbstractState) (plan : Plan) (children : List GraphChild) → plan ≡ ends → AreExpanded types state plan children → ⊥
 no_children types state plan children e g = subst (λ (q : Plan). AreChildren types state q g.wholes) e g.are
 
-few_or_many : (counts : List ℕ) (n : ℕ) → AreFew counts → IsFirstTooMany counts n → ⊥
+pub few_or_many : (counts : List ℕ) (n : ℕ) → AreFew counts → IsFirstTooMany counts n → ⊥
 few_or_many counts n few many =
     let small : many.count ≤ 512 = subst (λ (c : ℕ). c ≤ 512) (get_or_from_slice_get counts n many.count many.count many.is) (All-get_or (λ (c : ℕ). c ≤ 512) counts n many.count (slice_get_within counts n many.count many.is) few) in
     let large = many.many in
@@ -53,12 +53,12 @@ zip_length R (x ∷ xs) [] z = absurd z
 zip_length R (x ∷ xs) (y ∷ ys) z = ap suc (zip_length R xs ys z.1)
 
 -- where two lists have the same states, the one has a child with the other's state
-record SameAt (children : List GraphChild) (place : ℕ) (state : AbstractState) : Type 0 where
-  child : GraphChild
-  is : slice_get children place ≡ Some child
-  state_is : child.state ≡ state
+pub record SameAt (children : List GraphChild) (place : ℕ) (state : AbstractState) : Type 0 where
+  pub child : GraphChild
+  pub is : slice_get children place ≡ Some child
+  pub state_is : child.state ≡ state
 
-same_at : (a b : List GraphChild) (place : ℕ) (child : GraphChild) → states_of a ≡ states_of b → slice_get b place ≡ Some child → SameAt a place child.state
+pub same_at : (a b : List GraphChild) (place : ℕ) (child : GraphChild) → states_of a ≡ states_of b → slice_get b place ≡ Some child → SameAt a place child.state
 same_at [] [] place child e at = absurd (none_is_not_some child at)
 same_at [] (y ∷ b) place child e at = absurd (cc)
 same_at (x ∷ a) [] place child e at = absurd (cc)
@@ -70,12 +70,30 @@ same_at (x ∷ a) (y ∷ b) (suc place) child e at =
     let found = same_at a b place child rest at in
     record { child = found.child; is = found.is; state_is = found.state_is }
 
+-- ---- states
+
+-- a good node's state has an expansion
+pub good_by : (p : Program) (typing : ℕ → CodeTypes) (nodes : List GraphNode) (state : AbstractState) (by : By) (links : List Link) → IsLeftBy p typing nodes state by links → IsGoodState p typing state
+good_by p typing nodes state (Expand named) links left = left.are.0
+good_by p typing nodes state (Instance target entries) links left = left.0.good
+good_by p typing nodes state End links left = left.0.0
+good_by p typing nodes state Todo links left = absurd left
+
+pub not_bad : (p : Program) (typing : ℕ → CodeTypes) (state : AbstractState) (clause : ℕ) → IsGoodState p typing state → IsBadState p typing state clause → ⊥
+not_bad p typing state clause good (unsound f) = f good.sound
+not_bad p typing state clause good (misplaced s f) = f good.placed
+not_bad p typing state clause good (uncalled s t f) = f good.called
+
 -- ---- one node
 
-module _ (p : Program) (typing : ℕ → CodeTypes) (nodes : List GraphNode) (state : AbstractState) (plain : IsPlain (plan_of p typing state)) where
-  all_same : (a b : List GraphChild) → HasChildren p typing state a → HasChildren p typing state b → states_of a ≡ states_of b
-  all_same a b g h = children_same (types_of p.world) state (plan_of p typing state) a b plain g.1 h.1
+-- the states of a state's children are one list
+abbrev pub HasSameStates : Program → (ℕ → CodeTypes) → AbstractState → Type 0
+HasSameStates p typing state = (a b : List GraphChild) → HasChildren p typing state a → HasChildren p typing state b → states_of a ≡ states_of b
 
+pub plain_same : (p : Program) (typing : ℕ → CodeTypes) (state : AbstractState) → IsPlain (plan_of p typing state) → HasSameStates p typing state
+plain_same p typing state plain a b g h = children_same (types_of p.world) state (plan_of p typing state) a b plain g.1 h.1
+
+module _ (p : Program) (typing : ℕ → CodeTypes) (nodes : List GraphNode) (state : AbstractState) (all_same : HasSameStates p typing state) where
   no_miscount : (a b : List GraphChild) (named : List ℕ) → HasChildren p typing state a → HasChildren p typing state b → AllZip (NamesChild nodes) a named → length b ≢ length named → ⊥
   no_miscount a b named g h names counts =
       counts (sym (length-map b (λ (child : GraphChild). child.state)) ∙ ap length (sym (all_same a b g h)) ∙ length-map a (λ (child : GraphChild). child.state) ∙ zip_length (NamesChild nodes) a named names)
@@ -92,17 +110,6 @@ module _ (p : Program) (typing : ℕ → CodeTypes) (nodes : List GraphNode) (st
     | inl f ↦ f.0 (match fault.clause).0
     | inr f ↦ f.fails ((match fault.clause).1 id)
   ]
-
-  good_by : (by : By) (links : List Link) → IsLeftBy p typing nodes state by links → IsGoodState p typing state
-  good_by (Expand named) links left = left.are.0
-  good_by (Instance target entries) links left = left.0.good
-  good_by End links left = left.0.0
-  good_by Todo links left = absurd left
-
-  not_bad : (clause : ℕ) → IsGoodState p typing state → IsBadState p typing state clause → ⊥
-  not_bad clause good (unsound f) = f good.sound
-  not_bad clause good (misplaced s f) = f good.placed
-  not_bad clause good (uncalled s t f) = f good.called
 
   no_fault_by : (by : By) (links : List Link) (what : What) → IsLeftBy p typing nodes state by links → FailsBy p typing nodes state by what → ⊥
   no_fault_by (Expand named) links whats.Root left fails = fails
@@ -135,8 +142,8 @@ module _ (p : Program) (typing : ℕ → CodeTypes) (nodes : List GraphNode) (st
   no_fault_by End links (whats.Match fault) left fails = fails
   no_fault_by Todo links what left fails = left
 
-  no_fault_as : (by : By) (links : List Link) (what : What) → IsLeftBy p typing nodes state by links → FailsAs p typing nodes (record { state = state; by = by }) what → ⊥
-  no_fault_as by links (whats.BadState clause) left fails = not_bad clause (good_by by links left) fails
+  pub no_fault_as : (by : By) (links : List Link) (what : What) → IsLeftBy p typing nodes state by links → FailsAs p typing nodes (record { state = state; by = by }) what → ⊥
+  no_fault_as by links (whats.BadState clause) left fails = not_bad p typing state clause (good_by p typing nodes state by links left) fails
   no_fault_as by links whats.Root left fails = no_fault_by by links whats.Root left fails.1
   no_fault_as by links whats.TooManyIds left fails = no_fault_by by links whats.TooManyIds left fails.1
   no_fault_as by links whats.ChildCount left fails = no_fault_by by links whats.ChildCount left fails.1
@@ -153,7 +160,7 @@ no_fault p typing nodes root links plain ok number what fault = by what fault
     at_node : (w : What) → IsFirstBadNode p typing nodes number w → ⊥
     at_node w bad =
         let found = beside (IsGoodNode p typing nodes) nodes links number bad.node ok.each bad.is in
-        no_fault_as p typing nodes bad.node.state (plain number bad.node bad.is) bad.node.by found.other w found.alike bad.fails
+        no_fault_as p typing nodes bad.node.state (plain_same p typing bad.node.state (plain number bad.node bad.is)) bad.node.by found.other w found.alike bad.fails
 
     by : (w : What) → IsFault p typing nodes root number w → ⊥
     by whats.Root f = f.1 ok.rooted

@@ -1,5 +1,5 @@
 -- The children of a state and the nodes that are named for them.
-use Rattle.std.proofs.Common.{◌≡◌, ◌<◌, ◌≤◌, ℕ, zero, suc, List, [], ◌∷◌, length, refl, arith}
+use Rattle.std.proofs.Common.{◌≡◌, ◌≤◌, ℕ, zero, suc, List, [], ◌∷◌, length, refl, arith}
 use Rattle.std.specs.List.{AllZip}
 use Rattle.term_graph.specs.Graphs.{GraphNode, GraphChild}
 use Rattle.graph_check.specs.Good.{NamesChild}

@@ -11,10 +11,10 @@ use Rattle.abs_cells.specs.Sound.{AreIdsRising}
 use Rattle.abs_expand.proofs.IntPrograms.{state_int, nothing_there}
 use Rattle.abs_expand.specs.BadStates.{IsGoodState, IsBadState}
 use Rattle.abs_expand.specs.IntForms.{IsIntState}
+use Rattle.graph_check.proofs.Excluding.{not_bad}
 use Rattle.class_program.specs.Programs.{Program}
 use Rattle.frame_types.specs.Tables.{CodeTypes}
 use Rattle.graph_fill.specs.Words.{has_ints, IsReadyOr}
-use Rattle.graph_fill.proofs.Plain.{not_bad}
 
 here : (c : ℕ × Cell) (cells : List (ℕ × Cell)) → cell_in (c ∷ cells) c.0 ≡ Some c.1
 here c cells = ap (λ b. cond b (Some c.1) (cell_in cells c.0)) (eq-eqb c.0 c.0 refl)

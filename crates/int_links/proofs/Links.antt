@@ -1,13 +1,10 @@
 -- The links of a state's children are such as rules take.
-use Rattle.std.proofs.Common.{◌≡◌, ◌≢◌, ◌∙◌, ◌==◌, ◌<◌, ℕ, zero, suc, ℤ, Bool, true, false, not, cond, eqb, if◌then◌else◌, IsTrue, List, [], ◌∷◌, ◌++◌, length, Option, Some, None, slice_get, inl, inr, refl, sym, ap, subst, arith, eq-eqb}
+use Rattle.std.proofs.Common.{◌≡◌, ◌≢◌, ◌∙◌, ◌<◌, ℕ, zero, suc, ℤ, Bool, true, false, not, cond, eqb, if◌then◌else◌, IsTrue, List, [], ◌∷◌, ◌++◌, length, Option, Some, None, slice_get, inl, inr, refl, sym, ap, subst, arith, eq-eqb}
 use Rattle.std.specs.Prelude.{All, IfSome, slice_set}
 use Rattle.std.specs.List.{AllByRecursion, AllZip, flat_map}
-use Rattle.std.specs.Option.{option_map_or}
 use Rattle.std.proofs.lemmas.Bool.{false≢true}
 use Rattle.std.proofs.lemmas.Int.{ints}
 use Rattle.std.proofs.lemmas.List.Elements.{All-from_recursion, recursion_from_All}
-use Rattle.lin_core.specs.Intervals.{Bounds}
-use Rattle.jvm_values.specs.States.{PlaceTypes}
 use Rattle.jvm_values.specs.TypedHeaps.{WorldTypes}
 use Rattle.jvm_values.proofs.Options.{some_is, none_is_not_some}
 use Rattle.abs_cells.specs.declared.cells.Cell.{Cell}
@@ -16,11 +13,10 @@ use Rattle.abs_cells.specs.AbstractStates.{AbstractFrame, AbstractState}
 use Rattle.abs_cells.specs.Cells.{is_int, cell_in, cell_at, HasCell}
 use Rattle.abs_cells.specs.Sound.{given_ids, ids_of_frame, IsSoundCell, IsSound}
 use Rattle.abs_cells.proofs.PairLaws.{bool_cases}
-use Rattle.abs_reach.specs.Instances.{is_no_int}
 use Rattle.abs_reach.specs.Reached.{IsReached}
 use Rattle.class_world.specs.WorldTypes.{types_of}
 use Rattle.class_program.specs.declared.op.Op.{Op}
-use Rattle.class_program.specs.Programs.{Program, insn_at}
+use Rattle.class_program.specs.Programs.{Program}
 use Rattle.op_forms.specs.Forms.{Form, form_of}
 use Rattle.frame_types.specs.Tables.{CodeTypes}
 use Rattle.term_graph.specs.declared.links.Side.{Side}
@@ -29,22 +25,20 @@ use Rattle.term_graph.specs.declared.links.Link.{Link}
 use Rattle.term_graph.specs.declared.links.LinkRow.{LinkRow}
 use Rattle.term_graph.specs.Graphs.{GraphChild}
 use Rattle.abs_heap.specs.Given.{first_cell}
-use Rattle.path_rules.specs.Conditions.{HasIntsAlone, IsTermBetween, IsRowBetween, IsLinkBetween}
+use Rattle.path_rules.specs.Conditions.{IsTermBetween, IsRowBetween}
 use Rattle.abs_expand.specs.BadStates.{IsGoodState}
-use Rattle.abs_expand.specs.Building.{HoldsIds}
 use Rattle.abs_expand.specs.Children.{IsActed, top_with, gone_to, IsTurnChild, IsLean}
-use Rattle.abs_expand.specs.Expansions.{plan_here, plan_in, plan_of, AreChildren, AreExpanded}
-use Rattle.abs_expand.specs.IntForms.{has_int_form, HasIntForms, IsIntState}
+use Rattle.abs_expand.specs.Expansions.{plan_of, AreChildren}
+use Rattle.abs_expand.specs.IntForms.{HasIntForms, IsIntState}
 use Rattle.abs_expand.specs.Plans.{Act, makes, Goal, nowhere, on_stack, in_local, in_bottom, in_field, is_thrown, Turn, Plan, ends, steps, by_null, by_class, by_equal}
-use Rattle.abs_expand.specs.Turns.{Here, interval_in, interval_of_id}
-use Rattle.abs_expand.specs.Table.{row_of}
-use Rattle.abs_expand.proofs.IntStates.{plan_is_row, one_frame, frame_held, form_int, op_int}
+use Rattle.abs_expand.specs.Turns.{interval_in, interval_of_id}
+use Rattle.int_plans.proofs.EachTurn.{EachTurn, here_in, in_plan}
 use Rattle.expand_laws.specs.Laws.{HasShortIncrements}
 use Rattle.int_links.specs.Increments.{IsShortOp, IsShortForm}
 use Rattle.int_links.specs.Laws.{FitsRules, IntLinksFit}
 use Rattle.int_links.proofs.ShortIncrements.{found_short}
 use Rattle.int_links.proofs.SmallRows.{HasIntEnds}
-use Rattle.int_links.proofs.RowedTurns.{Keeps, IsKept, IsTermOf, IsRowFor, IsRowed, AreRowed, row_rowed}
+use Rattle.int_links.proofs.RowedTurns.{Keeps, IsKept, IsTermOf, IsRowFor, IsRowed, row_rowed}
 
 -- ---- places of lists
 
@@ -169,7 +163,7 @@ all_fit types state [] (whole ∷ wholes) (child ∷ children) ints_state rowed 
 all_fit types state (turn ∷ turns) (whole ∷ wholes) (child ∷ children) ints_state rowed are lean =
     (link_fits types state turn whole child ints_state rowed.0 are.0 lean.0, all_fit types state turns wholes children ints_state rowed.1 are.1 lean.1)
 
-planned_fit : (types : WorldTypes) (state : AbstractState) (plan : Plan) (wholes children : List GraphChild) → IsIntState state → AreRowed state plan → AreChildren types state plan wholes → AllZip IsLean wholes children → AllByRecursion (FitsRules state) children
+planned_fit : (types : WorldTypes) (state : AbstractState) (plan : Plan) (wholes children : List GraphChild) → IsIntState state → EachTurn (IsRowed state) plan → AreChildren types state plan wholes → AllZip IsLean wholes children → AllByRecursion (FitsRules state) children
 planned_fit types state ends wholes children ints_state rowed are lean = absurd are
 planned_fit types state (steps turns) wholes children ints_state rowed are lean = all_fit types state turns wholes children ints_state rowed are lean
 planned_fit types state (by_null x) wholes children ints_state rowed are lean = absurd rowed
@@ -202,28 +196,11 @@ int_ends types state sound x =
 short_form : (op : Op) (form : Form) → IsShortOp op → form_of op ≡ Some form → IsShortForm form
 short_form op form h e = subst (λ (found : Option Form). IfSome found IsShortForm) e h
 
-module _ (p : Program) (typing : ℕ → CodeTypes) (state : AbstractState) (forms : HasIntForms p) (increments : HasShortIncrements p) (good : IsGoodState p typing state) (ints_state : IsIntState state) where
-  form_rowed : (frame : AbstractFrame) → state.frames ≡ frame ∷ [] → (op : Op) (next : Option ℕ) → insn_at p.methods frame.method frame.pc ≡ Some (op, next) → (form : Option Form) → form_of op ≡ form → (there : Option PlaceTypes) → AreRowed state (plan_here p typing state frame [] form next there)
-  form_rowed frame alone op next e None f there = tt
-  form_rowed frame alone op next e (Some form) f None = tt
-  form_rowed frame alone op next e (Some form) f (Some there) =
-      let here : Here = record { program = p; state = state; frame = frame; below = []; places = there.stack; next = option_map_or (λ place. place) next frame.pc } in
-      let held = frame_held state frame good.sound.well_formed alone in
-      let int = form_int op form (op_int p frame.method frame.pc op next forms e) f in
-      let short = short_form op form (found_short p frame.method frame.pc (op, next) increments e) f in
-      subst (AreRowed state) (sym (plan_is_row here form ints_state)) (row_rowed here ints_state (int_ends (types_of p.world) state good.sound) held refl form int short)
-
-  frame_rowed : (frame : AbstractFrame) → state.frames ≡ frame ∷ [] → (found : Option (Op × Option ℕ)) → insn_at p.methods frame.method frame.pc ≡ found → AreRowed state (plan_here p typing state frame [] (option_map_or (λ (x : Op × Option ℕ). form_of x.0) found None) (option_map_or (λ (x : Op × Option ℕ). x.1) found None) (typing frame.method frame.pc))
-  frame_rowed frame alone None e = tt
-  frame_rowed frame alone (Some x) e = form_rowed frame alone x.0 x.1 e (form_of x.0) refl (typing frame.method frame.pc)
-
-  frames_rowed : (frames : List AbstractFrame) → state.frames ≡ frames → length frames ≡ 1 → AreRowed state (plan_in p typing state None frames)
-  frames_rowed [] e one = tt
-  frames_rowed (frame ∷ []) e one = frame_rowed frame e (insn_at p.methods frame.method frame.pc) refl
-  frames_rowed (frame ∷ next ∷ rest) e one = absurd (omega (arith, one))
-
-  plan_rowed : AreRowed state (plan_of p typing state)
-  plan_rowed = subst (λ (t : Option ℕ). AreRowed state (plan_in p typing state t state.frames)) (sym ints_state.unthrown) (frames_rowed state.frames refl (one_frame p typing state forms good))
+plan_rowed : (p : Program) (typing : ℕ → CodeTypes) (state : AbstractState) → HasIntForms p → HasShortIncrements p → IsGoodState p typing state → IsIntState state → EachTurn (IsRowed state) (plan_of p typing state)
+plan_rowed p typing state forms increments good ints_state =
+    in_plan p typing state forms good ints_state (EachTurn (IsRowed state)) tt (λ frame places next op after form held at is int.
+    let short = short_form op form (found_short p frame.method frame.pc (op, after) increments at) is in
+    row_rowed (here_in p state frame places next) ints_state (int_ends (types_of p.world) state good.sound) held refl form int short)
 
 pub links_fit : IntLinksFit
 links_fit p typing state children forms increments good ints_state expanded =

@@ -1,74 +1,45 @@
 -- Each step of a state of ints has rows such as the rules of paths take.
-use Rattle.std.proofs.Common.{◌≡◌, ◌∙◌, ◌==◌, ◌<◌, ◌≤◌, ◌+◌, ◌^◌, ℕ, zero, suc, ℤ, pos, negsuc, ◌+ℤ◌, ◌*ℤ◌, ◌≤ℤ◌, Bool, true, false, if◌then◌else◌, List, [], ◌∷◌, ◌++◌, length, map, Option, Some, None, slice_get, ◌⊎◌, inl, inr, refl, sym, ap, subst, arith, length-append}
-use Rattle.std.specs.Prelude.{slice_set, unsigned_abs}
-use Rattle.std.specs.List.{AllByRecursion, filter_map, cons_option}
-use Rattle.std.specs.Option.{option_map, option_and_then, option_to_list}
+use Rattle.std.proofs.Common.{◌≡◌, ◌∙◌, ◌<◌, ◌≤◌, ◌+◌, ◌^◌, ℕ, zero, suc, ℤ, pos, negsuc, ◌+ℤ◌, ◌≤ℤ◌, true, List, [], ◌∷◌, ◌++◌, length, map, Option, Some, None, slice_get, ◌⊎◌, inl, inr, refl, sym, ap, subst, arith, length-append}
+use Rattle.std.specs.Prelude.{unsigned_abs}
+use Rattle.std.specs.List.{AllByRecursion}
 use Rattle.std.specs.Ordering.{int_eq}
-use Rattle.std.proofs.lemmas.Bool.{false≢true}
 use Rattle.std.proofs.lemmas.Int.{ints}
 use Rattle.lin_core.specs.Intervals.{Bounds}
 use Rattle.jvm_values.specs.declared.ints.IntOp.{IntOp}
-use Rattle.jvm_values.specs.declared.ints.IntOp.TheVariants.{Add, Sub, Narrow as NarrowOp}
+use Rattle.jvm_values.specs.declared.ints.IntOp.TheVariants.{Add, Sub}
 use Rattle.jvm_values.specs.declared.ints.Cond.{Cond}
-use Rattle.jvm_values.specs.declared.types.Kind.{Kind}
-use Rattle.jvm_values.proofs.Options.{given, some_is, none_is_not_some}
+use Rattle.jvm_values.proofs.Options.{given, none_is_not_some}
 use Rattle.abs_cells.specs.declared.cells.Cell.{Cell}
 use Rattle.abs_cells.specs.declared.cells.Cell.TheVariants as cells
 use Rattle.abs_cells.specs.AbstractStates.{AbstractFrame, AbstractState}
 use Rattle.abs_cells.specs.Cells.{is_int, HasCell}
 use Rattle.abs_ints.specs.Comparing.{compared}
 use Rattle.abs_ints.specs.Operating.{operated}
-use Rattle.abs_ints.specs.Parts.{meet_of}
-use Rattle.abs_ints.specs.Sums.{turn_of, sum_row, difference_row}
+use Rattle.abs_ints.specs.Sums.{sum_row, difference_row}
 use Rattle.abs_ints.specs.declared.cases.IntCase.{IntCase}
 use Rattle.abs_ints.specs.declared.cases.ShortRow.{ShortRow}
 use Rattle.abs_ints.specs.declared.cases.Way.{Way}
 use Rattle.abs_ints.proofs.OperatorCases.{if_either}
-use Rattle.op_forms.specs.declared.form.Shuffle.{Shuffle as StackShuffle}
-use Rattle.op_forms.specs.Forms.{Form, shuffled}
-use Rattle.op_forms.specs.Forms.Form.{Nop, AconstNull, Iconst, Iload, Aload, Istore, Astore, Iinc, Shuffle, Arith, Ineg, Narrow, If, IfIcmp, IfAcmpeq, IfAcmpne, Ifnull, Ifnonnull, Goto, Tableswitch, Lookupswitch, Ireturn, Areturn, Return, Getstatic, Putstatic, Getfield, Putfield, Invokevirtual, Invokespecial, Invokestatic, Invokeinterface, New, Newarray, Anewarray, Arraylength, NumberLoad, Aaload, NumberStore, Aastore, Athrow, Checkcast, Instanceof}
+use Rattle.op_forms.specs.Forms.{Form}
 use Rattle.term_graph.specs.declared.links.Side.{Side}
 use Rattle.term_graph.specs.declared.links.Side.TheVariants.{Before, After}
 use Rattle.term_graph.specs.declared.links.LinkRow.{LinkRow}
 use Rattle.abs_expand.specs.Building.{HoldsIds}
 use Rattle.abs_expand.specs.IntForms.{is_int_form, IsIntState}
-use Rattle.abs_expand.specs.Plans.{Goal, nowhere, on_stack, in_local, in_bottom, in_field, is_thrown, Turn, Plan, ends, steps, by_null, by_class, by_equal, makes, no_rows}
-use Rattle.abs_expand.specs.Switches.{table_keys, lookup_keys, parts_of}
-use Rattle.abs_expand.specs.Table.{local_here, load_plan, store_plan, increment_plan, negation_plan, narrow_plan, switch_plan, unary, binary, value_plan, returned_to, row_of}
-use Rattle.abs_expand.specs.Turns.{Here, Operand, known, id, with_stack, goes_on, interval_at, interval_of_id, are_one, narrowings, term_of, terms_of, constant_of, row_over, rows_over, turn_of_result, turn_of_case, turns_of, turn_narrowing, turns_narrowing, narrows, rows_if, place_of_way, branch_of_case, branches, switch_turn}
+use Rattle.abs_expand.specs.Plans.{Goal, on_stack, in_local, Turn, steps, makes, no_rows}
+use Rattle.abs_expand.specs.Table.{local_here, row_of}
+use Rattle.abs_expand.specs.Turns.{Here, Operand, known, id, with_stack, interval_at, interval_of_id, are_one, narrowings, term_of, terms_of, constant_of, row_over, rows_over, turn_of_result, turn_of_case, turns_of, narrows, place_of_way, branch_of_case, branches}
 use Rattle.abs_expand.proofs.IntTurns.{local_held}
+use Rattle.int_plans.proofs.OptionLists.{mapped, filtered}
+use Rattle.int_plans.proofs.EachTurn.{EachTurn, HoldsOfInts, each_turn}
 use Rattle.int_links.specs.Increments.{IsShortForm}
 use Rattle.int_links.proofs.SmallRows.{IsSmall, IsInt, HasIntEnds, IsSmallRow, IsFine, AreFine, IsPlainRow, sum_small, difference_small, turn_small, sums_fine, differences_fine, operated_small, compared_plain}
 
 -- ---- lists
 
-mapped : {X Y : Type 0} (f : X → Y) (o : Option X) (y : Y) → option_map f o ≡ Some y → (x : X) × ((o ≡ Some x) × (f x ≡ y))
-mapped f None y e = absurd (none_is_not_some y e)
-mapped f (Some x) y e = (x, (refl, some_is e))
-
-put_one : {Y : Type 0} (P : Y → Type 0) (o : Option Y) (rest : List Y) → ((y : Y) → o ≡ Some y → P y) → AllByRecursion P rest → AllByRecursion P (cons_option o rest)
-put_one P None rest h r = r
-put_one P (Some y) rest h r = (h y refl, r)
-
-filtered : {X Y : Type 0} (Q : X → Type 0) (P : Y → Type 0) (f : X → Option Y) (xs : List X) → ((x : X) → Q x → (y : Y) → f x ≡ Some y → P y) → AllByRecursion Q xs → AllByRecursion P (filter_map f xs)
-filtered Q P f [] h all = tt
-filtered Q P f (x ∷ xs) h all = put_one P (f x) (filter_map f xs) (h x all.0) (filtered Q P f xs h all.1)
-
-filtered_any : {X Y : Type 0} (P : Y → Type 0) (f : X → Option Y) (xs : List X) → ((x : X) (y : Y) → f x ≡ Some y → P y) → AllByRecursion P (filter_map f xs)
-filtered_any P f [] h = tt
-filtered_any P f (x ∷ xs) h = put_one P (f x) (filter_map f xs) (h x) (filtered_any P f xs h)
-
 each_mapped : {X Y : Type 0} (Q : X → Type 0) (P : Y → Type 0) (f : X → Y) (xs : List X) → ((x : X) → Q x → P (f x)) → AllByRecursion Q xs → AllByRecursion P (map f xs)
 each_mapped Q P f [] h all = tt
 each_mapped Q P f (x ∷ xs) h all = (h x all.0, each_mapped Q P f xs h all.1)
-
-each_any : {X Y : Type 0} (P : Y → Type 0) (f : X → Y) (xs : List X) → ((x : X) → P (f x)) → AllByRecursion P (map f xs)
-each_any P f [] h = tt
-each_any P f (x ∷ xs) h = (h x, each_any P f xs h)
-
-if_there : {Y : Type 0} (P : Y → Type 0) (o : Option Y) → ((y : Y) → o ≡ Some y → P y) → AllByRecursion P (option_to_list o)
-if_there P None h = tt
-if_there P (Some y) h = (h y refl, tt)
 
 both_all : {X : Type 0} (P : X → Type 0) (xs ys : List X) → AllByRecursion P xs → AllByRecursion P ys → AllByRecursion P (xs ++ ys)
 both_all P [] ys a b = b
@@ -100,13 +71,6 @@ pub record IsRowFor (state : AbstractState) (K : Type 0) (fresh : ℕ) (row : Li
 
 abbrev pub IsRowed : AbstractState → Turn → Type 0
 IsRowed state turn = (fresh : ℕ) → AllByRecursion (IsRowFor state (IsKept turn) fresh) (turn.rows fresh)
-
-abbrev pub AreRowed : AbstractState → Plan → Type 0
-AreRowed state ends = Unit {0}
-AreRowed state (steps turns) = AllByRecursion (IsRowed state) turns
-AreRowed state (by_null x) = ⊥
-AreRowed state (by_class x wanted) = ⊥
-AreRowed state (by_equal x y) = ⊥
 
 -- ---- sizes
 
@@ -241,27 +205,6 @@ module _ (here : Here) (ints_state : IsIntState here.state) (int_ends : (x : ℕ
       subst Rowed m.1.1 (λ fresh. plain_fit (IsKept (narrows m.0 frames (rows_over (id x) (id y) case.rows))) fresh x y case.rows hx hy plain))
       (compared_plain cond (are_one (id x) (id y)) (interval_of_id here.state x) (interval_of_id here.state y))
 
-  zero_rowed : (cond : Cond) (left right : Operand) (place : ℕ) (stack : List ℕ) → AllByRecursion Rowed (branches here cond left right place stack false)
-  zero_rowed cond left right place stack =
-      filtered_any Rowed (branch_of_case here left right place stack false) (compared cond (are_one left right) (interval_at here.state left) (interval_at here.state right)) (λ case turn e.
-      let m = mapped (λ (narrowed : List (ℕ × Cell)). narrows narrowed (with_stack here (place_of_way here place case.way) stack) no_rows) (narrowings left case.left right case.right) turn e in
-      subst Rowed m.1.1 (λ fresh. tt))
-
-  switch_rowed : (x : ℕ) (stack : List ℕ) (parts : List (Option Bounds × ℕ)) → AllByRecursion Rowed (filter_map (switch_turn here x stack) parts)
-  switch_rowed x stack parts =
-      filtered_any Rowed (switch_turn here x stack) parts (λ part turn e.
-      let m = mapped (λ (both : Bounds). narrows ((x, cells.Int both) ∷ []) (with_stack here part.1 stack) no_rows) (option_and_then (meet_of (interval_of_id here.state x)) part.0) turn e in
-      subst Rowed m.1.1 (λ fresh. tt))
-
-  kind_rowed : (kept : Turn) (frames : List AbstractFrame) (goal : Goal) (result : Option Bounds) → Rowed kept → Rowed (turn_narrowing kept frames goal result)
-  kind_rowed kept frames goal None h = h
-  kind_rowed kept frames goal (Some r) h = λ fresh. tt
-
-  -- ---- the table
-
-  abbrev Planned : Plan → Type 0
-  Planned = AreRowed here.state
-
   found_local : (n x : ℕ) → local_here here n ≡ Some x → Holds x × (n < length here.frame.locals)
   found_local n x e =
       let m = given (λ (local : Option ℕ). local) (slice_get here.frame.locals n) x e in
@@ -272,103 +215,28 @@ module _ (here : Here) (ints_state : IsIntState here.state) (int_ends : (x : ℕ
       within (first ∷ rest) zero local f = omega arith
       within (first ∷ rest) (suc n) local f = let l = within rest n local f in omega (arith, l)
 
-  increment_rowed : (n : ℕ) (by : ℤ) → IsInt by → (found : Option ℕ) → ((x : ℕ) → found ≡ Some x → Holds x × (n < length here.frame.locals)) → Planned (increment_plan here n by found)
-  increment_rowed n by b None h = tt
-  increment_rowed n by b (Some x) h =
-      operator_rowed Add (id x) (known by) (with_stack here here.next here.frame.stack) (in_local n) (h x refl).0 tt (h x refl).1 (sums_fine (IsOver (id x) (known by)) (sum_over x by b) (interval_of_id here.state x) (interval_at here.state (known by)))
-
-  load_rowed : (n : ℕ) → Planned (load_plan here n)
-  load_rowed n =
-      if_there Rowed (option_map (λ x. goes_on here here.next (x ∷ here.frame.stack)) (local_here here n)) (λ turn e.
-      let m = mapped (λ (x : ℕ). goes_on here here.next (x ∷ here.frame.stack)) (local_here here n) turn e in
-      subst Rowed m.1.1 (λ fresh. tt))
-
-  store_rowed : (n : ℕ) (stack : List ℕ) → Planned (store_plan here n stack)
-  store_rowed n [] = tt
-  store_rowed n (x ∷ stack) = (λ fresh. tt, tt)
-
-  shuffle_rowed : (shuffle : StackShuffle) → Planned (row_of here (Shuffle shuffle))
-  shuffle_rowed shuffle =
-      if_there Rowed (option_map (goes_on here here.next) (shuffled shuffle here.frame.stack)) (λ turn e.
-      let m = mapped (goes_on here here.next) (shuffled shuffle here.frame.stack) turn e in
-      subst Rowed m.1.1 (λ fresh. tt))
-
-  negation_rowed : (stack : List ℕ) → AllByRecursion Holds stack → Planned (negation_plan here stack)
-  negation_rowed [] s = tt
-  negation_rowed (a ∷ stack) s =
-      operator_rowed Sub (known (pos 0)) (id a) (with_stack here here.next stack) on_stack tt s.0 tt (differences_fine (IsOver (known (pos 0)) (id a)) (difference_over a) (interval_at here.state (known (pos 0))) (interval_of_id here.state a))
-
-  narrow_rowed : (kind : Kind) (stack : List ℕ) → Planned (narrow_plan here kind stack)
-  narrow_rowed kind [] = tt
-  narrow_rowed kind (a ∷ stack) =
-      each_any Rowed (λ (case : IntCase). turn_narrowing (goes_on here here.next (a ∷ stack)) (with_stack here here.next stack) on_stack case.result) (operated (NarrowOp kind) (interval_of_id here.state a) (interval_of_id here.state a)) (λ case. kind_rowed (goes_on here here.next (a ∷ stack)) (with_stack here here.next stack) on_stack case.result (λ fresh. tt))
-
-  switched_rowed : (default : ℕ) (keys : List (ℤ × ℕ)) (stack : List ℕ) → Planned (switch_plan here default keys stack)
-  switched_rowed default keys [] = tt
-  switched_rowed default keys (a ∷ stack) = switch_rowed a stack (parts_of default keys)
-
-  unary_rowed : (stack : List ℕ) (plan : ℕ → List ℕ → Plan) → AllByRecursion Holds stack → ((a : ℕ) (rest : List ℕ) → Holds a → Planned (plan a rest)) → Planned (unary stack plan)
-  unary_rowed [] plan s h = tt
-  unary_rowed (a ∷ rest) plan s h = h a rest s.0
-
-  binary_rowed : (stack : List ℕ) (plan : ℕ → ℕ → List ℕ → Plan) → AllByRecursion Holds stack → ((a b : ℕ) (rest : List ℕ) → Holds a → Holds b → Planned (plan a b rest)) → Planned (binary stack plan)
-  binary_rowed [] plan s h = tt
-  binary_rowed (b ∷ []) plan s h = tt
-  binary_rowed (b ∷ a ∷ rest) plan s h = h a b rest s.1.0 s.0
-
-  arith_rowed : (op : IntOp) (a b : ℕ) (rest : List ℕ) → Holds a → Holds b → Planned (steps (turns_of here op (id a) (id b) (with_stack here here.next rest) on_stack))
+  arith_rowed : (op : IntOp) (a b : ℕ) (rest : List ℕ) → Holds a → Holds b → AllByRecursion Rowed (turns_of here op (id a) (id b) (with_stack here here.next rest) on_stack)
   arith_rowed op a b rest ha hb = operator_rowed op (id a) (id b) (with_stack here here.next rest) on_stack ha hb tt (all_over a b (operated op (interval_of_id here.state a) (interval_of_id here.state b)) (operated_small op (interval_of_id here.state a) (interval_of_id here.state b) (int_ends a) (int_ends b)))
 
-  returned_rowed : (value : Option ℕ) (below : List AbstractFrame) → below ≡ [] → Planned (returned_to here value below)
-  returned_rowed value [] e = tt
-  returned_rowed value (caller ∷ below) e = absurd (omega (arith, ap length e))
+  still_rowed : (turn : Turn) → turn.rows ≡ no_rows → Rowed turn
+  still_rowed turn e fresh = subst (λ (rows : ℕ → List LinkRow). AllByRecursion (IsRowFor here.state (IsKept turn) fresh) (rows fresh)) (sym e) tt
 
-  value_rowed : (stack : List ℕ) → here.below ≡ [] → Planned (value_plan here stack)
-  value_rowed [] e = tt
-  value_rowed (x ∷ stack) e = returned_rowed (Some x) here.below e
+  taken : (stack : List ℕ) → here.frame.stack ≡ stack → AllByRecursion Holds stack
+  taken stack e = subst (AllByRecursion Holds) e held.stack
+
+  ints_rowed : (form : Form) → IsShortForm form → HoldsOfInts here Rowed form
+  ints_rowed form short = record {
+    still = still_rowed;
+    increments = λ n by x is at.
+        let l = found_local n x at in
+        let b : IsInt by = subst IsShortForm is short in
+        operator_rowed Add (id x) (known by) (with_stack here here.next here.frame.stack) (in_local n) l.0 tt l.1 (sums_fine (IsOver (id x) (known by)) (sum_over x by b) (interval_of_id here.state x) (interval_at here.state (known by)));
+    negates = λ a rest e.
+        operator_rowed Sub (known (pos 0)) (id a) (with_stack here here.next rest) on_stack tt (taken (a ∷ rest) e).0 tt (differences_fine (IsOver (known (pos 0)) (id a)) (difference_over a) (interval_at here.state (known (pos 0))) (interval_of_id here.state a));
+    computes = λ op a b rest e. let h = taken (b ∷ a ∷ rest) e in arith_rowed op a b rest h.1.0 h.0;
+    compares = λ cond a b place rest e. let h = taken (b ∷ a ∷ rest) e in compared_rowed cond a b place rest h.1.0 h.0;
+  }
 
   -- the rows of every step of an instruction that is about ints, in a state with one frame
-  pub row_rowed : here.below ≡ [] → (form : Form) → is_int_form form ≡ true → IsShortForm form → AreRowed here.state (row_of here form)
-  row_rowed alone Nop e b = (λ fresh. tt, tt)
-  row_rowed alone (Iconst n) e b = (λ fresh. tt, tt)
-  row_rowed alone (Iload n) e b = load_rowed n
-  row_rowed alone (Istore n) e b = store_rowed n here.frame.stack
-  row_rowed alone (Iinc n by) e b = increment_rowed n by b (local_here here n) (found_local n)
-  row_rowed alone (Shuffle shuffle) e b = shuffle_rowed shuffle
-  row_rowed alone (Arith op) e b = binary_rowed here.frame.stack (λ x y rest. steps (turns_of here op (id x) (id y) (with_stack here here.next rest) on_stack)) held.stack (arith_rowed op)
-  row_rowed alone Ineg e b = negation_rowed here.frame.stack held.stack
-  row_rowed alone (Narrow kind) e b = narrow_rowed kind here.frame.stack
-  row_rowed alone (If cond place) e b = unary_rowed here.frame.stack (λ x rest. steps (branches here cond (id x) (known (pos 0)) place rest false)) held.stack (λ x rest h. zero_rowed cond (id x) (known (pos 0)) place rest)
-  row_rowed alone (IfIcmp cond place) e b = binary_rowed here.frame.stack (λ x y rest. steps (branches here cond (id x) (id y) place rest true)) held.stack (λ x y rest hx hy. compared_rowed cond x y place rest hx hy)
-  row_rowed alone (Goto place) e b = (λ fresh. tt, tt)
-  row_rowed alone (Tableswitch default low targets) e b = switched_rowed default (table_keys low targets) here.frame.stack
-  row_rowed alone (Lookupswitch default cases) e b = switched_rowed default (lookup_keys cases) here.frame.stack
-  row_rowed alone Ireturn e b = value_rowed here.frame.stack alone
-  row_rowed alone Return e b = returned_rowed None here.below alone
-  row_rowed alone AconstNull e b = absurd (false≢true e)
-  row_rowed alone (Aload n) e b = absurd (false≢true e)
-  row_rowed alone (Astore n) e b = absurd (false≢true e)
-  row_rowed alone (IfAcmpeq place) e b = absurd (false≢true e)
-  row_rowed alone (IfAcmpne place) e b = absurd (false≢true e)
-  row_rowed alone (Ifnull place) e b = absurd (false≢true e)
-  row_rowed alone (Ifnonnull place) e b = absurd (false≢true e)
-  row_rowed alone Areturn e b = absurd (false≢true e)
-  row_rowed alone (Getstatic place) e b = absurd (false≢true e)
-  row_rowed alone (Putstatic place) e b = absurd (false≢true e)
-  row_rowed alone (Getfield used) e b = absurd (false≢true e)
-  row_rowed alone (Putfield used) e b = absurd (false≢true e)
-  row_rowed alone (Invokevirtual call) e b = absurd (false≢true e)
-  row_rowed alone (Invokespecial call) e b = absurd (false≢true e)
-  row_rowed alone (Invokestatic call) e b = absurd (false≢true e)
-  row_rowed alone (Invokeinterface call) e b = absurd (false≢true e)
-  row_rowed alone (New t) e b = absurd (false≢true e)
-  row_rowed alone (Newarray kind) e b = absurd (false≢true e)
-  row_rowed alone (Anewarray t) e b = absurd (false≢true e)
-  row_rowed alone Arraylength e b = absurd (false≢true e)
-  row_rowed alone (NumberLoad for) e b = absurd (false≢true e)
-  row_rowed alone Aaload e b = absurd (false≢true e)
-  row_rowed alone (NumberStore for) e b = absurd (false≢true e)
-  row_rowed alone Aastore e b = absurd (false≢true e)
-  row_rowed alone Athrow e b = absurd (false≢true e)
-  row_rowed alone (Checkcast t) e b = absurd (false≢true e)
-  row_rowed alone (Instanceof t) e b = absurd (false≢true e)
+  pub row_rowed : here.below ≡ [] → (form : Form) → is_int_form form ≡ true → IsShortForm form → EachTurn Rowed (row_of here form)
+  row_rowed alone form int short = each_turn here Rowed form (ints_rowed form short) alone int

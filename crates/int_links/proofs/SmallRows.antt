@@ -1,5 +1,5 @@
 -- The rows of an operator's cases have small numbers, and name a result only where there is one.
-use Rattle.std.proofs.Common.{◌≡◌, ◌∙◌, ℕ, zero, suc, ◌+◌, ◌<◌, ◌≤◌, ◌^◌, ◌%◌, ◌==◌, ℤ, pos, negsuc, ◌+ℤ◌, ◌-ℤ◌, ◌*ℤ◌, ◌≤ℤ◌, neg_ℤ, Bool, true, false, cond, List, [], ◌∷◌, Option, Some, None, refl, sym, ap, subst, lit<, arith}
+use Rattle.std.proofs.Common.{◌≡◌, ℕ, ◌<◌, ◌≤◌, ◌^◌, ◌%◌, ◌==◌, ℤ, pos, negsuc, ◌-ℤ◌, ◌≤ℤ◌, neg_ℤ, Bool, true, false, cond, List, [], ◌∷◌, Option, Some, None, refl, sym, ap, subst, lit<, arith}
 use Rattle.std.specs.Prelude.{int_le, ◌&&◌}
 use Rattle.std.specs.List.{AllByRecursion, cons_option}
 use Rattle.std.specs.Option.{IfSome, option_and_then}
@@ -13,12 +13,11 @@ use Rattle.jvm_values.specs.declared.ints.IntOp.{IntOp}
 use Rattle.jvm_values.specs.declared.ints.IntOp.TheVariants.{Add, Sub, Mul, Div, Rem, Shl, Shr, Ushr, And, Or, Xor, Narrow}
 use Rattle.jvm_values.specs.declared.ints.Cond.{Cond}
 use Rattle.jvm_values.specs.declared.ints.Cond.TheVariants.{Eq, Ne, Lt, Ge, Gt, Le}
-use Rattle.jvm_values.specs.declared.types.Kind.{Kind}
 use Rattle.jvm_values.specs.declared.types.Kind.TheVariants as kinds
 use Rattle.jvm_values.specs.Kinds.{IsOfKind, least_of, greatest_of}
 use Rattle.jvm_values.specs.Ints.{shift_count, int_result}
 use Rattle.jvm_values.proofs.Options.{some_is, none_is_not_some}
-use Rattle.abs_ints.specs.Bits.{is_natural, below_left, below_right, and_case, or_case, xor_case, ones_over}
+use Rattle.abs_ints.specs.Bits.{is_natural, below_left, below_right, and_case, or_case, xor_case}
 use Rattle.abs_ints.specs.Cases.{at_least_zero, is_zero, case_between, case_with, inside}
 use Rattle.abs_ints.specs.Comparing.{standing_so, exchanged, row_of, related, both_of, cases_between, compared}
 use Rattle.abs_ints.specs.Divisions.{divisors_of, are_positive, zero_case, quotients_of, single_divisor_rows, quotient_rows, remainders_of, dividend_rows, remainder_rows}
@@ -34,7 +33,7 @@ use Rattle.abs_ints.specs.declared.cases.Way.{Way}
 use Rattle.abs_ints.specs.declared.cases.Way.TheVariants.{Inside, Over, Under, Zero, Taken, Next}
 use Rattle.abs_ints.specs.declared.relations.Relation.{Relation}
 use Rattle.abs_ints.specs.declared.relations.Relation.TheVariants.{Equal, Below, AtMost, Above, AtLeast}
-use Rattle.abs_ints.proofs.OperatorCases.{if_either, both_true}
+use Rattle.abs_ints.proofs.OperatorCases.{if_either}
 
 -- ---- numbers
 

@@ -18,8 +18,8 @@ use Rattle.term_graph.specs.declared.links.Link.{Link}
 use Rattle.term_graph.specs.declared.nodes.By.{By}
 use Rattle.term_graph.specs.declared.nodes.By.TheVariants.{Expand, Instance, End, Todo}
 use Rattle.term_graph.specs.Graphs.{GraphNode, GraphChild}
-use Rattle.abs_expand.specs.BadStates.{IsGoodState}
 use Rattle.graph_check.specs.Good.{IsLeftBy, IsGoodNode}
+use Rattle.graph_check.proofs.Excluding.{good_by}
 use Rattle.path_rules.specs.Bare.{IsBounded, AreBounded}
 use Rattle.plain_rules.specs.Short.{IsShortLink}
 use Rattle.plain_rules.specs.Laws.{GoodGraphRulesArePlain}
@@ -50,12 +50,6 @@ sound_bounded types state sound = All-from_recursion (λ (c : ℕ × Cell). IsBo
 -- ---- nodes
 
 module _ (p : Program) (typing : ℕ → CodeTypes) (nodes : List GraphNode) where
-  left_good : (state : AbstractState) (by : By) (links : List Link) → IsLeftBy p typing nodes state by links → IsGoodState p typing state
-  left_good state (Expand named) links left = left.are.0
-  left_good state (Instance target entries) links left = left.0.good
-  left_good state End links left = left.0.0
-  left_good state Todo links left = absurd left
-
   child_links : (children : List GraphChild) → AllByRecursion (λ (child : GraphChild). IsShortLink child.link) children → AllByRecursion IsShortLink (map (λ (child : GraphChild). child.link) children)
   child_links [] short = tt
   child_links (child ∷ children) short = (short.0, child_links children short.1)
@@ -69,7 +63,7 @@ module _ (p : Program) (typing : ℕ → CodeTypes) (nodes : List GraphNode) whe
   all_bounded : (list : List GraphNode) (links : List (List Link)) → AllZip (IsGoodNode p typing nodes) list links → AllByRecursion (λ (n : GraphNode). AreBounded n.state) list
   all_bounded [] links each = tt
   all_bounded (node ∷ list) [] each = absurd each
-  all_bounded (node ∷ list) (own ∷ links) each = (sound_bounded (types_of p.world) node.state (left_good node.state node.by own each.0).sound, all_bounded list links each.1)
+  all_bounded (node ∷ list) (own ∷ links) each = (sound_bounded (types_of p.world) node.state (good_by p typing nodes node.state node.by own each.0).sound, all_bounded list links each.1)
 
   all_short : (list : List GraphNode) (links : List (List Link)) → AllZip (IsGoodNode p typing nodes) list links → AllByRecursion (λ (own : List Link). All IsShortLink own) links
   all_short list [] each = tt

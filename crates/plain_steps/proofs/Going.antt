@@ -4,8 +4,6 @@ use Rattle.std.specs.List.{AllZip}
 use Rattle.jvm_values.proofs.Options.{some_is, none_is_not_some}
 use Rattle.class_world.specs.WorldTypes.{types_of}
 use Rattle.term_graph.specs.declared.links.Link.{Link}
-use Rattle.term_graph.specs.Graphs.{GraphChild}
-use Rattle.abs_expand.specs.Plans.{Turn}
 use Rattle.abs_expand.specs.Children.{IsTurnChild, IsLean}
 use Rattle.abs_expand.specs.Laws.{IsAfter}
 use Rattle.plain_steps.specs.Laws.{after_act, PlainStepsFit}

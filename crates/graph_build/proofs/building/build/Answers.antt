@@ -1,7 +1,6 @@
-use Rattle.std.proofs.Common.{◌≡◌, ◌≤◌, ◌<◌, ◌∙◌, ℕ, length, subst, ap, refl, sym, arith}
-use Rattle.abs_cells.specs.AbstractStates.{AbstractState}
+use Rattle.std.proofs.Common.{◌≡◌, ◌≤◌, ◌<◌, ◌∙◌, length, subst, ap, refl, sym, arith}
 use Rattle.graph_build.specs.Answers.{PassesLimit, HasLarge}
-use Rattle.graph_build.specs.Working.{Work, seen, parent_in, grown, IsSound, IsNextOpen, MayGrow, work_left}
+use Rattle.graph_build.specs.Working.{Work, seen, parent_in, IsSound, IsNextOpen, MayGrow, work_left}
 use Rattle.graph_build.proofs.Starting.{root_is_sound}
 use Rattle.graph_build.proofs.Turning.{some_left, none_left, all_closed, first_within, first_is, next_open, stopped, has_room, grown_sound, grown_few, less_work}
 use Rattle.graph_build.proofs.building.build.Goals as goal

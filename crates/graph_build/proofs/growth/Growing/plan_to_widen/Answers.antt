@@ -1,4 +1,4 @@
-use Rattle.std.proofs.Common.{inr, ◌+◌, length}
+use Rattle.std.proofs.Common.{inr}
 use Rattle.graph_build.proofs.Adding.{no_room}
 use Rattle.graph_build.proofs.Nodes.{node_is}
 use Rattle.graph_build.proofs.growth.Growing.plan_to_widen.Goals as goal

@@ -1,0 +1,2 @@
+pub mod EachTurn
+pub mod OptionLists
