@@ -6,6 +6,7 @@
 
 mod cells;
 mod checks;
+mod copies;
 mod ids;
 mod laws;
 mod packed;
@@ -16,6 +17,7 @@ mod states;
 
 pub use cells::{Cell, CellSort};
 pub use checks::{ids_of_sort, well_formed};
+pub use copies::{copied_cell, copied_cells};
 pub use ids::{Id, Ids};
 pub use laws::{fitting_frames_agree, known_ids_are_apart, patterns_are_one};
 pub use packed::PackedPairs;

@@ -1,8 +1,8 @@
 -- Each step of a state of ints narrows ints of it, keeps to its ids, and makes one id at most.
-use Rattle.std.proofs.Common.{◌≡◌, ◌∙◌, ◌==◌, ℕ, zero, suc, ℤ, pos, Bool, true, false, if◌then◌else◌, List, [], ◌∷◌, length, map, Option, Some, None, slice_get, refl, ap, subst, arith}
+use Rattle.std.proofs.Common.{◌≡◌, ◌∙◌, ◌==◌, ℕ, zero, suc, ℤ, pos, Bool, true, false, if◌then◌else◌, List, [], ◌∷◌, length, Option, Some, None, slice_get, refl, ap, subst, arith}
 use Rattle.std.specs.Prelude.{slice_set}
-use Rattle.std.specs.List.{AllByRecursion, filter_map, cons_option}
-use Rattle.std.specs.Option.{option_map, option_and_then, option_to_list}
+use Rattle.std.specs.List.{AllByRecursion, filter_map}
+use Rattle.std.specs.Option.{option_map, option_and_then}
 use Rattle.std.proofs.lemmas.Bool.{false≢true}
 use Rattle.lin_core.specs.Intervals.{Bounds}
 use Rattle.jvm_values.specs.declared.ints.IntOp.{IntOp}
@@ -30,28 +30,7 @@ use Rattle.abs_expand.specs.Switches.{table_keys, lookup_keys, parts_of}
 use Rattle.abs_expand.specs.Table.{local_here, load_plan, store_plan, increment_plan, negation_plan, narrow_plan, switch_plan, unary, binary, value_plan, returned_to, row_of}
 use Rattle.abs_expand.specs.IntForms.{is_int_form, IsIntState}
 use Rattle.abs_expand.specs.Building.{HoldsIds, IsNarrowed, MakesOneAtMost, IsIntTurn, AreIntTurns}
-
--- ---- lists
-
-mapped : {X Y : Type 0} (f : X → Y) (o : Option X) (y : Y) → option_map f o ≡ Some y → (x : X) × ((o ≡ Some x) × (f x ≡ y))
-mapped f None y e = absurd (none_is_not_some y e)
-mapped f (Some x) y e = (x, (refl, some_is e))
-
-put_one : {Y : Type 0} (P : Y → Type 0) (o : Option Y) (rest : List Y) → ((y : Y) → o ≡ Some y → P y) → AllByRecursion P rest → AllByRecursion P (cons_option o rest)
-put_one P None rest h r = r
-put_one P (Some y) rest h r = (h y refl, r)
-
-filtered : {X Y : Type 0} (P : Y → Type 0) (f : X → Option Y) (xs : List X) → ((x : X) (y : Y) → f x ≡ Some y → P y) → AllByRecursion P (filter_map f xs)
-filtered P f [] h = tt
-filtered P f (x ∷ xs) h = put_one P (f x) (filter_map f xs) (h x) (filtered P f xs h)
-
-each_mapped : {X Y : Type 0} (P : Y → Type 0) (f : X → Y) (xs : List X) → ((x : X) → P (f x)) → AllByRecursion P (map f xs)
-each_mapped P f [] h = tt
-each_mapped P f (x ∷ xs) h = (h x, each_mapped P f xs h)
-
-if_there : {Y : Type 0} (P : Y → Type 0) (o : Option Y) → ((y : Y) → o ≡ Some y → P y) → AllByRecursion P (option_to_list o)
-if_there P None h = tt
-if_there P (Some y) h = (h y refl, tt)
+use Rattle.abs_expand.proofs.OptionLists.{mapped, filtered_any, each_any, if_there}
 
 -- ---- locals
 
@@ -158,7 +137,7 @@ module _ (here : Here) (ints : IsIntState here.state) (below_held : AllByRecursi
 
   operator_sound : (op : IntOp) (left right : Operand) (frames : List AbstractFrame) (goal : Goal) → HoldsOperand left → HoldsOperand right → AllByRecursion (HoldsIds here.state) frames → ((r : Bounds) → MakesOneAtMost (makes (cells.Int r)) goal) → AllByRecursion Sound (turns_of here op left right frames goal)
   operator_sound op left right frames goal hl hr h g =
-      filtered Sound (turn_of_case here left right frames goal) (operated op (interval_at here.state left) (interval_at here.state right)) (case_sound left right frames goal hl hr h g)
+      filtered_any Sound (turn_of_case here left right frames goal) (operated op (interval_at here.state left) (interval_at here.state right)) (case_sound left right frames goal hl hr h g)
 
   branch_sound : (left right : Operand) (place : ℕ) (stack : List ℕ) (with_rows : Bool) → HoldsOperand left → HoldsOperand right → AllByRecursion Holds stack → (case : IntCase) (turn : Turn) → branch_of_case here left right place stack with_rows case ≡ Some turn → Sound turn
   branch_sound left right place stack with_rows hl hr s case turn e =
@@ -169,11 +148,11 @@ module _ (here : Here) (ints : IsIntState here.state) (below_held : AllByRecursi
 
   branches_sound : (cond : Cond) (left right : Operand) (place : ℕ) (stack : List ℕ) (with_rows : Bool) → HoldsOperand left → HoldsOperand right → AllByRecursion Holds stack → AllByRecursion Sound (branches here cond left right place stack with_rows)
   branches_sound cond left right place stack with_rows hl hr s =
-      filtered Sound (branch_of_case here left right place stack with_rows) (compared cond (are_one left right) (interval_at here.state left) (interval_at here.state right)) (branch_sound left right place stack with_rows hl hr s)
+      filtered_any Sound (branch_of_case here left right place stack with_rows) (compared cond (are_one left right) (interval_at here.state left) (interval_at here.state right)) (branch_sound left right place stack with_rows hl hr s)
 
   switch_sound : (x : ℕ) (stack : List ℕ) (parts : List (Option Bounds × ℕ)) → Holds x → AllByRecursion Holds stack → AllByRecursion Sound (filter_map (switch_turn here x stack) parts)
   switch_sound x stack parts h s =
-      filtered Sound (switch_turn here x stack) parts (λ part turn e.
+      filtered_any Sound (switch_turn here x stack) parts (λ part turn e.
       let m = mapped (λ (both : Bounds). narrows ((x, cells.Int both) ∷ []) (with_stack here part.1 stack) no_rows) (option_and_then (meet_of (interval_of_id here.state x)) part.0) turn e in
       subst Sound m.1.1 (narrows_sound ((x, cells.Int m.0) ∷ []) (with_stack here part.1 stack) no_rows (narrow_one x m.0 h, tt) (stack_held part.1 stack s)))
 
@@ -183,7 +162,7 @@ module _ (here : Here) (ints : IsIntState here.state) (below_held : AllByRecursi
 
   kinds_sound : (kind : Kind) (x : ℕ) (stack : List ℕ) → Holds x → AllByRecursion Holds stack → AllByRecursion Sound (turns_narrowing here kind x (goes_on here here.next (x ∷ stack)) (with_stack here here.next stack) on_stack)
   kinds_sound kind x stack h s =
-      each_mapped Sound (λ (case : IntCase). turn_narrowing (goes_on here here.next (x ∷ stack)) (with_stack here here.next stack) on_stack case.result) (operated (NarrowOp kind) (interval_of_id here.state x) (interval_of_id here.state x)) (λ case. kind_sound x stack h s case.result)
+      each_any Sound (λ (case : IntCase). turn_narrowing (goes_on here here.next (x ∷ stack)) (with_stack here here.next stack) on_stack case.result) (operated (NarrowOp kind) (interval_of_id here.state x) (interval_of_id here.state x)) (λ case. kind_sound x stack h s case.result)
 
   -- ---- rows
 

@@ -4,6 +4,7 @@ pub mod Grown
 pub mod IntPrograms
 pub mod IntStates
 pub mod IntTurns
+pub mod OptionLists
 pub mod Placed
 pub mod ShortRows
 pub mod SwitchLists

@@ -14,7 +14,7 @@ ghost use Rattle.abs_expand.specs.PlansSeen.{act_seen, goal_seen, rows_seen, tur
 use crate::operands::Operand;
 use crate::plans::{Act, Goal, Rows, Turn};
 use crate::short_rows::RowsOver;
-use abs_cells::{AbsFrame, AbsState, Cell, Id, Ids, Pairs};
+use abs_cells::{AbsFrame, AbsState, Cell, Id, Pairs, copied_cell};
 use abs_ints::{Few, ShortRow};
 use abs_reach::{Marks, drop_unreached};
 use list_views::Seq;
@@ -48,20 +48,6 @@ fn changed_int(changed: &[(Id, Cell)], id: Id) -> Option<&Cell>
         }
     }
     None
-}
-
-/// The same cell once more, of an int, of null, or of an instance.
-fn copied_cell(alloc: Global, cell: &Cell) -> Result<Cell, AllocError>
-    ensures { IfOk result (λ copy. copy ≡ cell.now) }
-{
-    Ok(match cell {
-        Cell::Int(interval) => Cell::Int(*interval),
-        Cell::Null => Cell::Null,
-        Cell::Obj(class, ids) => Cell::Obj(*class, Ids::from_slice(alloc, ids.as_slice())?),
-        Cell::Nums(kind, len) => Cell::Nums(*kind, *len),
-        Cell::Refs(element, len, shape) => Cell::Refs(*element, *len, *shape),
-        Cell::Unk(bound, nullable, shape) => Cell::Unk(*bound, *nullable, *shape),
-    })
 }
 
 /// The cell of an id, which a change may have.

@@ -1,5 +1,5 @@
 //! Reorderings of a stack of ids.
-ghost use Rattle.std.specs.Prelude.{◌≡◌, ◌+◌, ◌<◌, ◌≤◌, ◌∷◌, List, Some, None, length, drop, slice_set, IfOk, MatchBool, MatchOption};
+ghost use Rattle.std.specs.Prelude.{◌≡◌, ◌+◌, ◌<◌, ◌≤◌, ◌∷◌, List, Some, None, length, drop, slice_set, IfOk, MatchBool};
 ghost use Rattle.op_forms.specs.declared.form.Shuffle.TheVariants as shuffles;
 ghost use Rattle.op_forms.specs.Forms.{shuffled};
 
@@ -7,36 +7,6 @@ use abs_cells::Id;
 use list_views::Stack;
 use op_forms::Shuffle;
 use std::alloc::AllocError;
-
-/// The two top ids, the top first.
-fn two(stack: &Stack<Id>) -> Option<(Id, Id)>
-    ensures { MatchOption result (length stack.now.0 < 2) (λ x. stack.now.0 ≡ x.0 ∷ x.1 ∷ drop 2 stack.now.0) }
-{
-    if stack.len() < 2 {
-        return None;
-    }
-    Some((*stack.at(0), *stack.at(1)))
-}
-
-/// The three top ids, the top first.
-fn three(stack: &Stack<Id>) -> Option<(Id, Id, Id)>
-    ensures { MatchOption result (length stack.now.0 < 3) (λ x. stack.now.0 ≡ x.0 ∷ x.1 ∷ x.2 ∷ drop 3 stack.now.0) }
-{
-    if stack.len() < 3 {
-        return None;
-    }
-    Some((*stack.at(0), *stack.at(1), *stack.at(2)))
-}
-
-/// The four top ids, the top first.
-fn four(stack: &Stack<Id>) -> Option<(Id, Id, Id, Id)>
-    ensures { MatchOption result (length stack.now.0 < 4) (λ x. stack.now.0 ≡ x.0 ∷ x.1 ∷ x.2 ∷ x.3 ∷ drop 4 stack.now.0) }
-{
-    if stack.len() < 4 {
-        return None;
-    }
-    Some((*stack.at(0), *stack.at(1), *stack.at(2), *stack.at(3)))
-}
 
 /// Takes so many ids from the top.
 fn take(stack: &mut Stack<Id>, count: usize)
@@ -92,7 +62,7 @@ fn pop2(stack: &mut Stack<Id>) -> bool
 fn swap(stack: &mut Stack<Id>) -> Result<bool, AllocError>
     ensures { IfOk result (λ done. MatchBool done (shuffled shuffles.Swap stack.old.0 ≡ Some stack.new.0) (shuffled shuffles.Swap stack.old.0 ≡ None)) }
 {
-    let Some((a, b)) = two(stack) else {
+    let Some((a, b)) = stack.top_two() else {
         return Ok(false);
     };
     take(stack, 2);
@@ -116,7 +86,7 @@ fn dup(stack: &mut Stack<Id>) -> Result<bool, AllocError>
 fn dup_x1(stack: &mut Stack<Id>) -> Result<bool, AllocError>
     ensures { IfOk result (λ done. MatchBool done (shuffled shuffles.DupX1 stack.old.0 ≡ Some stack.new.0) (shuffled shuffles.DupX1 stack.old.0 ≡ None)) }
 {
-    let Some((a, b)) = two(stack) else {
+    let Some((a, b)) = stack.top_two() else {
         return Ok(false);
     };
     put_three(stack, 2, a, b, a)?;
@@ -127,7 +97,7 @@ fn dup_x1(stack: &mut Stack<Id>) -> Result<bool, AllocError>
 fn dup_x2(stack: &mut Stack<Id>) -> Result<bool, AllocError>
     ensures { IfOk result (λ done. MatchBool done (shuffled shuffles.DupX2 stack.old.0 ≡ Some stack.new.0) (shuffled shuffles.DupX2 stack.old.0 ≡ None)) }
 {
-    let Some((a, b, c)) = three(stack) else {
+    let Some((a, b, c)) = stack.top_three() else {
         return Ok(false);
     };
     put_three(stack, 3, b, c, a)?;
@@ -139,7 +109,7 @@ fn dup_x2(stack: &mut Stack<Id>) -> Result<bool, AllocError>
 fn dup2(stack: &mut Stack<Id>) -> Result<bool, AllocError>
     ensures { IfOk result (λ done. MatchBool done (shuffled shuffles.Dup2 stack.old.0 ≡ Some stack.new.0) (shuffled shuffles.Dup2 stack.old.0 ≡ None)) }
 {
-    let Some((a, b)) = two(stack) else {
+    let Some((a, b)) = stack.top_two() else {
         return Ok(false);
     };
     push_two(stack, a, b)?;
@@ -150,7 +120,7 @@ fn dup2(stack: &mut Stack<Id>) -> Result<bool, AllocError>
 fn dup2_x1(stack: &mut Stack<Id>) -> Result<bool, AllocError>
     ensures { IfOk result (λ done. MatchBool done (shuffled shuffles.Dup2X1 stack.old.0 ≡ Some stack.new.0) (shuffled shuffles.Dup2X1 stack.old.0 ≡ None)) }
 {
-    let Some((a, b, c)) = three(stack) else {
+    let Some((a, b, c)) = stack.top_three() else {
         return Ok(false);
     };
     put_three(stack, 3, c, a, b)?;
@@ -162,7 +132,7 @@ fn dup2_x1(stack: &mut Stack<Id>) -> Result<bool, AllocError>
 fn dup2_x2(stack: &mut Stack<Id>) -> Result<bool, AllocError>
     ensures { IfOk result (λ done. MatchBool done (shuffled shuffles.Dup2X2 stack.old.0 ≡ Some stack.new.0) (shuffled shuffles.Dup2X2 stack.old.0 ≡ None)) }
 {
-    let Some((a, b, c, d)) = four(stack) else {
+    let Some((a, b, c, d)) = stack.top_four() else {
         return Ok(false);
     };
     put_three(stack, 4, d, a, b)?;

@@ -40,6 +40,7 @@ use Rattle.abs_heap.proofs.Fitted.{FitsBy, fits_given}
 use Rattle.abs_heap.proofs.SameTerms.{same_size}
 use Rattle.abs_heap.proofs.Replacing.{same_edge}
 use Rattle.abs_heap.proofs.Telling.{Tells, tells, told_compatible, sound_at, array_typed}
+use Rattle.abs_heap.proofs.Written.{known_named, hazy_named, shape_named}
 
 array_inside : (a b : Ty) → array_of a ≡ array_of b → a ≡ b
 array_inside a b e =
@@ -129,30 +130,6 @@ module _ (m : Meaning) (f : ℕ → ℕ) (keeps : (n : ℕ) → m (f n) ≡ m n)
   described_named types heap (cells.Nums kind len) v d = record { place = d.place; object = d.object; names = d.names; stands = d.stands; holds = record { items = d.holds.items; is = d.holds.is; length_is = keeps len ∙ d.holds.length_is } }
   described_named types heap (cells.Refs element len shape) v d = record { place = d.place; object = d.object; names = d.names; stands = d.stands; holds = record { item = d.holds.item; items = d.holds.items; is = d.holds.is; below = d.holds.below; length_is = keeps len ∙ d.holds.length_is } }
   described_named types heap (cells.Unk bound nullable shape) v d = d
-
-known_named : (f : ℕ → ℕ) (c : Cell) → is_known (cell_named f c) ≡ is_known c
-known_named f (cells.Int interval) = refl
-known_named f cells.Null = refl
-known_named f (cells.Obj class ids) = refl
-known_named f (cells.Nums kind len) = refl
-known_named f (cells.Refs element len shape) = refl
-known_named f (cells.Unk bound nullable shape) = refl
-
-hazy_named : (f : ℕ → ℕ) (c : Cell) → is_hazy (cell_named f c) ≡ is_hazy c
-hazy_named f (cells.Int interval) = refl
-hazy_named f cells.Null = refl
-hazy_named f (cells.Obj class ids) = refl
-hazy_named f (cells.Nums kind len) = refl
-hazy_named f (cells.Refs element len shape) = refl
-hazy_named f (cells.Unk bound nullable shape) = refl
-
-shape_named : (f : ℕ → ℕ) (c : Cell) → shape_of (cell_named f c) ≡ shape_of c
-shape_named f (cells.Int interval) = refl
-shape_named f cells.Null = refl
-shape_named f (cells.Obj class ids) = refl
-shape_named f (cells.Nums kind len) = refl
-shape_named f (cells.Refs element len shape) = refl
-shape_named f (cells.Unk bound nullable shape) = refl
 
 -- ---- the cell of the id that stays
 

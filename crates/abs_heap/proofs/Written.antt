@@ -114,7 +114,7 @@ shape_fielded (Some f) w (cells.Nums kind len) = refl
 shape_fielded (Some f) w (cells.Refs element len shape) = refl
 shape_fielded (Some f) w (cells.Unk bound nullable shape) = refl
 
-known_named : (f : ℕ → ℕ) (c : Cell) → is_known (cell_named f c) ≡ is_known c
+pub known_named : (f : ℕ → ℕ) (c : Cell) → is_known (cell_named f c) ≡ is_known c
 known_named f (cells.Int interval) = refl
 known_named f cells.Null = refl
 known_named f (cells.Obj class ids) = refl
@@ -122,7 +122,7 @@ known_named f (cells.Nums kind len) = refl
 known_named f (cells.Refs element len shape) = refl
 known_named f (cells.Unk bound nullable shape) = refl
 
-hazy_named : (f : ℕ → ℕ) (c : Cell) → is_hazy (cell_named f c) ≡ is_hazy c
+pub hazy_named : (f : ℕ → ℕ) (c : Cell) → is_hazy (cell_named f c) ≡ is_hazy c
 hazy_named f (cells.Int interval) = refl
 hazy_named f cells.Null = refl
 hazy_named f (cells.Obj class ids) = refl
@@ -130,7 +130,7 @@ hazy_named f (cells.Nums kind len) = refl
 hazy_named f (cells.Refs element len shape) = refl
 hazy_named f (cells.Unk bound nullable shape) = refl
 
-shape_named : (f : ℕ → ℕ) (c : Cell) → shape_of (cell_named f c) ≡ shape_of c
+pub shape_named : (f : ℕ → ℕ) (c : Cell) → shape_of (cell_named f c) ≡ shape_of c
 shape_named f (cells.Int interval) = refl
 shape_named f cells.Null = refl
 shape_named f (cells.Obj class ids) = refl

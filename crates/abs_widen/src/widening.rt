@@ -15,10 +15,9 @@ use crate::merged::merged_cells;
 use crate::numbers::{frames_of, number_of_some};
 use crate::pairing::joined;
 use crate::positions::{pairs_of, thrown_pair};
-use abs_cells::{AbsState, Cell, Id, Ids, Pairs};
+use abs_cells::{AbsState, Id, Pairs, copied_cells};
 use abs_reach::{Marks, drop_unreached};
 use jvm_values::Types;
-use list_views::Seq;
 use std::alloc::{AllocError, AllocFailed, Global};
 
 /// The state of all pairs, in which no two ids are a pair yet.
@@ -41,31 +40,6 @@ fn bare_state<T: Types, P: Pairs>(
     let thrown = number_of_some(pairs, thrown_pair(a.throwing(), b.throwing()));
     let cells = merged_cells(alloc, types, a, b, pairs, marks)?;
     Ok(AbsState::new(frames, thrown, cells, P::empty(alloc), P::empty(alloc)))
-}
-
-/// The same cell once more.
-fn copied_cell(alloc: Global, cell: &Cell) -> Result<Cell, AllocError>
-    ensures { IfOk result (λ copy. copy ≡ cell.now) }
-{
-    Ok(match cell {
-        Cell::Int(interval) => Cell::Int(*interval),
-        Cell::Null => Cell::Null,
-        Cell::Obj(class, ids) => Cell::Obj(*class, Ids::from_slice(alloc, ids.as_slice())?),
-        Cell::Nums(kind, len) => Cell::Nums(*kind, *len),
-        Cell::Refs(element, len, shape) => Cell::Refs(*element, *len, *shape),
-        Cell::Unk(bound, nullable, shape) => Cell::Unk(*bound, *nullable, *shape),
-    })
-}
-
-/// The same cells once more.
-fn copied_cells(alloc: Global, cells: &[(Id, Cell)]) -> Result<Seq<(Id, Cell)>, AllocError>
-    ensures { IfOk result (λ copy. copy ≡ cells.now) }
-{
-    let mut copy = Seq::with_capacity(alloc, cells.len())?;
-    for (id, cell) in cells {
-        copy.push((*id, copied_cell(alloc, cell)?))?;
-    }
-    Ok(copy)
 }
 
 /// The state of all pairs that are left where ids that nothing reaches are dropped, with the pairs of its ids that have one

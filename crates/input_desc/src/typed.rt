@@ -1,17 +1,16 @@
 //! Values and objects that a state gives, tested.
-ghost use Rattle.std.specs.Prelude.{◌≡◌, ◌<◌, length, MatchOption};
+ghost use Rattle.std.specs.Prelude.{◌≡◌, ◌<◌, length};
 ghost use Rattle.std.specs.List.{list_all, position_from};
 ghost use Rattle.std.specs.Option.{option_copied};
 ghost use Rattle.jvm_values.specs.declared.heap.Object.TheVariants.{Instance, Refs};
 ghost use Rattle.class_world.specs.Worlds.{classes_of};
 ghost use Rattle.class_world.specs.WorldTypes.{types_of};
 ghost use Rattle.input_desc.specs.Typed.{object_of, object_at, first_unfit, has_type, is_of_kind, is_held, all_fit, is_typed, is_bad};
-ghost use Rattle.jvm_values.specs.TypedHeaps.{type_of};
 
 use crate::names::type_named;
 use class_world::World;
 use input_text::ObjectText;
-use jvm_values::{Base, Kind, Object, Slot, Ty, Types, Value};
+use jvm_values::{Kind, Object, Slot, Ty, Types, Value, is_object_below};
 
 /// The object that a text says, where its names are there.
 #[tactic(auto, unfolding(crate::specs::Typed::object_of))]
@@ -28,42 +27,6 @@ pub(crate) fn object(world: &World<'_>, text: ObjectText) -> Option<Object>
             Some(element) => Some(Object::Refs { element, items }),
             None => None,
         },
-    }
-}
-
-/// The exact type of an object; None for an array of more than 255 dimensions, which no world has.
-fn type_of(object: &Object) -> Option<Ty>
-    ensures { MatchOption result (255 < (type_of object.now).dims) (λ t. t ≡ type_of object.now) }
-{
-    match object {
-        Object::Instance { class, fields: _ } => Some(Ty {
-            dims: 0,
-            base: Base::Class(*class),
-        }),
-        Object::Nums { kind, items: _ } => Some(Ty {
-            dims: 1,
-            base: Base::Num(*kind),
-        }),
-        Object::Refs { element, items: _ } => {
-            if element.dims == 255 {
-                None
-            } else {
-                Some(Ty {
-                    dims: element.dims + 1,
-                    base: element.base,
-                })
-            }
-        }
-    }
-}
-
-/// Whether an object is of a type or one below it.
-fn is_below<T: Types>(types: &T, object: &Object, t: Ty) -> bool
-    ensures { result ≡ T.sub types.now (type_of object.now) t }
-{
-    match type_of(object) {
-        Some(own) => types.sub(own, t),
-        None => false,
     }
 }
 
@@ -86,7 +49,7 @@ fn has_type(world: &World<'_>, objects: &[Option<Object>], t: Ty, value: Value) 
         Value::Int(_) => false,
         Value::Null => true,
         Value::Ref(r) => match object_at(objects, r) {
-            Some(object) => is_below(world, object, t),
+            Some(object) => is_object_below(world, object, t),
             None => false,
         },
     }

@@ -30,7 +30,7 @@ use Rattle.abs_expand.specs.Plans.{Goal, on_stack, in_local, Turn, steps, makes,
 use Rattle.abs_expand.specs.Table.{local_here, row_of}
 use Rattle.abs_expand.specs.Turns.{Here, Operand, known, id, with_stack, interval_at, interval_of_id, are_one, narrowings, term_of, terms_of, constant_of, row_over, rows_over, turn_of_result, turn_of_case, turns_of, narrows, place_of_way, branch_of_case, branches}
 use Rattle.abs_expand.proofs.IntTurns.{local_held}
-use Rattle.int_plans.proofs.OptionLists.{mapped, filtered}
+use Rattle.abs_expand.proofs.OptionLists.{mapped, filtered}
 use Rattle.int_plans.proofs.EachTurn.{EachTurn, HoldsOfInts, each_turn}
 use Rattle.int_links.specs.Increments.{IsShortForm}
 use Rattle.int_links.proofs.SmallRows.{IsSmall, IsInt, HasIntEnds, IsSmallRow, IsFine, AreFine, IsPlainRow, sum_small, difference_small, turn_small, sums_fine, differences_fine, operated_small, compared_plain}

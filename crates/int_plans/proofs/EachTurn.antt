@@ -34,8 +34,8 @@ use Rattle.abs_expand.specs.Switches.{table_keys, lookup_keys, parts_of}
 use Rattle.abs_expand.specs.Table.{number_cell, local_here, load_plan, store_plan, increment_plan, negation_plan, narrow_plan, switch_plan, unary, binary, value_plan, returned_to, row_of}
 use Rattle.abs_expand.proofs.IntTurns.{row_sound}
 use Rattle.abs_expand.proofs.IntStates.{one_frame, form_int, op_int, plan_is_row, plan_alone, frame_held}
+use Rattle.abs_expand.proofs.OptionLists.{mapped, filtered_any, each_any, if_there}
 use Rattle.int_plans.specs.Laws.{IntPlansAreOfInts}
-use Rattle.int_plans.proofs.OptionLists.{mapped, filtered_any, each_any, if_there}
 
 -- each step of a plan, and no state is split
 abbrev pub EachTurn : (Turn → Type 0) → Plan → Type 0

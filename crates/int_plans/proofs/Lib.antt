@@ -1,2 +1,1 @@
 pub mod EachTurn
-pub mod OptionLists

@@ -1,8 +1,8 @@
 //! Instructions that ask for the type of an object.
-ghost use Rattle.std.specs.Prelude.{◌≡◌, ◌+◌, ◌<◌, ◌≤◌, MatchOption, true, false, length, pos, if◌then◌else◌};
+ghost use Rattle.std.specs.Prelude.{◌≡◌, ◌+◌, ◌<◌, ◌≤◌, true, false, length, pos, if◌then◌else◌};
 ghost use Rattle.std.specs.Option.{option_map};
 ghost use Rattle.jvm_values.specs.States.{frame_of};
-ghost use Rattle.jvm_values.specs.TypedHeaps.{WorldTypes, world_types, type_of};
+ghost use Rattle.jvm_values.specs.TypedHeaps.{WorldTypes, world_types};
 ghost use Rattle.jvm_step.specs.Acts.{Acts};
 ghost use Rattle.jvm_step.specs.Operands.{is_null_or_below, is_below};
 ghost use Rattle.jvm_step.specs.Effects.{references_in, checkcast_effect, instanceof_effect, aastore_effect};
@@ -15,44 +15,8 @@ use crate::built_ins::{
 use crate::operands::{int_at, reference_at, replace, take};
 use crate::reads::object_at;
 use crate::writes::{index_below, set_item};
-use jvm_values::{Base, Frame, Heap, Object, Ty, Types, Value};
+use jvm_values::{Frame, Heap, Object, Ty, Types, Value, is_object_below};
 use std::alloc::Global;
-
-/// The exact type of an object; None for an array of more than 255 dimensions, which no world has.
-fn type_of(object: &Object) -> Option<Ty>
-    ensures { MatchOption result (255 < (type_of object.now).dims) (λ t. t ≡ type_of object.now) }
-{
-    match object {
-        Object::Instance { class, fields: _ } => Some(Ty {
-            dims: 0,
-            base: Base::Class(*class),
-        }),
-        Object::Nums { kind, items: _ } => Some(Ty {
-            dims: 1,
-            base: Base::Num(*kind),
-        }),
-        Object::Refs { element, items: _ } => {
-            if element.dims == 255 {
-                None
-            } else {
-                Some(Ty {
-                    dims: element.dims + 1,
-                    base: element.base,
-                })
-            }
-        }
-    }
-}
-
-/// Whether an object is of a type or one below it.
-pub(crate) fn is_object_below<T: Types>(types: &T, object: &Object, t: Ty) -> bool
-    ensures { result ≡ T.sub types.now (type_of object.now) t }
-{
-    match type_of(object) {
-        Some(own) => types.sub(own, t),
-        None => false,
-    }
-}
 
 /// Whether a reference is null or to an object of a type or one below it; None where its object isn't there.
 fn is_null_or_below<T: Types>(types: &T, heap: &Heap, t: Ty, reference: Value) -> Option<bool>

@@ -1,5 +1,5 @@
 //! Reorderings of the operand stack.
-ghost use Rattle.std.specs.Prelude.{◌≡◌, ◌+◌, ◌<◌, ◌≤◌, ◌∷◌, List, Some, length, drop, slice_set, MatchOption, MatchResult, OnErr};
+ghost use Rattle.std.specs.Prelude.{◌≡◌, ◌+◌, ◌<◌, ◌≤◌, ◌∷◌, List, Some, length, slice_set, MatchResult, OnErr};
 ghost use Rattle.std.specs.Option.{option_map};
 ghost use Rattle.jvm_values.specs.States.{frame_of};
 ghost use Rattle.jvm_step.specs.Acts.{Acts, Tries};
@@ -15,36 +15,6 @@ use jvm_values::{Frame, Value};
 use list_views::Stack;
 use op_forms::Shuffle;
 use std::alloc::AllocError;
-
-/// The two top values, the top first.
-fn two(stack: &Stack<Value>) -> Option<(Value, Value)>
-    ensures { MatchOption result (length stack.now.0 < 2) (λ x. stack.now.0 ≡ x.0 ∷ x.1 ∷ drop 2 stack.now.0) }
-{
-    if stack.len() < 2 {
-        return None;
-    }
-    Some((*stack.at(0), *stack.at(1)))
-}
-
-/// The three top values, the top first.
-fn three(stack: &Stack<Value>) -> Option<(Value, Value, Value)>
-    ensures { MatchOption result (length stack.now.0 < 3) (λ x. stack.now.0 ≡ x.0 ∷ x.1 ∷ x.2 ∷ drop 3 stack.now.0) }
-{
-    if stack.len() < 3 {
-        return None;
-    }
-    Some((*stack.at(0), *stack.at(1), *stack.at(2)))
-}
-
-/// The four top values, the top first.
-fn four(stack: &Stack<Value>) -> Option<(Value, Value, Value, Value)>
-    ensures { MatchOption result (length stack.now.0 < 4) (λ x. stack.now.0 ≡ x.0 ∷ x.1 ∷ x.2 ∷ x.3 ∷ drop 4 stack.now.0) }
-{
-    if stack.len() < 4 {
-        return None;
-    }
-    Some((*stack.at(0), *stack.at(1), *stack.at(2), *stack.at(3)))
-}
 
 /// Sets the value under so many others.
 fn set(stack: &mut Stack<Value>, depth: usize, value: Value)
@@ -104,7 +74,7 @@ fn swap(frame: &mut Frame) -> After
     ensures room { frame.new.stack.1 ≡ frame.old.stack.1 }
     ensures method { frame.new.method ≡ frame.old.method }
 {
-    if let Some((a, b)) = two(&frame.stack) {
+    if let Some((a, b)) = frame.stack.top_two() {
         set(&mut frame.stack, 0, b);
         set(&mut frame.stack, 1, a);
     }
@@ -136,7 +106,7 @@ fn dup_x1(frame: &mut Frame) -> Result<After, AllocError>
     ensures method { frame.new.method ≡ frame.old.method }
     ensures memory { OnErr result (frame.old.stack.1 ≤ length frame.old.stack.0) }
 {
-    let Some((a, b)) = two(&frame.stack) else {
+    let Some((a, b)) = frame.stack.top_two() else {
         return Ok(After::Next);
     };
     match frame.stack.push(a) {
@@ -157,7 +127,7 @@ fn dup_x2(frame: &mut Frame) -> Result<After, AllocError>
     ensures method { frame.new.method ≡ frame.old.method }
     ensures memory { OnErr result (frame.old.stack.1 ≤ length frame.old.stack.0) }
 {
-    let Some((a, b, c)) = three(&frame.stack) else {
+    let Some((a, b, c)) = frame.stack.top_three() else {
         return Ok(After::Next);
     };
     match frame.stack.push(a) {
@@ -179,7 +149,7 @@ fn dup2(frame: &mut Frame) -> Result<After, AllocError>
     ensures method { frame.new.method ≡ frame.old.method }
     ensures memory { OnErr result (frame.old.stack.1 ≤ length frame.old.stack.0 + 1) }
 {
-    let Some((a, b)) = two(&frame.stack) else {
+    let Some((a, b)) = frame.stack.top_two() else {
         return Ok(After::Next);
     };
     push_two(&mut frame.stack, a, b)?;
@@ -194,7 +164,7 @@ fn dup2_x1(frame: &mut Frame) -> Result<After, AllocError>
     ensures method { frame.new.method ≡ frame.old.method }
     ensures memory { OnErr result (frame.old.stack.1 ≤ length frame.old.stack.0 + 1) }
 {
-    let Some((a, b, c)) = three(&frame.stack) else {
+    let Some((a, b, c)) = frame.stack.top_three() else {
         return Ok(After::Next);
     };
     push_two(&mut frame.stack, a, b)?;
@@ -212,7 +182,7 @@ fn dup2_x2(frame: &mut Frame) -> Result<After, AllocError>
     ensures method { frame.new.method ≡ frame.old.method }
     ensures memory { OnErr result (frame.old.stack.1 ≤ length frame.old.stack.0 + 1) }
 {
-    let Some((a, b, c, d)) = four(&frame.stack) else {
+    let Some((a, b, c, d)) = frame.stack.top_four() else {
         return Ok(After::Next);
     };
     push_two(&mut frame.stack, a, b)?;

@@ -14,13 +14,12 @@ ghost use Rattle.jvm_step.specs.Running.{Step, takes, throwing_step};
 ghost use Rattle.jvm_step.specs.Memory.{TakesNone, TopLacks, CatchLacks};
 ghost use Rattle.jvm_step.specs.Steps.{Does, HasRoom, handler_in, handled_in, handled_at, unwound_in};
 
-use crate::casts::is_object_below;
 use crate::outcome::Outcome;
 use crate::reads::object_at;
 use crate::tops::{drop_top, empty_top, handle_in_top};
 use class_program::{CatchRange, Method, Program};
 use class_world::World;
-use jvm_values::{Base, Heap, Mode, Object, State, Ty};
+use jvm_values::{Base, Heap, Mode, Object, State, Ty, is_object_below};
 use std::alloc::AllocError;
 
 /// Whether an object is of a class or of one below it.

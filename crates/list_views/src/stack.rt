@@ -125,3 +125,35 @@ impl<T> Stack<T> {
         self.items.clear();
     }
 }
+
+impl<T: Copy> Stack<T> {
+    /// The two top items, the top first, where there are two.
+    pub fn top_two(&self) -> Option<(T, T)>
+        ensures { MatchOption result (length self.now.0 < 2) (λ x. self.now.0 ≡ x.0 ∷ x.1 ∷ drop 2 self.now.0) }
+    {
+        if self.len() < 2 {
+            return None;
+        }
+        Some((*self.at(0), *self.at(1)))
+    }
+
+    /// The three top items, the top first, where there are three.
+    pub fn top_three(&self) -> Option<(T, T, T)>
+        ensures { MatchOption result (length self.now.0 < 3) (λ x. self.now.0 ≡ x.0 ∷ x.1 ∷ x.2 ∷ drop 3 self.now.0) }
+    {
+        if self.len() < 3 {
+            return None;
+        }
+        Some((*self.at(0), *self.at(1), *self.at(2)))
+    }
+
+    /// The four top items, the top first, where there are four.
+    pub fn top_four(&self) -> Option<(T, T, T, T)>
+        ensures { MatchOption result (length self.now.0 < 4) (λ x. self.now.0 ≡ x.0 ∷ x.1 ∷ x.2 ∷ x.3 ∷ drop 4 self.now.0) }
+    {
+        if self.len() < 4 {
+            return None;
+        }
+        Some((*self.at(0), *self.at(1), *self.at(2), *self.at(3)))
+    }
+}
