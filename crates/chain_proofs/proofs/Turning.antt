@@ -48,6 +48,7 @@ proof_more rules below number steps more given after step set h turn e =
 
 pub unproved : (rules : List PathRule) (below number : ℕ) (given after : Given) (steps : List ProofStep) (set : List ℕ) (left : List LeftRule) → IsProof rules below number steps given → Some set ≡ set_of (slice_get given number) → TurnsOr rules number set given (Left left) after → LeavesStuck rules steps left
 unproved rules below number given after steps set left h has_set turn = record {
+  limits = h.within;
   is_left = record {
     below = below;
     after = given;

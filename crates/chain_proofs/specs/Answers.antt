@@ -10,8 +10,9 @@ use Rattle.chain_proofs.specs.declared.proving.Proved.TheVariants.{Whole, Stuck}
 use Rattle.chain_proofs.specs.Stuck.{AreStuck, IsLeftRule}
 use Rattle.chain_proofs.specs.Unfinished.{IsLeft}
 
--- the steps so far hold, and leave these rules to the next one; and the rules are stuck
+-- the steps so far are within the limits of proofs and hold, and leave these rules to the next one; and the rules are stuck
 pub record LeavesStuck (rules : List PathRule) (steps : List ProofStep) (left : List LeftRule) : Type 0 where
+  pub limits : AreSteps steps
   pub is_left : IsLeft rules steps (map (λ (one : LeftRule). one.rule) left)
   pub own : List PathRule
   pub are_own : AllZip (IsLeftRule rules) left own
