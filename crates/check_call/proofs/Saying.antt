@@ -1,8 +1,6 @@
 -- What is said of a certificate.
-use Rattle.std.proofs.Common.{◌≡◌, ◌∙◌, ◌≤◌, ℕ, List, length, map, Result, Ok, Err, inl, inr, refl, sym, ap, subst, arith}
+use Rattle.std.proofs.Common.{◌≡◌, ℕ, List, Result, Ok, Err, inl, inr, refl, ap, subst, arith}
 use Rattle.std.specs.Prelude.{OnOk}
-use Rattle.std.proofs.lemmas.List.{length-map}
-use Rattle.jvm_values.specs.States.{MachineState}
 use Rattle.class_program.specs.Programs.{Program, IsClosed}
 use Rattle.frame_types.specs.Tables.{CodeTypes}
 use Rattle.code_verify.specs.Typings.{IsTypingOf}
@@ -12,16 +10,12 @@ use Rattle.input_desc.specs.Descs.{IsOwnDesc}
 use Rattle.input_desc.specs.Initial.{initial_of}
 use Rattle.input_steps.specs.declared.refused.Refused.{Refused}
 use Rattle.input_steps.specs.declared.refused.Refused.TheVariants.{At, Memory}
-use Rattle.input_steps.specs.Steps.{Then}
 use Rattle.input_steps.proofs.Steps.{then_refused, then_goes}
 use Rattle.desc_steps.specs.Ints.{not_built}
 use Rattle.desc_steps.specs.Names.{names_of}
-use Rattle.descent.specs.declared.proof.ProofStep.{ProofStep}
-use Rattle.term_graph.specs.declared.nodes.By.{By}
-use Rattle.term_graph.specs.Graphs.{GraphNode, GraphPart}
+use Rattle.term_graph.specs.Graphs.{GraphNode}
 use Rattle.abs_expand.specs.IntForms.{HasIntForms}
 use Rattle.graph_check.specs.Conditions.{HasIntStates}
-use Rattle.graph_check.specs.Filling.{IsFilled}
 use Rattle.graph_fill.specs.Answers.{IsRefused, FillsOr}
 use Rattle.expand_laws.specs.Laws.{HasShortIncrements}
 use Rattle.cert_form.specs.declared.fault.CertFault.{CertFault}
@@ -37,7 +31,7 @@ use Rattle.cert_verdict.specs.Parts.{case_of}
 use Rattle.check_call.specs.declared.outcome.Outcome.{Outcome}
 use Rattle.check_call.specs.Answers.{RefusesStates, FillsInts, IsCertText, AnswersChecked, AnswersContent, AnswersCert}
 use Rattle.check_call.specs.Headline.{Accepts, EndsIfAccepted}
-use Rattle.check_call.specs.Lines.{accepted, refused_at, AnswersAs}
+use Rattle.check_call.specs.Lines.{refused_at, AnswersAs}
 use Rattle.check_call.specs.Said.{IsSaid, IsSaidOfText}
 
 abbrev Answer : Type 0
@@ -78,14 +72,6 @@ pub refused_ends : (p : Program) (desc : Desc) (refused : Refused) → EndsIfAcc
 refused_ends p desc refused accepts = absurd accepts
 
 -- ---- what a certificate says
-
-ways_length : (parts : List GraphPart) (nodes : List GraphNode) → map (λ (node : GraphNode). node.by) nodes ≡ map (λ (part : GraphPart). part.by) parts → length nodes ≡ length parts
-ways_length parts nodes e = sym (length-map nodes (λ (node : GraphNode). node.by)) ∙ (ap (λ (ways : List By). length ways) e ∙ length-map parts (λ (part : GraphPart). part.by))
-
-pub few_filled : (p : Program) (typing : ℕ → CodeTypes) (parts : List GraphPart) (nodes : List GraphNode) → length parts ≤ 20000 → FillsOr p typing parts (Ok nodes) → length nodes ≤ 4294967280
-few_filled p typing parts nodes few filled =
-    let same : length nodes ≡ length parts = ways_length parts nodes filled.0.ways in
-    omega (arith, few, same)
 
 module _ (p : Program) (typing : ℕ → CodeTypes) (desc : Desc) (content : CertContent) where
   abbrev Next : List GraphNode → Answer → Type 0

@@ -1,4 +1,5 @@
 pub mod Growing
+pub mod Lacking
 pub mod Lists
 pub mod Once
 pub mod Plain

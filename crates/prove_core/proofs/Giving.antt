@@ -1,6 +1,5 @@
 -- What is given, by what was found of its bytes.
-use Rattle.std.proofs.Common.{◌≡◌, ◌∙◌, ◌<◌, ◌≤◌, ℕ, List, length, Ok, sym, ap, arith}
-use Rattle.std.proofs.lemmas.List.{length-map}
+use Rattle.std.proofs.Common.{◌≡◌, ◌<◌, ◌≤◌, ℕ, List, length, Ok, ap}
 use Rattle.serde_json.specs.Written.{compact_text}
 use Rattle.abs_cells.specs.AbstractStates.{AbstractState}
 use Rattle.class_program.specs.Programs.{Program}
@@ -14,16 +13,10 @@ use Rattle.descent.specs.Conditions.{AreSteps}
 use Rattle.descent.specs.declared.proof.ProofStep.{ProofStep}
 use Rattle.graph_check.specs.Conditions.{HasIntStates}
 use Rattle.graph_check.specs.Filling.{IsFilled}
-use Rattle.term_graph.specs.declared.nodes.By.{By}
-use Rattle.term_graph.specs.Graphs.{GraphNode, GraphPart}
+use Rattle.term_graph.specs.Graphs.{GraphNode}
 use Rattle.prove_core.specs.Answers.{IsCertificate, SaysValid}
 use Rattle.prove_core.specs.Reasons.{Aim, IsWholeWithSome, IsTooLong}
 use Rattle.prove_core.specs.Words.{aim_of}
-
-pub few_filled : (p : Program) (typing : ℕ → CodeTypes) (parts : List GraphPart) (nodes : List GraphNode) → length parts ≤ 20000 → IsFilled p typing parts nodes → length nodes ≤ 20000
-few_filled p typing parts nodes few filled =
-    let same : length nodes ≡ length parts = sym (length-map nodes (λ (node : GraphNode). node.by)) ∙ (ap (λ (ways : List By). length ways) filled.ways ∙ length-map parts (λ (part : GraphPart). part.by)) in
-    omega (arith, few, same)
 
 pub says : (p : Program) (typing : ℕ → CodeTypes) (root : AbstractState) (names : List (List ℕ)) (bytes : List ℕ) (content : CertContent) (nodes : List GraphNode) → SaysOf (cert_of names) bytes (Ok content) → IsFilled p typing content.parts nodes → HasIntStates p typing nodes → IsValid (case_of p typing root nodes content.cuts content.proof) → IsCertified p typing nodes content.cuts root → SaysValid (aim_of p typing root) names bytes
 says p typing root names bytes content nodes said filled ints valid certified = record { content = content; says = said; nodes = nodes; filled = filled; ints = ints; valid = valid; certified = certified }

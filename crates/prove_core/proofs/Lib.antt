@@ -1,7 +1,6 @@
 mod Beginning
 mod Giving
 mod Grown
-mod Lacking
 mod Readying
 mod Standing
 mod Targets

@@ -51,7 +51,7 @@ fn is_valid<P: Pairs>(
 }
 
 /// Whether bytes say a certificate which, filled, is valid.
-#[tactic(auto, using(crate::proofs::Giving::few_filled, crate::proofs::Giving::says))]
+#[tactic(auto, using(graph_fill::proofs::Lacking::few_filled, crate::proofs::Giving::says))]
 fn says_valid<P: Pairs>(
     alloc: Global,
     program: &Program<'_>,

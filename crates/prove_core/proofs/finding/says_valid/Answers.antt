@@ -1,4 +1,4 @@
-use Rattle.prove_core.proofs.Lacking.{can_be_filled}
+use Rattle.graph_fill.proofs.Lacking.{can_be_filled}
 use Rattle.prove_core.proofs.finding.says_valid.Goals as goal
 
 pub fill-filled-requires-clause-named : goal.fill-filled-requires-clause-named

@@ -1,14 +1,18 @@
--- Nodes without a state are named by earlier ones, so their graph can be filled.
-use Rattle.std.proofs.Common.{◌≡◌, ◌∙◌, ◌<◌, ◌==◌, ℕ, zero, suc, Bool, true, false, ◌||◌, List, [], ◌∷◌, take, Option, Some, None, slice_get, refl, ap, arith}
+-- Parts of which those without a state are named by earlier ones, as a certificate's text has them, can be filled; and the filled graph has as
+-- many nodes.
+use Rattle.std.proofs.Common.{◌≡◌, ◌∙◌, ◌<◌, ◌≤◌, ◌==◌, ℕ, zero, suc, Bool, true, false, ◌||◌, List, [], ◌∷◌, length, take, Option, Some, None, slice_get, refl, ap, arith}
 use Rattle.std.specs.List.{list_any}
 use Rattle.std.proofs.lemmas.Bool.{false≢true, eqb-true}
 use Rattle.jvm_values.proofs.Options.{none_is_not_some}
 use Rattle.abs_cells.specs.AbstractStates.{AbstractState}
+use Rattle.class_program.specs.Programs.{Program}
+use Rattle.frame_types.specs.Tables.{CodeTypes}
 use Rattle.term_graph.specs.declared.nodes.By.{By}
 use Rattle.term_graph.specs.declared.nodes.By.TheVariants.{Expand, Instance, End, Todo}
-use Rattle.term_graph.specs.Graphs.{GraphPart}
-use Rattle.graph_check.specs.Filling.{CanBeFilled}
+use Rattle.term_graph.specs.Graphs.{GraphNode, GraphPart}
+use Rattle.graph_check.specs.Filling.{IsFilled, CanBeFilled}
 use Rattle.cert_form.specs.Certificates.{names_child, LackingAreNamed}
+use Rattle.graph_fill.proofs.Lists.{same_length}
 
 record IsPlaceOf {X : Type 0} (f : X → Bool) (xs : List X) : Type 0 where
   place : ℕ
@@ -51,3 +55,10 @@ can_be_filled parts lacking number part at none =
     let before = taken_at number parts found.place found.item found.is in
     let named = named_in found.item.by number found.passes in
     record { namer = found.place; part = found.item; named = named.named; place = named.place; earlier = before.1; is = before.0; by = named.is; at = named.at }
+
+-- ---- the filled graph
+
+pub few_filled : (p : Program) (typing : ℕ → CodeTypes) (parts : List GraphPart) (nodes : List GraphNode) → length parts ≤ 20000 → IsFilled p typing parts nodes → length nodes ≤ 20000
+few_filled p typing parts nodes few filled =
+    let same = same_length (λ (node : GraphNode). node.by) (λ (part : GraphPart). part.by) nodes parts filled.ways in
+    omega (arith, few, same)
