@@ -11,6 +11,7 @@ use Rattle.input_desc.specs.Initial.{initial_of}
 use Rattle.input_steps.specs.declared.refused.Refused.{Refused}
 use Rattle.input_steps.specs.declared.refused.Refused.TheVariants.{At, Memory}
 use Rattle.input_steps.proofs.Steps.{then_refused, then_goes}
+use Rattle.desc_steps.specs.Answers.{AnswersAs}
 use Rattle.desc_steps.specs.Ints.{not_built}
 use Rattle.desc_steps.specs.Names.{names_of}
 use Rattle.term_graph.specs.Graphs.{GraphNode}
@@ -31,7 +32,7 @@ use Rattle.cert_verdict.specs.Parts.{case_of}
 use Rattle.check_call.specs.declared.outcome.Outcome.{Outcome}
 use Rattle.check_call.specs.Answers.{RefusesStates, FillsInts, IsCertText, AnswersChecked, AnswersContent, AnswersCert}
 use Rattle.check_call.specs.Headline.{Accepts, EndsIfAccepted}
-use Rattle.check_call.specs.Lines.{refused_at, AnswersAs}
+use Rattle.check_call.specs.Lines.{refused_at}
 use Rattle.check_call.specs.Said.{IsSaid, IsSaidOfText}
 
 abbrev Answer : Type 0

@@ -1,9 +1,7 @@
 -- The outcomes of a check, with their lines.
-use Rattle.std.specs.Prelude.{◌≡◌, ℕ, List, [], ◌∷◌, codes, Result, Ok, Err}
+use Rattle.std.specs.Prelude.{ℕ, List, [], ◌∷◌, codes}
 use Rattle.std.specs.Fmt.{decimal}
 use Rattle.fault_words.specs.Words.{joined}
-use Rattle.input_steps.specs.declared.refused.Refused.{Refused}
-use Rattle.input_steps.specs.declared.refused.Refused.TheVariants.{At, Memory}
 use Rattle.check_call.specs.declared.outcome.Outcome.{Outcome}
 
 -- `ACCEPTED` and a newline
@@ -19,9 +17,3 @@ accepted = record { status = 0; out = accepted_line }
 
 abbrev pub refused_at : ℕ → List ℕ → Outcome
 refused_at item cause = record { status = 2; out = refused_line item cause }
-
--- this outcome, or want of memory
-abbrev pub AnswersAs : Outcome → Result Outcome Refused → Type 0
-AnswersAs wanted (Ok outcome) = outcome ≡ wanted
-AnswersAs wanted (Err (At place fault)) = ⊥
-AnswersAs wanted (Err Memory) = Unit {0}

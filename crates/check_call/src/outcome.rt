@@ -1,6 +1,7 @@
 //! What is said of a certificate.
 ghost use Rattle.std.specs.Prelude.{◌≡◌, IfOk};
-ghost use Rattle.check_call.specs.Lines.{refused_line, accepted, refused_at, AnswersAs};
+ghost use Rattle.desc_steps.specs.Answers.{AnswersAs};
+ghost use Rattle.check_call.specs.Lines.{refused_line, accepted, refused_at};
 
 use fault_words::{joined, number};
 use input_steps::Refused;

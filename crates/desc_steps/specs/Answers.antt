@@ -1,6 +1,6 @@
 -- What a command answers for the bytes of a description and of class files, up to what it says of a program with described inputs: the
 -- steps in their one order, each of which gives something or refuses the input.
-use Rattle.std.specs.Prelude.{◌≡◌, ℕ, List, Result, Ok}
+use Rattle.std.specs.Prelude.{◌≡◌, ℕ, List, Result, Ok, Err}
 use Rattle.class_read.specs.Content.{ClassContent}
 use Rattle.class_world.specs.World.{World}
 use Rattle.class_world.specs.declared.world.MethodRef.{MethodRef}
@@ -11,6 +11,7 @@ use Rattle.input_text.specs.declared.texts.DescText.{DescText}
 use Rattle.input_desc.specs.declared.desc.Desc.{Desc}
 use Rattle.input_desc.specs.Entries.{entry_of}
 use Rattle.input_steps.specs.declared.refused.Refused.{Refused}
+use Rattle.input_steps.specs.declared.refused.Refused.TheVariants.{At, Memory}
 use Rattle.input_steps.specs.Steps.{Then}
 use Rattle.input_steps.specs.Classes.{AllSpell, RefusesClasses, IsWorldOf, RefusesWorld}
 use Rattle.input_steps.specs.Programs.{IsProgramOf, RefusesProgram, IsAcyclic, RefusesCalls, RefusesTypes}
@@ -43,3 +44,9 @@ abbrev pub OfFiles : {X : Type 0} → (Program → (ℕ → CodeTypes) → Desc 
 OfFiles {X} Says desc files =
     Then {A = List ClassContent} {X = X} (AllSpell files) (RefusesClasses files) (λ classes.
     Then {A = DescText} {X = X} (IsDescText desc) (RefusesText desc) (λ text. OfClasses Says text classes))
+
+-- what is said where nothing is refused: this, or want of memory
+abbrev pub AnswersAs : {X : Type 0} → X → Result X Refused → Type 0
+AnswersAs wanted (Ok said) = said ≡ wanted
+AnswersAs wanted (Err (At place fault)) = ⊥
+AnswersAs wanted (Err Memory) = Unit {0}

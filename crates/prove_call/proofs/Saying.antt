@@ -1,5 +1,5 @@
 -- What is said of a program with described inputs, by what was found.
-use Rattle.std.proofs.Common.{◌≡◌, ◌∙◌, ℕ, List, Result, Ok, Err, inl, inr, refl, sym, ap, subst, arith}
+use Rattle.std.proofs.Common.{◌≡◌, ℕ, List, Result, Ok, Err, inl, inr, ap, subst, arith}
 use Rattle.abs_cells.specs.declared.packed.PackedPairs.{PackedPairs}
 use Rattle.class_program.specs.Programs.{Program, IsClosed}
 use Rattle.frame_types.specs.Tables.{CodeTypes}
@@ -12,6 +12,7 @@ use Rattle.input_steps.specs.declared.refused.Refused.TheVariants.{At, Memory}
 use Rattle.abs_expand.specs.IntForms.{HasIntForms}
 use Rattle.expand_laws.specs.Laws.{HasShortIncrements}
 use Rattle.cert_check.specs.Laws.{CertifiedIntRunsEnd}
+use Rattle.desc_steps.specs.Answers.{AnswersAs}
 use Rattle.desc_steps.specs.Headline.{AllFittingEnd}
 use Rattle.desc_steps.specs.Names.{names_of}
 use Rattle.prove_core.specs.declared.found.Reason.{Reason}
@@ -19,7 +20,7 @@ use Rattle.prove_core.specs.Answers.{IsCertificate, HoldsReason}
 use Rattle.prove_call.specs.declared.answer.Answer.{Answer}
 use Rattle.prove_call.specs.Answers.{aim_at, SaysOf}
 use Rattle.prove_call.specs.Headline.{IsProved}
-use Rattle.prove_call.specs.Said.{yes_with, maybe_with, AnswersAs}
+use Rattle.prove_call.specs.Said.{yes_with, maybe_with}
 
 module _ (nodes : ℕ) (p : Program) (typing : ℕ → CodeTypes) (desc : Desc) (names : List (List ℕ)) (are : names ≡ names_of p.world) where
   -- a certificate is found

@@ -1,9 +1,7 @@
 -- Words for the calls that put an answer together.
-use Rattle.std.specs.Prelude.{◌≡◌, ℕ, List, Some, None, Result, Ok, Err}
+use Rattle.std.specs.Prelude.{ℕ, List, Some, None}
 use Rattle.abs_cells.specs.declared.packed.PackedPairs.{PackedPairs}
 use Rattle.class_program.specs.Programs.{Program}
-use Rattle.input_steps.specs.declared.refused.Refused.{Refused}
-use Rattle.input_steps.specs.declared.refused.Refused.TheVariants.{At, Memory}
 use Rattle.prove_core.specs.declared.found.Reason.{Reason}
 use Rattle.prove_call.specs.declared.answer.Answer.{Answer}
 use Rattle.prove_call.specs.Lines.{yes_text, reason_text}
@@ -15,9 +13,3 @@ yes_with cert = record { status = 0; out = yes_text cert; reason = None }
 -- maybe, for this reason
 abbrev pub maybe_with : Program → Reason PackedPairs → Answer
 maybe_with p reason = record { status = 1; out = reason_text p reason; reason = Some reason }
-
--- this answer, or want of memory
-abbrev pub AnswersAs : Answer → Result Answer Refused → Type 0
-AnswersAs wanted (Ok answer) = answer ≡ wanted
-AnswersAs wanted (Err (At place fault)) = ⊥
-AnswersAs wanted (Err Memory) = Unit {0}

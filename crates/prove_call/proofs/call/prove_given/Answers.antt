@@ -4,10 +4,11 @@ use Rattle.abs_cells.specs.declared.packed.PackedPairs.{PackedPairs}
 use Rattle.class_base.specs.ClassNames.{is_class_name}
 use Rattle.class_program.specs.Views.{program_of}
 use Rattle.code_verify.specs.Typings.{typing_at}
+use Rattle.desc_steps.specs.Answers.{AnswersAs}
 use Rattle.prove_core.specs.declared.found.Found.{Found}
 use Rattle.prove_core.specs.Answers.{SearchesOr}
 use Rattle.prove_call.specs.Answers.{aim_at}
-use Rattle.prove_call.specs.Said.{yes_with, AnswersAs}
+use Rattle.prove_call.specs.Said.{yes_with}
 use Rattle.prove_call.proofs.Saying.{yes_says, maybe_says, certificate_ends, maybe_ends}
 use Rattle.prove_call.proofs.call.prove_given.Goals as goal
 
