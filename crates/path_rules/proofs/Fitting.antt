@@ -13,6 +13,7 @@ use Rattle.lin_core.specs.Rows.{Rise, RiseFrom}
 use Rattle.lin_core.specs.Weights.{IsRow}
 use Rattle.descent.specs.declared.rules.SlotForm.{SlotForm}
 use Rattle.descent.specs.Conditions.{IsSlot, IsRule}
+use Rattle.jvm_values.proofs.Options.{some_is}
 use Rattle.abs_cells.specs.declared.cells.Cell.{Cell}
 use Rattle.abs_cells.specs.declared.cells.Cell.TheVariants.{Int, Null, Obj, Nums, Refs, Unk}
 use Rattle.abs_cells.specs.AbstractStates.{AbstractState}
@@ -29,7 +30,7 @@ use Rattle.path_rules.specs.Rules.{unless_zero, with_term, collected, tie, ids_w
 use Rattle.path_rules.specs.Conditions.{IsTermBetween, IsRowBetween, IsLinkBetween, IsMapBetween, IsReady}
 use Rattle.path_rules.specs.Bare.{IsBounded, AreBounded, AllBounded, bare_graph, HasRides}
 use Rattle.path_rules.proofs.Finding.{ids_in_cells, int_within, IsSuffix, whole_suffix, suffix_int, suffix_rest, no_sizes}
-use Rattle.path_rules.proofs.Walking.{both, IsOfInts, ints_of, of_sort, some_is, IsGoodLeg, AreGoodAlong, good_first, last_good}
+use Rattle.path_rules.proofs.Walking.{both, IsOfInts, ints_of, of_sort, IsGoodLeg, AreGoodAlong, good_first, last_good}
 use Rattle.path_rules.proofs.Ready.{stop_is, same_some, good_along, last_stop}
 
 -- ---- collected terms rise
@@ -146,7 +147,7 @@ images_fit first next end stop target entries [] l m good all = tt
 images_fit first next end stop target entries (id ∷ ids) l m good all =
     let given = good.ints id all.0 in
     both (IsRow end) (image_row first stop (variable_of next target.state id) (image_in entries id)) (flat_map (λ (x : ℕ). image_row first stop (variable_of next target.state x) (image_in entries x)) ids)
-    (image_fits end first (variable_of next target.state id) stop (image_in entries id) (int_below next end target.state id m all.0) (λ image e. int_below first end stop.state image l (subst (λ (x : ℕ). HasCell is_int stop.state x) (some_is given.0 image (sym given.1.0 ∙ e)) given.1.1)))
+    (image_fits end first (variable_of next target.state id) stop (image_in entries id) (int_below next end target.state id m all.0) (λ image e. int_below first end stop.state image l (subst (λ (x : ℕ). HasCell is_int stop.state x) (some_is (sym given.1.0 ∙ e)) given.1.1)))
     (images_fit first next end stop target entries ids l m good all.1)
 
 instance_fits : (first next end : ℕ) (stop target : Stop) (entries : List (ℕ × ℕ)) → first + length (variables stop.state) ≤ end → next + length (variables target.state) ≤ end → IsOfInts target.state → IsMapBetween stop.state target.state entries → AreFit end (rows_of_instance first stop entries next target)

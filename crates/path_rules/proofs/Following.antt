@@ -1,15 +1,13 @@
 -- The nodes that nodes lead to, node by node.
 use Rattle.std.proofs.Common.{◌≡◌, ℕ, zero, suc, ◌+◌, ◌≤◌, List, [], ◌∷◌, ◌++◌, length, map, take, Option, Some, None, subst, ap, arith, refl, ◌∙◌, sym}
 use Rattle.std.specs.Prelude.{slice_get}
+use Rattle.jvm_values.proofs.Options.{some_is}
 use Rattle.term_graph.specs.Graphs.{GraphNode, successors}
 use Rattle.path_rules.specs.Ways.{lists_of}
 
-some_is : (a b : GraphNode) → Some a ≡ Some b → a ≡ b
-some_is a b e = cc
-
 one_taken : (graph : List GraphNode) (n : ℕ) (node : GraphNode) → slice_get graph n ≡ Some node → lists_of (take (suc n) graph) ≡ lists_of (take n graph) ++ successors node.by ∷ []
 one_taken [] n node e = absurd (cc)
-one_taken (x ∷ graph) zero node e = ap (λ (y : GraphNode). successors y.by ∷ []) (some_is x node e)
+one_taken (x ∷ graph) zero node e = ap (λ (y : GraphNode). successors y.by ∷ []) (some_is e)
 one_taken (x ∷ graph) (suc n) node e = ap (λ (l : List (List ℕ)). successors x.by ∷ l) (one_taken graph n node e)
 
 one_on : (n : ℕ) → suc n ≡ n + 1

@@ -9,6 +9,7 @@ use Rattle.lin_core.specs.declared.rows.WRow.{WRow}
 use Rattle.lin_core.specs.Rows.{value_of_terms, IsOfKind}
 use Rattle.jvm_values.specs.declared.heap.Heap.{Heap}
 use Rattle.jvm_values.specs.TypedHeaps.{WorldTypes}
+use Rattle.jvm_values.proofs.Options.{some_is}
 use Rattle.abs_cells.specs.declared.cells.Cell.{Cell}
 use Rattle.abs_cells.specs.declared.cells.Cell.TheVariants.{Int, Null, Obj, Nums, Refs, Unk}
 use Rattle.abs_cells.specs.AbstractStates.{AbstractState}
@@ -158,9 +159,6 @@ images_true numbers first next stop target entries (id ∷ ids) a same =
     (image_true numbers first stop (variable_of next target.state id) (image_in entries id) (λ image e. same id image a.0 e))
     (images_true numbers first next stop target entries ids a.1 same)
 
-pub some_is : (a b : ℕ) → Some a ≡ Some b → a ≡ b
-some_is a b e = cc
-
 instance_true : (numbers : ℕ → ℤ) (first next : ℕ) (stop target : Stop) (spot then : Spot) (entries : List (ℕ × ℕ)) → IsOfInts target.state → IsMapBetween stop.state target.state entries → Looks numbers first stop.state spot.meaning → Looks numbers next target.state then.meaning → InstanceEdge entries spot.machine spot.meaning then.machine then.meaning → AreTrueBy numbers (rows_of_instance first stop entries next target)
 instance_true numbers first next stop target spot then entries of good here there edge =
     rw (no_sizes target.state of.ints) (
@@ -170,7 +168,7 @@ instance_true numbers first next stop target spot then entries of good here ther
     same : (id image : ℕ) → HasCell is_int target.state id → image_in entries id ≡ Some image → numbers (variable_of next target.state id) ≡ numbers (variable_of first stop.state image)
     same id image has e =
         let given = good.ints id has in
-        let is = some_is given.0 image (sym given.1.0 ∙ e) in
+        let is = some_is (sym given.1.0 ∙ e) in
         there id has ∙ ap number_of (image_means entries id image spot.meaning then.meaning edge.images e) ∙ sym (here image (subst (λ (x : ℕ). HasCell is_int stop.state x) is given.1.1))
 
 -- ---- the whole path
