@@ -1,5 +1,5 @@
 -- A request has one answer for the contents of its files.
-use Rattle.std.proofs.Common.{◌≡◌, ℕ, List, [], ◌∷◌, Option, Some, None, Result, Ok, Err, refl, sym, ◌∙◌}
+use Rattle.std.proofs.Common.{◌≡◌, ℕ, List, [], ◌∷◌, Option, Some, None, Result, Ok, Err, refl, sym, ap, ◌∙◌}
 use Rattle.std.specs.Prelude.{◌≢◌}
 use Rattle.asm_lines.specs.declared.fault.AsmFault.{AsmFault}
 use Rattle.class_asm.specs.Classes.{assembled}
@@ -25,58 +25,39 @@ use Rattle.jterm.specs.Laws.{AreAlike, AreOne}
 
 -- ---- verdicts
 
-some_out : (out : List ℕ) → (let r : Result (List ℕ) Refused = Ok out in r) ≢ Err Memory
-some_out out e = cc
+some_said : {X : Type 0} (said : X) → (let r : Result X Refused = Ok said in r) ≢ Err Memory
+some_said said e = cc
 
--- where an output is one, a verdict is
+-- where what is said is one, so is the verdict that has its parts
+module _ {X : Type 0} (verdict_of : X → Verdict) (P : Result X Refused → Type 0) (Q : Result Verdict Refused → Type 0) (was : (v : Verdict) → Q (Ok v) → (x : X) × (P (Ok x) × (v ≡ verdict_of x))) (refused : (r : Refused) → Q (Err r) → P (Err r)) (one : IsOne P) where
+  verdict_one : IsOne Q
+  verdict_one (Ok v) (Ok w) h k nr ns =
+      let a = was v h in
+      let b = was w k in
+      let e : (let r : Result X Refused = Ok a.0 in r) ≡ Ok b.0 = one (Ok a.0) (Ok b.0) a.1.0 b.1.0 (some_said a.0) (some_said b.0) in
+      let same : a.0 ≡ b.0 = cc in
+      ap Ok (a.1.1 ∙ (ap verdict_of same ∙ sym b.1.1))
+  verdict_one (Ok v) (Err (At place fault)) h k nr ns =
+      let a = was v h in
+      let e : (let r : Result X Refused = Ok a.0 in r) ≡ Err (At place fault) = one (Ok a.0) (Err (At place fault)) a.1.0 (refused (At place fault) k) (some_said a.0) (λ m. cc) in
+      absurd (cc)
+  verdict_one (Ok v) (Err Memory) h k nr ns = absurd (ns refl)
+  verdict_one (Err (At place fault)) (Ok w) h k nr ns =
+      let b = was w k in
+      let e : (let r : Result X Refused = Err (At place fault) in r) ≡ Ok b.0 = one (Err (At place fault)) (Ok b.0) (refused (At place fault) h) b.1.0 (λ m. cc) (some_said b.0) in
+      absurd (cc)
+  verdict_one (Err (At p f)) (Err (At q g)) h k nr ns =
+      let e : (let r : Result X Refused = Err (At p f) in r) ≡ Err (At q g) = one (Err (At p f)) (Err (At q g)) (refused (At p f) h) (refused (At q g) k) (λ m. cc) (λ m. cc) in
+      let same : At p f ≡ At q g = cc in
+      ap Err same
+  verdict_one (Err (At place fault)) (Err Memory) h k nr ns = absurd (ns refl)
+  verdict_one (Err Memory) s h k nr ns = absurd (nr refl)
+
 done_one : (P : Result (List ℕ) Refused → Type 0) → IsOne P → IsOne (Done P)
-done_one P one (Ok x) (Ok y) h k nr ns =
-    let e : (let r : Result (List ℕ) Refused = Ok x.out in r) ≡ Ok y.out = one (Ok x.out) (Ok y.out) h.2 k.2 (some_out x.out) (some_out y.out) in
-    let out : x.out ≡ y.out = cc in
-    let status : x.status ≡ y.status = h.0 ∙ sym k.0 in
-    let reason : x.reason ≡ y.reason = h.1 ∙ sym k.1 in
-    λ i. Ok (record { status = status i; out = out i; reason = reason i })
-done_one P one (Ok x) (Err (At place fault)) h k nr ns =
-    let e : (let r : Result (List ℕ) Refused = Ok x.out in r) ≡ Err (At place fault) = one (Ok x.out) (Err (At place fault)) h.2 k (some_out x.out) (λ m. cc) in
-    absurd (cc)
-done_one P one (Ok x) (Err Memory) h k nr ns = absurd (ns refl)
-done_one P one (Err (At place fault)) (Ok y) h k nr ns =
-    let e : (let r : Result (List ℕ) Refused = Err (At place fault) in r) ≡ Ok y.out = one (Err (At place fault)) (Ok y.out) h k.2 (λ m. cc) (some_out y.out) in
-    absurd (cc)
-done_one P one (Err (At p f)) (Err (At q g)) h k nr ns =
-    let e : (let r : Result (List ℕ) Refused = Err (At p f) in r) ≡ Err (At q g) = one (Err (At p f)) (Err (At q g)) h k (λ m. cc) (λ m. cc) in
-    let same : At p f ≡ At q g = cc in
-    λ i. Err (same i)
-done_one P one (Err (At place fault)) (Err Memory) h k nr ns = absurd (ns refl)
-done_one P one (Err Memory) s h k nr ns = absurd (nr refl)
+done_one P = verdict_one (λ (out : List ℕ). record { status = 0; out = out; reason = None }) P (Done P) (λ v h. (v.out, (h.2, λ i. record { status = h.0 i; out = v.out; reason = h.1 i }))) (λ r h. h)
 
-some_outcome : (outcome : Outcome) → (let r : Result Outcome Refused = Ok outcome in r) ≢ Err Memory
-some_outcome outcome e = cc
-
--- where an outcome is one, a verdict is
 judged_one : (P : Result Outcome Refused → Type 0) → IsOne P → IsOne (Judged P)
-judged_one P one (Ok x) (Ok y) h k nr ns =
-    let a : Outcome = record { status = x.status; out = x.out } in
-    let b : Outcome = record { status = y.status; out = y.out } in
-    let e : (let r : Result Outcome Refused = Ok a in r) ≡ Ok b = one (Ok a) (Ok b) h.1 k.1 (some_outcome a) (some_outcome b) in
-    let same : a ≡ b = cc in
-    let reason : x.reason ≡ y.reason = h.0 ∙ sym k.0 in
-    λ i. Ok (record { status = (same i).status; out = (same i).out; reason = reason i })
-judged_one P one (Ok x) (Err (At place fault)) h k nr ns =
-    let a : Outcome = record { status = x.status; out = x.out } in
-    let e : (let r : Result Outcome Refused = Ok a in r) ≡ Err (At place fault) = one (Ok a) (Err (At place fault)) h.1 k (some_outcome a) (λ m. cc) in
-    absurd (cc)
-judged_one P one (Ok x) (Err Memory) h k nr ns = absurd (ns refl)
-judged_one P one (Err (At place fault)) (Ok y) h k nr ns =
-    let b : Outcome = record { status = y.status; out = y.out } in
-    let e : (let r : Result Outcome Refused = Err (At place fault) in r) ≡ Ok b = one (Err (At place fault)) (Ok b) h k.1 (λ m. cc) (some_outcome b) in
-    absurd (cc)
-judged_one P one (Err (At p f)) (Err (At q g)) h k nr ns =
-    let e : (let r : Result Outcome Refused = Err (At p f) in r) ≡ Err (At q g) = one (Err (At p f)) (Err (At q g)) h k (λ m. cc) (λ m. cc) in
-    let same : At p f ≡ At q g = cc in
-    λ i. Err (same i)
-judged_one P one (Err (At place fault)) (Err Memory) h k nr ns = absurd (ns refl)
-judged_one P one (Err Memory) s h k nr ns = absurd (nr refl)
+judged_one P = verdict_one (λ (outcome : Outcome). record { status = outcome.status; out = outcome.out; reason = None }) P (Judged P) (λ v h. (record { status = v.status; out = v.out }, (h.1, λ i. record { status = v.status; out = v.out; reason = h.0 i }))) (λ r h. h)
 
 -- ---- listings
 
@@ -109,9 +90,6 @@ one_is request (Ok x) (Err s) alike e = absurd (cc)
 one_is request (Err r) (Ok y) alike e = absurd (cc)
 one_is request (Err r) (Err s) alike e = let same : r ≡ s = cc in same
 
-some_answer : (answer : Answer) → (let r : Result Answer Refused = Ok answer in r) ≢ Err Memory
-some_answer answer e = cc
-
 known : (refused : Refused) → (let r : Result Verdict Refused = Err refused in r) ≢ Err Memory → (let r : Result Answer Refused = Err refused in r) ≢ Err Memory
 known (At place fault) some e = cc
 known Memory some e = some refl
@@ -120,8 +98,8 @@ known Memory some e = some refl
 proved_one : (nodes : ℕ) (P : Result Answer Refused → Type 0) → ((a b : Result Answer Refused) → P a → P b → a ≢ Err Memory → b ≢ Err Memory → refusal_of a ≡ refusal_of b)
     → (a b : Result Verdict Refused) → Proved P a → Proved P b → a ≢ Err Memory → b ≢ Err Memory → AreOne (Prove nodes) a b
 proved_one nodes P one (Ok x) (Ok y) h k nr ns = tt
-proved_one nodes P one (Ok x) (Err s) h k nr ns = let e : (let n : Option Refused = None in n) ≡ Some s = one _ _ h k (some_answer _) (known s ns) in absurd (cc)
-proved_one nodes P one (Err r) (Ok y) h k nr ns = let e : Some r ≡ None = one _ _ h k (known r nr) (some_answer _) in absurd (cc)
+proved_one nodes P one (Ok x) (Err s) h k nr ns = let e : (let n : Option Refused = None in n) ≡ Some s = one _ _ h k (some_said _) (known s ns) in absurd (cc)
+proved_one nodes P one (Err r) (Ok y) h k nr ns = let e : Some r ≡ None = one _ _ h k (known r nr) (some_said _) in absurd (cc)
 proved_one nodes P one (Err r) (Err s) h k nr ns = let e : Some r ≡ Some s = one _ _ h k (known r nr) (known s ns) in let same : r ≡ s = cc in same
 
 pub answers_one : (request : Request) (contents : List (List ℕ)) (a b : Result Verdict Refused) → IsAnswer request contents a → IsAnswer request contents b → a ≢ Err Memory → b ≢ Err Memory → AreOne request a b
