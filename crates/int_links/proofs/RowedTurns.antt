@@ -31,9 +31,10 @@ use Rattle.abs_expand.specs.Table.{local_here, row_of}
 use Rattle.abs_expand.specs.Turns.{Here, Operand, known, id, with_stack, interval_at, interval_of_id, are_one, narrowings, term_of, terms_of, constant_of, row_over, rows_over, turn_of_result, turn_of_case, turns_of, narrows, place_of_way, branch_of_case, branches}
 use Rattle.abs_expand.proofs.IntTurns.{local_held}
 use Rattle.abs_expand.proofs.OptionLists.{mapped, filtered}
+use Rattle.int_plans.proofs.EachRow.{IsFine, AreFine, each_sum, each_difference}
 use Rattle.int_plans.proofs.EachTurn.{EachTurn, HoldsOfInts, each_turn}
 use Rattle.int_links.specs.Increments.{IsShortForm}
-use Rattle.int_links.proofs.SmallRows.{IsSmall, IsInt, HasIntEnds, IsSmallRow, IsFine, AreFine, IsPlainRow, sum_small, difference_small, turn_small, sums_fine, differences_fine, operated_small, compared_plain}
+use Rattle.int_links.proofs.SmallRows.{IsSmall, IsInt, HasIntEnds, IsSmallRow, IsPlainRow, sum_small, difference_small, turn_small, operated_small, compared_plain}
 
 -- ---- lists
 
@@ -230,9 +231,9 @@ module _ (here : Here) (ints_state : IsIntState here.state) (int_ends : (x : ℕ
     increments = λ n by x is at.
         let l = found_local n x at in
         let b : IsInt by = subst IsShortForm is short in
-        operator_rowed Add (id x) (known by) (with_stack here here.next here.frame.stack) (in_local n) l.0 tt l.1 (sums_fine (IsOver (id x) (known by)) (sum_over x by b) (interval_of_id here.state x) (interval_at here.state (known by)));
+        operator_rowed Add (id x) (known by) (with_stack here here.next here.frame.stack) (in_local n) l.0 tt l.1 (each_sum (IsOver (id x) (known by)) (sum_over x by b) (interval_of_id here.state x) (interval_at here.state (known by)));
     negates = λ a rest e.
-        operator_rowed Sub (known (pos 0)) (id a) (with_stack here here.next rest) on_stack tt (taken (a ∷ rest) e).0 tt (differences_fine (IsOver (known (pos 0)) (id a)) (difference_over a) (interval_at here.state (known (pos 0))) (interval_of_id here.state a));
+        operator_rowed Sub (known (pos 0)) (id a) (with_stack here here.next rest) on_stack tt (taken (a ∷ rest) e).0 tt (each_difference (IsOver (known (pos 0)) (id a)) (difference_over a) (interval_at here.state (known (pos 0))) (interval_of_id here.state a));
     computes = λ op a b rest e. let h = taken (b ∷ a ∷ rest) e in arith_rowed op a b rest h.1.0 h.0;
     compares = λ cond a b place rest e. let h = taken (b ∷ a ∷ rest) e in compared_rowed cond a b place rest h.1.0 h.0;
   }

@@ -1,1 +1,2 @@
+pub mod EachRow
 pub mod EachTurn
