@@ -1,5 +1,5 @@
 -- A value has one term.
-use Rattle.std.proofs.Common.{◌≡◌, ◌≤◌, ◌∙◌, ℕ, zero, suc, List, [], ◌∷◌, Option, Some, None, slice_get, inl, inr, refl, sym, ap, arith}
+use Rattle.std.proofs.Common.{◌≡◌, ◌≤◌, ◌∙◌, ℕ, zero, suc, List, [], ◌∷◌, Option, Some, slice_get, inl, inr, sym, ap, arith}
 use Rattle.std.proofs.lemmas.Bool.{cases_lt}
 use Rattle.std.specs.Option.{option_map, option_and_then}
 use Rattle.jvm_values.proofs.Options.{given, some_is, none_is_not_some}
@@ -9,11 +9,7 @@ use Rattle.jvm_values.specs.declared.heap.Object.{Object}
 use Rattle.jvm_values.specs.declared.heap.Object.TheVariants.{Instance, Nums, Refs}
 use Rattle.jvm_values.specs.declared.heap.Heap.{Heap}
 use Rattle.jvm_values.specs.Terms.{HeapTerm, HeapTerms, null, node, more, terms_by, term_of_object, term_within, IsTerm}
-
--- what an answer under a map was
-mapped : {A B : Type 0} (f : A → B) (o : Option A) (y : B) → option_map f o ≡ Some y → (x : A) × ((o ≡ Some x) × (f x ≡ y))
-mapped f None y e = absurd (none_is_not_some y e)
-mapped f (Some x) y e = (x, (refl, some_is e))
+use Rattle.abs_expand.proofs.OptionLists.{mapped}
 
 module _ (f g : Value → Option HeapTerm) (kept : (v : Value) (t : HeapTerm) → f v ≡ Some t → g v ≡ Some t) where
   terms_kept : (vs : List Value) (ts : HeapTerms) → terms_by f vs ≡ Some ts → terms_by g vs ≡ Some ts

@@ -19,6 +19,7 @@ use Rattle.term_graph.specs.declared.links.LinkRow.{LinkRow}
 use Rattle.term_graph.specs.declared.links.Link.{Link}
 use Rattle.term_graph.specs.Edges.{is_size_variable}
 use Rattle.term_graph.specs.Graphs.{GraphNode}
+use Rattle.abs_expand.proofs.OptionLists.{each_any}
 use Rattle.path_rules.specs.Stops.{Stop, Leg, child, instance, LinkedGraph, leg_by, leg_at, rides_from}
 use Rattle.path_rules.specs.Rules.{at_least_zero, ids_with, variable_of, variable_at, bounds_of, rows_of_stop, tie, has_int, link_row, rows_of_child, image_row, rows_of_instance, rows_of_leg, variables_after, rows_along}
 use Rattle.path_rules.specs.Conditions.{IsRowBetween, IsLinkBetween}
@@ -33,10 +34,6 @@ abbrev AreShort : List WRow → Type 0
 AreShort rows = AllByRecursion IsShort rows
 
 -- ---- lists
-
-each_mapped : {X Y : Type 0} (P : Y → Type 0) (f : X → Y) (xs : List X) → ((x : X) → P (f x)) → AllByRecursion P (map f xs)
-each_mapped P f [] h = tt
-each_mapped P f (x ∷ xs) h = (h x, each_mapped P f xs h)
 
 each_joined : {X Y : Type 0} (P : Y → Type 0) (f : X → List Y) (xs : List X) → ((x : X) → AllByRecursion P (f x)) → AllByRecursion P (flat_map f xs)
 each_joined P f [] h = tt
@@ -59,7 +56,7 @@ stop_short : (first : ℕ) (state : AbstractState) → AreShort (rows_of_stop fi
 stop_short first state =
     both IsShort (flat_map (λ (c : ℕ × Cell). bounds_of (variable_of first state c.0) c.1) state.cells) (map (λ (id : ℕ). at_least_zero ((variable_of first state id, pos 1) ∷ []) (pos 0)) (ids_with is_size_variable state))
     (each_joined IsShort (λ (c : ℕ × Cell). bounds_of (variable_of first state c.0) c.1) state.cells (λ c. bounds_short (variable_of first state c.0) c.1))
-    (each_mapped IsShort (λ (id : ℕ). at_least_zero ((variable_of first state id, pos 1) ∷ []) (pos 0)) (ids_with is_size_variable state) (λ id. at_least_short ((variable_of first state id, pos 1) ∷ []) (pos 0)))
+    (each_any IsShort (λ (id : ℕ). at_least_zero ((variable_of first state id, pos 1) ∷ []) (pos 0)) (ids_with is_size_variable state) (λ id. at_least_short ((variable_of first state id, pos 1) ∷ []) (pos 0)))
 
 -- ---- rows of an edge
 
@@ -89,7 +86,7 @@ child_short : (first next : ℕ) (stop after : Stop) (link : Link) → IsOfInts 
 child_short first next stop after link of between small =
     rw (no_sizes stop.state of.ints) (
     both IsShort (map (λ (id : ℕ). tie (variable_of first stop.state id) (variable_of next after.state id)) (filter (has_int after.state) (ids_with is_int stop.state))) (map (link_row (variable_of first stop.state) (variable_of next after.state)) link.rows ++ [])
-    (each_mapped IsShort (λ (id : ℕ). tie (variable_of first stop.state id) (variable_of next after.state id)) (filter (has_int after.state) (ids_with is_int stop.state)) (λ id. tie_short (variable_of first stop.state id) (variable_of next after.state id)))
+    (each_any IsShort (λ (id : ℕ). tie (variable_of first stop.state id) (variable_of next after.state id)) (filter (has_int after.state) (ids_with is_int stop.state)) (λ id. tie_short (variable_of first stop.state id) (variable_of next after.state id)))
     (both IsShort (map (link_row (variable_of first stop.state) (variable_of next after.state)) link.rows) []
     (links_short stop.state after.state (variable_of first stop.state) (variable_of next after.state) link.rows (recursion_from_All (IsRowBetween stop.state after.state) link.rows between.rows) (recursion_from_All IsShortRow link.rows small)) tt))
 

@@ -1,5 +1,5 @@
 -- The rows of every step of the table have short equations.
-use Rattle.std.proofs.Common.{◌≡◌, ℕ, ◌+◌, ◌≤◌, ◌==◌, Bool, true, false, cond, if◌then◌else◌, List, [], ◌∷◌, ◌++◌, length, map, ℤ, pos, Option, Some, None, inl, inr, refl, ap, arith, length-append}
+use Rattle.std.proofs.Common.{◌≡◌, ℕ, ◌+◌, ◌≤◌, ◌==◌, Bool, true, false, cond, if◌then◌else◌, List, [], ◌∷◌, ◌++◌, length, ℤ, pos, Option, Some, None, inl, inr, refl, ap, arith, length-append}
 use Rattle.std.specs.Prelude.{◌&&◌, ◌||◌, unsigned_abs, slice_get, slice_set, reverse, take, drop}
 use Rattle.std.specs.List.{AllByRecursion, filter_map, cons_option}
 use Rattle.std.specs.Option.{IfSome, option_map, option_and_then, option_map_or, option_to_list}
@@ -49,6 +49,7 @@ use Rattle.abs_expand.specs.Plans.{Goal, on_stack, in_local, in_bottom, in_field
 use Rattle.abs_expand.specs.Switches.{table_keys, lookup_keys, parts_of}
 use Rattle.abs_expand.specs.Table.{types_here, place_under, cell_here, is_null_here, unless_null, accessed, local_here, step_if, load_plan, store_plan, increment_plan, negation_plan, narrow_plan, switch_plan, jump_if, null_plan, equal_plan, field_id, getfield_plan, on_instance, put_slot, putfield_plan, bottom_with, static_local, getstatic_plan, bottom_of, put_static, putstatic_plan, new_of_base, array_turn, natural, negative, array_plan, length_id, length_plan, of_kind, in_bounds, out_of_bounds, access_at, access_plan, number_load_plan, number_store_plan, aaload_plan, aastore_plan, Cast, checkcast_of, instanceof_of, with_bound, bounded, cell_bound, is_bound_below, may_be_below, is_known_cell, undecided, cast_plan, checkcast_plan, instanceof_plan, called_frame, invokes, runs_or_lacks, static_plan, receiver_of, special_plan, class_of_cell, answered, selecting_plan, returned_to, value_plan, athrow_plan, binary, unary, row_of, taken_by, plan_of_form}
 use Rattle.abs_expand.specs.Turns.{Here, Operand, known, id, with_stack, emptied, goes_on, moves, throws, throws_after, interval_at, interval_of_id, are_one, narrowings, term_of, terms_of, row_over, rows_over, turn_of_result, turn_of_case, turns_of, turn_narrowing, turns_narrowing, narrows, rows_if, place_of_way, branch_of_case, branches, switch_turn}
+use Rattle.abs_expand.proofs.OptionLists.{each_any}
 use Rattle.plain_rules.specs.Short.{IsShortRow}
 use Rattle.plain_rules.proofs.ShortCases.{IsLow, AreLow, HasLow, operated_low, related_low, compared_low}
 
@@ -86,10 +87,6 @@ filtered Q P f (x ∷ xs) h all = put_one P (f x) (filter_map f xs) (h x all.0) 
 filtered_any : {X Y : Type 0} (P : Y → Type 0) (f : X → Option Y) (xs : List X) → ((x : X) → IfSome (f x) P) → AllByRecursion P (filter_map f xs)
 filtered_any P f [] h = tt
 filtered_any P f (x ∷ xs) h = put_one P (f x) (filter_map f xs) (h x) (filtered_any P f xs h)
-
-each_mapped : {X Y : Type 0} (P : Y → Type 0) (f : X → Y) (xs : List X) → ((x : X) → P (f x)) → AllByRecursion P (map f xs)
-each_mapped P f [] h = tt
-each_mapped P f (x ∷ xs) h = (h x, each_mapped P f xs h)
 
 if_mapped : {X Y : Type 0} (P : Y → Type 0) (f : X → Y) (o : Option X) → ((x : X) → P (f x)) → IfSome (option_map f o) P
 if_mapped P f None h = tt
@@ -204,7 +201,7 @@ kept_short kept frames goal (Some r) h = λ fresh. tt
 
 narrowing_short : (here : Here) (kind : Kind) (x : ℕ) (kept : Turn) (frames : List AbstractFrame) (goal : Goal) → IsShortTurn kept → AreShortTurns (turns_narrowing here kind x kept frames goal)
 narrowing_short here kind x kept frames goal h =
-    each_mapped IsShortTurn (λ (case : IntCase). turn_narrowing kept frames goal case.result) (operated (NarrowOp kind) (interval_of_id here.state x) (interval_of_id here.state x)) (λ case. kept_short kept frames goal case.result h)
+    each_any IsShortTurn (λ (case : IntCase). turn_narrowing kept frames goal case.result) (operated (NarrowOp kind) (interval_of_id here.state x) (interval_of_id here.state x)) (λ case. kept_short kept frames goal case.result h)
 
 switches_short : (here : Here) (x : ℕ) (stack : List ℕ) (parts : List (Option Bounds × ℕ)) → AreShortTurns (filter_map (switch_turn here x stack) parts)
 switches_short here x stack parts =
