@@ -9,6 +9,8 @@ ints       255 int parameters and 1,900 `nop`s
 ids        512 locals, all set
 paths      two switches of 62 labels in a loop: 4,096 paths, which no form ranks
 loops N    N loops, each in the one before, up to a parameter of its own
+locals     65,535 locals, of which one is set, and a loop over 43 places to each of which could be jumped back: the certificate has more
+           than 16 MiB
 """
 import json
 import pathlib
@@ -42,14 +44,14 @@ class Code:
         self.put(opcode)
         self.distance(name, start, 2)
 
-    def switch(self, count, name):
-        """A `tableswitch` with so many keys from 0 on, all of which and the default go to one place."""
+    def switch(self, default, names):
+        """A `tableswitch` with a place for each key from 0 on, and one for all other keys."""
         start = len(self.bytes)
         self.put(0xaa)
         self.put(*bytes(-len(self.bytes) % 4))
-        self.distance(name, start, 4)
-        self.bytes += struct.pack('>ii', 0, count - 1)
-        for _ in range(count):
+        self.distance(default, start, 4)
+        self.bytes += struct.pack('>ii', 0, len(names) - 1)
+        for name in names:
             self.distance(name, start, 4)
 
     def done(self):
@@ -79,10 +81,10 @@ def paths():
     code = Code()
     code.label('head')
     code.put(0x15, 0)
-    code.switch(62, 'second')
+    code.switch('second', ['second'] * 62)
     code.label('second')
     code.put(0x15, 1)
-    code.switch(62, 'last')
+    code.switch('last', ['last'] * 62)
     code.label('last')
     code.jump(0xa7, 'head')
     return 2, code.done()
@@ -108,11 +110,28 @@ def loops(depth):
     return depth, code.done()
 
 
+def many_locals():
+    code = Code()
+    code.put(3, 0x36, 0)
+    for n in range(43):
+        code.label('head %d' % n)
+        code.put(0)
+    code.put(0x84, 0, 1, 0x15, 0)
+    code.jump(0x9c, 'head 0')
+    code.put(0x15, 0)
+    code.switch('end', ['head %d' % n for n in range(43)])
+    code.label('end')
+    code.put(0xb1)
+    return 0, code.done()
+
+
 SHAPES = [
     ('ints', ints(), 255, []),
     ('ids', ids(), 512, []),
     ('paths', paths(), 2, ['--nodes', '20000']),
-] + [('loops %d' % depth, loops(depth), 2 * depth, ['--nodes', '20000']) for depth in (2, 4, 6)]
+] + [('loops %d' % depth, loops(depth), 2 * depth, ['--nodes', '20000']) for depth in (2, 4, 6)] + [
+    ('locals', many_locals(), 65535, []),
+]
 
 
 def nodes_of(out):

@@ -505,3 +505,34 @@ fn states_that_are_left_out_take_no_room(rt: HostRuntime) -> Result<(), Fail> {
     assert!(rt; is_accepted(alloc, &listing, &desc)?);
     Ok(())
 }
+
+// A method that counts up from 0 till its int wraps, with so many locals of which it sets one. Its loop goes over 43 places, each of which
+// could be jumped back to: the graph looks for earlier nodes at each of them, and widens there twice.
+fn heads(alloc: Global, locals: &[u8]) -> Result<Vec<u8>, AllocError> {
+    let mut listing = Vec::from_slice(alloc, b"class A\nmethod f ()V static stack 1 locals ")?;
+    let mut switch = Vec::from_slice(alloc, b"tableswitch 0 e")?;
+    listing.extend_from_slice(locals)?;
+    listing.extend_from_slice(b"\niconst_0\nistore 0\n")?;
+    for place in 0..43 {
+        let head = format!(in alloc; "h{place}: nop\n")?;
+        listing.extend_from_slice(head.as_bytes())?;
+        let label = format!(in alloc; " h{place}")?;
+        switch.extend_from_slice(label.as_bytes())?;
+    }
+    listing.extend_from_slice(b"iinc 0 1\niload 0\nifge h0\niload 0\n")?;
+    listing.extend_from_slice(&switch)?;
+    listing.extend_from_slice(b"\ne: return\nend\n")?;
+    Ok(listing)
+}
+
+#[test]
+fn a_certificate_of_more_than_16_mib_is_not_given(rt: HostRuntime) -> Result<(), Fail> {
+    let alloc = rt.alloc();
+    let desc =
+        b"{\"form\":1,\"class\":\"A\",\"method\":\"f\",\"desc\":\"()V\",\"params\":[],\"same\":[],\"share\":[]}";
+    let few = heads(alloc, b"1000")?;
+    assert!(rt; is_accepted(alloc, &few, desc)?);
+    let many = heads(alloc, b"65535")?;
+    assert!(rt; is_maybe(alloc, &many, desc, "4000", b"MAYBE bytes\n")?);
+    Ok(())
+}
