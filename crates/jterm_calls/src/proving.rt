@@ -3,6 +3,10 @@ use crate::calls::{DESC, LISTING, Outcome, assembled, call, described, file, pro
 use std::alloc::{AllocError, Global};
 use std::test::Fail;
 
+/// A description of a method without parameters that returns nothing.
+const NO_INT: &[u8] =
+    b"{\"form\":1,\"class\":\"A\",\"method\":\"f\",\"desc\":\"()V\",\"params\":[],\"same\":[],\"share\":[]}";
+
 /// A description of a method over one int, which may be any.
 const ANY_INT: &[u8] =
     b"{\"form\":1,\"class\":\"A\",\"method\":\"f\",\"desc\":\"(I)V\",\"params\":[{\"lo\":-2147483648,\"hi\":2147483647}],\"same\":[],\"share\":[]}";
@@ -22,7 +26,7 @@ fn limited(alloc: Global, listing: &[u8], desc: &[u8], nodes: &str) -> Result<Ou
     held.push(file(alloc, "d", desc)?)?;
     held.push(file(alloc, "a", class.out.bytes())?)?;
     let words = ["prove", "--nodes", nodes, "d", "a"];
-    call(alloc, &words, held, &[], 4_000_000)
+    call(alloc, &words, held, &[], 17_000_000)
 }
 
 // Whether `prove` gives no certificate, with this text, and keeps a reason.
@@ -429,12 +433,10 @@ fn stores(alloc: Global, count: usize) -> Result<Vec<u8>, AllocError> {
 #[test]
 fn a_513th_int_is_too_many(rt: HostRuntime) -> Result<(), Fail> {
     let alloc = rt.alloc();
-    let desc =
-        b"{\"form\":1,\"class\":\"A\",\"method\":\"f\",\"desc\":\"()V\",\"params\":[],\"same\":[],\"share\":[]}";
     let more = stores(alloc, 513)?;
-    assert!(rt; is_maybe(alloc, &more, desc, "4000", b"MAYBE ids\n")?);
+    assert!(rt; is_maybe(alloc, &more, NO_INT, "4000", b"MAYBE ids\n")?);
     let most = stores(alloc, 512)?;
-    assert!(rt; is_accepted(alloc, &most, desc)?);
+    assert!(rt; is_accepted(alloc, &most, NO_INT)?);
     Ok(())
 }
 
@@ -506,14 +508,15 @@ fn states_that_are_left_out_take_no_room(rt: HostRuntime) -> Result<(), Fail> {
     Ok(())
 }
 
-// A method that counts up from 0 till its int wraps, with so many locals of which it sets one. Its loop goes over 43 places, each of which
-// could be jumped back to: the graph looks for earlier nodes at each of them, and widens there twice.
-fn heads(alloc: Global, locals: &[u8]) -> Result<Vec<u8>, AllocError> {
-    let mut listing = Vec::from_slice(alloc, b"class A\nmethod f ()V static stack 1 locals ")?;
+// A method that counts up from 0 till its int wraps, and has 65,534 locals more, which it doesn't set. Its loop goes over so many places,
+// each of which could be jumped back to: the graph looks for earlier nodes at each of them, and widens there twice.
+fn heads(alloc: Global, places: usize) -> Result<Vec<u8>, AllocError> {
+    let mut listing = Vec::from_slice(
+        alloc,
+        b"class A\nmethod f ()V static stack 1 locals 65535\niconst_0\nistore 0\n",
+    )?;
     let mut switch = Vec::from_slice(alloc, b"tableswitch 0 e")?;
-    listing.extend_from_slice(locals)?;
-    listing.extend_from_slice(b"\niconst_0\nistore 0\n")?;
-    for place in 0..43 {
+    for place in 0..places {
         let head = format!(in alloc; "h{place}: nop\n")?;
         listing.extend_from_slice(head.as_bytes())?;
         let label = format!(in alloc; " h{place}")?;
@@ -526,13 +529,21 @@ fn heads(alloc: Global, locals: &[u8]) -> Result<Vec<u8>, AllocError> {
 }
 
 #[test]
+fn a_certificate_of_nearly_16_mib_is_accepted(rt: HostRuntime) -> Result<(), Fail> {
+    let alloc = rt.alloc();
+    let listing = heads(alloc, 42)?;
+    let size = match accepted(alloc, &listing, NO_INT)? {
+        Some(cert) => cert.len(),
+        None => 0,
+    };
+    assert!(rt; size > 16_700_000);
+    Ok(())
+}
+
+#[test]
 fn a_certificate_of_more_than_16_mib_is_not_given(rt: HostRuntime) -> Result<(), Fail> {
     let alloc = rt.alloc();
-    let desc =
-        b"{\"form\":1,\"class\":\"A\",\"method\":\"f\",\"desc\":\"()V\",\"params\":[],\"same\":[],\"share\":[]}";
-    let few = heads(alloc, b"1000")?;
-    assert!(rt; is_accepted(alloc, &few, desc)?);
-    let many = heads(alloc, b"65535")?;
-    assert!(rt; is_maybe(alloc, &many, desc, "4000", b"MAYBE bytes\n")?);
+    let listing = heads(alloc, 43)?;
+    assert!(rt; is_maybe(alloc, &listing, NO_INT, "4000", b"MAYBE bytes\n")?);
     Ok(())
 }
