@@ -1,8 +1,9 @@
-//! Answers the cases of the tables `check-int` and `check-2-int`: each line of the input is the name of a table, a tab and the input fields of
-//! a case, divided by tabs. The answer to each comes on a line of its own.
+//! Answers the cases of the tables `check-int`, `check-2-int` and `prove-int`: each line of the input is the name of a table, a tab and the
+//! input fields of a case, divided by tabs. The answer to each comes on a line of its own.
 #![tactic(auto)]
 
 mod checks;
+mod proves;
 
 use anyhow::{Result, bail};
 use std::alloc::Global;
@@ -17,6 +18,7 @@ impl Answers for Cases {
         match case.table() {
             "check-int" => checks::answer(alloc, case),
             "check-2-int" => checks::answer(alloc, case),
+            "prove-int" => proves::answer(alloc, case),
             table => bail!("there is no table {table}"),
         }
     }

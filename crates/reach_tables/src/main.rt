@@ -1,8 +1,10 @@
-//! Answers the cases of the table `reach`: each line of the input is a test, its ids and a state, divided by tabs. The answer
-//! to each comes on a line of its own. Each state is held with its pairs as a list and as bits, and both give one answer.
+//! Answers the cases of the tables `reach` and `widen`: each line of the input is a test, its ids, a state and class files, or the word
+//! `widen`, two states and class files, divided by tabs. The answer to each comes on a line of its own. Each state is held with its pairs as a
+//! list and as bits, and both give one answer.
 #![tactic(auto)]
 
-mod answers;
+mod reaching;
+mod widenings;
 
 use anyhow::Result;
 use std::alloc::Global;
@@ -13,7 +15,10 @@ struct Cases;
 
 impl Answers for Cases {
     fn answer(alloc: Global, case: &Case<'_>) -> Result<String> {
-        answers::answer(alloc, case)
+        match case.table() {
+            "widen" => widenings::answer(alloc, case),
+            _ => reaching::answer(alloc, case),
+        }
     }
 }
 
