@@ -1,4 +1,8 @@
 //! Two states; the answer is the first one's widening by the second one, or that it has too many ids.
+ghost use Rattle.abs_cells.specs.Sound.{IsSound};
+ghost use Rattle.abs_widen.specs.Widening.{AreAlike};
+ghost use Rattle.class_world.specs.WorldTypes.{types_of};
+
 use abs_cells::{AbsState, ListPairs, PackedPairs, Pairs};
 use abs_reach::Marks;
 use abs_sound::is_sound;
@@ -27,7 +31,7 @@ pub fn answer(alloc: Global, case: &Case<'_>) -> Result<String> {
 fn answer_by<P: Pairs>(alloc: Global, world: &World<'_>, case: &Case<'_>) -> Result<String> {
     let a = read::<P>(alloc, world, case.text(0)?)?;
     let b = read::<P>(alloc, world, case.text(1)?)?;
-    widened(alloc, world, &a, &b)
+    of_states(alloc, world, &a, &b)
 }
 
 /// The state that a text says.
@@ -37,7 +41,7 @@ fn read<P: Pairs>(alloc: Global, world: &World<'_>, text: &str) -> Result<AbsSta
 }
 
 /// The answer for two states.
-fn widened<P: Pairs>(
+fn of_states<P: Pairs>(
     alloc: Global,
     world: &World<'_>,
     a: &AbsState<P>,
@@ -46,12 +50,51 @@ fn widened<P: Pairs>(
     if !is_sound(world, a) {
         bail!("the first state is not sound");
     }
+    after_sound(alloc, world, a, b)
+}
+
+/// The same where the first is sound.
+fn after_sound<P: Pairs>(
+    alloc: Global,
+    world: &World<'_>,
+    a: &AbsState<P>,
+    b: &AbsState<P>,
+) -> Result<String>
+    requires { IsSound (types_of world.now.roster.classes) a.now }
+{
     if !is_sound(world, b) {
         bail!("the second state is not sound");
     }
+    of_sound(alloc, world, a, b)
+}
+
+/// The same where both are sound.
+fn of_sound<P: Pairs>(
+    alloc: Global,
+    world: &World<'_>,
+    a: &AbsState<P>,
+    b: &AbsState<P>,
+) -> Result<String>
+    requires first { IsSound (types_of world.now.roster.classes) a.now }
+    requires second { IsSound (types_of world.now.roster.classes) b.now }
+{
     if !stand_alike(a, b) {
         bail!("the two states don't stand alike");
     }
+    of_alike(alloc, world, a, b)
+}
+
+/// The same where they stand alike too.
+fn of_alike<P: Pairs>(
+    alloc: Global,
+    world: &World<'_>,
+    a: &AbsState<P>,
+    b: &AbsState<P>,
+) -> Result<String>
+    requires first { IsSound (types_of world.now.roster.classes) a.now }
+    requires second { IsSound (types_of world.now.roster.classes) b.now }
+    requires alike { AreAlike a.now b.now }
+{
     let mut marks = Marks::new(alloc)?;
     told(alloc, world, widen(alloc, world, a, b, &mut marks))
 }
