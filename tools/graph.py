@@ -3,9 +3,9 @@
 
 usage: graph.py [--svg] CERT
 
-CERT is a file with a certificate. In form 1 each node is shown with its state; in form 2 those without a state are shown by their
-number. Prints the graph in the language of Graphviz; with `--svg` as a picture, which
-`dot` draws where it is installed.
+CERT is a file with a certificate. In form 1 each node is shown with its state; in form 2, which `prove` writes, those without a state are
+shown by their number alone: `./certs fill CERT DESC CLASS..` makes form 1 of it. Prints the graph in the language of Graphviz; with `--svg`
+as a picture, which `dot` draws where it is installed.
 
 In the picture a node has its number and where its frames are, `METHOD@PC` from the bottom one up, and below what is known of its
 locals and its stack. Two lines around it: a cut, with the forms that the proof's steps have there. An arrow leads to what the next
@@ -42,7 +42,7 @@ def cell_words(cell):
 
 def entry_lines(words, ids, cells):
     """A line for each entry of a frame that has an id."""
-    return ['%s %d: %s' % (words, place, cell_words(cells[i])) for place, i in enumerate(ids) if i != -1]
+    return ['%s %d: %s' % (words, place, cell_words(cells.get(i, [i, 'nothing is said']))) for place, i in enumerate(ids) if i != -1]
 
 
 def state_lines(state):
@@ -52,7 +52,7 @@ def state_lines(state):
         lines.append('at %d@%d' % (method, pc))
         lines += entry_lines('local', locals_, cells) + entry_lines('stack', stack, cells)
     if state['throw'] != -1:
-        lines.append('throws: ' + cell_words(cells[state['throw']]))
+        lines.append('throws: ' + cell_words(cells.get(state['throw'], [state['throw'], 'nothing is said'])))
     for word, pairs in (('one object', state['eq']), ('share', [p for p in state['share'] if p not in state['eq']])):
         if pairs:
             lines.append(word + ': ' + ', '.join('ids %d and %d' % tuple(p) for p in pairs))
