@@ -1,5 +1,8 @@
 //! What expansion answers in a case.
-use abs_cells::{ListPairs, PackedPairs, Pairs};
+ghost use Rattle.class_program.specs.Views.{program_of};
+ghost use Rattle.abs_expand.specs.IntForms.{HasIntForms, IsIntState};
+
+use abs_cells::{AbsState, ListPairs, PackedPairs, Pairs};
 use abs_expand::{ExpandFault, expand, has_int_forms, is_int_state};
 use abs_reach::Marks;
 use anyhow::{Result, bail};
@@ -22,8 +25,33 @@ pub fn answer(alloc: Global, case: &Case<'_>) -> Result<String> {
     let Ok(typing) = verify(alloc, &program) else {
         bail!("the program has no typing");
     };
-    let listed = answer_by::<ListPairs>(alloc, &program, &typing, case)?;
-    let packed = answer_by::<PackedPairs>(alloc, &program, &typing, case)?;
+    of_program(alloc, &program, &typing, case)
+}
+
+/// The answer to a case of a program whose instructions are about ints.
+fn of_program(
+    alloc: Global,
+    program: &Program<'_>,
+    typing: &Typing,
+    case: &Case<'_>,
+) -> Result<String> {
+    if !has_int_forms(program) {
+        bail!("instructions about ints are wanted");
+    }
+    of_forms(alloc, program, typing, case)
+}
+
+/// The answer that both forms of pairs give.
+fn of_forms(
+    alloc: Global,
+    program: &Program<'_>,
+    typing: &Typing,
+    case: &Case<'_>,
+) -> Result<String>
+    requires { HasIntForms (program_of program.now) }
+{
+    let listed = answer_by::<ListPairs>(alloc, program, typing, case)?;
+    let packed = answer_by::<PackedPairs>(alloc, program, typing, case)?;
     if listed != packed {
         bail!("the two forms of pairs answer differently");
     }
@@ -35,17 +63,40 @@ fn answer_by<P: Pairs>(
     program: &Program<'_>,
     typing: &Typing,
     case: &Case<'_>,
-) -> Result<String> {
+) -> Result<String>
+    requires { HasIntForms (program_of program.now) }
+{
     let value = value(alloc, case.text(0)?)?;
     let state = state::<P>(alloc, &program.world, &View::root(&value))?;
-    if !has_int_forms(program) {
-        bail!("instructions about ints are wanted");
-    }
-    if !is_int_state(&state) {
+    of_state(alloc, program, typing, &state)
+}
+
+/// What becomes of a state, which is of ints alone or refused.
+fn of_state<P: Pairs>(
+    alloc: Global,
+    program: &Program<'_>,
+    typing: &Typing,
+    state: &AbsState<P>,
+) -> Result<String>
+    requires { HasIntForms (program_of program.now) }
+{
+    if !is_int_state(state) {
         bail!("ints alone are wanted");
     }
+    of_ints(alloc, program, typing, state)
+}
+
+fn of_ints<P: Pairs>(
+    alloc: Global,
+    program: &Program<'_>,
+    typing: &Typing,
+    state: &AbsState<P>,
+) -> Result<String>
+    requires forms { HasIntForms (program_of program.now) }
+    requires ints { IsIntState state.now }
+{
     let mut marks = Marks::new(alloc)?;
-    match expand(alloc, program, typing, &state, &mut marks) {
+    match expand(alloc, program, typing, state, &mut marks) {
         Ok(None) => Ok(String::from_str(alloc, "End")?),
         Ok(Some(found)) => children(alloc, &program.world, found.as_slice()),
         Err(fault) => fault_line(alloc, fault),
