@@ -2,8 +2,6 @@
 //! to each comes on a line of its own. Each state is held with its pairs as a list and as bits, and both give one answer.
 #![tactic(auto)]
 
-mod answers;
-
 use anyhow::Result;
 use std::alloc::Global;
 use table_cases::{Answers, Case, answer_all};
@@ -13,7 +11,7 @@ struct Cases;
 
 impl Answers for Cases {
     fn answer(alloc: Global, case: &Case<'_>) -> Result<String> {
-        answers::answer(alloc, case)
+        match_cases::answer(alloc, case)
     }
 }
 
