@@ -9,13 +9,39 @@ Without names it takes every crate of crates.txt, lowest first. Libraries below 
 Some hours of one core for all crates; other jobs on the machine hardly change processor time.
 
 With --page it runs nothing: TIMES has lines of a crate, 'proof', 'tests' or 'edits', and processor seconds, divided by tabs,
-as they were noted while a gate ran. It writes the tables of gate.md, in Markdown: the crates that others stand on, and those of
-tests, tables and programs. A time that OLDER alone has, from an earlier run, has a star; one that neither has is a dash.
+as they were noted while a gate ran. It writes the table of gate.md, in Markdown, a row a crate, the tests, tables and readers of
+cases counted with the crate that they test (COUNTED_WITH). A time that OLDER alone has, from an earlier run, has a star; one that
+neither has is a dash. Below it stand the layers of docs/MAP.md with their sums.
 """
 import collections, pathlib, resource, shutil, subprocess, sys, tempfile
 
 TOP = pathlib.Path(__file__).resolve().parent.parent
 BUDGET = 240  # processor seconds for 1,000 lines
+# Crates of tests, tables, readers of cases and thin programs, and the crate whose budget they share.
+COUNTED_WITH = {
+    test: crate for crate, tests in {
+        'list_views': 'table_cases', 'json_view': 'json_cases json_tables', 'class_read': 'class_tables class_calls',
+        'code_decode': 'code_tables', 'class_asm': 'asm_tables', 'class_program': 'entry_cases', 'input_desc': 'input_tables',
+        'jvm_step': 'step_tables', 'code_verify': 'typing_tables', 'jvm_heaps': 'heap_calls heap_lists',
+        'abs_cells': 'cell_calls state_cases', 'abs_ints': 'int_tables', 'abs_reach': 'reach_tables', 'abs_match': 'match_cases match_tables',
+        'abs_expand': 'expand_tables', 'path_rules': 'path_tables', 'abs_heap': 'heap_tables', 'cert_form': 'cert_tables',
+        'descent': 'rule_cases proof_tables', 'rank_search': 'rank_tables', 'run_call': 'line_cases run_tables', 'check_call': 'check_tables',
+        'describe': 'describe_cli', 'fill_call': 'certs_cli', 'jterm': 'jterm_cli jterm_calls',
+    }.items() for test in tests.split()
+}
+# The layers of docs/MAP.md.
+LAYER = {
+    crate: layer for layer, crates_of in {
+        'base': 'list_views fault_words io_ports json_view input_text number_graphs lin_core',
+        'class files': 'class_base class_pool code_decode class_read class_world class_program input_desc call_graph op_forms asm_lines '
+                       'asm_codes asm_pool class_asm',
+        'machine': 'jvm_values jvm_heaps frame_types jvm_step code_verify jvm_run',
+        'abstract states': 'abs_cells abs_reach abs_sound abs_equal abs_heap abs_match abs_widen term_graph abs_ints abs_expand',
+        'certificates': 'input_root descent plain_steps expand_laws int_plans graph_check graph_fill int_links cert_check cert_laws '
+                        'cert_verdict cert_form cert_write path_rules graph_build rank_search plain_rules chain_proofs prove_core',
+        'program': 'input_steps run_call describe desc_steps prove_call check_call fill_call jterm',
+    }.items() for crate in crates_of.split()
+}
 
 
 def crates():
@@ -74,41 +100,51 @@ class Page:
         self.times, self.older = times, older
         self.over, self.missing = [], []
 
-    def time(self, name, kind):
-        """What a crate took, and how it is written."""
-        for times, mark in ((self.times, ''), (self.older, '*')):
-            if kind in times[name]:
-                spent = times[name][kind] + (times[name].get('tests', 0) if kind == 'proof' else 0)
-                return spent, '%d%s' % (round(spent), mark)
-        return None, '-'
+    def time(self, names, kind):
+        """What crates took, and how it is written."""
+        spent, known, mark = 0, False, ''
+        for name in names:
+            for times, old in ((self.times, ''), (self.older, '*')):
+                if kind in times[name]:
+                    spent, known, mark = spent + times[name][kind], True, mark or old
+                    break
+            else:
+                if kind == 'proof':
+                    self.missing.append(name)
+        return spent, format(round(spent), ',') + mark if known else '-'
 
-    def row(self, name):
-        """Prints a crate's row; its numbers: lines, proof with tests, edits, budget."""
-        folder = TOP / 'crates' / name
-        size = lines(folder)
-        proof, proof_text = self.time(name, 'proof')
-        edits, edits_text = self.time(name, 'edits')
-        count = len(list((folder / 'must-fail').glob('*.edit')))
-        budget = size * BUDGET / 1000
-        if proof is None:
-            self.missing.append(name)
-        elif proof + (edits or 0) > budget:
+    def row(self, name, tests):
+        """Prints the row of a crate with its tests; its numbers: lines, seconds for proof, tests and edits, budget."""
+        size = sum(lines(TOP / 'crates' / one) for one in [name, *tests])
+        proof, proof_text = self.time([name], 'proof')
+        tested, tested_text = self.time(tests, 'proof')
+        also, _ = self.time([name, *tests], 'tests')
+        edits, edits_text = self.time([name, *tests], 'edits')
+        count = sum(len(list((TOP / 'crates' / one / 'must-fail').glob('*.edit'))) for one in [name, *tests])
+        budget, spent = size * BUDGET / 1000, proof + tested + also + edits
+        if spent > budget:
             self.over.append(name)
         edits_text += ' (%d)' % count if count else ''
-        print('| `%s` | %s | %s | %s | %d |' % (name, format(size, ','), proof_text, edits_text, round(budget)))
-        return size, proof or 0, edits or 0, budget
-
-    def table(self, title, names):
-        print('| %s | Lines | Proof | Edits | Budget |\n|---|---|---|---|---|' % title)
-        sums = [sum(column) for column in zip(*(self.row(name) for name in names))]
-        print('| all | %s | %d | %d | %d |\n' % (format(sums[0], ','), *(round(n) for n in sums[1:])))
+        if also:
+            tested_text = format(round(tested + also), ',')
+        print('| `%s` | %s | %s | %s | %s | %s | %s |' % (name, format(size, ','), proof_text, tested_text, edits_text,
+                                                       format(round(spent), ','), format(round(budget), ',')))
+        return size, proof, tested + also, edits, spent, budget
 
     def write(self, rows):
-        programs = [n for n in rows if (TOP / 'crates' / n / 'src' / 'main.rt').exists() or n.endswith('_calls')]
-        self.table('Crate', [n for n in rows if n not in programs])
-        self.table('Tests, tables, programs', programs)
+        groups = {name: [test for test in rows if COUNTED_WITH.get(test) == name] for name in rows if name not in COUNTED_WITH}
+        head = '| %s | Lines | Proof | Tests | Edits | All | Budget |\n|---|---|---|---|---|---|---|'
+        print(head % 'Crate, with its tests')
+        taken = {name: self.row(name, tests) for name, tests in groups.items()}
+        print('\n' + head % 'Layer')
+        layers = {}
+        for name, numbers in taken.items():
+            layers.setdefault(LAYER[name], []).append(numbers)
+        layers['all'] = list(taken.values())
+        for layer, of in layers.items():
+            print('| %s | %s |' % (layer, ' | '.join(format(round(sum(column)), ',') for column in zip(*of))))
         for title, names in (('Over their budget', self.over), ('Not timed', self.missing)):
-            print('%s: %s.' % (title, ', '.join('`%s`' % n for n in names) or 'none'))
+            print('\n%s: %s.' % (title, ', '.join('`%s`' % n for n in names) or 'none'))
 
 
 def main():
