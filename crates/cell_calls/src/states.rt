@@ -1,5 +1,5 @@
-//! States that are well-formed, and states that break one rule each.
-use abs_cells::{AbsFrame, AbsState, Cell, Id, Ids, PackedPairs, Pairs, well_formed};
+//! States that are well-formed, and states that break one rule each; and copies of cells.
+use abs_cells::{AbsFrame, AbsState, Cell, Id, Ids, PackedPairs, Pairs, copied_cells, well_formed};
 use jvm_values::{Base, Kind, Shape, Ty};
 use lin_core::Interval;
 use list_views::Seq;
@@ -119,5 +119,44 @@ fn a_state_that_breaks_a_rule_is_not(rt: HostRuntime) -> Result<(), Fail> {
     assert_eq!(rt; of_none, false);
     let both_known = is_good(rt.alloc(), &ids, &[], &[], &[(0, 5)])?;
     assert_eq!(rt; both_known, false);
+    Ok(())
+}
+
+/// A cell of each sort: those of the ids 0, 2, 3, 4 and 5, and an array of references.
+fn cell_of_each_sort(alloc: Global) -> Result<Seq<(Id, Cell)>, AllocError> {
+    let mut cells = Seq::new(alloc);
+    for id in [0, 2, 3, 4, 5] {
+        push_cell(&mut cells, id, cell(alloc, id)?)?;
+    }
+    let element = Ty {
+        dims: 1,
+        base: Base::Num(Kind::Int),
+    };
+    push_cell(&mut cells, 6, Cell::Refs(element, 2, Shape::Dag))?;
+    Ok(cells)
+}
+
+/// Whether two cells are the same.
+fn are_same(a: &Cell, b: &Cell) -> bool {
+    match (a, b) {
+        (Cell::Int(x), Cell::Int(y)) => *x == *y,
+        (Cell::Null, Cell::Null) => true,
+        (Cell::Obj(c, xs), Cell::Obj(d, ys)) => *c == *d && xs.as_slice() == ys.as_slice(),
+        (Cell::Nums(k, x), Cell::Nums(l, y)) => *k == *l && *x == *y,
+        (Cell::Refs(t, x, s), Cell::Refs(u, y, r)) => *t == *u && *x == *y && *s == *r,
+        (Cell::Unk(t, m, s), Cell::Unk(u, n, r)) => *t == *u && *m == *n && *s == *r,
+        _ => false,
+    }
+}
+
+#[test]
+fn copies_of_cells_are_the_same_cells(rt: HostRuntime) -> Result<(), Fail> {
+    let cells = cell_of_each_sort(rt.alloc())?;
+    let copy = copied_cells(rt.alloc(), cells.as_slice())?;
+    assert_eq!(rt; copy.len(), cells.len());
+    for ((id, cell), (other_id, other)) in cells.as_slice().iter().zip(copy.as_slice()) {
+        assert_eq!(rt; *id, *other_id);
+        assert_eq!(rt; are_same(cell, other), true);
+    }
     Ok(())
 }
