@@ -4,7 +4,7 @@ use Rattle.std.proofs.lemmas.Bool.{eqb-true}
 use Rattle.std.proofs.lemmas.Option.{slice_get_within, get_or_from_slice_get}
 use Rattle.jvm_values.proofs.Options.{some_is, none_is_not_some}
 use Rattle.abs_reach.specs.Instances.{image_in}
-use Rattle.abs_match.specs.Matching.{AreKeysRising}
+use Rattle.abs_reach.specs.Keys.{AreKeysRising}
 use Rattle.abs_match.proofs.Keys.{stands}
 
 -- an image stands in some entry

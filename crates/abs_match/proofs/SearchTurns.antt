@@ -21,7 +21,7 @@ use Rattle.abs_reach.specs.Instances as clauses
 use Rattle.abs_reach.specs.Reached.{named_steps, positions, IsReached}
 use Rattle.abs_reach.specs.Turns.{still, IsWith}
 use Rattle.abs_reach.proofs.Room.{one_fewer, has_cell_low}
-use Rattle.abs_match.specs.Matching.{AreKeysRising}
+use Rattle.abs_reach.specs.Keys.{AreKeysRising}
 use Rattle.abs_match.specs.Forced.{Gives, waits, ArePut, NoneDoes, state_asks, cell_asks, names_count, IsSearching, NoneMatches, IsOnlyMatch}
 use Rattle.abs_match.proofs.Entries.{entry_of, image_is_there}
 use Rattle.abs_match.proofs.Forcing.{weaker}

@@ -1,5 +1,5 @@
 -- Words for the calls that look for the first clause that fails.
-use Rattle.std.specs.Prelude.{◌≡◌, ◌≢◌, ℕ, suc, ◌<◌, ◌≤◌, nat_lt, if◌then◌else◌, Bool, true, false, ◌&&◌, ◌||◌, not, ◌==◌, int_le, List, [], ◌∷◌, map, reverse, Option, Some, None, slice_get}
+use Rattle.std.specs.Prelude.{◌≡◌, ◌≢◌, ℕ, ◌<◌, nat_lt, if◌then◌else◌, Bool, true, false, ◌&&◌, ◌||◌, not, ◌==◌, int_le, List, map, reverse, Option, Some, None, slice_get}
 use Rattle.std.specs.Option.{option_and_then, option_map}
 use Rattle.lin_core.specs.Intervals.{Bounds}
 use Rattle.jvm_values.specs.declared.types.Kind.{Kind}
@@ -35,11 +35,6 @@ abbrev pub lower_of : Option ℕ → Option ℕ → Option ℕ
 lower_of None b = b
 lower_of (Some a) None = Some a
 lower_of (Some a) (Some b) = if nat_lt a b then Some a else Some b
-
--- the keys of a map rise
-abbrev pub AreKeysRising : ℕ → List (ℕ × ℕ) → Type 0
-AreKeysRising low [] = Unit {0}
-AreKeysRising low (entry ∷ entries) = (low ≤ entry.0) × AreKeysRising (suc entry.0) entries
 
 -- what is found is an id's image
 abbrev pub HasImage : List (ℕ × ℕ) → ℕ → Option ℕ → Type 0

@@ -2,7 +2,8 @@
 ghost use Rattle.std.specs.Prelude.{◌≡◌, ◌<◌, ◌==◌, ◌&&◌, ◌||◌, ◌↔◌, ℕ, true, map, length, slice_index_or};
 ghost use Rattle.abs_cells.specs.IdSets.{has_id};
 ghost use Rattle.abs_cells.specs.Sound.{AreIdsRising};
-ghost use Rattle.abs_match.specs.Matching.{AreKeysRising, is_wanted, is_other, IsApartImage};
+ghost use Rattle.abs_reach.specs.Keys.{AreKeysRising};
+ghost use Rattle.abs_match.specs.Matching.{is_wanted, is_other, IsApartImage};
 
 use crate::clauses::OtherSort;
 use abs_cells::{Cell, Id, IdSet, Pairs};

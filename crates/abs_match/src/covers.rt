@@ -6,7 +6,8 @@ ghost use Rattle.abs_cells.specs.Cells.{type_of_cell};
 ghost use Rattle.jvm_values.specs.Subtyping.{class_type, array_of, array_of_numbers};
 ghost use Rattle.abs_cells.specs.Sound.{AreIdsRising};
 ghost use Rattle.abs_reach.specs.Instances.{image_in, can_be_null, IsOver, IsArrayUnder, HasImageUnder};
-ghost use Rattle.abs_match.specs.Matching.{AreKeysRising, image_is, over_int, is_null, is_type_below, over_unknown};
+ghost use Rattle.abs_reach.specs.Keys.{AreKeysRising};
+ghost use Rattle.abs_match.specs.Matching.{image_is, over_int, is_null, is_type_below, over_unknown};
 
 use crate::maps::image_of;
 use abs_cells::{AbsState, Cell, Id, Ids, Pairs};

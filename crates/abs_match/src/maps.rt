@@ -1,13 +1,14 @@
 //! Maps of ids to ids, as lists of ids with their images.
-ghost use Rattle.std.specs.Prelude.{◌≡◌, ◌<◌, ◌↔◌, ℕ, IsTrue, true, map, length, Some, None, IfSome, MatchOption, slice_get, slice_index_or};
+ghost use Rattle.std.specs.Prelude.{◌≡◌, ◌<◌, ◌↔◌, ℕ, IsTrue, true, map, Some, None};
 ghost use Rattle.abs_cells.specs.Cells.{cell_in, is_of_sort};
 ghost use Rattle.abs_cells.specs.Sound.{AreIdsRising};
 ghost use Rattle.abs_reach.specs.Instances.{image_in};
-ghost use Rattle.abs_match.specs.Matching.{AreKeysRising, HasImage, IsLeastOf};
+ghost use Rattle.abs_reach.specs.Keys.{AreKeysRising};
+ghost use Rattle.abs_match.specs.Matching.{HasImage, IsLeastOf};
 
 use crate::least::lower_of;
 use abs_cells::{Cell, Id};
-use abs_reach::cell_of;
+use abs_reach::{cell_of, place_of};
 
 /// Whether the keys of a map are the ids of cells, in their order.
 fn has_keys(cells: &[(Id, Cell)], entries: &[(Id, Id)]) -> bool
@@ -43,29 +44,6 @@ pub(crate) fn lists_ids(cells: &[(Id, Cell)], entries: &[(Id, Id)]) -> bool
     ensures { IsTrue result ↔ ((map (λ entry. entry.0) entries.now ≡ map (λ c. c.0) cells.now) × AreIdsRising 0 cells.now) }
 {
     has_keys(cells, entries) && ids_rise(cells)
-}
-
-/// The place of an id among the rising keys of a map.
-pub(crate) fn place_of(entries: &[(Id, Id)], id: Id) -> Option<usize>
-    requires { AreKeysRising 0 entries.now }
-    ensures image { MatchOption result (image_in entries.now id ≡ None) (λ k. (k < length entries.now) × ((d : ℕ × ℕ) → image_in entries.now id ≡ Some (slice_index_or entries.now k d).1)) }
-    ensures key { IfSome result (λ k. (d : ℕ × ℕ) → (slice_index_or entries.now k d).0 ≡ id) }
-{
-    let mut low = 0;
-    let mut high = entries.len();
-    while low < high {
-        let middle = low + (high - low) / 2;
-        let found = entries[middle].0;
-        if found == id {
-            return Some(middle);
-        }
-        if found < id {
-            low = middle + 1;
-        } else {
-            high = middle;
-        }
-    }
-    None
 }
 
 /// The image of an id.

@@ -4,6 +4,7 @@ pub mod Beginning
 pub mod Dropped
 pub mod Finding
 pub mod HeadLists
+pub mod Keys
 pub mod Restricting
 pub mod Room
 pub mod Searching

@@ -1,4 +1,5 @@
 pub mod Instances
+pub mod Keys
 pub mod Known
 pub mod Laws
 pub mod Reached

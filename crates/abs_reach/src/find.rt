@@ -1,7 +1,8 @@
 //! The cell of an id, and where a step from it leads.
-ghost use Rattle.std.specs.Prelude.{◌≡◌, ℕ, ◌+◌, ◌^◌, ◌<◌, length, true, IsTrue, ◌↔◌, None, Some, IfSome, MatchOption, slice_get, slice_index_or};
+ghost use Rattle.std.specs.Prelude.{◌≡◌, ◌+◌, ◌^◌, ◌<◌, true, IsTrue, ◌↔◌, None, Some, IfSome, MatchOption, slice_get};
 ghost use Rattle.abs_cells.specs.Cells.{cell_in, ids_of, ids_in, is_of_sort, HasCell};
 ghost use Rattle.abs_cells.specs.Sound.{AreIdsRising, IsWellFormed};
+ghost use Rattle.abs_reach.specs.Keys.{AreKeysRising, IsKeyAt, IsNoKey};
 ghost use Rattle.abs_reach.specs.Steps.{names_by, steps_in};
 
 use abs_cells::{AbsState, Cell, Id, Pairs};
@@ -15,16 +16,17 @@ pub(crate) enum Names {
     All,
 }
 
-/// The place of an id among cells that rise.
-fn place_of(cells: &[(Id, Cell)], id: Id) -> Option<usize>
-    requires { AreIdsRising 0 cells.now }
-    ensures { MatchOption result (cell_in cells.now id ≡ None) (λ k. (k < length cells.now) × ((d : ℕ × Cell) → cell_in cells.now id ≡ Some (slice_index_or cells.now k d).1)) }
+/// The place of an id among pairs whose keys rise, if it is one of the keys. It takes as many steps as the count of pairs has
+/// digits.
+pub fn place_of<X>(pairs: &[(Id, X)], id: Id) -> Option<usize>
+    requires { AreKeysRising 0 pairs.now }
+    ensures { MatchOption result (IsNoKey pairs.now id) (IsKeyAt pairs.now id) }
 {
     let mut low = 0;
-    let mut high = cells.len();
+    let mut high = pairs.len();
     while low < high {
         let middle = low + (high - low) / 2;
-        let found = cells[middle].0;
+        let found = pairs[middle].0;
         if found == id {
             return Some(middle);
         }

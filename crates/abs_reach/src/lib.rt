@@ -15,7 +15,7 @@ mod shapes;
 mod walk;
 
 pub use dropping::drop_unreached;
-pub use find::{cell_of, has_cell};
+pub use find::{cell_of, has_cell, place_of};
 pub use heads::{are_same_heads, is_same_head};
 pub use laws::{
     closures_are_ways, finite_ids_have_no_cycles, known_ids_inside_may_be_in,
