@@ -14,6 +14,7 @@ use Rattle.rank_search.specs.declared.following.Bound.{Bound}
 use Rattle.rank_search.specs.declared.following.Followed.{Followed}
 use Rattle.rank_search.specs.Forms.{base_of_bound, greater_of, list_from, listed_as, listed_by, needed, or_zero, strict_bound}
 use Rattle.rank_search.specs.RankSteps.{has_strict, is_strict}
+use Rattle.rank_search.proofs.Rests.{IsRest, rest_first, rest_more}
 
 one_followed : (a b : Followed) → ◌≡◌ {A = Option Followed} (Some a) (Some b) → a ≡ b
 one_followed a b e = cc
@@ -134,21 +135,6 @@ not_less a b e = grind (arith, nat_tests)
 passed : {A : Type 0} (test : Bool) (a b : A) → test ≡ false → cond test a b ≡ b
 passed true a b e = absurd (cc)
 passed false a b e = refl
-
-abbrev IsRest : List PathRule → ℕ → List PathRule → Type 0
-IsRest all n rules = (k : ℕ) → slice_get all (n + k) ≡ slice_get rules k
-
-rest_more : (all : List PathRule) (n : ℕ) (rule : PathRule) (rules : List PathRule) → IsRest all n (rule ∷ rules) → IsRest all (suc n) rules
-rest_more all n rule rules h k = ap (slice_get all) (moved n k) ∙ h (suc k)
-  where
-    moved : (n k : ℕ) → suc n + k ≡ n + suc k
-    moved n k = omega arith
-
-rest_first : (all : List PathRule) (n : ℕ) (rule : PathRule) (rules : List PathRule) → IsRest all n (rule ∷ rules) → slice_get all n ≡ Some rule
-rest_first all n rule rules h = ap (slice_get all) (zero_more n) ∙ h 0
-  where
-    zero_more : (n : ℕ) → n ≡ n + 0
-    zero_more n = omega arith
 
 ranked_from : (weak strict bounded : Says) (all rules : List PathRule) (n count : ℕ) (follows : List Followed) → IsRest all n rules → count ≡ length rules → length follows ≡ length rules → ((k : ℕ) (rule : PathRule) (followed : Followed) → slice_get rules k ≡ Some rule → slice_get follows k ≡ Some followed → IsFine weak strict bounded (n + k) rule followed) → rank_fault weak strict bounded all (numbers_from n count) (list_from n follows) ≡ None
 ranked_from weak strict bounded all [] n zero [] r e c each = refl

@@ -18,6 +18,7 @@ use Rattle.lin_core.specs.Rows.{Row, coefficient_of}
 use Rattle.lin_core.specs.Weights.{total_size}
 use Rattle.lin_core.proofs.Signs.{zero-mul_ℤ, mul-zero_ℤ}
 use Rattle.rank_search.specs.Counting.{added, counted, kept, multipliers_of}
+use Rattle.rank_search.proofs.Rests.{IsRest, rest_first, rest_more}
 
 -- the sum of a number of rows, each as often as it counts
 abbrev pub dense : (Row → ℤ) → List Row → List ℤ → ℤ
@@ -64,22 +65,6 @@ dense_counted number rows (entry ∷ rest) counts h =
   where
     moved : (a b d : ℤ) → a +ℤ (b +ℤ d) ≡ (b +ℤ a) +ℤ d
     moved a b d = omega (arith, ints)
-
--- the rest of the rows, from n on
-abbrev IsRest : List Row → ℕ → List Row → Type 0
-IsRest all n rows = (k : ℕ) → slice_get all (n + k) ≡ slice_get rows k
-
-rest_more : (all : List Row) (n : ℕ) (row : Row) (rows : List Row) → IsRest all n (row ∷ rows) → IsRest all (suc n) rows
-rest_more all n row rows h k = ap (slice_get all) (moved n k) ∙ h (suc k)
-  where
-    moved : (n k : ℕ) → suc n + k ≡ n + suc k
-    moved n k = omega arith
-
-rest_first : (all : List Row) (n : ℕ) (row : Row) (rows : List Row) → IsRest all n (row ∷ rows) → slice_get all n ≡ Some row
-rest_first all n row rows h = ap (slice_get all) (zero_more n) ∙ h 0
-  where
-    zero_more : (n : ℕ) → n ≡ n + 0
-    zero_more n = omega arith
 
 int_is : (x y : ℤ) → int_eq x y ≡ true → x ≡ y
 int_is x y e = (Decides-int_eq x y).0 e

@@ -1,5 +1,5 @@
 -- Each tie that is found stands with the row that says it.
-use Rattle.std.proofs.Common.{◌≡◌, ℕ, zero, suc, ◌+◌, Bool, true, false, cond, List, [], ◌∷◌, ◌++◌, ℤ, pos, ◌+ℤ◌, ◌-ℤ◌, Option, Some, None, subst, ap, arith, refl, ◌∙◌, sym, IsPermutation}
+use Rattle.std.proofs.Common.{◌≡◌, ℕ, zero, suc, ◌+◌, Bool, true, false, cond, List, [], ◌∷◌, ◌++◌, ℤ, pos, ◌+ℤ◌, ◌-ℤ◌, Option, Some, None, subst, arith, refl, sym, IsPermutation}
 use Rattle.std.specs.Prelude.{nat_lt, slice_get}
 use Rattle.std.specs.List.{All}
 use Rattle.std.proofs.lemmas.Int.{ints}
@@ -11,6 +11,7 @@ use Rattle.rank_search.specs.Following.{IsFallTie}
 use Rattle.rank_search.specs.Rising.{fall_links, fall_row_ties, fall_ties_from, leading, led, order_in, rising_tie}
 use Rattle.rank_search.specs.Searching.{has_none, is_inequality}
 use Rattle.rank_search.proofs.Fallen.{there_says, again_says, kind_is, none_is, order_terms}
+use Rattle.rank_search.proofs.Rests.{IsRest, rest_all, rest_first, rest_more}
 
 -- what holds of each tie
 abbrev pub Each : (Tie → Type 0) → List Tie → Type 0
@@ -48,28 +49,6 @@ links_in negative rows n row (Some order) at e weights =
 
 row_in : (negative : Bool) (rows : List WRow) (n : ℕ) (row : WRow) → slice_get rows n ≡ Some row → Each (IsFallTie negative rows) (fall_row_ties negative n row)
 row_in negative rows n row at = each_chosen (IsFallTie negative rows) (has_none row.weights) (fall_links negative (is_inequality row.kind) (order_in row.terms) row.constant n) [] (λ e. links_in negative rows n row (order_in row.terms) at refl (none_is row.weights e)) (λ e. tt)
-
--- the rest of the rows, from n on
-abbrev pub IsRest : List WRow → ℕ → List WRow → Type 0
-IsRest all n rows = (k : ℕ) → slice_get all (n + k) ≡ slice_get rows k
-
-pub rest_more : (all : List WRow) (n : ℕ) (row : WRow) (rows : List WRow) → IsRest all n (row ∷ rows) → IsRest all (suc n) rows
-rest_more all n row rows h k = ap (slice_get all) (moved n k) ∙ h (suc k)
-  where
-    moved : (n k : ℕ) → suc n + k ≡ n + suc k
-    moved n k = omega arith
-
-pub rest_first : (all : List WRow) (n : ℕ) (row : WRow) (rows : List WRow) → IsRest all n (row ∷ rows) → slice_get all n ≡ Some row
-rest_first all n row rows h = ap (slice_get all) (zero_more n) ∙ h 0
-  where
-    zero_more : (n : ℕ) → n ≡ n + 0
-    zero_more n = omega arith
-
-pub rest_all : (all : List WRow) → IsRest all 0 all
-rest_all all k = ap (slice_get all) (zero_plus k)
-  where
-    zero_plus : (k : ℕ) → 0 + k ≡ k
-    zero_plus k = omega arith
 
 from_in : (negative : Bool) (all : List WRow) (n : ℕ) (rows : List WRow) → IsRest all n rows → Each (IsFallTie negative all) (fall_ties_from negative n rows)
 from_in negative all n [] h = tt

@@ -22,7 +22,8 @@ use Rattle.rank_search.specs.Following.{trail_from, unit}
 use Rattle.rank_search.specs.Graphs.{HasClose, IsShort}
 use Rattle.rank_search.specs.Reasons.{beside_entries, close_from, int_entries, int_made, int_tie_entries, is_close, often, side, signed, taken_out}
 use Rattle.rank_search.specs.Searching.{IsFinished, Known, is_bound, ties_from}
-use Rattle.rank_search.proofs.FallRows.{Each, IsRest, rest_all, rest_first, rest_more}
+use Rattle.rank_search.proofs.FallRows.{Each}
+use Rattle.rank_search.proofs.Rests.{IsRest, rest_all, rest_first, rest_more}
 use Rattle.rank_search.proofs.Finished.{AreLow, gone_back}
 use Rattle.rank_search.proofs.IntRows.{AreBeside, IsIntTie, IsRowOf, IsThree, IsTwo, Leads, SaysInt, row_of, ties_ways}
 use Rattle.rank_search.proofs.Reasoned.{IsReasoned}

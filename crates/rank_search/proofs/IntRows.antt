@@ -18,7 +18,8 @@ use Rattle.rank_search.specs.Following.{unit}
 use Rattle.rank_search.specs.Graphs.{IsShort}
 use Rattle.rank_search.specs.Reasons.{signed}
 use Rattle.rank_search.specs.Searching.{beside_ties, constant_at, fixed_from, has_none, is_alone, is_bound, is_inequality, order_of, row_ties, terms_ties, ties_at, ties_beside, ties_from, ties_of}
-use Rattle.rank_search.proofs.FallRows.{Each, each_both, each_chosen, IsRest, rest_all, rest_first, rest_more}
+use Rattle.rank_search.proofs.FallRows.{Each, each_both, each_chosen}
+use Rattle.rank_search.proofs.Rests.{IsRest, rest_all, rest_first, rest_more}
 use Rattle.rank_search.proofs.Listed.{at}
 use Rattle.rank_search.proofs.Tied.{alone_is, equation_is, found_is, kind_is, most_is, none_is}
 

@@ -23,6 +23,7 @@ pub mod Raised
 pub mod Ranked
 pub mod Reached
 pub mod Reasoned
+pub mod Rests
 pub mod RowValues
 pub mod Shown
 pub mod SizeForms

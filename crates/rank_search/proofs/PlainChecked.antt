@@ -13,7 +13,7 @@ use Rattle.rank_search.specs.Reasons.{close_from}
 use Rattle.rank_search.specs.Rising.{has_zero}
 use Rattle.rank_search.specs.Searching.{is_inequality, variable_of}
 use Rattle.rank_search.proofs.Changed.{variable_is}
-use Rattle.rank_search.proofs.FallRows.{rest_all}
+use Rattle.rank_search.proofs.Rests.{rest_all}
 use Rattle.rank_search.proofs.IntReasons.{close_is}
 use Rattle.rank_search.proofs.Sized.{zero_is}
 

@@ -17,7 +17,7 @@ use Rattle.rank_search.specs.Links.{HasBound}
 use Rattle.rank_search.specs.Reasons.{part_entries, part_entry, part_times, row_times, zero_from}
 use Rattle.rank_search.specs.Rising.{is_zero}
 use Rattle.rank_search.specs.Searching.{is_bound}
-use Rattle.rank_search.proofs.FallRows.{IsRest, rest_all, rest_first, rest_more}
+use Rattle.rank_search.proofs.Rests.{IsRest, rest_all, rest_first, rest_more}
 use Rattle.rank_search.proofs.IntRows.{IsRowOf, row_of}
 use Rattle.rank_search.proofs.RowValues.{row_allowed, row_constant, row_value}
 use Rattle.rank_search.proofs.Tied.{bound_told}

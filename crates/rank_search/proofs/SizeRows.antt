@@ -12,7 +12,8 @@ use Rattle.rank_search.specs.declared.links.Tie.{Tie}
 use Rattle.rank_search.specs.Rising.{back_ties, gives, given_by, given_ties, is_part, order_in, part_ties, rising_tie, size_constant, size_row_ties, size_ties_from}
 use Rattle.rank_search.specs.Searching.{InTies, is_inequality}
 use Rattle.rank_search.specs.SizeReasons.{IsSizeTie, SaysSize}
-use Rattle.rank_search.proofs.FallRows.{Each, each_all, each_both, each_chosen, each_rising, IsRest, rest_all, rest_first, rest_more}
+use Rattle.rank_search.proofs.FallRows.{Each, each_all, each_both, each_chosen, each_rising}
+use Rattle.rank_search.proofs.Rests.{IsRest, rest_all, rest_first, rest_more}
 use Rattle.rank_search.proofs.Listed.{at}
 use Rattle.rank_search.proofs.Sized.{SaysOther, SaysPart, back_says, given_says}
 use Rattle.rank_search.proofs.Tied.{equation_is}

@@ -31,7 +31,7 @@ use Rattle.rank_search.specs.Searching.{InTies, Known, by_of, is_alone, is_inequ
 use Rattle.rank_search.specs.Stepwise.{IsFallLink, sign}
 use Rattle.rank_search.proofs.Along.{known_within}
 use Rattle.rank_search.proofs.Counted.{fine, multipliers_are}
-use Rattle.rank_search.proofs.FallRows.{IsRest, rest_all, rest_first, rest_more}
+use Rattle.rank_search.proofs.Rests.{IsRest, rest_all, rest_first, rest_more}
 use Rattle.rank_search.proofs.Listed.{at}
 use Rattle.rank_search.proofs.Trailed.{AreShifts, IsShift, IsTrail, no_shift, shift_more, trail_is, trail_short}
 

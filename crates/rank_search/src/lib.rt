@@ -38,5 +38,6 @@ mod weights;
 
 pub use asking::{linear, plain};
 pub use graph_rules::{are_path_rules, are_plain_rules};
+pub use limits::{are_few, are_forms, is_ranked};
 pub use links::Link;
 pub use searching::{PlainForm, StepwiseForm, plain_form, stepwise_form};

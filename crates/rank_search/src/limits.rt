@@ -52,7 +52,7 @@ fn is_form(form: &CutForm) -> bool
 }
 
 /// Whether the numbers of the forms are within their limits.
-fn are_forms(forms: &[CutForm]) -> bool
+pub fn are_forms(forms: &[CutForm]) -> bool
     ensures { IsTrue result → AreForms forms.now }
 {
     forms.iter().all(|form| is_form(form))
@@ -71,7 +71,7 @@ fn are_weights(weights: &[(u32, i64)]) -> bool
 }
 
 /// Whether there are few enough multipliers.
-fn are_few(multipliers: &[(u32, i64)]) -> bool
+pub fn are_few(multipliers: &[(u32, i64)]) -> bool
     ensures { IsTrue result → AreFew multipliers.now }
 {
     multipliers.len() <= 65536
@@ -97,7 +97,7 @@ fn are_listed(listed: &[RankRule]) -> bool
 }
 
 /// Whether the numbers of a step are within their limits.
-fn is_ranked(step: &RankStep) -> bool
+pub fn is_ranked(step: &RankStep) -> bool
     ensures { IsTrue result → IsRanked step.now }
 {
     are_forms(step.forms.as_slice())
