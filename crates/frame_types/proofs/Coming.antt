@@ -8,7 +8,7 @@ use Rattle.frame_types.specs.declared.merges.Coming.TheVariants as comings
 use Rattle.frame_types.specs.Joins.{IsFrameJoin, AreFramesApart, IsMergedAs}
 use Rattle.frame_types.specs.Growth.{IsMerged, IsApart, IsComing}
 use Rattle.frame_types.specs.GrowthLaws.{Laws, frame_refl}
-use Rattle.frame_types.proofs.Lists.{some_is}
+use Rattle.jvm_values.proofs.Options.{some_is}
 
 pub not_there : (frame : PlaceTypes) → None ≡ Some frame → ⊥
 not_there frame e = cc

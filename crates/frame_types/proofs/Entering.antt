@@ -13,7 +13,9 @@ use Rattle.frame_types.specs.Places.{IsWithin, IsFrameWithin, IsProper, IsFrame}
 use Rattle.frame_types.specs.Tables.{CodeTypes, Takes, IsAtMost, types_at}
 use Rattle.frame_types.specs.Growth.{IsMerged, IsApart, IsTable, AreFrames, is_led_to, IsGrown, AreRefused, IsRoomier, waits}
 use Rattle.frame_types.specs.GrowthLaws.{Laws, frame_refl, all_one, one_of}
-use Rattle.frame_types.proofs.Lists.{some_is, get_set_same, get_set_other, same_or_not}
+use Rattle.jvm_values.proofs.Lists.{get_set_other, same_or_not}
+use Rattle.jvm_values.proofs.Options.{some_is}
+use Rattle.frame_types.proofs.Lists.{get_set_same}
 
 -- ---- what stands in a table after an entry was replaced
 

@@ -1,28 +1,12 @@
 -- Lists with one item replaced or added, by what stands at a place.
-use Rattle.std.proofs.Common.{◌≡◌, ℕ, zero, suc, ◌<◌, List, [], ◌∷◌, ◌++◌, length, get_or, Some, ◌⊎◌, inl, inr, refl, ap, arith}
+use Rattle.std.proofs.Common.{◌≡◌, ℕ, zero, suc, ◌<◌, List, [], ◌∷◌, ◌++◌, length, get_or, Some, refl, arith}
 use Rattle.std.specs.Prelude.{slice_get, slice_set}
 use Rattle.std.specs.List.{AllZip}
-
-pub some_is : {A : Type 0} {x y : A} → Some x ≡ Some y → x ≡ y
-some_is e = cc
 
 pub get_set_same : {X : Type 0} (xs : List X) (i : ℕ) (v : X) → i < length xs → slice_get (slice_set xs i v) i ≡ Some v
 get_set_same [] i v l = absurd (omega arith)
 get_set_same (x ∷ xs) zero v l = refl
 get_set_same (x ∷ xs) (suc i) v l = get_set_same xs i v (omega arith)
-
-pub get_set_other : {X : Type 0} (xs : List X) (i j : ℕ) (v : X) → (j ≡ i → ⊥) → slice_get (slice_set xs i v) j ≡ slice_get xs j
-get_set_other [] i j v h = refl
-get_set_other (x ∷ xs) zero zero v h = absurd (h refl)
-get_set_other (x ∷ xs) zero (suc j) v h = refl
-get_set_other (x ∷ xs) (suc i) zero v h = refl
-get_set_other (x ∷ xs) (suc i) (suc j) v h = get_set_other xs i j v (λ e. h (ap suc e))
-
-pub same_or_not : (a b : ℕ) → (a ≡ b) ⊎ (a ≡ b → ⊥)
-same_or_not zero zero = inl refl
-same_or_not zero (suc b) = inr (λ (e : zero ≡ suc b). cc)
-same_or_not (suc a) zero = inr (λ (e : suc a ≡ zero). cc)
-same_or_not (suc a) (suc b) = elim (same_or_not a b) [ inl h ↦ inl (ap suc h) | inr h ↦ inr (λ e. h (cc)) ]
 
 -- what holds of two lists at each place holds place by place
 pub all_zip : {A : Type 0} (R : A → A → Type 0) (d : A) (xs ys : List A) → length ys ≡ length xs → ((k : ℕ) → k < length xs → R (get_or xs k d) (get_or ys k d)) → AllZip R xs ys
