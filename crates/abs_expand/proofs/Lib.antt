@@ -8,3 +8,4 @@ pub mod OptionLists
 pub mod Placed
 pub mod ShortRows
 pub mod SwitchLists
+pub mod ZipLists

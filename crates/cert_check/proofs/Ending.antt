@@ -55,7 +55,7 @@ use Rattle.path_rules.specs.Walks.{Spot, FitsStop, Crosses, IsWalk, last_of, wei
 use Rattle.abs_expand.specs.Laws.{IsAfter, IsMet}
 use Rattle.graph_check.specs.Good.{IsGoodNode}
 use Rattle.graph_check.specs.Laws.{GoesBy, EndsHere, ExpansionsHold, GraphsHoldRuns}
-use Rattle.graph_check.proofs.Following.{beside}
+use Rattle.abs_expand.proofs.ZipLists.{beside}
 use Rattle.graph_check.proofs.Excluding.{good_by}
 use Rattle.cert_check.specs.Certified.{IsCertified}
 use Rattle.cert_check.specs.Walks.{Station, IsAt, GoesTo, WalksEnd, IsLast}

@@ -10,7 +10,7 @@ use Rattle.term_graph.specs.Graphs.{GraphNode}
 use Rattle.graph_check.specs.declared.fault.What.{What}
 use Rattle.graph_check.specs.declared.fault.What.TheVariants as whats
 use Rattle.graph_check.specs.Good.{IsGoodNode, IsRooted, GraphOk, FailsAs, IsFirstBadNode, IsFault}
-use Rattle.graph_check.proofs.Following.{beside}
+use Rattle.abs_expand.proofs.ZipLists.{beside}
 use Rattle.cert_laws.proofs.Numbers.{neither_below}
 use Rattle.cert_laws.proofs.Children.{HasOneList}
 use Rattle.cert_laws.proofs.Nodes.{links_by, node_one, node_left}

@@ -18,12 +18,12 @@ use Rattle.term_graph.specs.Graphs.{GraphNode, GraphChild}
 use Rattle.abs_expand.specs.Plans.{Plan, ends, steps, by_null, by_class, by_equal}
 use Rattle.abs_expand.specs.BadStates.{IsGoodState, IsBadState, unsound, misplaced, uncalled}
 use Rattle.abs_expand.specs.Expansions.{plan_of, counts_of, AreFew, IsFirstTooMany, AreChildren, AreExpanded}
+use Rattle.abs_expand.proofs.ZipLists.{beside}
 use Rattle.graph_check.specs.declared.fault.What.{What}
 use Rattle.graph_check.specs.declared.fault.What.TheVariants as whats
 use Rattle.graph_check.specs.Good.{HasChildren, NamesChild, IsStateAt, IsLeftBy, IsGoodNode, IsFirstOtherChild, FailsBy, FailsAs, IsFirstBadNode, IsFault}
 use Rattle.graph_check.specs.Exclusion.{IsPlain, GoodGraphsHaveNoFault}
 use Rattle.graph_check.proofs.Alike.{steps_same}
-use Rattle.graph_check.proofs.Following.{beside}
 
 -- ---- children
 

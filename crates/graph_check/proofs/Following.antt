@@ -4,7 +4,7 @@ use Rattle.std.specs.Prelude.{All}
 use Rattle.std.proofs.lemmas.Bool.{ne_eqb}
 use Rattle.std.proofs.lemmas.Option.{slice_get_within, get_or_from_slice_get}
 use Rattle.std.proofs.lemmas.List.Elements.{All-get_or, All-from_recursion}
-use Rattle.std.specs.List.{AllZip, AllByRecursion}
+use Rattle.std.specs.List.{AllByRecursion}
 use Rattle.jvm_values.proofs.Options.{some_is, none_is_not_some}
 use Rattle.jvm_values.specs.declared.heap.Heap.{Heap}
 use Rattle.jvm_values.specs.declared.heap.Object.{Object}
@@ -31,23 +31,11 @@ use Rattle.term_graph.specs.declared.nodes.By.TheVariants.{Expand, Instance, End
 use Rattle.term_graph.specs.Graphs.{GraphNode, GraphChild}
 use Rattle.term_graph.specs.Edges.{Edge}
 use Rattle.abs_expand.specs.Laws.{IsMet}
+use Rattle.abs_expand.proofs.ZipLists.{beside}
 use Rattle.graph_check.specs.Good.{NamesChild, IsExpanded, IsInstance, IsLeftBy, IsGoodNode, GraphOk}
 use Rattle.graph_check.specs.Laws.{GoesOn, EndsHere, KeepsPromise, GraphsHoldRuns}
 
 -- ---- lists
-
-pub record Beside {A B : Type 0} (R : A → B → Type 0) (ys : List B) (n : ℕ) (x : A) : Type 0 where
-  pub other : B
-  pub there : slice_get ys n ≡ Some other
-  pub alike : R x other
-
-pub beside : {A B : Type 0} (R : A → B → Type 0) (xs : List A) (ys : List B) (n : ℕ) (x : A) → AllZip R xs ys → slice_get xs n ≡ Some x → Beside R ys n x
-beside R [] ys n x all at = absurd (none_is_not_some x at)
-beside R (z ∷ xs) [] n x all at = absurd all
-beside R (z ∷ xs) (y ∷ ys) zero x all at = record { other = y; there = refl; alike = subst (λ w. R w y) (some_is at) all.0 }
-beside R (z ∷ xs) (y ∷ ys) (suc n) x all at =
-    let rest = beside R xs ys n x all.1 at in
-    record { other = rest.other; there = rest.there; alike = rest.alike }
 
 mapped_at : {A B : Type 0} (f : A → B) (xs : List A) (n : ℕ) (x : A) → slice_get xs n ≡ Some x → slice_get (map f xs) n ≡ Some (f x)
 mapped_at f [] n x at = absurd (none_is_not_some x at)

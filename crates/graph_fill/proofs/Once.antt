@@ -12,7 +12,7 @@ use Rattle.term_graph.specs.declared.nodes.By.{By}
 use Rattle.term_graph.specs.Graphs.{GraphNode, GraphChild, GraphPart}
 use Rattle.graph_check.specs.Filling.{Names, IsFirstNamed, IsChildAt, StandsForNone, IsTakenState, HasStateOf, IsFilled}
 use Rattle.graph_check.specs.Good.{HasChildren, NamesChild, IsExpanded, IsLeftBy, IsGoodNode, GraphOk}
-use Rattle.graph_check.proofs.Following.{beside}
+use Rattle.abs_expand.proofs.ZipLists.{beside}
 use Rattle.graph_fill.specs.Laws.{ArePlainWhereGood, FilledGraphsAreOne, IsStateOrNone, GoodGraphsFillThemselves}
 use Rattle.graph_fill.proofs.Lists.{paired, same_length, item_at}
 use Rattle.graph_fill.proofs.Plain.{child_same}

@@ -29,6 +29,7 @@ use Rattle.abs_expand.specs.IntForms.{is_int_form, IsIntState}
 use Rattle.abs_expand.specs.Plans.{Goal, on_stack, in_local, Turn, steps, makes, no_rows}
 use Rattle.abs_expand.specs.Table.{local_here, row_of}
 use Rattle.abs_expand.specs.Turns.{Here, Operand, known, id, with_stack, interval_at, interval_of_id, are_one, narrowings, term_of, terms_of, constant_of, row_over, rows_over, turn_of_result, turn_of_case, turns_of, narrows, place_of_way, branch_of_case, branches}
+use Rattle.abs_expand.proofs.Grown.{both_all}
 use Rattle.abs_expand.proofs.IntTurns.{local_held}
 use Rattle.abs_expand.proofs.OptionLists.{mapped, filtered}
 use Rattle.int_plans.proofs.EachRow.{IsFine, AreFine, each_sum, each_difference}
@@ -41,10 +42,6 @@ use Rattle.int_links.proofs.SmallRows.{IsSmall, IsInt, HasIntEnds, IsSmallRow, I
 each_mapped : {X Y : Type 0} (Q : X → Type 0) (P : Y → Type 0) (f : X → Y) (xs : List X) → ((x : X) → Q x → P (f x)) → AllByRecursion Q xs → AllByRecursion P (map f xs)
 each_mapped Q P f [] h all = tt
 each_mapped Q P f (x ∷ xs) h all = (h x all.0, each_mapped Q P f xs h all.1)
-
-both_all : {X : Type 0} (P : X → Type 0) (xs ys : List X) → AllByRecursion P xs → AllByRecursion P ys → AllByRecursion P (xs ++ ys)
-both_all P [] ys a b = b
-both_all P (x ∷ xs) ys a b = (a.0, both_all P xs ys a.1 b)
 
 -- ---- rows for the rules of paths
 

@@ -1,26 +1,12 @@
 -- The state after a step that the machine takes fits the step's child.
-use Rattle.std.proofs.Common.{◌≡◌, ◌∙◌, ℕ, zero, suc, Bool, true, List, [], ◌∷◌, Some, slice_get, refl, sym, ap, subst}
-use Rattle.std.specs.List.{AllZip}
-use Rattle.jvm_values.proofs.Options.{some_is, none_is_not_some}
+use Rattle.std.proofs.Common.{◌≡◌, ◌∙◌, Bool, true, sym, ap, subst}
 use Rattle.class_world.specs.WorldTypes.{types_of}
 use Rattle.term_graph.specs.declared.links.Link.{Link}
 use Rattle.abs_expand.specs.Children.{IsTurnChild, IsLean}
 use Rattle.abs_expand.specs.Laws.{IsAfter}
+use Rattle.abs_expand.proofs.ZipLists.{beside}
 use Rattle.plain_steps.specs.Laws.{after_act, PlainStepsFit}
 use Rattle.plain_steps.specs.Taking.{TakenTurnsGo}
-
-record Beside {A B : Type 0} (R : A → B → Type 0) (ys : List B) (n : ℕ) (x : A) : Type 0 where
-  other : B
-  there : slice_get ys n ≡ Some other
-  alike : R x other
-
-beside : {A B : Type 0} (R : A → B → Type 0) (xs : List A) (ys : List B) (n : ℕ) (x : A) → AllZip R xs ys → slice_get xs n ≡ Some x → Beside R ys n x
-beside R [] ys n x all at = absurd (none_is_not_some x at)
-beside R (z ∷ xs) [] n x all at = absurd all
-beside R (z ∷ xs) (y ∷ ys) zero x all at = record { other = y; there = refl; alike = subst (λ w. R w y) (some_is at) all.0 }
-beside R (z ∷ xs) (y ∷ ys) (suc n) x all at =
-    let rest = beside R xs ys n x all.1 at in
-    record { other = rest.other; there = rest.there; alike = rest.alike }
 
 pub turns_go : PlainStepsFit → TakenTurnsGo
 turns_go fit p state machine meaning turns children ints fits expanded takes =
