@@ -8,9 +8,9 @@ Works in a fresh copy of this checkout's crates/, crates.txt and HANDLES below a
 Without names it takes every crate of crates.txt, lowest first. Libraries below a crate are built before its clock starts.
 Some hours of one core for all crates; other jobs on the machine hardly change processor time.
 
-With --page it runs nothing: TIMES has lines of a crate, 'proof', 'tests' or 'edits', and processor seconds, divided by tabs,
-as they were noted while a gate ran. It writes the table of gate.md, in Markdown, a row a crate, the tests, tables and readers of
-cases counted with the crate that they test (COUNTED_WITH). A time that OLDER alone has, from an earlier run, has a star; one that
+With --page it runs nothing: TIMES has lines of a crate, 'proof', 'tests', 'builds' or 'edits', and processor seconds, divided by
+tabs, and what may stand behind them, as gate_watch.py notes them while a gate runs. It writes the table of gate.md, in Markdown, a row a crate, the tests, tables and readers of
+cases counted with the crate that they test (COUNTED_WITH), the builds of programs among the tests. A time that OLDER alone has, from an earlier run, has a star; one that
 neither has is a dash. Below it stand the layers of docs/MAP.md with their sums.
 """
 import collections, pathlib, resource, shutil, subprocess, sys, tempfile
@@ -88,7 +88,7 @@ def noted(file):
     times = collections.defaultdict(dict)
     for line in pathlib.Path(file).read_text().splitlines():
         if line.strip():
-            name, kind, spent = line.split('\t')
+            name, kind, spent, *_ = line.split('\t')
             times[name][kind] = times[name].get(kind, 0) + float(spent)
     return times
 
@@ -118,7 +118,7 @@ class Page:
         size = sum(lines(TOP / 'crates' / one) for one in [name, *tests])
         proof, proof_text = self.time([name], 'proof')
         tested, tested_text = self.time(tests, 'proof')
-        also, _ = self.time([name, *tests], 'tests')
+        also = sum(self.time([name, *tests], kind)[0] for kind in ('tests', 'builds'))
         edits, edits_text = self.time([name, *tests], 'edits')
         count = sum(len(list((TOP / 'crates' / one / 'must-fail').glob('*.edit'))) for one in [name, *tests])
         budget, spent = size * BUDGET / 1000, proof + tested + also + edits
@@ -147,8 +147,17 @@ class Page:
             print('\n%s: %s.' % (title, ', '.join('`%s`' % n for n in names) or 'none'))
 
 
+def tested(rows):
+    """Ends where COUNTED_WITH and LAYER don't name exactly the crates of crates.txt."""
+    lacking = [name for name in rows if name not in COUNTED_WITH and name not in LAYER]
+    gone = [name for name in [*COUNTED_WITH, *LAYER] if name not in rows]
+    if lacking or gone:
+        sys.exit('gate.py: in neither table: %s; no more in crates.txt: %s' % (' '.join(lacking) or 'none', ' '.join(gone) or 'none'))
+
+
 def main():
     if sys.argv[1:2] == ['--page']:
+        tested(crates())
         times = [noted(file) for file in sys.argv[2:4]]
         Page(times[0], times[1] if len(times) > 1 else collections.defaultdict(dict)).write(crates())
         return
