@@ -13,6 +13,7 @@ use Rattle.rank_search.specs.declared.links.Beside.{Beside}
 use Rattle.rank_search.specs.declared.links.Tie.{Tie}
 use Rattle.rank_search.specs.Links.{IsAmong, HasBound, IsFixed, LeadsOn, IsTie, IsTieBeside, LinksOf, IsIntLink}
 use Rattle.rank_search.specs.Searching.{is_inequality, is_alone, has_none, is_bound, is_opposite, most_from, most_of, fixed_or, fixed_from, constant_at, order_of, both_ways, ties_of, ties_at, ties_beside, beside_ties, terms_ties, row_ties, ties_from, InTies, Covers}
+use Rattle.rank_search.proofs.Listed.{in_cases}
 
 int_true : (x y : ℤ) → int_eq x y ≡ true → x ≡ y
 int_true x y e = (Decides-int_eq x y).0 e
@@ -172,23 +173,6 @@ numbered rows variable number fixed =
     fixed_found variable rows 0 least.among.0 m.0 rows least.row least.among.1 (ap (λ (b : Bool). cond b (most_from variable least.row.constant 0 rows) None) (bound_told rows variable (pos 1) fixed.low least) ∙ m.1)
 
 -- lists of ties
-in_left : (a b : List Tie) (link : Link) → InTies a link → InTies (a ++ b) link
-in_left [] b link h = absurd h
-in_left (tie ∷ rest) b link h = elim h as (λ o. InTies ((tie ∷ rest) ++ b) link) [
-  | inl s ↦ inl s
-  | inr r ↦ inr (in_left rest b link r)
-]
-
-in_cases : (a b : List Tie) (link : Link) → InTies (a ++ b) link → InTies a link ⊎ InTies b link
-in_cases [] b link h = inr h
-in_cases (tie ∷ rest) b link h = elim h as (λ o. InTies (tie ∷ rest) link ⊎ InTies b link) [
-  | inl s ↦ inl (inl s)
-  | inr r ↦ elim (in_cases rest b link r) as (λ o. InTies (tie ∷ rest) link ⊎ InTies b link) [
-    | inl x ↦ inl (inr x)
-    | inr y ↦ inr y
-  ]
-]
-
 covers_left : (a b : List Tie) (u v : ℕ) → Covers a u v → Covers (a ++ b) u v
 covers_left [] b u v h = absurd h
 covers_left (tie ∷ rest) b u v h = elim h as (λ o. Covers ((tie ∷ rest) ++ b) u v) [
