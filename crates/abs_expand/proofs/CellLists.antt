@@ -63,7 +63,7 @@ changed_free changed listed free l = record {
 -- ---- one cell more
 
 -- an id of cells that rise from a number is at least that number
-at_least : (low id : ℕ) (listed : List (ℕ × Cell)) (cell : Cell) → AreIdsRising low listed → cell_in listed id ≡ Some cell → low ≤ id
+pub at_least : (low id : ℕ) (listed : List (ℕ × Cell)) (cell : Cell) → AreIdsRising low listed → cell_in listed id ≡ Some cell → low ≤ id
 at_least low id [] cell r e = absurd (none_is_not_some cell e)
 at_least low id (c ∷ listed) cell r e = at (c.0 == id) refl e (λ g. at_least (suc c.0) id listed cell r.1.1 g)
   where

@@ -1,6 +1,6 @@
 -- The children of a state of ints are one list, with one link for each.
-use Rattle.std.proofs.Common.{◌≡◌, ◌<◌, ◌∙◌, ℕ, zero, suc, true, List, [], ◌∷◌, map, length, None, slice_index_or, inl, inr, refl, sym, ap, arith}
-use Rattle.std.specs.List.{AllZip, AllByRecursion, Contains}
+use Rattle.std.proofs.Common.{◌≡◌, ◌<◌, ◌∙◌, ℕ, true, List, [], ◌∷◌, map, None, inl, inr, refl, sym, ap, arith}
+use Rattle.std.specs.List.{AllZip, AllByRecursion}
 use Rattle.std.proofs.lemmas.List.Elements.{All-head}
 use Rattle.jvm_values.proofs.Options.{none_is_not_some}
 use Rattle.jvm_values.specs.TypedHeaps.{WorldTypes}
@@ -22,7 +22,7 @@ use Rattle.abs_expand.specs.Plans.{Act, nothing, makes, writes, item, object, ar
 use Rattle.int_plans.proofs.EachTurn.{EachTurn}
 use Rattle.graph_check.specs.Exclusion.{IsPlain}
 use Rattle.graph_check.specs.Good.{HasChildren}
-use Rattle.graph_check.proofs.Alike.{steps_same}
+use Rattle.graph_check.proofs.Alike.{only_one, steps_same}
 use Rattle.graph_fill.proofs.Plain.{int_plain}
 use Rattle.cert_laws.proofs.Numbers.{neither_below}
 use Rattle.cert_laws.proofs.Steady.{IsSteady, int_steady}
@@ -32,13 +32,6 @@ abbrev pub HasOneList : Program → (ℕ → CodeTypes) → AbstractState → Ty
 HasOneList p typing state = (a b : List GraphChild) → HasChildren p typing state a → HasChildren p typing state b → a ≡ b
 
 -- ---- a fresh id
-
-only_one : (id x : ℕ) → Contains (id ∷ []) x → x ≡ id
-only_one id x c = at c.0 c.1 c.2
-  where
-    at : (k : ℕ) → k < length (id ∷ []) → slice_index_or (id ∷ []) k x ≡ x → x ≡ id
-    at zero l e = sym e
-    at (suc k) l e = absurd (omega (arith, l))
 
 not_lower : (a b : AbstractState) (id other : ℕ) → ((n : ℕ) → cell_at a n ≡ cell_at b n) → AreFresh a (id ∷ []) → AreFresh b (other ∷ []) → id < other → ⊥
 not_lower a b id other same f g l = elim (g.least other id (0, omega arith, refl) l) [

@@ -1,11 +1,10 @@
 -- Good graphs over ints have links such as rules take.
-use Rattle.std.proofs.Common.{◌≡◌, ◌==◌, ◌≤◌, ◌<◌, ℕ, suc, Bool, true, false, eqb, if◌then◌else◌, IsTrue, List, [], ◌∷◌, map, length, Some, slice_get, refl, sym, ap, subst, arith, eq-eqb}
+use Rattle.std.proofs.Common.{◌≡◌, ◌==◌, ◌<◌, ℕ, suc, Bool, true, false, eqb, if◌then◌else◌, IsTrue, List, [], ◌∷◌, map, length, Some, slice_get, refl, sym, ap, subst, arith, eq-eqb}
 use Rattle.std.specs.Prelude.{All}
 use Rattle.std.specs.List.{AllByRecursion, AllZip}
 use Rattle.std.proofs.lemmas.Bool.{eqb-true}
 use Rattle.std.proofs.lemmas.Option.{slice_get_within, get_or_from_slice_get}
 use Rattle.std.proofs.lemmas.List.Elements.{All-get_or, All-from_recursion, recursion_from_All}
-use Rattle.jvm_values.proofs.Options.{none_is_not_some}
 use Rattle.abs_cells.specs.declared.cells.Cell.{Cell}
 use Rattle.abs_cells.specs.AbstractStates.{AbstractState}
 use Rattle.abs_cells.specs.Cells.{is_int, cell_in}
@@ -18,6 +17,7 @@ use Rattle.term_graph.specs.Graphs.{GraphNode, GraphChild}
 use Rattle.path_rules.specs.Conditions.{HasIntsAlone, IsLinkBetween, IsGoodChild, CutsRise, IsReady}
 use Rattle.abs_expand.specs.BadStates.{IsGoodState}
 use Rattle.abs_expand.specs.IntForms.{HasIntForms, IsIntState}
+use Rattle.abs_expand.proofs.CellLists.{at_least}
 use Rattle.graph_check.specs.Conditions.{HasIntStates}
 use Rattle.graph_check.specs.Good.{NamesChild, IsExpanded, IsLeftBy, IsGoodNode, GraphOk}
 use Rattle.graph_check.proofs.Excluding.{good_by}
@@ -29,14 +29,6 @@ use Rattle.cert_check.proofs.Showing.{well_formed, all_good}
 use Rattle.cert_verdict.specs.Parts.{AreCutsFrom, AreCutsOf, IsPrepared}
 
 -- ---- states of ints
-
-at_least : (low id : ℕ) (listed : List (ℕ × Cell)) (cell : Cell) → AreIdsRising low listed → cell_in listed id ≡ Some cell → low ≤ id
-at_least low id [] cell r e = absurd (none_is_not_some cell e)
-at_least low id (c ∷ listed) cell r e = at (c.0 == id) refl e (λ g. at_least (suc c.0) id listed cell r.1.1 g)
-  where
-    at : (b : Bool) → eqb c.0 id ≡ b → (if b then Some c.1 else cell_in listed id) ≡ Some cell → (cell_in listed id ≡ Some cell → suc c.0 ≤ id) → low ≤ id
-    at true f g rest = omega (arith, r.0, eqb-true c.0 id f)
-    at false f g rest = omega (arith, r.0, rest g)
 
 found_later : (c : ℕ × Cell) (listed : List (ℕ × Cell)) (id : ℕ) (cell : Cell) → AreIdsRising (suc c.0) listed → cell_in listed id ≡ Some cell → cell_in (c ∷ listed) id ≡ Some cell
 found_later c listed id cell r e = at (c.0 == id) refl

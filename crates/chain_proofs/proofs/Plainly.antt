@@ -1,5 +1,5 @@
 -- The rules of a set are such as forms are looked for, where all rules are.
-use Rattle.std.proofs.Common.{◌≡◌, ◌∙◌, ◌⊎◌, ◌+◌, ◌<◌, ◌≤◌, ℕ, zero, suc, List, [], ◌∷◌, length, Some, None, slice_get, refl, sym, ap, subst, arith}
+use Rattle.std.proofs.Common.{◌≡◌, ◌∙◌, ◌⊎◌, ◌+◌, ◌<◌, ◌≤◌, ℕ, zero, suc, List, [], ◌∷◌, length, Some, None, slice_get, refl, sym, subst, arith}
 use Rattle.std.specs.List.{All, AllZip, AllByRecursion}
 use Rattle.std.proofs.lemmas.List.Elements.{All-get_or, All-from_recursion}
 use Rattle.std.proofs.lemmas.Option.{none-some, same_Some, slice_get_within, get_or_from_slice_get}
@@ -8,6 +8,7 @@ use Rattle.descent.specs.declared.rules.SlotForm.{SlotForm}
 use Rattle.descent.specs.Conditions.{IsRule}
 use Rattle.rank_search.specs.Graphs.{IsPathRule, IsEndAt, ArePathRules, IsPlainRule, ArePlainRules}
 use Rattle.chain_proofs.specs.Sets.{AreOwn, Rises}
+use Rattle.chain_proofs.proofs.Dividing.{as_long}
 
 all_own : (P : PathRule → Type 0) (rules : List PathRule) (set : List ℕ) (own : List PathRule) → All P rules → AreOwn rules set own → AllByRecursion P own
 all_own P rules [] [] are h = tt
@@ -30,12 +31,6 @@ as_few end low (n ∷ set) r h l =
     let later : suc n + length set ≤ end = as_few end (suc n) set r.1 (λ i m e. h (suc i) m e) (omega (arith, within)) in
     let first = r.0 in
     omega (arith, later, first)
-
-as_long : (rules : List PathRule) (set : List ℕ) (own : List PathRule) → AreOwn rules set own → length set ≡ length own
-as_long rules [] [] h = refl
-as_long rules [] (rule ∷ own) h = absurd h
-as_long rules (m ∷ set) [] h = absurd h
-as_long rules (m ∷ set) (rule ∷ own) h = ap suc (as_long rules set own h.1)
 
 own_from : (rules : List PathRule) (set : List ℕ) (own : List PathRule) (k : ℕ) (rule : PathRule) → AreOwn rules set own → slice_get own k ≡ Some rule → (m : ℕ) × (slice_get rules m ≡ Some rule)
 own_from rules [] [] k rule h e = absurd (none-some rule e)

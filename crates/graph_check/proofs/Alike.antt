@@ -129,7 +129,7 @@ given_alike frames others thrown other cell more equal equals sharing shares a b
 
 -- ---- one fresh id
 
-only_one : (id x : ℕ) → Contains (id ∷ []) x → x ≡ id
+pub only_one : (id x : ℕ) → Contains (id ∷ []) x → x ≡ id
 only_one id x c = at c.0 c.1 c.2
   where
     at : (k : ℕ) → k < length (id ∷ []) → slice_index_or (id ∷ []) k x ≡ x → x ≡ id

@@ -37,7 +37,7 @@ use Rattle.graph_check.specs.Laws.{GoesOn, EndsHere, KeepsPromise, GraphsHoldRun
 
 -- ---- lists
 
-mapped_at : {A B : Type 0} (f : A → B) (xs : List A) (n : ℕ) (x : A) → slice_get xs n ≡ Some x → slice_get (map f xs) n ≡ Some (f x)
+pub mapped_at : {A B : Type 0} (f : A → B) (xs : List A) (n : ℕ) (x : A) → slice_get xs n ≡ Some x → slice_get (map f xs) n ≡ Some (f x)
 mapped_at f [] n x at = absurd (none_is_not_some x at)
 mapped_at f (y ∷ xs) zero x at = ap Some (ap f (some_is at))
 mapped_at f (y ∷ xs) (suc n) x at = mapped_at f xs n x at

@@ -17,11 +17,12 @@ use Rattle.abs_expand.specs.IntForms.{HasIntForms, IsIntState}
 use Rattle.graph_check.specs.Conditions.{HasIntStates}
 use Rattle.graph_check.specs.Filling.{Names, IsFirstNamed, IsChildAt, StandsForNone, IsTakenState, HasStateOf, IsFilled, CanBeFilled}
 use Rattle.graph_check.specs.Good.{HasChildren}
+use Rattle.graph_check.proofs.Following.{mapped_at}
 use Rattle.graph_fill.specs.declared.fault.FillFault.{FillFault}
 use Rattle.graph_fill.specs.declared.fault.FillFault.TheVariants.{NotOfInts, Memory}
 use Rattle.graph_fill.specs.Answers.{IsRefused, FillsOr}
 use Rattle.graph_fill.specs.Words.{IsFull, is_wanted, taken_at, put_all, HasChildrenOrNone, Puts, Adds, HasNoInts, AddsOr}
-use Rattle.graph_fill.proofs.Lists.{in_front, of_front, at_end, in_more, of_take, in_take, take_next, set_other, set_length, mapped_at, paired, item_at}
+use Rattle.graph_fill.proofs.Lists.{in_front, of_front, at_end, in_more, of_take, in_take, take_next, set_other, set_length, paired, item_at}
 use Rattle.graph_fill.proofs.Plain.{int_plain, child_same}
 use Rattle.graph_fill.proofs.SlotStates.{wanted, all_length, all_keep, all_put, any_at}
 

@@ -61,11 +61,6 @@ set_length [] n x = refl
 set_length (y ∷ xs) zero x = refl
 set_length (y ∷ xs) (suc n) x = ap suc (set_length xs n x)
 
-pub mapped_at : {A B : Type 0} (f : A → B) (xs : List A) (n : ℕ) (x : A) → slice_get xs n ≡ Some x → slice_get (map f xs) n ≡ Some (f x)
-mapped_at f [] n x at = absurd (none_is_not_some x at)
-mapped_at f (y ∷ xs) zero x at = ap Some (ap f (some_is at))
-mapped_at f (y ∷ xs) (suc n) x at = mapped_at f xs n x at
-
 -- where the images of two lists are one list, each item of one has an item with its image in the other
 pub record Paired {A C : Type 0} (f : A → C) (image : C) (xs : List A) (n : ℕ) : Type 0 where
   pub other : A

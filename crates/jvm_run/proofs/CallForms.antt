@@ -27,7 +27,7 @@ use Rattle.jvm_values.specs.Kinds.{IsOfKind, narrowed}
 use Rattle.jvm_values.specs.Subtyping.{class_type, array_of, array_of_numbers, IsReference}
 use Rattle.jvm_values.specs.TypedHeaps.{WorldTypes, type_of, HasType, Holds, IsTypedObject, IsTypedHeap}
 use Rattle.jvm_values.specs.Writes.{with_value}
-use Rattle.jvm_values.proofs.Options.{given, some_is, none_is_not_some}
+use Rattle.jvm_values.proofs.Options.{given, none_is_not_some}
 use Rattle.class_world.specs.BuiltIns.{throwable}
 use Rattle.class_world.specs.Fields.{fields_of, can_be_made}
 use Rattle.class_world.specs.Linked.{class_order}
@@ -66,6 +66,7 @@ use Rattle.jvm_run.proofs.Lists.{cond_given, zip_drop, zip_reverse}
 use Rattle.jvm_run.proofs.Values.{Laws, own_type}
 use Rattle.jvm_run.proofs.Forms.{Here, Stands, Well, FrameGood, IsCalling, types_here, acted_of, TopReference, top_reference_of, AsksReference, asks_any, asks_below, asks_both, Found, on_object_well, bind_well, asked_well, if_well, passed_by, fits_slot}
 use Rattle.jvm_run.proofs.Objects.{class_same, reference_array, reference_numbers, erased_class, class_below_by, below_class_by, erased_above, typed_at, numbers_root, references_root}
+use Rattle.jvm_run.proofs.ObjectForms.{top_is}
 
 -- ---- arguments
 
@@ -155,12 +156,6 @@ turned_next : (n : ℕ) (stack : List Value) (value : Value) (rest : List Value)
 turned_next n stack value rest e =
     let more : n + 1 ≡ suc n = omega arith in
     ap (λ (k : ℕ). reverse (take k stack)) more ∙ (ap reverse (next_taken n stack value rest e) ∙ reverse-append (take n stack) (value ∷ []))
-
-top_is : (stack : List Value) (value : Value) (rest : List Value) → top_reference stack ≡ Some (value, rest) → stack ≡ value ∷ rest
-top_is [] value rest e = absurd (none_is_not_some _ e)
-top_is (values.Int n ∷ more) value rest e = absurd (none_is_not_some _ e)
-top_is (values.Null ∷ more) value rest e = ap (λ (x : Value × List Value). x.0 ∷ x.1) (some_is e)
-top_is (values.Ref r ∷ more) value rest e = ap (λ (x : Value × List Value). x.0 ∷ x.1) (some_is e)
 
 -- the class of a method's receiver is there
 receiver_there : (here : Here) → Stands here → (over : ℕ) (call : Call) (number : ℕ) → Takes here.program.methods (class_slot 0 over ∷ []) call number → over < length here.program.world

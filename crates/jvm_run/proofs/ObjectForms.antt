@@ -98,7 +98,7 @@ cast types laws heap t r (places.Ref u) (values.Ref a) e h = record {
 same_frame : (here : Here) → Stands here → (after : PlaceTypes) (place : PlaceType) (below : List PlaceType) (value : Value) (rest : List Value) → after ≡ record { locals = here.before.locals; stack = place ∷ below } → here.work.frame.stack ≡ value ∷ rest → HasPlaceType (types_here here) here.work.heap place (Some value) → HasStack (types_here here) here.work.heap below rest → FrameGood here after here.work.frame
 same_frame here s after place below value rest e q h k = subst (λ (stack : List Value). FrameGood here after (with_stack here.work.frame stack)) (sym q) (pushed here s after place below value rest e h k)
 
-top_is : (stack : List Value) (value : Value) (rest : List Value) → top_reference stack ≡ Some (value, rest) → stack ≡ value ∷ rest
+pub top_is : (stack : List Value) (value : Value) (rest : List Value) → top_reference stack ≡ Some (value, rest) → stack ≡ value ∷ rest
 top_is [] value rest e = absurd (none_is_not_some _ e)
 top_is (values.Int n ∷ more) value rest e = absurd (none_is_not_some _ e)
 top_is (values.Null ∷ more) value rest e = ap (λ (x : Value × List Value). x.0 ∷ x.1) (some_is e)

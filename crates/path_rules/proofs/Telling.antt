@@ -53,7 +53,7 @@ int_slots : (numbers : ℕ → ℤ) (first : ℕ) (stop : Stop) (spot : Spot) (i
 int_slots numbers first stop spot [] a looks = tt
 int_slots numbers first stop spot (id ∷ ids) a looks = ((λ weigh weighs. let is = looks id a.0 in omega (arith, ints, is)), int_slots numbers first stop spot ids a.1 looks)
 
-no_pattern : (state : AbstractState) (sizes : List (ℕ × Pattern)) → HasIntsAlone state → AreSizes state sizes → sizes ≡ []
+pub no_pattern : (state : AbstractState) (sizes : List (ℕ × Pattern)) → HasIntsAlone state → AreSizes state sizes → sizes ≡ []
 no_pattern state [] alone sizes = refl
 no_pattern state (entry ∷ rest) alone sizes =
     let there = (sizes.each entry.0 entry.1 (found entry rest)).0 in

@@ -1,35 +1,24 @@
 -- The ends of rules: their ids rise, and ends at one cut have the same ids, kinds and places.
-use Rattle.std.proofs.Common.{◌≡◌, ◌∙◌, ℕ, ℤ, suc, ◌≤◌, Bool, true, false, cond, List, [], ◌∷◌, ◌++◌, map, Some, refl, sym, ap, subst, arith, eq-eqb}
-use Rattle.std.specs.Prelude.{filter, not}
-use Rattle.std.proofs.lemmas.Bool.{false≢true}
+use Rattle.std.proofs.Common.{◌≡◌, ◌∙◌, ℕ, ℤ, suc, ◌≤◌, Bool, true, false, cond, List, [], ◌∷◌, ◌++◌, map, Some, refl, sym, ap, subst, arith}
+use Rattle.std.specs.Prelude.{filter}
 use Rattle.std.proofs.lemmas.List.{append-nil}
 use Rattle.lin_core.specs.Rows.{RiseFrom}
 use Rattle.descent.specs.declared.rules.SlotForm.{SlotForm}
 use Rattle.descent.specs.declared.rules.Place.{Place}
 use Rattle.abs_cells.specs.declared.cells.Cell.{Cell}
-use Rattle.abs_cells.specs.AbstractStates.{AbstractState}
 use Rattle.abs_cells.specs.Cells.{is_int}
 use Rattle.abs_cells.specs.Patterns.{Pattern}
 use Rattle.abs_cells.specs.Sound.{AreIdsRising}
 use Rattle.path_rules.specs.Paths.{edges, end_of, is_cut, only_last}
-use Rattle.path_rules.specs.Stops.{Stop, Leg, LinkedGraph, AreSizes, pattern_in, stop_at, rides_from}
+use Rattle.path_rules.specs.Stops.{Stop, Leg, LinkedGraph, AreSizes, stop_at, rides_from}
 use Rattle.path_rules.specs.Rules.{ids_with, last_along, variables_after, int_slot, size_slot, slots_of}
 use Rattle.path_rules.specs.Conditions.{HasIntsAlone}
-use Rattle.path_rules.proofs.Finding.{ids_in_cells, all_ints}
+use Rattle.path_rules.proofs.Finding.{ids_in_cells}
 use Rattle.path_rules.proofs.Ready.{from_then, same_some, no_rides, ride_first}
+use Rattle.path_rules.proofs.Telling.{no_pattern}
 use Rattle.rank_search.specs.Graphs.{AreNamed, head_of, heads, ids_of}
 
 -- ---- slots are of ints alone
-
-no_pattern : (state : AbstractState) (sizes : List (ℕ × Pattern)) → HasIntsAlone state → AreSizes state sizes → sizes ≡ []
-no_pattern state [] alone sizes = refl
-no_pattern state (entry ∷ rest) alone sizes =
-    let there = (sizes.each entry.0 entry.1 (found entry rest)).0 in
-    let int = all_ints state entry.0 there.cell alone there.is in
-    absurd (false≢true (ap not (sym int) ∙ there.sort_is))
-  where
-    found : (e : ℕ × Pattern) (es : List (ℕ × Pattern)) → pattern_in (e ∷ es) e.0 ≡ Some e.1
-    found e es = rw (eq-eqb e.0 e.0 refl) refl
 
 pub slots_are : (first : ℕ) (stop : Stop) → HasIntsAlone stop.state → AreSizes stop.state stop.sizes → slots_of first stop ≡ map (int_slot first stop) (ids_with is_int stop.state)
 slots_are first stop alone sizes =
