@@ -1,5 +1,5 @@
 -- The number of a field fits it.
-use Rattle.std.proofs.Common.{◌≡◌, ℕ, ◌-◌, ◌^◌, ◌≤ℤ◌, Bool, true, false, cond, ◌&&◌, Option, Some, None, refl, subst, arith, ℤ, pos, negsuc}
+use Rattle.std.proofs.Common.{◌≡◌, ◌-◌, ◌^◌, ◌≤ℤ◌, Bool, true, false, cond, ◌&&◌, Option, Some, None, refl, subst, arith, ℤ, pos, negsuc}
 use Rattle.std.specs.Prelude.{if◌then◌else◌}
 use Rattle.std.specs.Option.{option_and_then}
 use Rattle.std.specs.Int.{w32}

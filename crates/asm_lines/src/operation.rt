@@ -1,6 +1,7 @@
 //! What the lines of instructions say.
 
-ghost use Rattle.std.specs.Prelude.{◌≡◌, ◌++◌, IfOk, OnOk, map};
+ghost use Rattle.std.specs.Prelude.{◌≡◌, ℕ, List, ◌∷◌, [], ◌++◌, IfOk, OnOk, map};
+ghost use Rattle.code_decode.specs.Names.{name_of};
 ghost use Rattle.code_decode.specs.Spellings.{spelling};
 ghost use Rattle.list_views.specs.Results.{Answers};
 ghost use Rattle.asm_lines.specs.Statements.{Gives, one_word};
@@ -114,14 +115,22 @@ fn opcode_in(names: &[(&'static [u8], u8)], word: &[u8]) -> Option<u8>
     None
 }
 
+/// Puts an instruction's name with its opcode behind names.
 #[tactic(auto, using(crate::proofs::Opcodes::one_name))]
+fn push_name(names: &mut Seq<(&'static [u8], u8)>, insn: &Insn, op: u8) -> Result<(), AllocError>
+    ensures { OnOk result (map {B = List ℕ × ℕ} (λ e. (e.0.now, e.1)) names.new ≡ map (λ e. (e.0.now, e.1)) names.old ++ (name_of insn.now, op) ∷ []) }
+{
+    names.push((name(insn).as_bytes(), op))?;
+    Ok(())
+}
+
 fn add_name(alloc: Global, names: &mut Seq<(&'static [u8], u8)>, op: u8) -> Result<(), AllocError>
     ensures { OnOk result (map (λ e. (e.0.now, e.1)) names.new ≡ map (λ e. (e.0.now, e.1)) names.old ++ named op) }
 {
-    if let Some(insn) = template(alloc, op) {
-        names.push((name(&insn).as_bytes(), op))?;
+    match template(alloc, op) {
+        Some(insn) => push_name(names, &insn, op),
+        None => Ok(()),
     }
-    Ok(())
 }
 
 impl Names {
