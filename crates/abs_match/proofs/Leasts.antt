@@ -1,5 +1,5 @@
 -- The least of ids of which something does not hold.
-use Rattle.std.proofs.Common.{◌≡◌, ◌≢◌, ℕ, zero, suc, ◌+◌, ◌<◌, ◌≤◌, Bool, true, false, List, [], ◌∷◌, length, get_or, Option, Some, None, slice_get, ◌⊎◌, inl, inr, refl, sym, ap, subst, ◌∙◌, arith, cond, ltb}
+use Rattle.std.proofs.Common.{◌≡◌, ℕ, zero, suc, ◌+◌, ◌<◌, ◌≤◌, Bool, true, false, List, [], ◌∷◌, length, get_or, Option, Some, None, slice_get, inl, inr, refl, sym, ap, subst, ◌∙◌, arith, cond, ltb}
 use Rattle.std.proofs.lemmas.Bool.{cases_lt, false≢true, ltb-true, lt-ltb}
 use Rattle.std.proofs.lemmas.Option.{slice_get_past, slice_get-get_or}
 use Rattle.std.specs.Prelude.{map}
@@ -7,6 +7,7 @@ use Rattle.std.specs.Option.{option_map, option_and_then}
 use Rattle.jvm_values.proofs.Options.{some_is, none_is_not_some}
 use Rattle.abs_cells.specs.declared.cells.Cell.{Cell}
 use Rattle.abs_cells.specs.AbstractStates.{AbstractFrame}
+use Rattle.abs_cells.specs.Cells.{cell_in, is_of_sort}
 use Rattle.abs_match.specs.Matching.{IsLeastOf, lower_of, HasImage, PlacesMeet, FirstMeet, FirstSame, local_at, FrameMeets, FramesMeet, EntryMeets, CellMeets}
 
 -- the same of what holds of the same ids
@@ -147,3 +148,16 @@ cell_breaks meets cells i c e n = (
 pub lower_none : (r : Option ℕ) → lower_of r None ≡ r
 lower_none None = refl
 lower_none (Some x) = refl
+
+-- what an entry of a map asks, said of its key and its image
+pub entry_asked : (given : List (ℕ × Cell)) (entries : List (ℕ × ℕ)) (i : ℕ) (d : ℕ × ℕ) (r : Option ℕ) → i < length entries
+    → IsLeastOf (λ n. n ≡ (get_or entries i d).0 → is_of_sort (λ _. true) (cell_in given (get_or entries i d).1) ≡ true) r → IsLeastOf (EntryMeets given entries i) r
+entry_asked given entries i d r low h =
+    let e = get_or entries i d in
+    let there : slice_get entries i ≡ Some e = slice_get-get_or entries i d low in
+    turned (λ n. n ≡ e.0 → is_of_sort (λ _. true) (cell_in given e.1) ≡ true) (EntryMeets given entries i) r
+    (λ id m entry at is.
+      let same : e ≡ entry = some_is (sym there ∙ at) in
+      subst (λ (x : ℕ × ℕ). is_of_sort (λ _. true) (cell_in given x.1) ≡ true) same (m (sym is ∙ ap (λ (x : ℕ × ℕ). x.0) (sym same))))
+    (λ id all is. all e there (sym is))
+    h

@@ -1,11 +1,18 @@
-use Rattle.std.proofs.Common.{◌≡◌, ◌<◌, ◌∙◌, ℕ, true, List, length, Some, slice_get, sym, ap, subst, arith}
+use Rattle.std.proofs.Common.{◌≡◌, ◌∙◌, ◌+◌, ℕ, true, Option, Some, sym, ap, subst, arith}
 use Rattle.std.proofs.lemmas.Option.{slice_get_within}
 use Rattle.abs_cells.specs.Cells.{cell_in, is_of_sort}
 use Rattle.abs_reach.specs.Instances.{image_in}
-use Rattle.abs_match.specs.Matching.{EntryMeets}
-use Rattle.abs_match.proofs.Leasts.{all_asked}
+use Rattle.abs_match.specs.Matching.{IsLeastOf, FirstMeet, EntryMeets}
+use Rattle.abs_match.proofs.Leasts.{all_asked, next_asked, entry_asked}
 use Rattle.abs_match.proofs.Entries.{entry_of, image_is_there}
 use Rattle.abs_match.proofs.maps.least_unmapped.Goals as goal
+
+pub loop-id-preserved : goal.loop-id-preserved
+loop-id-preserved c =
+    let asks = EntryMeets c.args.cells.now c.args.entries.now in
+    subst (λ (r : Option ℕ). IsLeastOf (FirstMeet asks (c.loop-id.id-index + 1)) r) (sym c.lower_of-least.ensures)
+    (next_asked asks c.loop-id.id-index c.loop-id.least c.without_cell.result c.loop-id.invariant
+    (entry_asked c.args.cells.now c.args.entries.now c.loop-id.id-index (0, 0) c.without_cell.result c.loop-id-test.true c.without_cell.ensures))
 
 pub returns : goal.returns
 returns c = all_asked (EntryMeets c.args.cells.now c.args.entries.now) (λ id. (image : ℕ) → image_in c.args.entries.now id ≡ Some image → is_of_sort (λ _. true) (cell_in c.args.cells.now image) ≡ true) c.loop-id.id-index c.loop-id.least
