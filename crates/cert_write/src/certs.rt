@@ -1,5 +1,5 @@
 //! Certificates.
-ghost use Rattle.std.specs.Prelude.{◌≡◌, ◌≤◌, [], map, false, Ok, IfOk, IsTrue};
+ghost use Rattle.std.specs.Prelude.{◌≡◌, ◌<◌, ◌≤◌, [], map, length, false, Ok, IfOk, OnOk, IsTrue};
 ghost use Rattle.std.specs.List.{list_all};
 ghost use Rattle.json_view.specs.Answers.{Reads};
 ghost use Rattle.serde_json.specs.Data.{depth};
@@ -9,6 +9,7 @@ ghost use Rattle.class_base.specs.ClassNames.{is_class_name};
 ghost use Rattle.cert_form.specs.Certificates.{cert_of, SaysOf};
 ghost use Rattle.cert_write.specs.Data.{list, node, parts_from, certificate, certificate_of, content_of};
 ghost use Rattle.cert_write.specs.Readable.{IsReadable, IsReadableGraph};
+ghost use Rattle.cert_write.specs.Nodes.{IsPut};
 
 use crate::types::Words;
 use crate::{lists, nodes};
@@ -16,9 +17,29 @@ use abs_cells::Pairs;
 use cert_form::{ClassNames, NamedNodes};
 use descent::Proof;
 use list_views::Seq;
-use serde_json::{Value, json};
+use serde_json::{Map, Value, push, put};
 use std::alloc::{AllocError, Global};
 use term_graph::{NodeSource, PartSource};
+
+/// Puts the next node of a source behind values, without its state where a node in front of it names it.
+fn put_next<P: Pairs, S: NodeSource<P>>(
+    alloc: Global,
+    words: &Words<'_>,
+    source: &mut S,
+    n: u32,
+    named: &mut NamedNodes,
+    values: &mut Vec<Value>,
+) -> Result<(), AllocError>
+    requires { n < length (S.graph source.old) }
+    ensures next { OnOk result (IsPut words.now.names.now (S.graph source.old) n named.old named.new (map view values.old.items) (map view values.new.items)) }
+    ensures same { S.graph source.new ≡ S.graph source.old }
+{
+    let next = source.node(alloc, n)?;
+    let value = nodes::node(alloc, words, named.has(n as usize), &next)?;
+    named.add(next.by());
+    push(values, value)?;
+    Ok(())
+}
 
 /// The nodes of a source, those that a node in front of them names without their states.
 fn all_nodes<P: Pairs, S: NodeSource<P>>(
@@ -33,9 +54,7 @@ fn all_nodes<P: Pairs, S: NodeSource<P>>(
     let mut named = NamedNodes::none(alloc, count as usize)?;
     let mut values = Vec::new(alloc);
     for n in 0..count {
-        let next = source.node(alloc, n)?;
-        values.push(nodes::node(alloc, words, named.has(n as usize), &next)?)?;
-        named.add(next.by());
+        put_next(alloc, words, source, n, &mut named, &mut values)?;
     }
     Ok(Value::Array(values))
 }
@@ -55,9 +74,14 @@ fn text(alloc: Global, nodes: Value, cuts: &[u32], proof: &Proof) -> Result<Seq<
 fn whole(alloc: Global, nodes: Value, cuts: &[u32], proof: &Proof) -> Result<Value, AllocError>
     ensures { IfOk result (λ v. view v ≡ certificate_of cuts.now (view nodes) proof.now.steps) }
 {
+    let mut members = Map::new(alloc);
+    put(&mut members, alloc, "nodes", nodes)?;
+    put(&mut members, alloc, "form", Value::from(2u32))?;
     let cuts = lists::list(alloc, &(), cuts)?;
+    put(&mut members, alloc, "cuts", cuts)?;
     let proof = lists::list(alloc, &(), proof.steps.as_slice())?;
-    json!(in alloc; {"cuts": cuts, "form": 2, "nodes": nodes, "proof": proof})
+    put(&mut members, alloc, "proof", proof)?;
+    Ok(Value::Object(members))
 }
 
 /// A certificate in form 2, as compact JSON with sorted keys: the nodes of a source, the cuts and the proof, the types by

@@ -1,10 +1,10 @@
 //! Lists, numbers and pairs as JSON values.
 ghost use Rattle.std.specs.Prelude.{◌≡◌, List, map, IfOk};
-ghost use Rattle.serde_json.specs.Data.{Data};
+ghost use Rattle.serde_json.specs.Data.{Data, string};
 ghost use Rattle.serde_json.specs.View.{view};
 ghost use Rattle.cert_write.specs.Data.{list, maybe};
 
-use serde_json::{Value, json};
+use serde_json::Value;
 use std::alloc::{AllocError, Global};
 
 /// What is written of an entry of a list, in a context `C`.
@@ -29,6 +29,23 @@ pub(crate) fn list<C, T: Written<C>>(
         values.push(entry.value(alloc, context)?)?;
     }
     Ok(Value::Array(values))
+}
+
+/// Values as a list.
+pub(crate) fn together<const N: usize>(
+    alloc: Global,
+    values: [Value; N],
+) -> Result<Value, AllocError>
+    ensures { IfOk result (λ v. view v ≡ list (map view values.entry)) }
+{
+    Ok(Value::Array(Vec::from_array(alloc, values)?))
+}
+
+/// A word as a value.
+pub(crate) fn word(alloc: Global, text: &str) -> Result<Value, AllocError>
+    ensures { IfOk result (λ v. view v ≡ string text.now) }
+{
+    Ok(Value::String(String::from_str(alloc, text)?))
 }
 
 impl Written<()> for u32 {
@@ -97,9 +114,7 @@ impl Written<()> for (u16, u16) {
     ghost written = { λ _. pair };
 
     fn value(&self, alloc: Global, _: &()) -> Result<Value, AllocError> {
-        let first = self.0;
-        let second = self.1;
-        json!(in alloc; [first, second])
+        together(alloc, [Value::from(self.0), Value::from(self.1)])
     }
 }
 
@@ -109,9 +124,7 @@ impl Written<()> for (u16, i64) {
     ghost written = { λ _. entry };
 
     fn value(&self, alloc: Global, _: &()) -> Result<Value, AllocError> {
-        let first = self.0;
-        let second = self.1;
-        json!(in alloc; [first, second])
+        together(alloc, [Value::from(self.0), Value::from(self.1)])
     }
 }
 
@@ -121,8 +134,6 @@ impl Written<()> for (u32, i64) {
     ghost written = { λ _. entry };
 
     fn value(&self, alloc: Global, _: &()) -> Result<Value, AllocError> {
-        let first = self.0;
-        let second = self.1;
-        json!(in alloc; [first, second])
+        together(alloc, [Value::from(self.0), Value::from(self.1)])
     }
 }

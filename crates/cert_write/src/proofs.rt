@@ -1,12 +1,13 @@
 //! Steps of proofs.
 ghost use Rattle.std.specs.Prelude.{◌≡◌, IfOk};
 ghost use Rattle.serde_json.specs.View.{view};
-ghost use Rattle.cert_write.specs.Data.{order_word, split, rank, dead};
+ghost use Rattle.descent.specs.declared.proof.RankRule.TheVariants.{Weak, Strict};
+ghost use Rattle.cert_write.specs.Data.{rule, order_word, split, rank, dead};
 
-use crate::lists::{Written, list};
+use crate::lists::{Written, list, together, word};
 use descent::{CutForm, ProofStep, RankRule, RankStep};
 use list_views::Seq;
-use serde_json::{Value, json};
+use serde_json::Value;
 use std::alloc::{AllocError, Global};
 
 impl Written<()> for Seq<u32> {
@@ -25,11 +26,17 @@ impl Written<()> for CutForm {
     ghost written = { λ _. form };
 
     fn value(&self, alloc: Global, _: &()) -> Result<Value, AllocError> {
-        let cut = self.cut;
-        let constant = self.constant;
         let ints = list(alloc, &(), self.ints.as_slice())?;
         let sizes = list(alloc, &(), self.sizes.as_slice())?;
-        json!(in alloc; [cut, constant, ints, sizes])
+        together(
+            alloc,
+            [
+                Value::from(self.cut),
+                Value::from(self.constant),
+                ints,
+                sizes,
+            ],
+        )
     }
 }
 
@@ -40,19 +47,36 @@ impl Written<()> for RankRule {
 
     fn value(&self, alloc: Global, _: &()) -> Result<Value, AllocError> {
         match self {
-            RankRule::Weak { rule, fall } => {
-                let fall = list(alloc, &(), fall.as_slice())?;
-                let rule = *rule;
-                json!(in alloc; [rule, "weak", fall])
-            }
+            RankRule::Weak { rule, fall } => weak(alloc, *rule, fall.as_slice()),
             RankRule::Strict { rule, fall, bound } => {
-                let fall = list(alloc, &(), fall.as_slice())?;
-                let bound = list(alloc, &(), bound.as_slice())?;
-                let rule = *rule;
-                json!(in alloc; [rule, "strict", fall, bound])
+                strict(alloc, *rule, fall.as_slice(), bound.as_slice())
             }
         }
     }
+}
+
+/// A rule along which forms don't rise.
+fn weak(alloc: Global, number: u32, fall: &[(u32, i64)]) -> Result<Value, AllocError>
+    ensures { IfOk result (λ v. view v ≡ rule (Weak number fall.now)) }
+{
+    let fall = list(alloc, &(), fall)?;
+    let kind = word(alloc, "weak")?;
+    together(alloc, [Value::from(number), kind, fall])
+}
+
+/// A rule along which forms fall, with their bound.
+fn strict(
+    alloc: Global,
+    number: u32,
+    fall: &[(u32, i64)],
+    bound: &[(u32, i64)],
+) -> Result<Value, AllocError>
+    ensures { IfOk result (λ v. view v ≡ rule (Strict number fall.now bound.now)) }
+{
+    let fall = list(alloc, &(), fall)?;
+    let bound = list(alloc, &(), bound)?;
+    let kind = word(alloc, "strict")?;
+    together(alloc, [Value::from(number), kind, fall, bound])
 }
 
 /// The word of an order.
@@ -68,7 +92,8 @@ fn split(alloc: Global, parts: &[Seq<u32>], steps: &[Option<u32>]) -> Result<Val
 {
     let parts = list(alloc, &(), parts)?;
     let steps = list(alloc, &(), steps)?;
-    json!(in alloc; ["split", parts, steps])
+    let kind = word(alloc, "split")?;
+    together(alloc, [kind, parts, steps])
 }
 
 /// A rank step.
@@ -78,8 +103,12 @@ fn rank(alloc: Global, step: &RankStep, rest: u32) -> Result<Value, AllocError>
     let weights = list(alloc, &(), step.weights.as_slice())?;
     let forms = list(alloc, &(), step.forms.as_slice())?;
     let rules = list(alloc, &(), step.rules.as_slice())?;
-    let order = order_word(step.size);
-    json!(in alloc; ["rank", order, weights, forms, rules, rest])
+    let kind = word(alloc, "rank")?;
+    let order = word(alloc, order_word(step.size))?;
+    together(
+        alloc,
+        [kind, order, weights, forms, rules, Value::from(rest)],
+    )
 }
 
 /// A dead rule.
@@ -92,7 +121,11 @@ fn dead(
     ensures { IfOk result (λ v. view v ≡ dead rule multipliers.now rest) }
 {
     let multipliers = list(alloc, &(), multipliers)?;
-    json!(in alloc; ["dead", rule, multipliers, rest])
+    let kind = word(alloc, "dead")?;
+    together(
+        alloc,
+        [kind, Value::from(rule), multipliers, Value::from(rest)],
+    )
 }
 
 impl Written<()> for ProofStep {
@@ -102,7 +135,10 @@ impl Written<()> for ProofStep {
 
     fn value(&self, alloc: Global, _: &()) -> Result<Value, AllocError> {
         match self {
-            ProofStep::Empty => json!(in alloc; ["empty"]),
+            ProofStep::Empty => {
+                let kind = word(alloc, "empty")?;
+                together(alloc, [kind])
+            }
             ProofStep::Split { parts, steps } => split(alloc, parts.as_slice(), steps.as_slice()),
             ProofStep::Rank { step, rest } => rank(alloc, step, *rest),
             ProofStep::Dead {

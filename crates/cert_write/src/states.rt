@@ -4,12 +4,12 @@ ghost use Rattle.serde_json.specs.View.{view};
 ghost use Rattle.abs_cells.specs.declared.cells.Cell.TheVariants as cells;
 ghost use Rattle.cert_write.specs.Data.{cell, pairs, state};
 
-use crate::lists::{Written, list, maybe_id};
+use crate::lists::{Written, list, maybe_id, together, word};
 use crate::types::{Words, shape_word, type_word};
 use abs_cells::{AbsFrame, AbsState, Cell, Id, Pairs};
 use jvm_values::{Kind, Shape, Ty};
 use lin_core::Interval;
-use serde_json::{Value, json};
+use serde_json::{Map, Value, put};
 use std::alloc::{AllocError, Global};
 
 impl Written<Words<'_>> for (Id, Cell) {
@@ -21,7 +21,7 @@ impl Written<Words<'_>> for (Id, Cell) {
         let id = self.0;
         match &self.1 {
             Cell::Int(bounds) => int_cell(alloc, id, *bounds),
-            Cell::Null => json!(in alloc; [id, "null"]),
+            Cell::Null => null_cell(alloc, id),
             Cell::Obj(class, ids) => obj_cell(alloc, id, *class, ids.as_slice()),
             Cell::Nums(kind, length) => nums_cell(alloc, id, *kind, *length),
             Cell::Refs(element, length, shape) => {
@@ -38,9 +38,24 @@ impl Written<Words<'_>> for (Id, Cell) {
 fn int_cell(alloc: Global, id: Id, bounds: Interval) -> Result<Value, AllocError>
     ensures { IfOk result (λ v. view v ≡ cell [] (id, cells.Int bounds)) }
 {
-    let lo = bounds.lo();
-    let hi = bounds.hi();
-    json!(in alloc; [id, "int", lo, hi])
+    let kind = word(alloc, "int")?;
+    together(
+        alloc,
+        [
+            Value::from(id),
+            kind,
+            Value::from(bounds.lo()),
+            Value::from(bounds.hi()),
+        ],
+    )
+}
+
+/// Null.
+fn null_cell(alloc: Global, id: Id) -> Result<Value, AllocError>
+    ensures { IfOk result (λ v. view v ≡ cell [] (id, cells.Null)) }
+{
+    let kind = word(alloc, "null")?;
+    together(alloc, [Value::from(id), kind])
 }
 
 /// An instance of exactly one class.
@@ -48,15 +63,24 @@ fn obj_cell(alloc: Global, id: Id, class: u32, ids: &[Id]) -> Result<Value, Allo
     ensures { IfOk result (λ v. view v ≡ cell [] (id, cells.Obj class ids.now)) }
 {
     let ids = list(alloc, &(), ids)?;
-    json!(in alloc; [id, "obj", class, ids])
+    let kind = word(alloc, "obj")?;
+    together(alloc, [Value::from(id), kind, Value::from(class), ids])
 }
 
 /// An array of numbers.
 fn nums_cell(alloc: Global, id: Id, kind: Kind, length: Id) -> Result<Value, AllocError>
     ensures { IfOk result (λ v. view v ≡ cell [] (id, cells.Nums kind length)) }
 {
-    let kind = kind.code();
-    json!(in alloc; [id, "nums", kind, length])
+    let items = word(alloc, "nums")?;
+    together(
+        alloc,
+        [
+            Value::from(id),
+            items,
+            Value::from(kind.code()),
+            Value::from(length),
+        ],
+    )
 }
 
 /// An array of references.
@@ -70,9 +94,13 @@ fn refs_cell(
 ) -> Result<Value, AllocError>
     ensures { IfOk result (λ v. view v ≡ cell words.now.names.now (id, cells.Refs element length shape)) }
 {
-    let element = type_word(alloc, words, element)?;
-    let shape = shape_word(shape);
-    json!(in alloc; [id, "refs", element, length, shape])
+    let kind = word(alloc, "refs")?;
+    let element = Value::String(type_word(alloc, words, element)?);
+    let shape = word(alloc, shape_word(shape))?;
+    together(
+        alloc,
+        [Value::from(id), kind, element, Value::from(length), shape],
+    )
 }
 
 /// Some object, or null.
@@ -86,9 +114,13 @@ fn unk_cell(
 ) -> Result<Value, AllocError>
     ensures { IfOk result (λ v. view v ≡ cell words.now.names.now (id, cells.Unk bound nullable shape)) }
 {
-    let bound = type_word(alloc, words, bound)?;
-    let shape = shape_word(shape);
-    json!(in alloc; [id, "unk", bound, nullable, shape])
+    let kind = word(alloc, "unk")?;
+    let bound = Value::String(type_word(alloc, words, bound)?);
+    let shape = word(alloc, shape_word(shape))?;
+    together(
+        alloc,
+        [Value::from(id), kind, bound, Value::Bool(nullable), shape],
+    )
 }
 
 impl Written<()> for AbsFrame {
@@ -97,11 +129,17 @@ impl Written<()> for AbsFrame {
     ghost written = { λ _. frame };
 
     fn value(&self, alloc: Global, _: &()) -> Result<Value, AllocError> {
-        let method = self.method();
-        let pc = self.pc();
         let locals = list(alloc, &(), self.locals())?;
         let stack = list(alloc, &(), self.stack())?;
-        json!(in alloc; [method, pc, locals, stack])
+        together(
+            alloc,
+            [
+                Value::from(self.method()),
+                Value::from(self.pc()),
+                locals,
+                stack,
+            ],
+        )
     }
 }
 
@@ -121,10 +159,15 @@ pub(crate) fn state<P: Pairs>(
 ) -> Result<Value, AllocError>
     ensures { IfOk result (λ v. view v ≡ state words.now.names.now abs.now) }
 {
+    let mut members = Map::new(alloc);
     let cells = list(alloc, words, abs.cells())?;
+    put(&mut members, alloc, "cells", cells)?;
     let eq = pairs(alloc, abs.eq())?;
+    put(&mut members, alloc, "eq", eq)?;
     let frames = list(alloc, &(), abs.frames())?;
+    put(&mut members, alloc, "frames", frames)?;
     let share = pairs(alloc, abs.share())?;
-    let throw = maybe_id(abs.throwing());
-    json!(in alloc; {"cells": cells, "eq": eq, "frames": frames, "share": share, "throw": throw})
+    put(&mut members, alloc, "share", share)?;
+    put(&mut members, alloc, "throw", maybe_id(abs.throwing()))?;
+    Ok(Value::Object(members))
 }
