@@ -23,5 +23,6 @@ module _ (p : Program) (typing : ℕ → CodeTypes) (first state : AbstractState
   pub ids_from : IsStopped (growth_of p typing) first nodes (λ parent n s. HasLarge (growth_of p typing) nodes parent n s) × (length nodes ≤ limit) → HasManyIds (aim_of p typing state) limit nodes
   ids_from h = subst (λ (s : AbstractState). HasManyIds (aim_of p typing s) limit nodes) is_first h
 
-pub found_from : {P : Type 0} (p : Program) (typing : ℕ → CodeTypes) (root state : AbstractState) (names : List (List ℕ)) (limit : ℕ) (result : Result (Found P) SearchFault) → root ≡ state → ((n : ℕ) → SearchesOr (aim_of p typing root) names n result) → SearchesOr (aim_of p typing state) names limit result
-found_from p typing root state names limit result e h = subst (λ (s : AbstractState). SearchesOr (aim_of p typing s) names limit result) e (h limit)
+pub found_from : {P : Type 0} (p : Program) (typing : ℕ → CodeTypes) (root state : AbstractState) (names : List (List ℕ)) (limit : ℕ) (result : Result (Found P) SearchFault) → root ≡ state → (nodes : List GraphNode) → length nodes ≤ limit → ((n : ℕ) → length nodes ≤ n → SearchesOr (aim_of p typing root) names n result)
+    → SearchesOr (aim_of p typing state) names limit result
+found_from p typing root state names limit result e nodes few h = subst (λ (s : AbstractState). SearchesOr (aim_of p typing s) names limit result) e (h limit few)

@@ -1,5 +1,5 @@
 -- A whole graph of ints is such as the rules of paths take.
-use Rattle.std.proofs.Common.{◌≡◌, inl, inr, ◌<◌, ◌==◌, ℕ, suc, true, false, List, [], ◌∷◌, length, Some, Ok, Err, slice_get, sym, ap, subst, arith}
+use Rattle.std.proofs.Common.{◌≡◌, inl, inr, ◌<◌, ◌≤◌, ◌==◌, ℕ, suc, true, false, List, [], ◌∷◌, length, Some, Ok, Err, slice_get, sym, ap, subst, arith}
 use Rattle.std.proofs.lemmas.Bool.{or_cases, eqb-true, false≢true}
 use Rattle.std.proofs.lemmas.Option.{slice_get_within}
 use Rattle.abs_cells.specs.AbstractStates.{AbstractState}
@@ -65,14 +65,17 @@ whole p typing root nodes links cuts grown graph are = record { disciplined = gr
 pub with_some : (aim : Aim) (nodes : List GraphNode) (links : List (List Link)) (cuts : List ℕ) → IsWhole aim nodes links cuts → IsWholeWithSome aim nodes cuts
 with_some aim nodes links cuts h = (links, h)
 
-pub long_paths : (aim : Aim) (nodes : List GraphNode) (links : List (List Link)) (cuts : List ℕ) → IsWhole aim nodes links cuts → PathAnswers nodes links cuts (Err TooManyPaths) → HasLongPaths aim nodes
-long_paths aim nodes links cuts h fails = record { links = links; cuts = cuts; whole = h; fault = TooManyPaths; fails = fails; long = tt }
+pub long_paths : (aim : Aim) (nodes : List GraphNode) (links : List (List Link)) (cuts : List ℕ) → IsWhole aim nodes links cuts → PathAnswers nodes links cuts (Err TooManyPaths)
+    → (limit : ℕ) → length nodes ≤ limit → HasLongPaths aim limit nodes
+long_paths aim nodes links cuts h fails limit few = record { few = few; links = links; cuts = cuts; whole = h; fault = TooManyPaths; fails = fails; long = tt }
 
-pub long_rows : (aim : Aim) (nodes : List GraphNode) (links : List (List Link)) (cuts : List ℕ) (path : ℕ) → IsWhole aim nodes links cuts → PathAnswers nodes links cuts (Err (TooManyRows path)) → HasLongPaths aim nodes
-long_rows aim nodes links cuts path h fails = record { links = links; cuts = cuts; whole = h; fault = TooManyRows path; fails = fails; long = tt }
+pub long_rows : (aim : Aim) (nodes : List GraphNode) (links : List (List Link)) (cuts : List ℕ) (path : ℕ) → IsWhole aim nodes links cuts → PathAnswers nodes links cuts (Err (TooManyRows path))
+    → (limit : ℕ) → length nodes ≤ limit → HasLongPaths aim limit nodes
+long_rows aim nodes links cuts path h fails limit few = record { few = few; links = links; cuts = cuts; whole = h; fault = TooManyRows path; fails = fails; long = tt }
 
-pub component : (aim : Aim) (nodes : List GraphNode) (links : List (List Link)) (cuts : List ℕ) (rules : List PathRule) (steps : List ProofStep) (left : List LeftRule) → IsWhole aim nodes links cuts → PathAnswers nodes links cuts (Ok rules) → LeavesStuck rules steps left → IsComponent aim nodes cuts steps left
-component aim nodes links cuts rules steps left h paths stuck = record { links = links; whole = h; rules = rules; paths = paths; stuck = stuck }
+pub component : (aim : Aim) (nodes : List GraphNode) (links : List (List Link)) (cuts : List ℕ) (rules : List PathRule) (steps : List ProofStep) (left : List LeftRule) → IsWhole aim nodes links cuts → PathAnswers nodes links cuts (Ok rules) → LeavesStuck rules steps left
+    → (limit : ℕ) → length nodes ≤ limit → IsComponent aim limit nodes cuts steps left
+component aim nodes links cuts rules steps left h paths stuck limit few = record { few = few; links = links; whole = h; rules = rules; paths = paths; stuck = stuck }
 
 -- what is answered for a graph, its cuts and rules is so for those that are equal to them
 pub moved : (nodes after : List GraphNode) (links : List (List Link)) (given cuts : List ℕ) (found rules : List PathRule) → after ≡ nodes → given ≡ cuts → rules ≡ found → PathAnswers nodes links given (Ok found) → PathAnswers after links cuts (Ok rules)

@@ -37,12 +37,13 @@ pub record IsCertificate (aim : Aim) (names : List (List ℕ)) (bytes : List ℕ
   pub form : IsWritten names bytes
   pub says : SaysValid aim names bytes
 
+-- each reason's graph has no more nodes than the limit
 abbrev pub HoldsReason : {P : Type 0} → Aim → List (List ℕ) → ℕ → Reason P → Type 0
 HoldsReason aim names limit (reasons.Nodes nodes) = HasManyNodes aim limit nodes
 HoldsReason aim names limit (reasons.Ids nodes) = HasManyIds aim limit nodes
-HoldsReason aim names limit (reasons.Paths nodes) = HasLongPaths aim nodes
-HoldsReason aim names limit (reasons.Bytes cert size) = IsTooLong aim names cert.graph cert.cuts cert.proof.steps size
-HoldsReason aim names limit (reasons.Component cert left) = IsComponent aim cert.graph cert.cuts cert.proof.steps left
+HoldsReason aim names limit (reasons.Paths nodes) = HasLongPaths aim limit nodes
+HoldsReason aim names limit (reasons.Bytes cert size) = IsTooLong aim limit names cert.graph cert.cuts cert.proof.steps size
+HoldsReason aim names limit (reasons.Component cert left) = IsComponent aim limit cert.graph cert.cuts cert.proof.steps left
 
 -- a certificate, or a reason that holds. Want of memory says nothing
 abbrev pub SearchesOr : {P : Type 0} → Aim → List (List ℕ) → ℕ → Result (Found P) SearchFault → Type 0

@@ -53,14 +53,16 @@ pub record IsWhole (aim : Aim) (nodes : List GraphNode) (links : List (List Link
 abbrev pub IsWholeWithSome : Aim → List GraphNode → List ℕ → Type 0
 IsWholeWithSome aim nodes cuts = (links : List (List Link)) × IsWhole aim nodes links cuts
 
--- there are too many paths between its cuts, or too many rows in their rules
+-- there are too many paths, or too many rows in their rules
 abbrev pub IsLong : PathFault → Type 0
 IsLong (Uncut node) = ⊥
 IsLong TooManyPaths = Unit {0}
 IsLong (TooManyRows path) = Unit {0}
 IsLong Memory = ⊥
 
-pub record HasLongPaths (aim : Aim) (nodes : List GraphNode) : Type 0 where
+-- the graph has no more nodes than the limit, and between its cuts there are too many paths, or too many rows in their rules
+pub record HasLongPaths (aim : Aim) (limit : ℕ) (nodes : List GraphNode) : Type 0 where
+  pub few : length nodes ≤ limit
   pub links : List (List Link)
   pub cuts : List ℕ
   pub whole : IsWhole aim nodes links cuts
@@ -74,8 +76,9 @@ pub record HasLongPaths (aim : Aim) (nodes : List GraphNode) : Type 0 where
 abbrev pub written : List (List ℕ) → List GraphNode → List ℕ → List ProofStep → List ℕ
 written names nodes cuts steps = compact_text (certificate names (content_of nodes cuts steps))
 
--- the certificate is valid, and has so many bytes, which are more than 16 MiB
-pub record IsTooLong (aim : Aim) (names : List (List ℕ)) (nodes : List GraphNode) (cuts : List ℕ) (steps : List ProofStep) (size : ℕ) : Type 0 where
+-- the certificate is valid, its graph has no more nodes than the limit, and it has so many bytes, which are more than 16 MiB
+pub record IsTooLong (aim : Aim) (limit : ℕ) (names : List (List ℕ)) (nodes : List GraphNode) (cuts : List ℕ) (steps : List ProofStep) (size : ℕ) : Type 0 where
+  pub few : length nodes ≤ limit
   pub links : List (List Link)
   pub whole : IsWhole aim nodes links cuts
   pub valid : IsValid (case_of aim.program aim.typing aim.root nodes cuts steps)
@@ -86,8 +89,9 @@ pub record IsTooLong (aim : Aim) (names : List (List ℕ)) (nodes : List GraphNo
 
 -- ---- rules that no form ranks
 
--- the steps so far hold, and leave rules to the next one that are stuck
-pub record IsComponent (aim : Aim) (nodes : List GraphNode) (cuts : List ℕ) (steps : List ProofStep) (left : List LeftRule) : Type 0 where
+-- the graph has no more nodes than the limit; the steps so far are within the limits of proofs and hold, and leave rules to the next one that are stuck
+pub record IsComponent (aim : Aim) (limit : ℕ) (nodes : List GraphNode) (cuts : List ℕ) (steps : List ProofStep) (left : List LeftRule) : Type 0 where
+  pub few : length nodes ≤ limit
   pub links : List (List Link)
   pub whole : IsWhole aim nodes links cuts
   pub rules : List PathRule

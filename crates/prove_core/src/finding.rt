@@ -101,7 +101,7 @@ pub(crate) fn given<P: Pairs>(
     requires ints { HasIntStates (program_of program.now) (typing_at typing.now) cert.graph }
     requires few { length cert.graph ≤ 20000 }
     requires steps { AreSteps cert.proof.steps }
-    ensures { (limit : ℕ) → SearchesOr (aim_of (program_of program.now) (typing_at typing.now) root.now) names.now limit result }
+    ensures { (limit : ℕ) → length cert.graph ≤ limit → SearchesOr (aim_of (program_of program.now) (typing_at typing.now) root.now) names.now limit result }
 {
     let Cert { graph, cuts, proof } = cert;
     let mut graph = graph;

@@ -73,7 +73,7 @@ fn of_rules<P: Pairs>(
     requires few { length graph ≤ 20000 }
     requires paths { PathAnswers graph links.now.nodes cuts (Ok rules.now) }
     requires plain { ArePlainRules rules.now }
-    ensures { (limit : ℕ) → SearchesOr (aim_of (program_of program.now) (typing_at typing.now) root.now) names.now limit result }
+    ensures { (limit : ℕ) → length graph ≤ limit → SearchesOr (aim_of (program_of program.now) (typing_at typing.now) root.now) names.now limit result }
 {
     match prove(alloc, rules)? {
         Proved::Whole(proof) => {
@@ -104,7 +104,7 @@ fn of_links<P: Pairs>(
     requires ints { HasIntStates (program_of program.now) (typing_at typing.now) graph }
     requires few { length graph ≤ 20000 }
     requires good { GraphOk (program_of program.now) (typing_at typing.now) graph root.now links.now.nodes }
-    ensures { (limit : ℕ) → SearchesOr (aim_of (program_of program.now) (typing_at typing.now) root.now) names.now limit result }
+    ensures { (limit : ℕ) → length graph ≤ limit → SearchesOr (aim_of (program_of program.now) (typing_at typing.now) root.now) names.now limit result }
 {
     int_links_fit();
     has_short_increments(program);
@@ -137,7 +137,7 @@ fn of_graph<P: Pairs>(
     requires names { IsTrue (list_all is_class_name names.now) }
     requires grown { IsGrownGraph (aim_of (program_of program.now) (typing_at typing.now) root.now) graph }
     requires few { length graph ≤ 20000 }
-    ensures { (limit : ℕ) → SearchesOr (aim_of (program_of program.now) (typing_at typing.now) root.now) names.now limit result }
+    ensures { (limit : ℕ) → length graph ≤ limit → SearchesOr (aim_of (program_of program.now) (typing_at typing.now) root.now) names.now limit result }
 {
     if !has_int_states(&graph) {
         return Err(SearchFault::Memory);

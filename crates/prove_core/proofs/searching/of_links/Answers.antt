@@ -1,4 +1,4 @@
-use Rattle.std.proofs.Common.{ℕ, List, Err, sym, subst}
+use Rattle.std.proofs.Common.{◌≤◌, ℕ, List, length, Err, sym, subst}
 use Rattle.class_program.specs.Views.{program_of}
 use Rattle.code_verify.specs.Typings.{typing_at}
 use Rattle.path_rules.specs.Answers.{Answers as PathAnswers}
@@ -28,6 +28,9 @@ of_rules-requires-clause-plain g c =
     subst ArePlainRules (sym c.as_slice-rules.ensures)
     (plain c.good_graph_rules_are_plain.ensures c.int_links_fit.ensures (program_of c.args.program.now) (typing_at c.args.typing.now) c.args.graph c.args.root.now c.args.links.now.nodes cuts c.in-Ok.rules c.requires.forms c.has_short_increments.ensures c.requires.ints c.requires.good targets c.in-Ok.ensures.answers c.in-Ok.ensures.fit)
 
+pub returns-in-Ok : goal.returns-in-Ok
+returns-in-Ok g c = λ limit few. c.of_rules.ensures limit (subst (λ (nodes : List GraphNode). length nodes ≤ limit) (sym c.paths.ensures.same) few)
+
 pub returns-in-Err-TooManyPaths : goal.returns-in-Err-TooManyPaths
 returns-in-Err-TooManyPaths g c =
     let p = program_of c.args.program.now in
@@ -38,8 +41,8 @@ returns-in-Err-TooManyPaths g c =
     let cuts = c.as_slice.result.now in
     let targets = subst (λ (cs : List ℕ). AreTargets graph cs) (sym c.as_slice.ensures) c.in_ok-cuts.ensures in
     let fails = subst (λ (f : PathFault). PathAnswers graph links cuts (Err f)) c.in-Err-TooManyPaths.field-0-is c.in-Err-TooManyPaths.ensures.answers in
-    λ limit. subst (λ (nodes : List GraphNode). HasLongPaths (aim_of p typing root) nodes) (sym c.paths.ensures.same)
-    (long_paths (aim_of p typing root) graph links cuts (whole p typing root graph links cuts c.requires.grown c.requires.good targets) fails)
+    λ limit few. subst (λ (nodes : List GraphNode). HasLongPaths (aim_of p typing root) limit nodes) (sym c.paths.ensures.same)
+    (long_paths (aim_of p typing root) graph links cuts (whole p typing root graph links cuts c.requires.grown c.requires.good targets) fails limit few)
 
 pub returns-in-Err-TooManyRows : goal.returns-in-Err-TooManyRows
 returns-in-Err-TooManyRows g c =
@@ -51,5 +54,5 @@ returns-in-Err-TooManyRows g c =
     let cuts = c.as_slice.result.now in
     let targets = subst (λ (cs : List ℕ). AreTargets graph cs) (sym c.as_slice.ensures) c.in_ok-cuts.ensures in
     let fails = subst (λ (f : PathFault). PathAnswers graph links cuts (Err f)) c.in-Err-TooManyRows.field-0-is c.in-Err-TooManyRows.ensures.answers in
-    λ limit. subst (λ (nodes : List GraphNode). HasLongPaths (aim_of p typing root) nodes) (sym c.paths.ensures.same)
-    (long_rows (aim_of p typing root) graph links cuts c.in-Err-TooManyRows.field-0-0 (whole p typing root graph links cuts c.requires.grown c.requires.good targets) fails)
+    λ limit few. subst (λ (nodes : List GraphNode). HasLongPaths (aim_of p typing root) limit nodes) (sym c.paths.ensures.same)
+    (long_rows (aim_of p typing root) graph links cuts c.in-Err-TooManyRows.field-0-0 (whole p typing root graph links cuts c.requires.grown c.requires.good targets) fails limit few)
