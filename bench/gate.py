@@ -147,17 +147,17 @@ class Page:
             print('\n%s: %s.' % (title, ', '.join('`%s`' % n for n in names) or 'none'))
 
 
-def tested(rows):
+def be_complete(rows):
     """Ends where COUNTED_WITH and LAYER don't name exactly the crates of crates.txt."""
     lacking = [name for name in rows if name not in COUNTED_WITH and name not in LAYER]
-    gone = [name for name in [*COUNTED_WITH, *LAYER] if name not in rows]
+    gone = [name for name in [*COUNTED_WITH, *COUNTED_WITH.values(), *LAYER] if name not in rows]
     if lacking or gone:
         sys.exit('gate.py: in neither table: %s; no more in crates.txt: %s' % (' '.join(lacking) or 'none', ' '.join(gone) or 'none'))
 
 
 def main():
     if sys.argv[1:2] == ['--page']:
-        tested(crates())
+        be_complete(crates())
         times = [noted(file) for file in sys.argv[2:4]]
         Page(times[0], times[1] if len(times) > 1 else collections.defaultdict(dict)).write(crates())
         return

@@ -5,7 +5,7 @@ usage: python3 bench/gate_watch.py FOLDER TIMES
 FOLDER is the checkout in which `rt ci` runs. Each time that one of its processes ends, TIMES gets a line with the crate, what was
 done, the processor seconds that the process took, and for edits the edit that it tried ('as it stands' for the check that a crate's
 edits begin with), divided by tabs. What was done is 'proof' (of a library its proof and what is written of it, of a program its
-proof), 'tests' (the proof of a crate with its tests), 'builds' (of a program or of tests, once they are proved) or 'edits'.
+proof), 'tests' (the proof of a crate with its tests, and their build), 'builds' (of a program, once it is proved) or 'edits'.
 `bench/gate.py --page TIMES` makes the tables of gate.md of them. It looks twice a second: the last half of a second of a process is
 lost, and so are a process that is shorter and those that still run when it is stopped. It needs Linux, and runs until it is stopped.
 """
