@@ -157,7 +157,7 @@ entry_asked given entries i d r low h =
     let there : slice_get entries i ≡ Some e = slice_get-get_or entries i d low in
     turned (λ n. n ≡ e.0 → is_of_sort (λ _. true) (cell_in given e.1) ≡ true) (EntryMeets given entries i) r
     (λ id m entry at is.
-      let same : e ≡ entry = some_is (sym there ∙ at) in
-      subst (λ (x : ℕ × ℕ). is_of_sort (λ _. true) (cell_in given x.1) ≡ true) same (m (sym is ∙ ap (λ (x : ℕ × ℕ). x.0) (sym same))))
+    let same : e ≡ entry = some_is (sym there ∙ at) in
+    subst (λ (x : ℕ × ℕ). is_of_sort (λ _. true) (cell_in given x.1) ≡ true) same (m (sym is ∙ ap (λ (x : ℕ × ℕ). x.0) (sym same))))
     (λ id all is. all e there (sym is))
     h
