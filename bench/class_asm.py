@@ -3,7 +3,7 @@
 
 usage: class_asm.py [PROGRAM]
 
-PROGRAM is the built `asm_tables`: it assembles each listing and prints the class file. It takes the listing, and gives
+PROGRAM is the built `class_tables`: it assembles each listing and prints the class file. It takes the listing, and gives
 the class file, as hexadecimal digits. The time of an empty input is taken off. The shapes:
 
 methods   short methods with names of their own
@@ -75,4 +75,4 @@ def cases():
 
 
 if __name__ == '__main__':
-    print_times(__doc__, ['shape', 'bytes', 'lines'], cases(), 'asm_tables')
+    print_times(__doc__, ['shape', 'bytes', 'lines'], cases(), 'class_tables')

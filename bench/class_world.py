@@ -3,7 +3,7 @@
 
 usage: class_world.py [PROGRAM]
 
-PROGRAM is the built `link_tables`: it reads the classes, links them, closes the entry and prints the reached methods.
+PROGRAM is the built `program_tables`: it reads the classes, links them, closes the entry and prints how many methods are reached.
 The time of an empty input is taken off. The shapes:
 
 chain     so many classes in one chain, each of which overrides the method that the entry calls
@@ -112,8 +112,8 @@ def link_case(shape, count):
     """A shape of that size, with the answer's number of reached methods."""
     name, files, reached = shape(count)
     words = [shape.__name__, count, sum(len(data) for data in files)]
-    fields = ['link-52', name, 'f', '()V'] + [data.hex() for data in files]
-    return words, fields, lambda answer: answer.startswith(b'OK ') and answer.count(b' ') == reached
+    fields = ['link', name, 'f', '()V'] + [data.hex() for data in files]
+    return words, fields, lambda answer: answer == b'OK %d\n' % reached
 
 
 def cases():
@@ -124,4 +124,4 @@ def cases():
 
 
 if __name__ == '__main__':
-    print_times(__doc__, ['shape', 'size', 'bytes'], cases(), 'link_tables', memory=True)
+    print_times(__doc__, ['shape', 'size', 'bytes'], cases(), 'program_tables', memory=True)

@@ -3,8 +3,8 @@
 
 usage: code_verify.py [PROGRAM]
 
-PROGRAM is the built `typing_tables`: it reads the classes, links them, closes the entry, types its methods and prints the
-reached ones. The time of an empty input is taken off; linking and closing are in it. The shapes:
+PROGRAM is the built `command_tables`: it reads the classes, links them, closes the entry, tests its calls, types its methods and
+prints the reached ones. The time of an empty input is taken off; linking and closing are in it. The shapes:
 
 straight  a method of so many bytes of straight code
 jumps     a method of so many bytes with a jump every four bytes into the place in the middle
@@ -84,4 +84,4 @@ def cases():
 
 
 if __name__ == '__main__':
-    print_times(__doc__, ['shape', 'size', 'bytes'], cases(), 'typing_tables', memory=True)
+    print_times(__doc__, ['shape', 'size', 'bytes'], cases(), 'command_tables', memory=True)

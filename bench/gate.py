@@ -20,13 +20,11 @@ BUDGET = 240  # processor seconds for 1,000 lines
 # Crates of tests, tables, readers of cases and thin programs, and the crate whose budget they share.
 COUNTED_WITH = {
     test: crate for crate, tests in {
-        'list_views': 'table_cases', 'json_view': 'json_cases json_tables', 'class_read': 'class_tables class_calls',
-        'code_decode': 'code_tables', 'class_asm': 'asm_tables', 'class_program': 'entry_cases', 'input_desc': 'input_tables',
-        'jvm_step': 'step_tables', 'code_verify': 'typing_tables', 'jvm_heaps': 'heap_calls heap_lists',
-        'abs_cells': 'cell_calls state_cases', 'abs_ints': 'int_tables', 'abs_reach': 'reach_tables', 'abs_match': 'match_cases match_tables',
-        'abs_expand': 'expand_tables', 'path_rules': 'path_tables', 'abs_heap': 'heap_tables', 'cert_form': 'cert_tables',
-        'descent': 'rule_cases proof_tables', 'rank_search': 'rank_tables', 'run_call': 'line_cases run_tables', 'check_call': 'check_tables',
-        'describe': 'describe_cli', 'fill_call': 'certs_cli', 'jterm': 'jterm_cli jterm_calls',
+        'list_views': 'table_cases', 'json_view': 'json_cases', 'class_read': 'class_tables class_calls',
+        'class_program': 'entry_cases', 'code_verify': 'program_tables', 'jvm_heaps': 'heap_calls', 'abs_cells': 'cell_calls state_cases',
+        'abs_ints': 'value_tables', 'abs_expand': 'state_tables', 'cert_form': 'cert_tables', 'descent': 'rule_cases proof_tables',
+        'run_call': 'line_cases', 'check_call': 'command_tables', 'describe': 'describe_cli', 'fill_call': 'certs_cli',
+        'jterm': 'jterm_cli jterm_calls',
     }.items() for test in tests.split()
 }
 # The layers of docs/MAP.md.

@@ -3,7 +3,7 @@
 
 usage: rank_search.py [PROGRAM]
 
-PROGRAM is the built `rank_tables`. Rules are read (`read`), and read and searched (`plain`, `stepwise`, `linear`); the difference is
+PROGRAM is the built `proof_tables`. Rules are read (`read-rules`), and read and searched (`plain`, `stepwise`, `linear`); the difference is
 what the search takes. No form ranks the rules, so that all are tried, but for `several`, whose form is one over two places:
 
 - `wide`: 50 rules with so many places of ints, each of which rises on some rule by a number of its own;
@@ -43,10 +43,10 @@ def cases():
     for name, make, counts, tables in (('wide', wide, (64, 128, 255), ('plain', 'stepwise')), ('long', long, (1024, 2048, 4096), ('plain', 'stepwise')), ('several', several, (50, 100, 200), ('linear',))):
         for count in counts:
             rules = json.dumps(make(count), separators=(',', ':'))
-            for table in ('read',) + tables:
-                wanted = {'read': b'OK\n', 'linear': b'Some\n'}.get(table, b'None\n')
+            for table in ('read-rules',) + tables:
+                wanted = {'read-rules': b'OK\n', 'linear': b'Some\n'}.get(table, b'None\n')
                 yield [name, count, table], [table, rules], lambda answer, wanted=wanted: answer == wanted
 
 
 if __name__ == '__main__':
-    print_times(__doc__, ['shape', 'count', 'table'], cases(), 'rank_tables')
+    print_times(__doc__, ['shape', 'count', 'table'], cases(), 'proof_tables')

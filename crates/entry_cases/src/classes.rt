@@ -4,7 +4,7 @@ ghost use Rattle.std.specs.List.{AllByRecursion};
 ghost use Rattle.class_world.specs.Linking.{CanBeRead};
 ghost use Rattle.entry_cases.specs.ReadClasses.{AreRead};
 
-use anyhow::{Result, bail};
+use anyhow::{Context, Result, bail};
 use class_read::ClassView;
 use class_world::{LinkFault, World};
 use std::alloc::Global;
@@ -49,8 +49,7 @@ pub fn link(alloc: Global, files: &[Vec<u8>]) -> Result<Result<World<'_>, LinkFa
 
 /// The world that the classes of files give.
 pub fn linked(alloc: Global, files: &[Vec<u8>]) -> Result<World<'_>> {
-    match link(alloc, files)? {
-        Ok(world) => Ok(world),
-        Err(_) => bail!("the classes can't be linked"),
-    }
+    link(alloc, files)?
+        .ok()
+        .context("the classes can't be linked")
 }

@@ -4,7 +4,7 @@ ghost use Rattle.std.specs.Prelude.{◌≡◌, ◌<◌, ◌≤◌, length};
 use crate::classes::{class_files, link};
 use anyhow::{Context, Result, bail};
 use class_program::Program;
-use class_world::LinkFault;
+use class_world::{LinkFault, MethodRef, World};
 use std::alloc::Global;
 use table_cases::Case;
 
@@ -39,20 +39,66 @@ impl<'a> Entry<'a> {
 
     /// The program of the classes and the methods that the entry reaches, or the first fault of linking.
     pub fn close(&self, alloc: Global) -> Result<Result<Program<'_>, LinkFault>> {
-        let world = match link(alloc, self.files.as_slice())? {
-            Ok(world) => world,
-            Err(fault) => return Ok(Err(fault)),
-        };
-        let entry = world
-            .find(
-                self.class.as_bytes(),
-                self.name.as_bytes(),
-                self.desc.as_bytes(),
-            )
-            .context("the entry is no method of the world")?;
+        match link(alloc, self.files.as_slice())? {
+            Ok(world) => self.close_in(alloc, world),
+            Err(fault) => Ok(Err(fault)),
+        }
+    }
+
+    fn close_in<'p>(
+        &self,
+        alloc: Global,
+        world: World<'p>,
+    ) -> Result<Result<Program<'p>, LinkFault>> {
+        let entry = self.find_in(&world)?;
         if !world.has_body(entry) {
             bail!("the entry is abstract");
         }
         Ok(Program::close(alloc, world, entry))
     }
+
+    fn find_in(&self, world: &World<'_>) -> Result<MethodRef> {
+        world
+            .find(
+                self.class.as_bytes(),
+                self.name.as_bytes(),
+                self.desc.as_bytes(),
+            )
+            .context("the entry is no method of the world")
+    }
+
+    /// The program of the classes and the methods that the entry reaches.
+    pub fn program(&self, alloc: Global) -> Result<Program<'_>> {
+        self.close(alloc)?
+            .ok()
+            .context("the classes give no program")
+    }
+}
+
+/// What answers cases over a program.
+pub trait ProgramAnswers {
+    /// The answer to a case.
+    fn answer(alloc: Global, program: &Program<'_>, case: &Case<'_>) -> Result<String>;
+}
+
+/// The answer to a case over the program of the entry method in three input fields from `first` on and of the class files behind these.
+pub fn answer_in_program<A: ProgramAnswers>(
+    alloc: Global,
+    case: &Case<'_>,
+    first: usize,
+) -> Result<String>
+    requires { first ≤ 3 }
+{
+    let entry = Entry::read(alloc, case, first)?;
+    answer_from_entry::<A>(alloc, case, &entry)
+}
+
+/// The answer to a case over the program of an entry method.
+pub fn answer_from_entry<A: ProgramAnswers>(
+    alloc: Global,
+    case: &Case<'_>,
+    entry: &Entry<'_>,
+) -> Result<String> {
+    let program = entry.program(alloc)?;
+    A::answer(alloc, &program, case)
 }

@@ -6,5 +6,5 @@ mod entry;
 mod words;
 
 pub use classes::{class_files, linked};
-pub use entry::Entry;
-pub use words::{put_bytes, put_class, put_method};
+pub use entry::{Entry, ProgramAnswers, answer_from_entry, answer_in_program};
+pub use words::{kind_letter, put_bytes, put_class, put_descriptor, put_method};

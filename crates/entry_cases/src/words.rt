@@ -2,21 +2,22 @@
 ghost use Rattle.std.specs.Prelude.{◌≡◌, ◌<◌, length};
 
 use class_program::{Method, Program};
-use jvm_values::Types;
+use class_world::World;
+use jvm_values::{Base, Kind, Ty, Types};
 use std::alloc::AllocError;
 
 /// The name of the class of that number, and nothing for a number that no class has.
-fn class_name<'p>(program: &'p Program<'_>, class: u32) -> &'p [u8] {
-    if class < program.world.classes() {
-        program.world.name_of(class)
+fn class_name<'w>(world: &'w World<'_>, class: u32) -> &'w [u8] {
+    if class < world.classes() {
+        world.name_of(class)
     } else {
         &[]
     }
 }
 
 /// The name of the class of that number.
-pub fn put_class(line: &mut String, program: &Program<'_>, class: u32) -> Result<(), AllocError> {
-    put_bytes(line, class_name(program, class))
+pub fn put_class(line: &mut String, world: &World<'_>, class: u32) -> Result<(), AllocError> {
+    put_bytes(line, class_name(world, class))
 }
 
 /// A method by its class, its name and its descriptor.
@@ -25,10 +26,38 @@ pub fn put_method(
     program: &Program<'_>,
     method: &Method<'_>,
 ) -> Result<(), AllocError> {
-    put_class(line, program, method.class)?;
+    put_class(line, &program.world, method.class)?;
     line.push('.')?;
     put_bytes(line, method.name.as_slice())?;
     put_bytes(line, method.desc.as_slice())
+}
+
+/// The descriptor of a type.
+pub fn put_descriptor(line: &mut String, world: &World<'_>, t: Ty) -> Result<(), AllocError> {
+    for _ in 0..t.dims {
+        line.push('[')?;
+    }
+    match t.base {
+        Base::Class(class) => put_named(line, world, class),
+        Base::Num(kind) => line.push(kind_letter(kind)),
+    }
+}
+
+fn put_named(line: &mut String, world: &World<'_>, class: u32) -> Result<(), AllocError> {
+    line.push('L')?;
+    put_class(line, world, class)?;
+    line.push(';')
+}
+
+/// The letter of a kind in descriptors.
+pub fn kind_letter(kind: Kind) -> char {
+    match kind {
+        Kind::Boolean => 'Z',
+        Kind::Char => 'C',
+        Kind::Byte => 'B',
+        Kind::Short => 'S',
+        Kind::Int => 'I',
+    }
 }
 
 /// The bytes as text; one outside 0x20 to 0x7e, and a backslash, as `\xNN`.

@@ -87,10 +87,27 @@ pub fn number(alloc: Global, object: &View<'_, '_>, name: &str) -> Result<i64> {
 
 /// The item `n` of a list as a list of numbers.
 pub fn naturals(alloc: Global, list: &View<'_, '_>, n: usize) -> Result<Seq<u32>> {
-    let inner = item(alloc, list, n)?;
+    naturals_of(alloc, &item(alloc, list, n)?)
+}
+
+/// A list of numbers.
+pub fn naturals_of(alloc: Global, list: &View<'_, '_>) -> Result<Seq<u32>> {
     let mut numbers = Seq::new(alloc);
-    for k in 0..count(alloc, &inner)? {
-        numbers.push(natural(alloc, &inner, k)?)?;
+    for n in 0..count(alloc, list)? {
+        numbers.push(natural(alloc, list, n)?)?;
     }
     Ok(numbers)
+}
+
+/// A list of pairs of ids.
+pub fn id_pairs(alloc: Global, list: &View<'_, '_>) -> Result<Seq<(u16, u16)>> {
+    let mut pairs = Seq::new(alloc);
+    for n in 0..count(alloc, list)? {
+        pairs.push(id_pair(alloc, &item(alloc, list, n)?)?)?;
+    }
+    Ok(pairs)
+}
+
+fn id_pair(alloc: Global, pair: &View<'_, '_>) -> Result<(u16, u16)> {
+    Ok((id(alloc, pair, 0)?, id(alloc, pair, 1)?))
 }

@@ -19,21 +19,37 @@ pub fn proof(alloc: Global, list: &View<'_, '_>) -> Result<Proof> {
 fn step(alloc: Global, parts: &View<'_, '_>) -> Result<ProofStep> {
     match word(alloc, parts, 0)? {
         "empty" => Ok(ProofStep::Empty),
-        "split" => Ok(ProofStep::Split {
-            parts: groups(alloc, &item(alloc, parts, 1)?)?,
-            steps: named(alloc, &item(alloc, parts, 2)?)?,
-        }),
-        "rank" => Ok(ProofStep::Rank {
-            step: rank(alloc, parts)?,
-            rest: natural(alloc, parts, 5)?,
-        }),
-        "dead" => Ok(ProofStep::Dead {
-            rule: natural(alloc, parts, 1)?,
-            multipliers: pairs(alloc, parts, 2)?,
-            rest: natural(alloc, parts, 3)?,
-        }),
+        "split" => split(alloc, parts),
+        "rank" => ranked(alloc, parts),
+        "dead" => dead(alloc, parts),
         _ => bail!("a step is wanted"),
     }
+}
+
+fn split(alloc: Global, parts: &View<'_, '_>) -> Result<ProofStep> {
+    let groups = groups(alloc, &item(alloc, parts, 1)?)?;
+    let steps = named(alloc, &item(alloc, parts, 2)?)?;
+    Ok(ProofStep::Split {
+        parts: groups,
+        steps,
+    })
+}
+
+fn ranked(alloc: Global, parts: &View<'_, '_>) -> Result<ProofStep> {
+    let rest = natural(alloc, parts, 5)?;
+    let step = rank(alloc, parts)?;
+    Ok(ProofStep::Rank { step, rest })
+}
+
+fn dead(alloc: Global, parts: &View<'_, '_>) -> Result<ProofStep> {
+    let rule = natural(alloc, parts, 1)?;
+    let rest = natural(alloc, parts, 3)?;
+    let multipliers = pairs(alloc, parts, 2)?;
+    Ok(ProofStep::Dead {
+        rule,
+        multipliers,
+        rest,
+    })
 }
 
 fn groups(alloc: Global, list: &View<'_, '_>) -> Result<Seq<Seq<u32>>> {
@@ -70,15 +86,22 @@ fn rank(alloc: Global, parts: &View<'_, '_>) -> Result<RankStep> {
 pub fn forms(alloc: Global, list: &View<'_, '_>) -> Result<Seq<CutForm>> {
     let mut forms = Seq::new(alloc);
     for n in 0..count(alloc, list)? {
-        let parts = item(alloc, list, n)?;
-        forms.push(CutForm {
-            cut: natural(alloc, &parts, 0)?,
-            constant: integer(alloc, &parts, 1)?,
-            ints: multiples(alloc, &parts, 2)?,
-            sizes: multiples(alloc, &parts, 3)?,
-        })?;
+        forms.push(form(alloc, &item(alloc, list, n)?)?)?;
     }
     Ok(forms)
+}
+
+fn form(alloc: Global, parts: &View<'_, '_>) -> Result<CutForm> {
+    let cut = natural(alloc, parts, 0)?;
+    let constant = integer(alloc, parts, 1)?;
+    let ints = multiples(alloc, parts, 2)?;
+    let sizes = multiples(alloc, parts, 3)?;
+    Ok(CutForm {
+        cut,
+        constant,
+        ints,
+        sizes,
+    })
 }
 
 fn listed(alloc: Global, list: &View<'_, '_>) -> Result<Seq<RankRule>> {

@@ -20,17 +20,22 @@ pub fn rules(alloc: Global, list: &View<'_, '_>) -> Result<Vec<PathRule>> {
 pub fn ends(alloc: Global, list: &View<'_, '_>) -> Result<Vec<PathRule>> {
     let mut rules = Vec::new(alloc);
     for n in 0..count(alloc, list)? {
-        let pair = item(alloc, list, n)?;
-        rules.push(PathRule {
-            from: natural(alloc, &pair, 0)?,
-            to: natural(alloc, &pair, 1)?,
-            vars: 0,
-            rows: Seq::new(alloc),
-            first: Seq::new(alloc),
-            last: Seq::new(alloc),
-        })?;
+        rules.push(rule_of_ends(alloc, &item(alloc, list, n)?)?)?;
     }
     Ok(rules)
+}
+
+fn rule_of_ends(alloc: Global, pair: &View<'_, '_>) -> Result<PathRule> {
+    let from = natural(alloc, pair, 0)?;
+    let to = natural(alloc, pair, 1)?;
+    Ok(PathRule {
+        from,
+        to,
+        vars: 0,
+        rows: Seq::new(alloc),
+        first: Seq::new(alloc),
+        last: Seq::new(alloc),
+    })
 }
 
 fn rule(alloc: Global, parts: &View<'_, '_>) -> Result<PathRule> {
@@ -58,12 +63,25 @@ fn row(alloc: Global, parts: &View<'_, '_>) -> Result<WRow> {
         "=" => RowKind::IsZero,
         _ => bail!("the kind of a row is wanted"),
     };
+    let (constant, terms, weights) = sum(alloc, parts, 1)?;
     Ok(WRow {
         kind,
-        terms: pairs(alloc, parts, 1)?,
-        constant: integer(alloc, parts, 2)?,
-        weights: pairs(alloc, parts, 3)?,
+        terms,
+        constant,
+        weights,
     })
+}
+
+/// The terms in the item `n`, the constant and the weights behind them; the constant first.
+fn sum(
+    alloc: Global,
+    parts: &View<'_, '_>,
+    n: u8,
+) -> Result<(i64, Seq<(u32, i64)>, Seq<(u32, i64)>)> {
+    let constant = integer(alloc, parts, usize::from(n) + 1)?;
+    let terms = pairs(alloc, parts, usize::from(n))?;
+    let weights = pairs(alloc, parts, usize::from(n) + 2)?;
+    Ok((constant, terms, weights))
 }
 
 fn slots(alloc: Global, list: &View<'_, '_>) -> Result<Seq<SlotForm>> {
@@ -75,25 +93,32 @@ fn slots(alloc: Global, list: &View<'_, '_>) -> Result<Seq<SlotForm>> {
 }
 
 fn slot(alloc: Global, parts: &View<'_, '_>) -> Result<SlotForm> {
+    let id = id(alloc, parts, 0)?;
+    let size = word(alloc, parts, 1)? == "size";
+    let places = places(alloc, &item(alloc, parts, 2)?)?;
+    let (constant, terms, weights) = sum(alloc, parts, 3)?;
     Ok(SlotForm {
-        id: id(alloc, parts, 0)?,
-        size: word(alloc, parts, 1)? == "size",
-        places: places(alloc, &item(alloc, parts, 2)?)?,
-        terms: pairs(alloc, parts, 3)?,
-        constant: integer(alloc, parts, 4)?,
-        weights: pairs(alloc, parts, 5)?,
+        id,
+        size,
+        places,
+        terms,
+        constant,
+        weights,
     })
 }
 
 fn places(alloc: Global, list: &View<'_, '_>) -> Result<Seq<Place>> {
     let mut places = Seq::new(alloc);
     for n in 0..count(alloc, list)? {
-        let parts = item(alloc, list, n)?;
-        places.push(Place {
-            frame: natural(alloc, &parts, 0)?,
-            stack: word(alloc, &parts, 1)? == "stack",
-            index: natural(alloc, &parts, 2)?,
-        })?;
+        places.push(place(alloc, &item(alloc, list, n)?)?)?;
     }
     Ok(places)
+}
+
+fn place(alloc: Global, parts: &View<'_, '_>) -> Result<Place> {
+    Ok(Place {
+        frame: natural(alloc, parts, 0)?,
+        stack: word(alloc, parts, 1)? == "stack",
+        index: natural(alloc, parts, 2)?,
+    })
 }

@@ -10,8 +10,7 @@ pub fn pairs(alloc: Global, list: &View<'_, '_>, n: usize) -> Result<Seq<(u32, i
     let inner = item(alloc, list, n)?;
     let mut pairs = Seq::new(alloc);
     for k in 0..count(alloc, &inner)? {
-        let pair = item(alloc, &inner, k)?;
-        pairs.push((natural(alloc, &pair, 0)?, integer(alloc, &pair, 1)?))?;
+        pairs.push(pair(alloc, &item(alloc, &inner, k)?)?)?;
     }
     Ok(pairs)
 }
@@ -21,8 +20,15 @@ pub fn multiples(alloc: Global, list: &View<'_, '_>, n: usize) -> Result<Seq<(u1
     let inner = item(alloc, list, n)?;
     let mut pairs = Seq::new(alloc);
     for k in 0..count(alloc, &inner)? {
-        let pair = item(alloc, &inner, k)?;
-        pairs.push((id(alloc, &pair, 0)?, integer(alloc, &pair, 1)?))?;
+        pairs.push(multiple(alloc, &item(alloc, &inner, k)?)?)?;
     }
     Ok(pairs)
+}
+
+fn pair(alloc: Global, parts: &View<'_, '_>) -> Result<(u32, i64)> {
+    Ok((natural(alloc, parts, 0)?, integer(alloc, parts, 1)?))
+}
+
+fn multiple(alloc: Global, parts: &View<'_, '_>) -> Result<(u16, i64)> {
+    Ok((id(alloc, parts, 0)?, integer(alloc, parts, 1)?))
 }

@@ -3,7 +3,7 @@ use crate::types::ty;
 use abs_cells::{AbsFrame, AbsState, Cell, Id, Ids, Pairs};
 use anyhow::{Context, Result, bail};
 use class_world::World;
-use json_cases::{count, field, flag, id, int, integer, item, natural, number, word};
+use json_cases::{count, field, flag, id, id_pairs, int, integer, item, natural, number, word};
 use json_view::View;
 use jvm_values::{Kind, Shape};
 use lin_core::Interval;
@@ -16,11 +16,21 @@ pub fn state<P: Pairs>(
     world: &World<'_>,
     view: &View<'_, '_>,
 ) -> Result<AbsState<P>> {
+    let throwing = Id::try_from(number(alloc, view, "throw")?).ok();
     let frames = frames(alloc, &field(alloc, view, "frames")?)?;
     let cells = cells(alloc, world, &field(alloc, view, "cells")?)?;
+    with_pairs(alloc, view, frames, throwing, cells)
+}
+
+fn with_pairs<P: Pairs>(
+    alloc: Global,
+    view: &View<'_, '_>,
+    frames: Seq<AbsFrame>,
+    throwing: Option<Id>,
+    cells: Seq<(Id, Cell)>,
+) -> Result<AbsState<P>> {
     let eq = pairs(alloc, &field(alloc, view, "eq")?)?;
     let share = pairs(alloc, &field(alloc, view, "share")?)?;
-    let throwing = Id::try_from(number(alloc, view, "throw")?).ok();
     Ok(AbsState::new(frames, throwing, cells, eq, share))
 }
 
@@ -33,10 +43,11 @@ fn frames(alloc: Global, list: &View<'_, '_>) -> Result<Seq<AbsFrame>> {
 }
 
 fn frame(alloc: Global, view: &View<'_, '_>) -> Result<AbsFrame> {
+    let method = natural(alloc, view, 0)?;
+    let pc = id(alloc, view, 1)?;
     let locals = locals(alloc, &item(alloc, view, 2)?)?;
     let stack = stack(alloc, &item(alloc, view, 3)?)?;
-    let pc = id(alloc, view, 1)?;
-    Ok(AbsFrame::new(natural(alloc, view, 0)?, pc, locals, stack))
+    Ok(AbsFrame::new(method, pc, locals, stack))
 }
 
 fn locals(alloc: Global, list: &View<'_, '_>) -> Result<Seq<Option<Id>>> {
@@ -58,33 +69,48 @@ fn stack(alloc: Global, list: &View<'_, '_>) -> Result<Seq<Id>> {
 fn cells(alloc: Global, world: &World<'_>, list: &View<'_, '_>) -> Result<Seq<(Id, Cell)>> {
     let mut cells = Seq::new(alloc);
     for n in 0..count(alloc, list)? {
-        let view = item(alloc, list, n)?;
-        cells.push((id(alloc, &view, 0)?, cell(alloc, world, &view)?))?;
+        cells.push(named_cell(alloc, world, &item(alloc, list, n)?)?)?;
     }
     Ok(cells)
+}
+
+fn named_cell(alloc: Global, world: &World<'_>, view: &View<'_, '_>) -> Result<(Id, Cell)> {
+    let name = id(alloc, view, 0)?;
+    Ok((name, cell(alloc, world, view)?))
 }
 
 fn cell(alloc: Global, world: &World<'_>, view: &View<'_, '_>) -> Result<Cell> {
     match word(alloc, view, 1)? {
         "int" => interval(alloc, view),
         "null" => Ok(Cell::Null),
-        "obj" => Ok(Cell::Obj(
-            natural(alloc, view, 2)?,
-            ids(alloc, &item(alloc, view, 3)?)?,
-        )),
-        "nums" => Ok(Cell::Nums(kind(alloc, view)?, id(alloc, view, 3)?)),
-        "refs" => Ok(Cell::Refs(
-            ty(world, word(alloc, view, 2)?)?,
-            id(alloc, view, 3)?,
-            shape(word(alloc, view, 4)?)?,
-        )),
-        "unk" => Ok(Cell::Unk(
-            ty(world, word(alloc, view, 2)?)?,
-            flag(alloc, view, 3)?,
-            shape(word(alloc, view, 4)?)?,
-        )),
+        "obj" => obj(alloc, view),
+        "nums" => nums(alloc, view),
+        "refs" => refs(alloc, world, view),
+        "unk" => unk(alloc, world, view),
         _ => bail!("the cell is not known"),
     }
+}
+
+fn obj(alloc: Global, view: &View<'_, '_>) -> Result<Cell> {
+    let class = natural(alloc, view, 2)?;
+    Ok(Cell::Obj(class, ids(alloc, &item(alloc, view, 3)?)?))
+}
+
+fn nums(alloc: Global, view: &View<'_, '_>) -> Result<Cell> {
+    let kind = kind(alloc, view)?;
+    Ok(Cell::Nums(kind, id(alloc, view, 3)?))
+}
+
+fn refs(alloc: Global, world: &World<'_>, view: &View<'_, '_>) -> Result<Cell> {
+    let element = ty(world, word(alloc, view, 2)?)?;
+    let len = id(alloc, view, 3)?;
+    Ok(Cell::Refs(element, len, shape(word(alloc, view, 4)?)?))
+}
+
+fn unk(alloc: Global, world: &World<'_>, view: &View<'_, '_>) -> Result<Cell> {
+    let bound = ty(world, word(alloc, view, 2)?)?;
+    let nullable = flag(alloc, view, 3)?;
+    Ok(Cell::Unk(bound, nullable, shape(word(alloc, view, 4)?)?))
 }
 
 fn kind(alloc: Global, view: &View<'_, '_>) -> Result<Kind> {
@@ -118,14 +144,17 @@ fn shape(word: &str) -> Result<Shape> {
 
 fn pairs<P: Pairs>(alloc: Global, list: &View<'_, '_>) -> Result<P> {
     let mut pairs = P::empty(alloc);
-    for n in 0..count(alloc, list)? {
-        let view = item(alloc, list, n)?;
-        let a = id(alloc, &view, 0)?;
-        let b = id(alloc, &view, 1)?;
-        if a == b || a >= 2048 || b >= 2048 {
-            bail!("two low ids are wanted");
-        }
-        pairs.add(a, b)?;
+    let listed = id_pairs(alloc, list)?;
+    for (a, b) in listed.as_slice() {
+        put_pair(&mut pairs, *a, *b)?;
     }
     Ok(pairs)
+}
+
+fn put_pair<P: Pairs>(pairs: &mut P, a: Id, b: Id) -> Result<()> {
+    if a == b || a >= 2048 || b >= 2048 {
+        bail!("two low ids are wanted");
+    }
+    pairs.add(a, b)?;
+    Ok(())
 }

@@ -1,12 +1,11 @@
 //! States, links and children in words.
 use abs_cells::{AbsFrame, AbsState, Cell, Id, Pairs};
-use anyhow::{Context, Result, bail};
 use class_world::World;
-use entry_cases::put_bytes;
-use jvm_values::{Base, Kind, Shape, Ty, Types};
+use entry_cases::{kind_letter, put_class, put_descriptor};
+use jvm_values::{Base, Shape, Ty};
 use lin_core::RowKind;
-use std::alloc::Global;
-use std::fmt::Write;
+use std::alloc::{AllocError, Global};
+use table_cases::{put_comma, put_count, put_number, put_numbered};
 use term_graph::{Child, Link, LinkRow, Side};
 
 /// The children, each with its link and its state.
@@ -14,9 +13,9 @@ pub fn children<P: Pairs>(
     alloc: Global,
     world: &World<'_>,
     children: &[Child<P>],
-) -> Result<String> {
-    let mut line = String::new(alloc);
-    write!(line, "Children {}", children.len())?;
+) -> Result<String, AllocError> {
+    let mut line = String::from_str(alloc, "Children ")?;
+    put_count(&mut line, children.len())?;
     for child in children {
         put_child(&mut line, world, child)?;
     }
@@ -24,17 +23,21 @@ pub fn children<P: Pairs>(
 }
 
 /// A child: its link and its state, behind a stroke.
-pub fn put_child<P: Pairs>(line: &mut String, world: &World<'_>, child: &Child<P>) -> Result<()> {
+pub fn put_child<P: Pairs>(
+    line: &mut String,
+    world: &World<'_>,
+    child: &Child<P>,
+) -> Result<(), AllocError> {
     line.push_str(" | ")?;
     put_link(line, child.link())?;
     line.push(' ')?;
     put_state(line, world, child.state())
 }
 
-fn put_link(line: &mut String, link: &Link) -> Result<()> {
+fn put_link(line: &mut String, link: &Link) -> Result<(), AllocError> {
     line.push_str(if link.step { "step" } else { "stay" })?;
     if let Some((goes, stays)) = link.merged {
-        write!(line, " merged={goes},{stays}")?;
+        put_merged(line, goes, stays)?;
     }
     for row in link.rows.as_slice() {
         put_row(line, row)?;
@@ -42,12 +45,18 @@ fn put_link(line: &mut String, link: &Link) -> Result<()> {
     Ok(())
 }
 
-fn put_row(line: &mut String, row: &LinkRow) -> Result<()> {
+fn put_merged(line: &mut String, goes: Id, stays: Id) -> Result<(), AllocError> {
+    put_numbered(line, " merged=", i64::from(goes))?;
+    put_numbered(line, ",", i64::from(stays))
+}
+
+fn put_row(line: &mut String, row: &LinkRow) -> Result<(), AllocError> {
     let kind = match row.kind {
-        RowKind::AtLeastZero => "ge",
-        RowKind::IsZero => "eq",
+        RowKind::AtLeastZero => " ge:",
+        RowKind::IsZero => " eq:",
     };
-    write!(line, " {kind}:{}:", row.constant)?;
+    put_numbered(line, kind, row.constant)?;
+    line.push(':')?;
     let terms = row.terms.as_slice();
     let some = put_side(line, terms, Side::Before, 'b', false)?;
     put_side(line, terms, Side::After, 'a', some)?;
@@ -61,22 +70,28 @@ fn put_side(
     side: Side,
     letter: char,
     before: bool,
-) -> Result<bool> {
+) -> Result<bool, AllocError> {
     let mut some = before;
     let mut from = 0u32;
     for _ in 0..terms.len() {
         let Some(id) = least_id(terms, side, from) else {
             break;
         };
-        let times = sum_of(terms, side, id)?;
+        let times = sum_of(terms, side, id);
         if times != 0 {
             put_comma(line, usize::from(some))?;
-            write!(line, "{letter}{id}*{times}")?;
+            put_term(line, letter, id, times)?;
             some = true;
         }
         from = u32::from(id) + 1;
     }
     Ok(some)
+}
+
+fn put_term(line: &mut String, letter: char, id: Id, times: i64) -> Result<(), AllocError> {
+    line.push(letter)?;
+    put_id(line, id)?;
+    put_numbered(line, "*", times)
 }
 
 /// The least id of a side from a number on.
@@ -94,23 +109,14 @@ fn least_id(terms: &[(Side, Id, i64)], side: Side, from: u32) -> Option<Id> {
 }
 
 /// The sum of the coefficients of an id of a side.
-fn sum_of(terms: &[(Side, Id, i64)], side: Side, id: Id) -> Result<i64> {
+fn sum_of(terms: &[(Side, Id, i64)], side: Side, id: Id) -> i64 {
     let mut sum = 0i64;
     for (other, name, times) in terms {
         if *other == side && *name == id {
-            sum = sum
-                .checked_add(*times)
-                .context("the coefficients are too large")?;
+            sum = sum.saturating_add(*times);
         }
     }
-    Ok(sum)
-}
-
-fn put_comma(line: &mut String, place: usize) -> Result<()> {
-    if place > 0 {
-        line.push(',')?;
-    }
-    Ok(())
+    sum
 }
 
 /// A state as compact JSON.
@@ -118,140 +124,161 @@ pub fn put_state<P: Pairs>(
     line: &mut String,
     world: &World<'_>,
     state: &AbsState<P>,
-) -> Result<()> {
+) -> Result<(), AllocError> {
     line.push_str("{\"cells\":[")?;
-    for (place, (id, cell)) in state.cells().iter().enumerate() {
-        put_comma(line, place)?;
-        put_cell(line, world, *id, cell)?;
-    }
+    put_cells(line, world, state.cells())?;
     line.push_str("],\"eq\":[")?;
     put_pairs(line, state.eq())?;
     line.push_str("],\"frames\":[")?;
-    for (place, frame) in state.frames().iter().enumerate() {
-        put_comma(line, place)?;
-        put_frame(line, frame)?;
-    }
+    put_frames(line, state.frames())?;
     line.push_str("],\"share\":[")?;
     put_pairs(line, state.share())?;
     line.push_str("],\"throw\":")?;
     put_optional(line, state.throwing())?;
-    line.push('}')?;
-    Ok(())
+    line.push('}')
+}
+
+fn put_id(line: &mut String, id: Id) -> Result<(), AllocError> {
+    put_number(line, i64::from(id))
 }
 
 /// An id, and -1 for none.
-fn put_optional(line: &mut String, id: Option<Id>) -> Result<()> {
+fn put_optional(line: &mut String, id: Option<Id>) -> Result<(), AllocError> {
     match id {
-        Some(id) => write!(line, "{id}")?,
-        None => line.push_str("-1")?,
+        Some(id) => put_id(line, id),
+        None => line.push_str("-1"),
+    }
+}
+
+fn put_frames(line: &mut String, frames: &[AbsFrame]) -> Result<(), AllocError> {
+    for (place, frame) in frames.iter().enumerate() {
+        put_comma(line, place)?;
+        put_frame(line, frame)?;
     }
     Ok(())
 }
 
-fn put_frame(line: &mut String, frame: &AbsFrame) -> Result<()> {
-    write!(line, "[{},{},[", frame.method(), frame.pc())?;
-    for (place, local) in frame.locals().iter().enumerate() {
+fn put_frame(line: &mut String, frame: &AbsFrame) -> Result<(), AllocError> {
+    put_numbered(line, "[", i64::from(frame.method()))?;
+    put_numbered(line, ",", i64::from(frame.pc()))?;
+    line.push_str(",[")?;
+    put_locals(line, frame.locals())?;
+    line.push_str("],[")?;
+    put_ids(line, frame.stack())?;
+    line.push_str("]]")
+}
+
+fn put_locals(line: &mut String, locals: &[Option<Id>]) -> Result<(), AllocError> {
+    for (place, local) in locals.iter().enumerate() {
         put_comma(line, place)?;
         put_optional(line, *local)?;
     }
-    line.push_str("],")?;
-    put_ids(line, frame.stack())?;
-    line.push(']')?;
     Ok(())
 }
 
-fn put_ids(line: &mut String, ids: &[Id]) -> Result<()> {
-    line.push('[')?;
+fn put_ids(line: &mut String, ids: &[Id]) -> Result<(), AllocError> {
     for (place, id) in ids.iter().enumerate() {
         put_comma(line, place)?;
-        write!(line, "{}", *id)?;
+        put_id(line, *id)?;
     }
-    line.push(']')?;
     Ok(())
 }
 
-fn put_pairs<P: Pairs>(line: &mut String, pairs: &P) -> Result<()> {
+fn put_pairs<P: Pairs>(line: &mut String, pairs: &P) -> Result<(), AllocError> {
     for n in 0..usize::MAX {
         match pairs.nth(n) {
-            Some((a, b)) => {
-                put_comma(line, n)?;
-                write!(line, "[{a},{b}]")?;
-            }
+            Some((a, b)) => put_pair(line, n, a, b)?,
             None => break,
         }
     }
     Ok(())
 }
 
-fn put_cell(line: &mut String, world: &World<'_>, id: Id, cell: &Cell) -> Result<()> {
-    write!(line, "[{id},")?;
-    match cell {
-        Cell::Int(ints) => write!(line, "\"int\",{},{}", ints.lo(), ints.hi())?,
-        Cell::Null => line.push_str("\"null\"")?,
-        Cell::Obj(class, ids) => {
-            write!(line, "\"obj\",{},", *class)?;
-            put_ids(line, ids.as_slice())?;
-        }
-        Cell::Nums(kind, len) => write!(line, "\"nums\",{},{}", kind.code(), *len)?,
-        Cell::Refs(element, len, shape) => {
-            line.push_str("\"refs\",")?;
-            put_type(line, world, *element)?;
-            write!(line, ",{},\"{}\"", *len, shape_word(*shape))?;
-        }
-        Cell::Unk(bound, nullable, shape) => {
-            line.push_str("\"unk\",")?;
-            put_type(line, world, *bound)?;
-            let nullable = if *nullable { "true" } else { "false" };
-            write!(line, ",{},\"{}\"", nullable, shape_word(*shape))?;
-        }
+fn put_pair(line: &mut String, place: usize, a: Id, b: Id) -> Result<(), AllocError> {
+    put_comma(line, place)?;
+    put_numbered(line, "[", i64::from(a))?;
+    put_numbered(line, ",", i64::from(b))?;
+    line.push(']')
+}
+
+fn put_cells(line: &mut String, world: &World<'_>, cells: &[(Id, Cell)]) -> Result<(), AllocError> {
+    for (place, (id, cell)) in cells.iter().enumerate() {
+        put_comma(line, place)?;
+        put_numbered(line, "[", i64::from(*id))?;
+        put_cell(line, world, cell)?;
+        line.push(']')?;
     }
-    line.push(']')?;
     Ok(())
 }
 
+/// What follows the id of a cell.
+fn put_cell(line: &mut String, world: &World<'_>, cell: &Cell) -> Result<(), AllocError> {
+    match cell {
+        Cell::Int(ints) => put_two(line, ",\"int\",", ints.lo(), ints.hi()),
+        Cell::Null => line.push_str(",\"null\""),
+        Cell::Obj(class, ids) => put_obj(line, *class, ids.as_slice()),
+        Cell::Nums(kind, len) => {
+            put_two(line, ",\"nums\",", i32::from(kind.code()), i32::from(*len))
+        }
+        Cell::Refs(element, len, shape) => put_refs(line, world, *element, *len, *shape),
+        Cell::Unk(bound, nullable, shape) => put_unk(line, world, *bound, *nullable, *shape),
+    }
+}
+
+fn put_two(line: &mut String, word: &str, first: i32, second: i32) -> Result<(), AllocError> {
+    put_numbered(line, word, i64::from(first))?;
+    put_numbered(line, ",", i64::from(second))
+}
+
+fn put_obj(line: &mut String, class: u32, ids: &[Id]) -> Result<(), AllocError> {
+    put_numbered(line, ",\"obj\",", i64::from(class))?;
+    line.push_str(",[")?;
+    put_ids(line, ids)?;
+    line.push(']')
+}
+
+fn put_refs(
+    line: &mut String,
+    world: &World<'_>,
+    element: Ty,
+    len: Id,
+    shape: Shape,
+) -> Result<(), AllocError> {
+    line.push_str(",\"refs\",\"")?;
+    put_type(line, world, element)?;
+    put_numbered(line, "\",", i64::from(len))?;
+    line.push_str(shape_word(shape))
+}
+
+fn put_unk(
+    line: &mut String,
+    world: &World<'_>,
+    bound: Ty,
+    nullable: bool,
+    shape: Shape,
+) -> Result<(), AllocError> {
+    line.push_str(",\"unk\",\"")?;
+    put_type(line, world, bound)?;
+    line.push_str(if nullable { "\",true" } else { "\",false" })?;
+    line.push_str(shape_word(shape))
+}
+
+/// A shape behind a comma.
 fn shape_word(shape: Shape) -> &'static str {
     match shape {
-        Shape::Tree => "tree",
-        Shape::Dag => "dag",
-        Shape::Any => "any",
+        Shape::Tree => ",\"tree\"",
+        Shape::Dag => ",\"dag\"",
+        Shape::Any => ",\"any\"",
     }
 }
 
 /// The word of a type: the name of a class, or the descriptor of an array type.
-fn put_type(line: &mut String, world: &World<'_>, t: Ty) -> Result<()> {
-    line.push('"')?;
-    for _ in 0..t.dims {
-        line.push('[')?;
+fn put_type(line: &mut String, world: &World<'_>, t: Ty) -> Result<(), AllocError> {
+    if t.dims > 0 {
+        return put_descriptor(line, world, t);
     }
     match t.base {
-        Base::Num(kind) => line.push(kind_letter(kind))?,
-        Base::Class(class) => put_class(line, world, class, t.dims > 0)?,
+        Base::Num(kind) => line.push(kind_letter(kind)),
+        Base::Class(class) => put_class(line, world, class),
     }
-    line.push('"')?;
-    Ok(())
-}
-
-fn kind_letter(kind: Kind) -> char {
-    match kind {
-        Kind::Boolean => 'Z',
-        Kind::Char => 'C',
-        Kind::Byte => 'B',
-        Kind::Short => 'S',
-        Kind::Int => 'I',
-    }
-}
-
-/// The name of a class, as it is in a descriptor if asked.
-fn put_class(line: &mut String, world: &World<'_>, class: u32, in_descriptor: bool) -> Result<()> {
-    if class >= world.classes() {
-        bail!("the class is not known");
-    }
-    if in_descriptor {
-        line.push('L')?;
-    }
-    put_bytes(line, world.name_of(class))?;
-    if in_descriptor {
-        line.push(';')?;
-    }
-    Ok(())
 }

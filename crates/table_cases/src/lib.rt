@@ -1,10 +1,15 @@
 //! Cases of tables: a line is the name of a table, a tab and the input fields of a case, divided by tabs.
 #![tactic(auto)]
 
+mod words;
+
 use anyhow::{Context, Result};
 use std::alloc::{AllocError, Global};
 use std::io;
 use std::io::{BufRead, BufReader, BufWriter, Write};
+pub use words::{
+    ascii, natural, number, numbered, put_comma, put_count, put_number, put_numbered, said, short,
+};
 
 /// A case of a table: the table's name and the input fields.
 #[derive(Drop)]
@@ -45,12 +50,6 @@ impl<'a> Case<'a> {
         let digits = self.text(n)?;
         hex::decode(alloc, digits).context("reading hexadecimal digits")
     }
-}
-
-/// Words of ASCII as text.
-pub fn ascii(alloc: Global, words: &[u8]) -> Result<String> {
-    let text = str::from_utf8(words).ok().context("the words are no text")?;
-    Ok(String::from_str(alloc, text)?)
 }
 
 /// What answers the cases of a table.

@@ -1,0 +1,140 @@
+//! Rules and faults as answers.
+use anyhow::{Result, bail};
+use descent::{PathRule, Place, RowKind, SlotForm, WRow};
+use path_rules::PathFault;
+use std::alloc::{AllocError, Global};
+use table_cases::{numbered, put_number, put_numbered, said};
+
+/// What is first in the way of rules.
+pub fn fault_text(alloc: Global, fault: PathFault) -> Result<String> {
+    match fault {
+        PathFault::Uncut { node } => Ok(numbered(alloc, "Uncut node=", i64::from(node))?),
+        PathFault::TooManyPaths => said(alloc, "TooManyPaths"),
+        PathFault::TooManyRows { path } => {
+            Ok(numbered(alloc, "TooManyRows path=", i64::from(path))?)
+        }
+        PathFault::Memory => bail!("memory is wanting"),
+    }
+}
+
+/// Rules as JSON without spaces.
+pub fn rules_text(alloc: Global, rules: &[PathRule]) -> Result<String, AllocError> {
+    let mut text = String::from_str(alloc, "OK [")?;
+    for (n, rule) in rules.iter().enumerate() {
+        text.push_str(bracket_before(n))?;
+        put_rule(&mut text, rule)?;
+    }
+    text.push(']')?;
+    Ok(text)
+}
+
+/// The bracket that opens an item, behind a comma for each item but the first.
+fn bracket_before(n: usize) -> &'static str {
+    if n > 0 { ",[" } else { "[" }
+}
+
+fn put_rule(text: &mut String, rule: &PathRule) -> Result<(), AllocError> {
+    put_number(text, i64::from(rule.from))?;
+    put_numbered(text, ",", i64::from(rule.to))?;
+    put_numbered(text, ",", i64::from(rule.vars))?;
+    put_rows(text, rule.rows.as_slice())?;
+    put_slots(text, rule.first.as_slice())?;
+    put_slots(text, rule.last.as_slice())?;
+    text.push(']')
+}
+
+/// A comma and the rows.
+fn put_rows(text: &mut String, rows: &[WRow]) -> Result<(), AllocError> {
+    text.push_str(",[")?;
+    for (n, row) in rows.iter().enumerate() {
+        text.push_str(bracket_before(n))?;
+        put_row(text, row)?;
+    }
+    text.push(']')
+}
+
+fn put_row(text: &mut String, row: &WRow) -> Result<(), AllocError> {
+    text.push_str(match row.kind {
+        RowKind::AtLeastZero => "\">=\",",
+        RowKind::IsZero => "\"=\",",
+    })?;
+    put_sum(
+        text,
+        row.terms.as_slice(),
+        row.constant,
+        row.weights.as_slice(),
+    )?;
+    text.push(']')
+}
+
+/// Terms, a constant and weights.
+fn put_sum(
+    text: &mut String,
+    terms: &[(u32, i64)],
+    constant: i64,
+    weights: &[(u32, i64)],
+) -> Result<(), AllocError> {
+    put_pairs(text, terms)?;
+    put_numbered(text, ",", constant)?;
+    text.push(',')?;
+    put_pairs(text, weights)
+}
+
+fn put_pairs(text: &mut String, pairs: &[(u32, i64)]) -> Result<(), AllocError> {
+    text.push('[')?;
+    for (n, (name, number)) in pairs.iter().enumerate() {
+        text.push_str(bracket_before(n))?;
+        put_pair(text, *name, *number)?;
+    }
+    text.push(']')
+}
+
+fn put_pair(text: &mut String, name: u32, number: i64) -> Result<(), AllocError> {
+    put_number(text, i64::from(name))?;
+    put_numbered(text, ",", number)?;
+    text.push(']')
+}
+
+/// A comma and the slots.
+fn put_slots(text: &mut String, slots: &[SlotForm]) -> Result<(), AllocError> {
+    text.push_str(",[")?;
+    for (n, slot) in slots.iter().enumerate() {
+        text.push_str(bracket_before(n))?;
+        put_slot(text, slot)?;
+    }
+    text.push(']')
+}
+
+fn put_slot(text: &mut String, slot: &SlotForm) -> Result<(), AllocError> {
+    put_number(text, i64::from(slot.id))?;
+    text.push_str(if slot.size { ",\"size\"," } else { ",\"int\"," })?;
+    put_places(text, slot.places.as_slice())?;
+    text.push(',')?;
+    put_sum(
+        text,
+        slot.terms.as_slice(),
+        slot.constant,
+        slot.weights.as_slice(),
+    )?;
+    text.push(']')
+}
+
+fn put_places(text: &mut String, places: &[Place]) -> Result<(), AllocError> {
+    text.push('[')?;
+    for (n, place) in places.iter().enumerate() {
+        text.push_str(bracket_before(n))?;
+        put_place(text, place)?;
+    }
+    text.push(']')
+}
+
+fn put_place(text: &mut String, place: &Place) -> Result<(), AllocError> {
+    let kind = if place.stack {
+        ",\"stack\","
+    } else {
+        ",\"local\","
+    };
+    put_number(text, i64::from(place.frame))?;
+    put_numbered(text, kind, i64::from(place.index))?;
+    text.push(']')
+}

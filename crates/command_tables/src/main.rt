@@ -1,0 +1,32 @@
+//! Answers the cases of the tables of commands: `link-52`, `run`, `run-52`, `check-int`, `check-2-int` and `prove-int`: each line of the
+//! input is the name of a table, a tab and the input fields of a case, divided by tabs. The answer to each comes on a line of its own.
+#![tactic(auto)]
+
+mod checks;
+mod links;
+mod proves;
+mod runs;
+
+use anyhow::{Result, bail};
+use std::alloc::Global;
+use table_cases::{Answers, Case, answer_all};
+
+/// The cases of this program.
+struct Cases;
+
+impl Answers for Cases {
+    /// The answer to the case, as its table writes it.
+    fn answer(alloc: Global, case: &Case<'_>) -> Result<String> {
+        match case.table() {
+            "link-52" => links::answer(alloc, case),
+            "run" | "run-52" => runs::answer(alloc, case),
+            "check-int" | "check-2-int" => checks::answer(alloc, case),
+            "prove-int" => proves::answer(alloc, case),
+            _ => bail!("the table is not known"),
+        }
+    }
+}
+
+fn main(rt: HostRuntime) -> Result<()> {
+    answer_all::<Cases>(rt)
+}

@@ -1,0 +1,39 @@
+//! Answers the cases of the tables of abstract states: what ids reach, `widen`, the calls of the heap, `instance` and `find`, and `expand`.
+//! Each line of the input is the name of a table or a call with its arguments, a tab and the input fields of a case, divided by tabs. The
+//! answer to each comes on a line of its own. Each state is held with its pairs as a list and as bits, and both give one answer.
+#![tactic(auto)]
+
+mod expansions;
+mod heap_calls;
+mod heap_words;
+mod ids;
+mod matching;
+mod reaching;
+mod widenings;
+
+use anyhow::Result;
+use state_cases::answer_by_both;
+use std::alloc::Global;
+use table_cases::{Answers, Case, answer_all};
+
+/// The cases of this program.
+struct Cases;
+
+impl Answers for Cases {
+    /// The answer to the case, as its table writes it.
+    fn answer(alloc: Global, case: &Case<'_>) -> Result<String> {
+        match case.table() {
+            "expand" => expansions::answer(alloc, case),
+            "widen" => answer_by_both::<widenings::Widenings>(alloc, case, 2),
+            "instance" | "find" => answer_by_both::<matching::Matches>(alloc, case, 3),
+            "known" | "meet" | "in" | "tree" | "finite" => {
+                answer_by_both::<reaching::Reaching>(alloc, case, 2)
+            }
+            _ => answer_by_both::<heap_calls::HeapCalls>(alloc, case, 1),
+        }
+    }
+}
+
+fn main(rt: HostRuntime) -> Result<()> {
+    answer_all::<Cases>(rt)
+}
