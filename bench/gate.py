@@ -20,8 +20,8 @@ BUDGET = 240  # processor seconds for 1,000 lines
 # Crates of tests, tables, readers of cases and thin programs, and the crate whose budget they share.
 COUNTED_WITH = {
     test: crate for crate, tests in {
-        'list_views': 'table_cases', 'json_view': 'json_cases', 'class_read': 'class_tables class_calls',
-        'class_program': 'entry_cases', 'code_verify': 'program_tables', 'jvm_heaps': 'heap_calls', 'abs_cells': 'cell_calls state_cases',
+        'list_views': 'table_cases', 'json_view': 'json_cases', 'class_read': 'class_tables',
+        'class_program': 'entry_cases', 'code_verify': 'program_tables', 'abs_cells': 'low_calls state_cases',
         'abs_ints': 'value_tables', 'abs_expand': 'state_tables', 'cert_form': 'cert_tables', 'descent': 'rule_cases proof_tables',
         'run_call': 'line_cases', 'check_call': 'command_tables', 'describe': 'describe_cli', 'fill_call': 'certs_cli',
         'jterm': 'jterm_cli jterm_calls',

@@ -12,8 +12,8 @@ const POOL: &[u8] =
 #[test]
 fn entries_are_asked_by_number(rt: HostRuntime) -> Result<(), Fail> {
     let (pool, next) = Pool::read(rt.alloc(), POOL, 0)?;
-    assert_eq!(rt; next, POOL.len());
-    assert_eq!(rt; pool.count(), 11);
+    assert!(rt; next == POOL.len());
+    assert!(rt; pool.count() == 11);
     let tags = [
         None,
         Some(1),
@@ -29,17 +29,17 @@ fn entries_are_asked_by_number(rt: HostRuntime) -> Result<(), Fail> {
         None,
     ];
     for (i, tag) in tags.iter().enumerate() {
-        assert_eq!(rt; pool.tag(i as u16), *tag);
+        assert!(rt; pool.tag(i as u16) == *tag);
     }
-    assert_eq!(rt; pool.utf8(1), Some(b"A".as_slice()));
-    assert_eq!(rt; pool.utf8(2), None);
-    assert_eq!(rt; pool.integer(5), Some(-2));
-    assert_eq!(rt; pool.integer(3), None);
-    assert_eq!(rt; pool.class_name(2), Some(b"A".as_slice()));
-    assert_eq!(rt; pool.class_name(10), None);
+    assert!(rt; pool.utf8(1) == Some(b"A".as_slice()));
+    assert!(rt; pool.utf8(2) == None);
+    assert!(rt; pool.integer(5) == Some(-2));
+    assert!(rt; pool.integer(3) == None);
+    assert!(rt; pool.class_name(2) == Some(b"A".as_slice()));
+    assert!(rt; pool.class_name(10) == None);
     let member = (10, b"A".as_slice(), b"f".as_slice(), b"()I".as_slice());
-    assert_eq!(rt; pool.member(9), Some(member));
-    assert_eq!(rt; pool.member(8), None);
+    assert!(rt; pool.member(9) == Some(member));
+    assert!(rt; pool.member(8) == None);
     Ok(())
 }
 
@@ -68,20 +68,17 @@ fn a_pool_is_written_as_it_is_read(rt: HostRuntime) -> Result<(), Fail> {
     assert!(rt; has_texts(entries.as_slice()));
     let mut out = Seq::new(alloc);
     write_pool(&mut out, entries.as_slice())?;
-    assert_eq!(rt; out.as_slice(), POOL);
+    assert!(rt; out.as_slice() == POOL);
     let (pool, _) = Pool::read(alloc, out.as_slice(), 0)?;
-    assert_eq!(rt; pool.name_index(2), Some(1));
-    assert_eq!(rt; pool.name_index(1), None);
+    assert!(rt; pool.name_index(2) == Some(1));
+    assert!(rt; pool.name_index(1) == None);
     Ok(())
 }
 
 #[test]
 fn a_handle_names_a_member(rt: HostRuntime) {
     let alone = b"\x00\x02\x0f\x06\x00\x01";
-    assert_eq!(rt;
-        Pool::read(rt.alloc(), alone, 0).err(),
-        Some(PoolFault::BadIndex { entry: 1 })
-    );
+    assert!(rt; Pool::read(rt.alloc(), alone, 0).err() == Some(PoolFault::BadIndex { entry: 1 }));
     let kinds = b"\x00\x03\x01\x00\x03()V\x10\x00\x01";
     assert!(rt; Pool::read(rt.alloc(), kinds, 0).is_ok());
 }
@@ -89,11 +86,8 @@ fn a_handle_names_a_member(rt: HostRuntime) {
 #[test]
 fn a_class_fault_is_put_into_words(rt: HostRuntime) -> Result<(), Fail> {
     let fault = ClassView::read(rt.alloc(), b"\xca\xfe\xba\xbe\x00\x00\x00\x35").err();
-    assert_eq!(rt; fault, Some(ClassFault::Version { major: 53 }));
+    assert!(rt; fault == Some(ClassFault::Version { major: 53 }));
     let fault = ClassFault::Pool(PoolFault::BadIndex { entry: 7 });
-    assert_eq!(rt;
-        fault.text(rt.alloc())?.as_slice(),
-        b"BadIndex entry=7".as_slice()
-    );
+    assert!(rt; fault.text(rt.alloc())?.as_slice() == b"BadIndex entry=7".as_slice());
     Ok(())
 }

@@ -44,6 +44,21 @@ fn pairs(alloc: Global, listed: &[(Id, Id)]) -> Result<PackedPairs, AllocError> 
     Ok(pairs)
 }
 
+fn cells_of(alloc: Global, ids: &[Id]) -> Result<Seq<(Id, Cell)>, AllocError> {
+    let mut cells = Seq::new(alloc);
+    for id in ids {
+        push_cell(&mut cells, *id, cell(alloc, *id)?)?;
+    }
+    Ok(cells)
+}
+
+fn frames_of(alloc: Global, locals: &[Option<Id>]) -> Result<Seq<AbsFrame>, AllocError> {
+    let locals = Seq::from_slice(alloc, locals)?;
+    let mut frames = Seq::new(alloc);
+    push_frame(&mut frames, AbsFrame::new(0, 0, locals, Seq::new(alloc)))?;
+    Ok(frames)
+}
+
 /// Whether the state of these ids, of a frame with these locals and of these pairs is well-formed.
 fn is_good(
     alloc: Global,
@@ -52,14 +67,20 @@ fn is_good(
     eq: &[(Id, Id)],
     share: &[(Id, Id)],
 ) -> Result<bool, AllocError> {
-    let mut cells = Seq::new(alloc);
-    for id in ids {
-        push_cell(&mut cells, *id, cell(alloc, *id)?)?;
-    }
-    let mut frames = Seq::new(alloc);
-    let frame = AbsFrame::new(0, 0, Seq::from_slice(alloc, locals)?, Seq::new(alloc));
-    push_frame(&mut frames, frame)?;
-    let state = AbsState::new(frames, None, cells, pairs(alloc, eq)?, pairs(alloc, share)?);
+    let frames = frames_of(alloc, locals)?;
+    is_good_with(alloc, frames, cells_of(alloc, ids)?, eq, share)
+}
+
+fn is_good_with(
+    alloc: Global,
+    frames: Seq<AbsFrame>,
+    cells: Seq<(Id, Cell)>,
+    eq: &[(Id, Id)],
+    share: &[(Id, Id)],
+) -> Result<bool, AllocError> {
+    let eq = pairs(alloc, eq)?;
+    let share = pairs(alloc, share)?;
+    let state = AbsState::new(frames, None, cells, eq, share);
     Ok(well_formed(&state))
 }
 
@@ -73,52 +94,47 @@ fn push_frame(frames: &mut Seq<AbsFrame>, frame: AbsFrame) -> Result<(), AllocEr
 
 #[test]
 fn a_state_is_well_formed_by_its_rules(rt: HostRuntime) -> Result<(), Fail> {
+    let alloc = rt.alloc();
     let ids = [0, 1, 2, 3, 4, 5];
     let locals = [Some(0), None, Some(4), Some(5)];
-    let good = is_good(
-        rt.alloc(),
-        &ids,
-        &locals,
-        &[(1, 3)],
-        &[(1, 3), (0, 3), (3, 5)],
-    )?;
-    assert_eq!(rt; good, true);
-    let unused = is_good(rt.alloc(), &ids, &[], &[], &[])?;
-    assert_eq!(rt; unused, true);
-    let largest = is_good(
-        rt.alloc(),
-        &[0, 1, 2, 2047],
-        &[Some(2047)],
-        &[],
-        &[(2047, 0)],
-    )?;
-    assert_eq!(rt; largest, true);
+    let share = [(1, 3), (0, 3), (3, 5)];
+    assert!(rt; is_good(alloc, &ids, &locals, &[(1, 3)], &share)?);
+    assert!(rt; is_good(alloc, &ids, &[], &[], &[])?);
+    let largest = [0, 1, 2, 2047];
+    assert!(rt; is_good(alloc, &largest, &[Some(2047)], &[], &[(2047, 0)])?);
     Ok(())
 }
 
 #[test]
-fn a_state_that_breaks_a_rule_is_not(rt: HostRuntime) -> Result<(), Fail> {
+fn a_state_whose_ids_break_a_rule_is_not(rt: HostRuntime) -> Result<(), Fail> {
+    let alloc = rt.alloc();
+    let without_cell = is_good(alloc, &[0, 1, 2, 3, 4, 5], &[Some(6)], &[], &[])?;
+    assert!(rt; !without_cell);
+    let field_without_cell = is_good(alloc, &[0, 1], &[Some(0)], &[], &[])?;
+    assert!(rt; !field_without_cell);
+    let falling = is_good(alloc, &[1, 0, 2], &[], &[], &[])?;
+    assert!(rt; !falling);
+    let twice = is_good(alloc, &[1, 1], &[], &[], &[])?;
+    assert!(rt; !twice);
+    let too_large = is_good(alloc, &[1, 2048], &[], &[], &[])?;
+    assert!(rt; !too_large);
+    Ok(())
+}
+
+#[test]
+fn a_state_whose_pairs_break_a_rule_is_not(rt: HostRuntime) -> Result<(), Fail> {
+    let alloc = rt.alloc();
     let ids = [0, 1, 2, 3, 4, 5];
-    let without_cell = is_good(rt.alloc(), &ids, &[Some(6)], &[], &[])?;
-    assert_eq!(rt; without_cell, false);
-    let field_without_cell = is_good(rt.alloc(), &[0, 1], &[Some(0)], &[], &[])?;
-    assert_eq!(rt; field_without_cell, false);
-    let falling = is_good(rt.alloc(), &[1, 0, 2], &[], &[], &[])?;
-    assert_eq!(rt; falling, false);
-    let twice = is_good(rt.alloc(), &[1, 1], &[], &[], &[])?;
-    assert_eq!(rt; twice, false);
-    let too_large = is_good(rt.alloc(), &[1, 2048], &[], &[], &[])?;
-    assert_eq!(rt; too_large, false);
-    let unshared = is_good(rt.alloc(), &ids, &[], &[(1, 3)], &[(0, 3)])?;
-    assert_eq!(rt; unshared, false);
-    let of_an_int = is_good(rt.alloc(), &ids, &[], &[], &[(1, 2)])?;
-    assert_eq!(rt; of_an_int, false);
-    let of_null = is_good(rt.alloc(), &ids, &[], &[], &[(4, 3)])?;
-    assert_eq!(rt; of_null, false);
-    let of_none = is_good(rt.alloc(), &ids, &[], &[], &[(3, 7)])?;
-    assert_eq!(rt; of_none, false);
-    let both_known = is_good(rt.alloc(), &ids, &[], &[], &[(0, 5)])?;
-    assert_eq!(rt; both_known, false);
+    let unshared = is_good(alloc, &ids, &[], &[(1, 3)], &[(0, 3)])?;
+    assert!(rt; !unshared);
+    let of_an_int = is_good(alloc, &ids, &[], &[], &[(1, 2)])?;
+    assert!(rt; !of_an_int);
+    let of_null = is_good(alloc, &ids, &[], &[], &[(4, 3)])?;
+    assert!(rt; !of_null);
+    let of_none = is_good(alloc, &ids, &[], &[], &[(3, 7)])?;
+    assert!(rt; !of_none);
+    let both_known = is_good(alloc, &ids, &[], &[], &[(0, 5)])?;
+    assert!(rt; !both_known);
     Ok(())
 }
 
@@ -149,14 +165,20 @@ fn are_same(a: &Cell, b: &Cell) -> bool {
     }
 }
 
+/// Whether two lists of cells are the same.
+fn are_all_same(cells: &[(Id, Cell)], others: &[(Id, Cell)]) -> bool {
+    for ((id, cell), (other_id, other)) in cells.iter().zip(others) {
+        if *id != *other_id || !are_same(cell, other) {
+            return false;
+        }
+    }
+    cells.len() == others.len()
+}
+
 #[test]
 fn copies_of_cells_are_the_same_cells(rt: HostRuntime) -> Result<(), Fail> {
     let cells = cell_of_each_sort(rt.alloc())?;
     let copy = copied_cells(rt.alloc(), cells.as_slice())?;
-    assert_eq!(rt; copy.len(), cells.len());
-    for ((id, cell), (other_id, other)) in cells.as_slice().iter().zip(copy.as_slice()) {
-        assert_eq!(rt; *id, *other_id);
-        assert_eq!(rt; are_same(cell, other), true);
-    }
+    assert!(rt; are_all_same(cells.as_slice(), copy.as_slice()));
     Ok(())
 }

@@ -59,30 +59,18 @@ fn ring(alloc: Global) -> Result<Heap, AllocError> {
 #[test]
 fn a_cycle_has_no_shape(rt: HostRuntime) -> Result<(), Fail> {
     let heap = ring(rt.alloc())?;
-    assert_eq!(rt;
-        shape_of(rt.alloc(), &heap, Value::Ref(0))?,
-        Some(Shape::Any)
-    );
-    assert_eq!(rt;
-        shape_of(rt.alloc(), &heap, Value::Ref(1))?,
-        Some(Shape::Any)
-    );
-    assert_eq!(rt; tree_of(rt.alloc(), &heap, Value::Ref(1))?, Some(false));
+    assert!(rt; shape_of(rt.alloc(), &heap, Value::Ref(0))? == Some(Shape::Any));
+    assert!(rt; shape_of(rt.alloc(), &heap, Value::Ref(1))? == Some(Shape::Any));
+    assert!(rt; tree_of(rt.alloc(), &heap, Value::Ref(1))? == Some(false));
     Ok(())
 }
 
 #[test]
 fn what_a_cycle_leaves_out_is_a_tree(rt: HostRuntime) -> Result<(), Fail> {
     let heap = ring(rt.alloc())?;
-    assert_eq!(rt;
-        shape_of(rt.alloc(), &heap, Value::Ref(2))?,
-        Some(Shape::Tree)
-    );
-    assert_eq!(rt;
-        shape_of(rt.alloc(), &heap, Value::Null)?,
-        Some(Shape::Tree)
-    );
-    assert_eq!(rt; shape_of(rt.alloc(), &heap, Value::Ref(3))?, None);
+    assert!(rt; shape_of(rt.alloc(), &heap, Value::Ref(2))? == Some(Shape::Tree));
+    assert!(rt; shape_of(rt.alloc(), &heap, Value::Null)? == Some(Shape::Tree));
+    assert!(rt; shape_of(rt.alloc(), &heap, Value::Ref(3))? == None);
     Ok(())
 }
 
@@ -90,11 +78,11 @@ fn what_a_cycle_leaves_out_is_a_tree(rt: HostRuntime) -> Result<(), Fail> {
 fn a_region_is_what_is_reached(rt: HostRuntime) -> Result<(), Fail> {
     let heap = ring(rt.alloc())?;
     match region_of(rt.alloc(), &heap, Value::Ref(0))? {
-        Some(numbers) => assert_eq!(rt; numbers.as_slice(), [0, 1].as_slice()),
+        Some(numbers) => assert!(rt; numbers.as_slice() == [0, 1].as_slice()),
         None => assert!(rt; false),
     }
     match region_of(rt.alloc(), &heap, Value::Ref(2))? {
-        Some(numbers) => assert_eq!(rt; numbers.as_slice(), [2].as_slice()),
+        Some(numbers) => assert!(rt; numbers.as_slice() == [2].as_slice()),
         None => assert!(rt; false),
     }
     Ok(())
@@ -110,20 +98,14 @@ fn what_is_named_twice_is_no_tree(rt: HostRuntime) -> Result<(), Fail> {
             [Value::Null, Value::Null],
         ],
     )?;
-    assert_eq!(rt;
-        shape_of(rt.alloc(), &heap, Value::Ref(0))?,
-        Some(Shape::Dag)
-    );
-    assert_eq!(rt;
-        shape_of(rt.alloc(), &heap, Value::Ref(1))?,
-        Some(Shape::Tree)
-    );
+    assert!(rt; shape_of(rt.alloc(), &heap, Value::Ref(0))? == Some(Shape::Dag));
+    assert!(rt; shape_of(rt.alloc(), &heap, Value::Ref(1))? == Some(Shape::Tree));
     Ok(())
 }
 
 #[test]
 fn a_heap_may_name_what_is_not_there(rt: HostRuntime) -> Result<(), Fail> {
     let heap = heap_of(rt.alloc(), &[[Value::Ref(1), Value::Null]])?;
-    assert_eq!(rt; is_closed(&heap), false);
+    assert!(rt; !is_closed(&heap));
     Ok(())
 }
