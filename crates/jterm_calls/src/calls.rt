@@ -31,6 +31,45 @@ pub(crate) struct Outcome {
     pub(crate) has_reason: bool,
 }
 
+// Whether a call came to this status.
+pub(crate) fn has_status(
+    outcome: Result<Outcome, AllocError>,
+    status: u8,
+) -> Result<bool, AllocError> {
+    Ok(outcome?.status == status)
+}
+
+// Whether a call came to this status, and put this on its output.
+pub(crate) fn gives(
+    outcome: Result<Outcome, AllocError>,
+    status: u8,
+    out: &[u8],
+) -> Result<bool, AllocError> {
+    let outcome = outcome?;
+    Ok(outcome.status == status && outcome.out.bytes() == out)
+}
+
+// Whether a call came to this status, and put this on its output for errors.
+pub(crate) fn errs(
+    outcome: Result<Outcome, AllocError>,
+    status: u8,
+    err: &[u8],
+) -> Result<bool, AllocError> {
+    let outcome = outcome?;
+    Ok(outcome.status == status && outcome.err.bytes() == err)
+}
+
+// Whether a call came to this status, and put these on its two outputs.
+pub(crate) fn comes_to(
+    outcome: Result<Outcome, AllocError>,
+    status: u8,
+    out: &[u8],
+    err: &[u8],
+) -> Result<bool, AllocError> {
+    let outcome = outcome?;
+    Ok(outcome.status == status && outcome.out.bytes() == out && outcome.err.bytes() == err)
+}
+
 // A call with these words over these files, of which the reads with these numbers fail, and with so much room on its
 // output.
 pub(crate) fn call(
@@ -83,6 +122,31 @@ pub(crate) fn file(
     ))
 }
 
+// Files of these contents, one that is named first and `a`, a class.
+pub(crate) fn two_files(
+    alloc: Global,
+    name: &str,
+    content: &[u8],
+    class: &[u8],
+) -> Result<Vec<(String, Vec<u8>)>, AllocError> {
+    let mut held = Vec::new(alloc);
+    held.push(file(alloc, name, content)?)?;
+    held.push(file(alloc, "a", class)?)?;
+    Ok(held)
+}
+
+// A certificate `c`, a description `d` and a class `a`.
+pub(crate) fn three_files(
+    alloc: Global,
+    cert: &[u8],
+    desc: &[u8],
+    class: &[u8],
+) -> Result<Vec<(String, Vec<u8>)>, AllocError> {
+    let mut held = two_files(alloc, "d", desc, class)?;
+    held.push(file(alloc, "c", cert)?)?;
+    Ok(held)
+}
+
 // The class file of a listing.
 pub(crate) fn assembled(alloc: Global, listing: &[u8]) -> Result<Outcome, AllocError> {
     let mut held = Vec::new(alloc);
@@ -109,9 +173,7 @@ pub(crate) fn described(
     room: usize,
 ) -> Result<Outcome, AllocError> {
     let class = assembled(alloc, listing)?;
-    let mut held = Vec::new(alloc);
-    held.push(file(alloc, "d", desc)?)?;
-    held.push(file(alloc, "a", class.out.bytes())?)?;
+    let held = two_files(alloc, "d", desc, class.out.bytes())?;
     call(alloc, &["prove", "d", "a"], held, failing, room)
 }
 
@@ -126,10 +188,7 @@ pub(crate) fn checked(
     lines: usize,
 ) -> Result<Outcome, AllocError> {
     let class = assembled(alloc, LISTING)?;
-    let mut held = Vec::new(alloc);
-    held.push(file(alloc, "c", cert)?)?;
-    held.push(file(alloc, "d", desc)?)?;
-    held.push(file(alloc, "a", class.out.bytes())?)?;
+    let held = three_files(alloc, cert, desc, class.out.bytes())?;
     heard(alloc, &["check", "c", "d", "a"], held, failing, room, lines)
 }
 
@@ -154,8 +213,6 @@ pub(crate) fn ran(
     room: usize,
 ) -> Result<Outcome, AllocError> {
     let class = assembled(alloc, listing)?;
-    let mut held = Vec::new(alloc);
-    held.push(file(alloc, "s", state)?)?;
-    held.push(file(alloc, "a", class.out.bytes())?)?;
+    let held = two_files(alloc, "s", state, class.out.bytes())?;
     call(alloc, &["run", fuel, "s", "a"], held, failing, room)
 }

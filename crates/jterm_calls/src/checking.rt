@@ -1,5 +1,7 @@
 //! What `check` says.
-use crate::calls::{DESC, NODES, REST, call, checked, says};
+ghost use Rattle.std.specs.Prelude.{◌<◌};
+
+use crate::calls::{DESC, NODES, REST, call, checked, comes_to, errs, has_status, says};
 use std::alloc::{AllocError, Global};
 use std::test::Fail;
 
@@ -13,10 +15,8 @@ fn ended(alloc: Global, rest: &[u8]) -> Result<Vec<u8>, AllocError> {
 #[test]
 fn a_valid_certificate_is_accepted(rt: HostRuntime) -> Result<(), Fail> {
     let cert = ended(rt.alloc(), REST)?;
-    let outcome = checked(rt.alloc(), &cert, DESC, &[], 100, 100)?;
-    assert_eq!(rt; outcome.status, 0);
-    assert_eq!(rt; outcome.out.bytes(), b"ACCEPTED\n".as_slice());
-    assert_eq!(rt; outcome.err.bytes(), b"".as_slice());
+    let outcome = checked(rt.alloc(), &cert, DESC, &[], 100, 100);
+    assert!(rt; comes_to(outcome, 0, b"ACCEPTED\n", b"")?);
     Ok(())
 }
 
@@ -77,69 +77,68 @@ fn a_certificate_may_be_longer_than_other_files(rt: HostRuntime) -> Result<(), F
 #[test]
 fn a_certificate_past_its_limit_is_named(rt: HostRuntime) -> Result<(), Fail> {
     let cert = vec![in rt.alloc(); b' '; 16_777_217]?;
-    let outcome = checked(rt.alloc(), &cert, DESC, &[], 100, 100)?;
-    assert_eq!(rt; outcome.status, 5);
-    assert_eq!(rt; outcome.err.bytes(), b"jterm: read c: TooLong\n".as_slice());
+    let outcome = checked(rt.alloc(), &cert, DESC, &[], 100, 100);
+    assert!(rt; errs(outcome, 5, b"jterm: read c: TooLong\n")?);
     Ok(())
 }
 
 #[test]
 fn a_description_is_refused_before_the_certificate(rt: HostRuntime) -> Result<(), Fail> {
-    let outcome = checked(rt.alloc(), b"no text", b"no text", &[], 100, 100)?;
-    assert_eq!(rt; outcome.status, 3);
-    assert_eq!(rt; outcome.out.bytes(), b"".as_slice());
-    assert_eq!(rt;
-        outcome.err.bytes(),
-        b"jterm: description: NotJson\n".as_slice()
-    );
+    let outcome = checked(rt.alloc(), b"no text", b"no text", &[], 100, 100);
+    assert!(rt; comes_to(outcome, 3, b"", b"jterm: description: NotJson\n")?);
     Ok(())
 }
 
 #[test]
 fn a_read_that_fails_is_named_in_a_check(rt: HostRuntime) -> Result<(), Fail> {
     let cert = ended(rt.alloc(), REST)?;
-    let first = checked(rt.alloc(), &cert, DESC, &[0], 100, 100)?;
-    assert_eq!(rt; first.status, 5);
-    assert_eq!(rt; first.err.bytes(), b"jterm: read c: Failed\n".as_slice());
-    let second = checked(rt.alloc(), &cert, DESC, &[1], 100, 100)?;
-    assert_eq!(rt; second.status, 5);
-    assert_eq!(rt; second.err.bytes(), b"jterm: read d: Failed\n".as_slice());
-    let third = checked(rt.alloc(), &cert, DESC, &[2], 100, 100)?;
-    assert_eq!(rt; third.status, 5);
-    assert_eq!(rt; third.out.bytes(), b"".as_slice());
-    assert_eq!(rt; third.err.bytes(), b"jterm: read a: Failed\n".as_slice());
+    let first = checked(rt.alloc(), &cert, DESC, &[0], 100, 100);
+    assert!(rt; errs(first, 5, b"jterm: read c: Failed\n")?);
+    let second = checked(rt.alloc(), &cert, DESC, &[1], 100, 100);
+    assert!(rt; errs(second, 5, b"jterm: read d: Failed\n")?);
+    let third = checked(rt.alloc(), &cert, DESC, &[2], 100, 100);
+    assert!(rt; comes_to(third, 5, b"", b"jterm: read a: Failed\n")?);
     Ok(())
+}
+
+// Whether a check whose output has so much room, which is too little, puts as much of its line, and says that it failed.
+fn is_cut(alloc: Global, cert: &[u8], room: usize) -> Result<bool, AllocError>
+    requires { room < 9 }
+{
+    let outcome = checked(alloc, cert, DESC, &[], room, 100);
+    comes_to(
+        outcome,
+        6,
+        &b"ACCEPTED\n"[..room],
+        b"jterm: write: Failed\n",
+    )
 }
 
 #[test]
 fn each_room_below_the_line_of_a_check_takes_a_prefix(rt: HostRuntime) -> Result<(), Fail> {
     let cert = ended(rt.alloc(), REST)?;
     for room in 0..9 {
-        let outcome = checked(rt.alloc(), &cert, DESC, &[], room, 100)?;
-        assert_eq!(rt; outcome.status, 6);
-        assert_eq!(rt; outcome.out.bytes(), &b"ACCEPTED\n"[..room]);
-        assert_eq!(rt; outcome.err.bytes(), b"jterm: write: Failed\n".as_slice());
+        assert!(rt; is_cut(rt.alloc(), &cert, room)?);
     }
     Ok(())
 }
 
 #[test]
 fn errors_that_are_not_taken_change_no_status_of_a_check(rt: HostRuntime) -> Result<(), Fail> {
-    let refused = checked(rt.alloc(), b"{}", b"{", &[], 100, 0)?;
-    assert_eq!(rt; refused.status, 3);
+    let refused = checked(rt.alloc(), b"{}", b"{", &[], 100, 0);
+    assert!(rt; has_status(refused, 3)?);
     let cert = ended(rt.alloc(), REST)?;
-    let unread = checked(rt.alloc(), &cert, DESC, &[1], 100, 7)?;
-    assert_eq!(rt; unread.status, 5);
-    let unwritten = checked(rt.alloc(), &cert, DESC, &[], 0, 0)?;
-    assert_eq!(rt; unwritten.status, 6);
-    assert_eq!(rt; unwritten.err.bytes(), b"".as_slice());
+    let unread = checked(rt.alloc(), &cert, DESC, &[1], 100, 7);
+    assert!(rt; has_status(unread, 5)?);
+    let unwritten = checked(rt.alloc(), &cert, DESC, &[], 0, 0);
+    assert!(rt; errs(unwritten, 6, b"")?);
     Ok(())
 }
 
 #[test]
 fn a_check_without_a_class_is_no_command(rt: HostRuntime) -> Result<(), Fail> {
     let words = ["check", "c", "d"];
-    let outcome = call(rt.alloc(), &words, Vec::new(rt.alloc()), &[], 100)?;
-    assert_eq!(rt; outcome.status, 4);
+    let outcome = call(rt.alloc(), &words, Vec::new(rt.alloc()), &[], 100);
+    assert!(rt; has_status(outcome, 4)?);
     Ok(())
 }

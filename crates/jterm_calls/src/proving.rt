@@ -1,5 +1,8 @@
 //! What `prove` says.
-use crate::calls::{DESC, LISTING, Outcome, assembled, call, described, file, proved};
+use crate::calls::{
+    DESC, LISTING, Outcome, assembled, call, comes_to, described, errs, file, gives, has_status,
+    proved, three_files, two_files,
+};
 use std::alloc::{AllocError, Global};
 use std::test::Fail;
 
@@ -22,9 +25,7 @@ const COUNTDOWN: &[u8] =
 // What `prove` says of the class of a listing and this description, with so many nodes at most.
 fn limited(alloc: Global, listing: &[u8], desc: &[u8], nodes: &str) -> Result<Outcome, AllocError> {
     let class = assembled(alloc, listing)?;
-    let mut held = Vec::new(alloc);
-    held.push(file(alloc, "d", desc)?)?;
-    held.push(file(alloc, "a", class.out.bytes())?)?;
+    let held = two_files(alloc, "d", desc, class.out.bytes())?;
     let words = ["prove", "--nodes", nodes, "d", "a"];
     call(alloc, &words, held, &[], 17_000_000)
 }
@@ -66,19 +67,32 @@ fn accepted(alloc: Global, listing: &[u8], desc: &[u8]) -> Result<Option<Vec<u8>
     if outcome.status != 0 || outcome.has_reason {
         return Ok(None);
     }
-    let Some(cert) = certificate_of(outcome.out.bytes()) else {
-        return Ok(None);
-    };
-    let class = assembled(alloc, listing)?;
-    let mut held = Vec::new(alloc);
-    held.push(file(alloc, "c", cert)?)?;
-    held.push(file(alloc, "d", desc)?)?;
-    held.push(file(alloc, "a", class.out.bytes())?)?;
-    let checked = call(alloc, &["check", "c", "d", "a"], held, &[], 100)?;
-    if checked.status != 0 || checked.out.bytes() != b"ACCEPTED\n".as_slice() {
-        return Ok(None);
+    match certificate_of(outcome.out.bytes()) {
+        Some(cert) => accepted_text(alloc, cert, listing, desc),
+        None => Ok(None),
     }
-    Ok(Some(Vec::from_slice(alloc, cert)?))
+}
+
+// The certificate, where `check` accepts it for the class of a listing and this description.
+fn accepted_text(
+    alloc: Global,
+    cert: &[u8],
+    listing: &[u8],
+    desc: &[u8],
+) -> Result<Option<Vec<u8>>, AllocError> {
+    if is_valid(alloc, cert, listing, desc)? {
+        Ok(Some(Vec::from_slice(alloc, cert)?))
+    } else {
+        Ok(None)
+    }
+}
+
+// Whether `check` accepts a certificate for the class of a listing and this description.
+fn is_valid(alloc: Global, cert: &[u8], listing: &[u8], desc: &[u8]) -> Result<bool, AllocError> {
+    let class = assembled(alloc, listing)?;
+    let held = three_files(alloc, cert, desc, class.out.bytes())?;
+    let checked = call(alloc, &["check", "c", "d", "a"], held, &[], 100);
+    gives(checked, 0, b"ACCEPTED\n")
 }
 
 // Whether `prove` gives a certificate that `check` accepts.
@@ -88,8 +102,20 @@ fn is_accepted(alloc: Global, listing: &[u8], desc: &[u8]) -> Result<bool, Alloc
 
 // Whether these words are no command.
 fn is_no_command(alloc: Global, words: &[&str]) -> Result<bool, AllocError> {
-    let outcome = call(alloc, words, Vec::new(alloc), &[], 100)?;
-    Ok(outcome.status == 4)
+    has_status(call(alloc, words, Vec::new(alloc), &[], 100), 4)
+}
+
+// Whether an assembly gave so many bytes.
+fn has_length(outcome: Result<Outcome, AllocError>, length: usize) -> Result<bool, AllocError> {
+    let outcome = outcome?;
+    Ok(outcome.status == 0 && outcome.out.bytes().len() == length)
+}
+
+// Whether a method is proved by this text, nothing else is said, and no reason is kept.
+fn is_proved(outcome: Result<Outcome, AllocError>, text: &[u8]) -> Result<bool, AllocError> {
+    let outcome = outcome?;
+    let is_alone = outcome.err.bytes().is_empty() && !outcome.has_reason;
+    Ok(outcome.status == 0 && is_alone && outcome.out.bytes() == text)
 }
 
 // Whether this is no limit of nodes.
@@ -113,17 +139,11 @@ fn has_two_ranks(cert: &[u8]) -> bool {
 
 #[test]
 fn what_asm_gives_is_proved(rt: HostRuntime) -> Result<(), Fail> {
-    let class = assembled(rt.alloc(), LISTING)?;
-    assert_eq!(rt; class.status, 0);
-    assert_eq!(rt; class.out.bytes().len(), 99);
-    let outcome = proved(rt.alloc(), LISTING, &[], 1000)?;
-    assert_eq!(rt; outcome.status, 0);
-    assert_eq!(rt;
-        outcome.out.bytes(),
-        b"YES\n{\"cuts\":[0],\"form\":2,\"nodes\":[{\"by\":[\"expand\",[1]],\"state\":{\"cells\":[],\"eq\":[],\"frames\":[[0,0,[],[]]],\"share\":[],\"throw\":-1}},{\"by\":[\"end\"]}],\"proof\":[[\"empty\"]]}\n".as_slice()
-    );
-    assert_eq!(rt; outcome.err.bytes(), b"".as_slice());
-    assert!(rt; !outcome.has_reason);
+    assert!(rt; has_length(assembled(rt.alloc(), LISTING), 99)?);
+    let outcome = proved(rt.alloc(), LISTING, &[], 1000);
+    let yes =
+        b"YES\n{\"cuts\":[0],\"form\":2,\"nodes\":[{\"by\":[\"expand\",[1]],\"state\":{\"cells\":[],\"eq\":[],\"frames\":[[0,0,[],[]]],\"share\":[],\"throw\":-1}},{\"by\":[\"end\"]}],\"proof\":[[\"empty\"]]}\n";
+    assert!(rt; is_proved(outcome, yes)?);
     Ok(())
 }
 
@@ -147,11 +167,13 @@ fn an_int_is_pushed_and_kept_by_each_spelling(rt: HostRuntime) -> Result<(), Fai
 fn a_string_on_the_stack_is_named_with_its_place(rt: HostRuntime) -> Result<(), Fail> {
     let listing =
         b"class A\nmethod f ()I static stack 1 locals 0\nldc string x\npop\nbipush 7\nireturn\nend\n";
-    let outcome = proved(rt.alloc(), listing, &[], 100)?;
-    assert_eq!(rt; outcome.status, 3);
-    assert_eq!(rt;
-        outcome.err.bytes(),
-        b"jterm: link: UnsupportedType method=A.f()I pc=0\n".as_slice()
+    let outcome = proved(rt.alloc(), listing, &[], 100);
+    assert!(rt;
+        errs(
+            outcome,
+            3,
+            b"jterm: link: UnsupportedType method=A.f()I pc=0\n"
+        )?
     );
     Ok(())
 }
@@ -170,9 +192,8 @@ fn a_static_field_that_is_read_links_and_is_not_built_yet(rt: HostRuntime) -> Re
         b"class A\nfield total I static\nmethod f ()I static stack 1 locals 0\ngetstatic A total I\nireturn\nend\n";
     let desc =
         b"{\"form\":2,\"class\":\"A\",\"method\":\"f\",\"desc\":\"()I\",\"params\":[],\"same\":[],\"share\":[],\"statics\":[{\"lo\":0,\"hi\":9}]}";
-    let outcome = described(rt.alloc(), listing, desc, &[], 100)?;
-    assert_eq!(rt; outcome.status, 3);
-    assert_eq!(rt; outcome.err.bytes(), b"jterm: link: NotBuilt\n".as_slice());
+    let outcome = described(rt.alloc(), listing, desc, &[], 100);
+    assert!(rt; errs(outcome, 3, b"jterm: link: NotBuilt\n")?);
     Ok(())
 }
 
@@ -180,12 +201,8 @@ fn a_static_field_that_is_read_links_and_is_not_built_yet(rt: HostRuntime) -> Re
 fn a_static_field_that_is_not_described_is_refused(rt: HostRuntime) -> Result<(), Fail> {
     let listing =
         b"class A\nfield total I static\nmethod f ()I static stack 1 locals 0\ngetstatic A total I\nireturn\nend\n";
-    let outcome = proved(rt.alloc(), listing, &[], 100)?;
-    assert_eq!(rt; outcome.status, 3);
-    assert_eq!(rt;
-        outcome.err.bytes(),
-        b"jterm: description: StaticCount\n".as_slice()
-    );
+    let outcome = proved(rt.alloc(), listing, &[], 100);
+    assert!(rt; errs(outcome, 3, b"jterm: description: StaticCount\n")?);
     Ok(())
 }
 
@@ -206,15 +223,9 @@ fn a_loop_without_an_int_is_not_proved(rt: HostRuntime) -> Result<(), Fail> {
 
 #[test]
 fn a_class_file_is_refused_before_its_description(rt: HostRuntime) -> Result<(), Fail> {
-    let mut held = Vec::new(rt.alloc());
-    held.push(file(rt.alloc(), "d", b"no text")?)?;
-    held.push(file(rt.alloc(), "a", b"no class file")?)?;
-    let outcome = call(rt.alloc(), &["prove", "d", "a"], held, &[], 100)?;
-    assert_eq!(rt; outcome.status, 3);
-    assert_eq!(rt;
-        outcome.err.bytes(),
-        b"jterm: class 0: BadMagic\n".as_slice()
-    );
+    let held = two_files(rt.alloc(), "d", b"no text", b"no class file")?;
+    let outcome = call(rt.alloc(), &["prove", "d", "a"], held, &[], 100);
+    assert!(rt; errs(outcome, 3, b"jterm: class 0: BadMagic\n")?);
     Ok(())
 }
 
@@ -222,20 +233,21 @@ fn a_class_file_is_refused_before_its_description(rt: HostRuntime) -> Result<(),
 fn a_file_that_is_not_there_is_named(rt: HostRuntime) -> Result<(), Fail> {
     let mut held = Vec::new(rt.alloc());
     held.push(file(rt.alloc(), "d", DESC)?)?;
-    let outcome = call(rt.alloc(), &["prove", "d", "a"], held, &[], 100)?;
-    assert_eq!(rt; outcome.status, 5);
-    assert_eq!(rt; outcome.err.bytes(), b"jterm: read a: Missing\n".as_slice());
+    let outcome = call(rt.alloc(), &["prove", "d", "a"], held, &[], 100);
+    assert!(rt; errs(outcome, 5, b"jterm: read a: Missing\n")?);
     Ok(())
 }
 
 #[test]
 fn a_limit_of_no_nodes_is_no_command(rt: HostRuntime) -> Result<(), Fail> {
     let words = ["prove", "--nodes", "0", "d", "a"];
-    let outcome = call(rt.alloc(), &words, Vec::new(rt.alloc()), &[], 100)?;
-    assert_eq!(rt; outcome.status, 4);
-    assert_eq!(rt;
-        outcome.err.bytes(),
-        b"jterm: usage\nprove DESC CLASS..\ncheck CERT DESC CLASS..\nrun FUEL STATE CLASS..\nasm LISTING\n".as_slice()
+    let outcome = call(rt.alloc(), &words, Vec::new(rt.alloc()), &[], 100);
+    assert!(rt;
+        errs(
+            outcome,
+            4,
+            b"jterm: usage\nprove DESC CLASS..\ncheck CERT DESC CLASS..\nrun FUEL STATE CLASS..\nasm LISTING\n"
+        )?
     );
     Ok(())
 }
@@ -270,19 +282,15 @@ fn nothing_else_of_a_limit_is_read(rt: HostRuntime) -> Result<(), Fail> {
 
 #[test]
 fn a_second_read_that_fails_is_named(rt: HostRuntime) -> Result<(), Fail> {
-    let outcome = proved(rt.alloc(), LISTING, &[1], 100)?;
-    assert_eq!(rt; outcome.status, 5);
-    assert_eq!(rt; outcome.out.bytes(), b"".as_slice());
-    assert_eq!(rt; outcome.err.bytes(), b"jterm: read a: Failed\n".as_slice());
+    let outcome = proved(rt.alloc(), LISTING, &[1], 100);
+    assert!(rt; comes_to(outcome, 5, b"", b"jterm: read a: Failed\n")?);
     Ok(())
 }
 
 #[test]
 fn an_output_without_room_is_told(rt: HostRuntime) -> Result<(), Fail> {
-    let outcome = proved(rt.alloc(), LISTING, &[], 3)?;
-    assert_eq!(rt; outcome.status, 6);
-    assert_eq!(rt; outcome.out.bytes(), b"YES".as_slice());
-    assert_eq!(rt; outcome.err.bytes(), b"jterm: write: Failed\n".as_slice());
+    let outcome = proved(rt.alloc(), LISTING, &[], 3);
+    assert!(rt; comes_to(outcome, 6, b"YES", b"jterm: write: Failed\n")?);
     Ok(())
 }
 
@@ -290,24 +298,16 @@ fn an_output_without_room_is_told(rt: HostRuntime) -> Result<(), Fail> {
 fn a_cycle_of_calls_is_refused_before_what_is_not_built(rt: HostRuntime) -> Result<(), Fail> {
     let listing =
         b"class A\nmethod f ()I static stack 1 locals 0\ninvokestatic A f ()I\nireturn\nend\n";
-    let outcome = proved(rt.alloc(), listing, &[], 100)?;
-    assert_eq!(rt; outcome.status, 3);
-    assert_eq!(rt;
-        outcome.err.bytes(),
-        b"jterm: recursion: Recursive method=A.f()I\n".as_slice()
-    );
+    let outcome = proved(rt.alloc(), listing, &[], 100);
+    assert!(rt; errs(outcome, 3, b"jterm: recursion: Recursive method=A.f()I\n")?);
     Ok(())
 }
 
 #[test]
 fn a_method_without_a_typing_is_named(rt: HostRuntime) -> Result<(), Fail> {
     let listing = b"class A\nmethod f ()I static stack 1 locals 0\naconst_null\nireturn\nend\n";
-    let outcome = proved(rt.alloc(), listing, &[], 100)?;
-    assert_eq!(rt; outcome.status, 3);
-    assert_eq!(rt;
-        outcome.err.bytes(),
-        b"jterm: verify: NoTyping method=A.f()I\n".as_slice()
-    );
+    let outcome = proved(rt.alloc(), listing, &[], 100);
+    assert!(rt; errs(outcome, 3, b"jterm: verify: NoTyping method=A.f()I\n")?);
     Ok(())
 }
 
@@ -315,12 +315,8 @@ fn a_method_without_a_typing_is_named(rt: HostRuntime) -> Result<(), Fail> {
 fn a_description_of_another_method_is_refused(rt: HostRuntime) -> Result<(), Fail> {
     let desc =
         b"{\"form\":1,\"class\":\"A\",\"method\":\"g\",\"desc\":\"()I\",\"params\":[],\"same\":[],\"share\":[]}";
-    let outcome = described(rt.alloc(), LISTING, desc, &[], 100)?;
-    assert_eq!(rt; outcome.status, 3);
-    assert_eq!(rt;
-        outcome.err.bytes(),
-        b"jterm: description: NoMethod\n".as_slice()
-    );
+    let outcome = described(rt.alloc(), LISTING, desc, &[], 100);
+    assert!(rt; errs(outcome, 3, b"jterm: description: NoMethod\n")?);
     Ok(())
 }
 
@@ -329,12 +325,8 @@ fn an_interval_without_an_int_is_refused(rt: HostRuntime) -> Result<(), Fail> {
     let listing = b"class A\nmethod f (I)I static stack 1 locals 1\niload 0\nireturn\nend\n";
     let desc =
         b"{\"form\":1,\"class\":\"A\",\"method\":\"f\",\"desc\":\"(I)I\",\"params\":[{\"lo\":5,\"hi\":4}],\"same\":[],\"share\":[]}";
-    let outcome = described(rt.alloc(), listing, desc, &[], 100)?;
-    assert_eq!(rt; outcome.status, 3);
-    assert_eq!(rt;
-        outcome.err.bytes(),
-        b"jterm: description: EmptyInterval i=0\n".as_slice()
-    );
+    let outcome = described(rt.alloc(), listing, desc, &[], 100);
+    assert!(rt; errs(outcome, 3, b"jterm: description: EmptyInterval i=0\n")?);
     Ok(())
 }
 
