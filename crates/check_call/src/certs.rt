@@ -114,8 +114,12 @@ fn check_content(
     }
 }
 
-/// What is said of the bytes that are no certificate.
-fn refuse_text(alloc: Global, fault: CertFault) -> Result<Outcome, Refused>
+/// What is said of bytes that are no certificate, at item 0 with this fault.
+///
+/// # Errors
+///
+/// Want of memory.
+pub fn refuse_text(alloc: Global, fault: CertFault) -> Result<Outcome, Refused>
     ensures { IsSaidOfText fault result }
 {
     match fault {

@@ -11,5 +11,6 @@ mod laws;
 mod outcome;
 
 pub use call::check_line;
+pub use certs::refuse_text;
 pub use laws::answers_are_one;
 pub use outcome::Outcome;

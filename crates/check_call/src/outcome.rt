@@ -9,7 +9,7 @@ use list_views::Seq;
 use std::alloc::{AllocError, Global};
 
 /// What is said of a certificate.
-#[derive(Debug, Drop)]
+#[derive(Drop)]
 pub struct Outcome {
     /// The exit status: 0 where it is accepted, 2 where it is refused.
     pub status: u8,

@@ -34,7 +34,6 @@ pub struct DescribedProgram<'a> {
 }
 
 /// A program that a description names, with what is described of its inputs.
-#[tactic(auto, using(crate::proofs::Answering::calls_refused, crate::proofs::Answering::types_refused, crate::proofs::Answering::desc_is_refused))]
 fn of_program(
     alloc: Global,
     text: DescText,
@@ -66,7 +65,6 @@ fn of_program(
 }
 
 /// The program of an entry.
-#[tactic(auto, using(crate::proofs::Answering::program_refused, crate::proofs::Answering::entry_goes))]
 fn of_entry(
     alloc: Global,
     text: DescText,
@@ -84,7 +82,6 @@ fn of_entry(
 }
 
 /// The program of the entry that a description names among classes.
-#[tactic(auto, using(crate::proofs::Answering::world_refused, crate::proofs::Answering::entry_is_refused, crate::proofs::Answering::named_goes))]
 fn of_classes(
     alloc: Global,
     text: DescText,
@@ -113,7 +110,6 @@ fn of_classes(
 /// The first fault with its place: of a class file, in order; of the description's text; of the classes as a world; of the method's
 /// name; of its program; a cycle of calls; a method without a typing; of the description against the program. At `Link` `NotBuilt`,
 /// where the program isn't one method about ints alone. Want of memory.
-#[tactic(auto, using(crate::proofs::Answering::classes_refused, crate::proofs::Answering::text_is_refused, crate::proofs::Answering::files_go))]
 pub fn described_program<'a>(
     alloc: Global,
     desc: &[u8],

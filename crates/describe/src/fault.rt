@@ -1,9 +1,10 @@
 //! Why there is no list of methods, or no description.
+use crate::json::{put, put_number};
 use input_steps::{Fault, Place, Refused};
 use std::alloc::{AllocError, AllocFailed, Global};
 
 /// Why there is no list of methods, or no description.
-#[derive(Debug, Drop)]
+#[derive(Drop)]
 pub enum DescribeFault {
     /// The class files have this fault at this place: one of them is no class file, or they make no program.
     Classes {
@@ -43,12 +44,22 @@ impl From<Refused> for DescribeFault {
     }
 }
 
-/// A place of class files in words.
-fn place_text(alloc: Global, place: Place) -> Result<String, AllocError> {
+/// Puts a place of class files behind a text.
+fn put_place(text: &mut Vec<u8>, alloc: Global, place: Place) -> Result<(), AllocError> {
     match place {
-        Place::Class(number) => format!(in alloc; "class {number}: "),
-        _ => String::from_str(alloc, "link: "),
+        Place::Class(number) => {
+            put(text, b"class ")?;
+            put_number(text, alloc, number as usize)?;
+            put(text, b": ")
+        }
+        _ => put(text, b"link: "),
     }
+}
+
+/// Puts what is wrong at a place behind a text.
+fn put_fault(text: &mut Vec<u8>, alloc: Global, fault: &Fault) -> Result<(), AllocError> {
+    let fault = fault.text(alloc)?;
+    put(text, fault.as_slice())
 }
 
 impl DescribeFault {
@@ -58,18 +69,21 @@ impl DescribeFault {
     ///
     /// Want of memory.
     pub fn text(&self, alloc: Global) -> Result<Vec<u8>, AllocError> {
+        let mut text = Vec::new(alloc);
+        self.put_behind(&mut text, alloc)?;
+        Ok(text)
+    }
+
+    fn put_behind(&self, text: &mut Vec<u8>, alloc: Global) -> Result<(), AllocError> {
         match self {
             DescribeFault::Classes { place, fault } => {
-                let place = place_text(alloc, *place)?;
-                let fault = fault.text(alloc)?;
-                let mut text = Vec::from_slice(alloc, place.as_bytes())?;
-                text.extend_from_slice(fault.as_slice())?;
-                Ok(text)
+                put_place(text, alloc, *place)?;
+                put_fault(text, alloc, fault)
             }
-            DescribeFault::NoMethod => Vec::from_slice(alloc, b"method: NoMethod"),
-            DescribeFault::SeveralMethods => Vec::from_slice(alloc, b"method: SeveralMethods"),
-            DescribeFault::Unwritable => Vec::from_slice(alloc, b"description: Unwritable"),
-            DescribeFault::Memory => Vec::from_slice(alloc, b"memory"),
+            DescribeFault::NoMethod => put(text, b"method: NoMethod"),
+            DescribeFault::SeveralMethods => put(text, b"method: SeveralMethods"),
+            DescribeFault::Unwritable => put(text, b"description: Unwritable"),
+            DescribeFault::Memory => put(text, b"memory"),
         }
     }
 }

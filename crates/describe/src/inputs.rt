@@ -9,7 +9,7 @@ use jvm_values::{Base, Kind, Slot, Ty, Types};
 use std::alloc::{AllocError, Global};
 
 /// What is listed of pairs of inputs.
-#[derive(Clone, Copy, Debug)]
+#[derive(Clone, Copy)]
 pub(crate) enum Listed {
     /// Those that may be one object.
     Same,
@@ -136,6 +136,21 @@ pub(crate) fn is_wanted(world: &World<'_>, listed: Listed, a: Slot, b: Slot) -> 
     }
 }
 
+/// Puts a pair behind a text, behind other pairs or as the first.
+fn put_pair(
+    text: &mut Vec<u8>,
+    alloc: Global,
+    first: bool,
+    i: usize,
+    j: usize,
+) -> Result<(), AllocError> {
+    put(text, if first { b"[" } else { b",[" })?;
+    put_number(text, alloc, i)?;
+    put(text, b",")?;
+    put_number(text, alloc, j)?;
+    put(text, b"]")
+}
+
 /// Puts the pairs of inputs that are listed behind a text, each pair once.
 pub(crate) fn put_pairs(
     text: &mut Vec<u8>,
@@ -149,11 +164,7 @@ pub(crate) fn put_pairs(
     for j in 0..inputs.len() {
         for i in 0..j {
             if is_wanted(world, listed, inputs[i], inputs[j]) {
-                put(text, if first { b"[" } else { b",[" })?;
-                put_number(text, alloc, i)?;
-                put(text, b",")?;
-                put_number(text, alloc, j)?;
-                put(text, b"]")?;
+                put_pair(text, alloc, first, i, j)?;
                 first = false;
             }
         }

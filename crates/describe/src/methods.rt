@@ -9,7 +9,7 @@ use class_read::{ClassView, MethodView};
 use std::alloc::{AllocError, Global};
 
 /// The names of a method, and of the class that declares it.
-#[derive(Clone, Copy, Debug)]
+#[derive(Clone, Copy)]
 pub(crate) struct MethodNames<'a> {
     /// The class's name.
     pub(crate) class: &'a [u8],

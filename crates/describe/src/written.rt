@@ -3,7 +3,7 @@ use crate::inputs::{Listed, put_inputs, put_pairs};
 use crate::json::{put, put_string};
 use class_program::Program;
 use input_desc::{has_receiver, inputs};
-use jvm_values::Types;
+use jvm_values::{Slot, Types};
 use std::alloc::{AllocError, Global};
 
 /// Puts the names of the entry method behind a text.
@@ -20,24 +20,33 @@ fn put_entry(text: &mut Vec<u8>, program: &Program<'_>) -> Result<(), AllocError
     put_string(text, method.desc.as_slice())
 }
 
-/// The text of a description that leaves no input of a program out, in form 2, if each name is UTF-8.
-pub(crate) fn text_of(alloc: Global, program: &Program<'_>) -> Result<Vec<u8>, AllocError> {
+/// Puts a description of a program with these inputs behind a text.
+fn put_description(
+    text: &mut Vec<u8>,
+    alloc: Global,
+    program: &Program<'_>,
+    inputs: &[Slot],
+) -> Result<(), AllocError> {
     let world = &program.world;
-    let inputs = inputs(alloc, program)?;
-    let inputs = inputs.as_slice();
     program.is_good();
     let (params, statics) = inputs.split_at(program.methods.at(0).params.len().min(inputs.len()));
+    put(text, b"{\"form\":2,\n ")?;
+    put_entry(text, program)?;
+    put(text, b",\n \"params\":")?;
+    put_inputs(text, alloc, world, has_receiver(program), params)?;
+    put(text, b",\n \"same\":")?;
+    put_pairs(text, alloc, world, Listed::Same, inputs)?;
+    put(text, b",\n \"share\":")?;
+    put_pairs(text, alloc, world, Listed::Share, inputs)?;
+    put(text, b",\n \"statics\":")?;
+    put_inputs(text, alloc, world, false, statics)?;
+    put(text, b"}\n")
+}
+
+/// The text of a description that leaves no input of a program out, in form 2, if each name is UTF-8.
+pub(crate) fn text_of(alloc: Global, program: &Program<'_>) -> Result<Vec<u8>, AllocError> {
+    let inputs = inputs(alloc, program)?;
     let mut text = Vec::new(alloc);
-    put(&mut text, b"{\"form\":2,\n ")?;
-    put_entry(&mut text, program)?;
-    put(&mut text, b",\n \"params\":")?;
-    put_inputs(&mut text, alloc, world, has_receiver(program), params)?;
-    put(&mut text, b",\n \"same\":")?;
-    put_pairs(&mut text, alloc, world, Listed::Same, inputs)?;
-    put(&mut text, b",\n \"share\":")?;
-    put_pairs(&mut text, alloc, world, Listed::Share, inputs)?;
-    put(&mut text, b",\n \"statics\":")?;
-    put_inputs(&mut text, alloc, world, false, statics)?;
-    put(&mut text, b"}\n")?;
+    put_description(&mut text, alloc, program, inputs.as_slice())?;
     Ok(text)
 }

@@ -7,21 +7,16 @@ ghost use Rattle.class_program.specs.Views.{program_of};
 ghost use Rattle.code_verify.specs.Typings.{typing_at};
 ghost use Rattle.abs_expand.specs.IntForms.{HasIntForms};
 ghost use Rattle.cert_form.specs.Certificates.{LackingAreNamed};
-ghost use Rattle.cert_form.specs.Faults.{fault_text};
-ghost use Rattle.desc_steps.specs.Answers.{AnswersAs};
 ghost use Rattle.desc_steps.specs.Names.{names_of};
-ghost use Rattle.check_call.specs.Lines.{refused_at};
-ghost use Rattle.check_call.specs.Said.{IsSaidOfText};
 ghost use Rattle.fill_call.specs.Answers.{AnswersContent, AnswersCert};
 
 use crate::writing::filled_text;
 use abs_cells::PackedPairs;
-use cert_form::{CertFault, CertText, ClassNames};
-use check_call::Outcome;
+use cert_form::{CertText, ClassNames};
+use check_call::{Outcome, refuse_text};
 use class_program::Program;
 use code_verify::Typing;
 use desc_steps::{class_names, not_built};
-use fault_words::joined;
 use graph_fill::{FillFault, fill};
 use input_steps::Refused;
 use std::alloc::Global;
@@ -51,27 +46,6 @@ fn fill_content(
         }
         Err(FillFault::NotOfInts { .. }) => Err(not_built()),
         Err(FillFault::Memory) => Err(Refused::Memory),
-    }
-}
-
-/// The line of bytes that are no certificate, in the words of `check`.
-fn refused(alloc: Global, cause: &[u8]) -> Result<Outcome, Refused>
-    ensures { AnswersAs (refused_at 0 cause.now) result }
-{
-    let out = joined(alloc, &[b"REFUSED item 0: ", cause, b"\n"])?;
-    Ok(Outcome { status: 2, out })
-}
-
-/// What is said of the bytes that are no certificate.
-fn refuse_text(alloc: Global, fault: CertFault) -> Result<Outcome, Refused>
-    ensures { IsSaidOfText fault result }
-{
-    match fault {
-        CertFault::Memory => Err(Refused::Memory),
-        fault => {
-            let cause = fault.text(alloc)?;
-            refused(alloc, cause.as_slice())
-        }
     }
 }
 

@@ -1,5 +1,5 @@
 //! The abstract state that a description begins with.
-ghost use Rattle.std.specs.Prelude.{◌≡◌, ◌+◌, ◌≤◌, ◌++◌, ◌-◌, All, IfOk, OnOk, [], length, replicate, None, filter};
+ghost use Rattle.std.specs.Prelude.{◌≡◌, ◌+◌, ◌≤◌, ◌++◌, ◌-◌, ◌∷◌, All, IfOk, OnOk, [], length, replicate, None, filter};
 ghost use Rattle.class_world.specs.Worlds.{classes_of};
 ghost use Rattle.class_world.specs.Types.{is_sub};
 ghost use Rattle.abs_cells.specs.Cells.{are_compatible};
@@ -74,6 +74,22 @@ fn initial_locals(
     leave(&mut locals, places.saturating_sub(params))?;
     give(&mut locals, params, statics)?;
     Ok(locals)
+}
+
+/// The frame of the entry method at its start, alone.
+fn initial_frames(
+    alloc: Global,
+    places: usize,
+    params: usize,
+    statics: usize,
+) -> Result<Seq<AbsFrame>, AllocError>
+    requires { params + statics ≤ 2048 }
+    ensures { IfOk result (λ frames. frames ≡ record { method = 0; pc = 0; locals = initial_locals places params statics; stack = [] } ∷ []) }
+{
+    let locals = initial_locals(alloc, places, params, statics)?;
+    let mut frames = Seq::new(alloc);
+    frames.push(AbsFrame::new(0, 0, locals, Seq::new(alloc)))?;
+    Ok(frames)
 }
 
 /// Adds pairs.
@@ -163,14 +179,12 @@ pub fn initial<P: Pairs>(
 {
     program.is_good();
     let method = program.methods.at(0);
-    let locals = initial_locals(
+    let frames = initial_frames(
         alloc,
         usize::from(method.max_locals),
         method.params.len(),
         program.statics.len(),
     )?;
-    let mut frames = Seq::new(alloc);
-    frames.push(AbsFrame::new(0, 0, locals, Seq::new(alloc)))?;
     let inputs = desc.inputs.as_slice();
     let same = desc.same.as_slice();
     let shared = desc.share.as_slice();

@@ -4,7 +4,7 @@ use lin_core::Interval;
 use list_views::Seq;
 
 /// What is described of one input: of a parameter of the entry method or of a static field.
-#[derive(Debug, Drop)]
+#[derive(Drop)]
 pub enum Input {
     /// An int of the interval.
     Int(Interval),
@@ -14,7 +14,7 @@ pub enum Input {
 }
 
 /// What is described of a program's inputs: the parameters of the entry method and then the static fields, numbered from 0.
-#[derive(Debug, Drop)]
+#[derive(Drop)]
 pub struct Desc {
     /// The inputs.
     pub inputs: Seq<Input>,

@@ -18,7 +18,7 @@ use list_views::Seq;
 use std::alloc::{AllocError, Global};
 
 /// What a state gives to a program.
-#[derive(Debug, Drop)]
+#[derive(Drop)]
 pub struct StateInput {
     /// The arguments of the entry method; in an instance method the receiver comes first.
     pub args: Seq<Value>,

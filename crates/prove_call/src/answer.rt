@@ -3,7 +3,7 @@ ghost use Rattle.std.specs.Prelude.{◌≡◌, Result, Ok, Err, Some, None};
 ghost use Rattle.class_program.specs.Views.{program_of};
 ghost use Rattle.desc_steps.specs.Answers.{AnswersAs};
 ghost use Rattle.prove_call.specs.Lines.{yes_text, reason_text};
-ghost use Rattle.prove_call.specs.Said.{yes_with, maybe_with};
+ghost use Rattle.prove_call.specs.Said.{yes_with, maybe_with, Tells};
 
 use crate::lines::reason_text;
 use abs_cells::PackedPairs;
@@ -11,11 +11,11 @@ use class_program::Program;
 use fault_words::joined;
 use input_steps::Refused;
 use list_views::Seq;
-use prove_core::Reason;
+use prove_core::{Found, Reason};
 use std::alloc::Global;
 
 /// What is said of a program.
-#[derive(Debug, Drop)]
+#[derive(Drop)]
 pub struct Answer {
     /// The exit status: 0 for yes, 1 for maybe.
     pub status: u8,
@@ -26,7 +26,7 @@ pub struct Answer {
 }
 
 /// Yes, with the bytes of a certificate.
-pub(crate) fn yes(alloc: Global, cert: &[u8]) -> Result<Answer, Refused>
+fn yes(alloc: Global, cert: &[u8]) -> Result<Answer, Refused>
     ensures { AnswersAs (yes_with cert.now) result }
 {
     let out = joined(alloc, &[b"YES\n", cert, b"\n"])?;
@@ -38,7 +38,7 @@ pub(crate) fn yes(alloc: Global, cert: &[u8]) -> Result<Answer, Refused>
 }
 
 /// Maybe, for a reason.
-pub(crate) fn maybe(
+fn maybe(
     alloc: Global,
     program: &Program<'_>,
     reason: Reason<PackedPairs>,
@@ -51,4 +51,18 @@ pub(crate) fn maybe(
         out,
         reason: Some(reason),
     })
+}
+
+/// What is said of what was found.
+pub(crate) fn told(
+    alloc: Global,
+    program: &Program<'_>,
+    found: Found<PackedPairs>,
+) -> Result<Answer, Refused>
+    ensures { Tells (program_of program.now) found result }
+{
+    match found {
+        Found::Certificate(cert) => yes(alloc, cert.as_slice()),
+        Found::Maybe(reason) => maybe(alloc, program, reason),
+    }
 }

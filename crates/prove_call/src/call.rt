@@ -11,13 +11,13 @@ ghost use Rattle.desc_steps.specs.Names.{names_of};
 ghost use Rattle.prove_call.specs.Answers.{SaysOf, Answers};
 ghost use Rattle.prove_call.specs.Headline.{IsProved, AllEndIfYes};
 
-use crate::answer::{Answer, maybe, yes};
+use crate::answer::{Answer, told};
 use cert_check::certified_int_runs_end;
 use desc_steps::{DescribedProgram, class_names, described_program};
 use input_steps::Refused;
 use int_links::has_short_increments;
 use jvm_run::has_ints;
-use prove_core::{Found, SearchFault, search};
+use prove_core::{SearchFault, search};
 use std::alloc::Global;
 
 /// What is said of a program about ints whose inputs are described.
@@ -42,8 +42,7 @@ fn prove_given(alloc: Global, given: &DescribedProgram<'_>, nodes: u32) -> Resul
         &names,
         nodes,
     ) {
-        Ok(Found::Certificate(cert)) => yes(alloc, cert.as_slice()),
-        Ok(Found::Maybe(reason)) => maybe(alloc, &given.program, reason),
+        Ok(found) => told(alloc, &given.program, found),
         Err(SearchFault::Memory) => Err(Refused::Memory),
     }
 }

@@ -1,11 +1,11 @@
 //! The line that says how a run ended.
 ghost use Rattle.std.specs.Prelude.{◌≡◌, IfOk, string_bytes};
-ghost use Rattle.std.specs.Fmt.{decimal, signed_decimal};
+ghost use Rattle.std.specs.Fmt.{signed_decimal};
 ghost use Rattle.class_world.specs.Worlds.{classes_of};
 ghost use Rattle.run_call.specs.Lines as lines;
 
 use class_world::World;
-use fault_words::joined;
+use fault_words::{joined, number};
 use jvm_run::Ended;
 use jvm_values::{Base, Heap, Kind, Object, Ty, Types, Value};
 use list_views::Seq;
@@ -87,13 +87,6 @@ fn int_digits(alloc: Global, value: i32) -> Result<String, AllocError>
     format!(in alloc; "{value}")
 }
 
-/// A number of steps in digits.
-fn fuel_digits(alloc: Global, fuel: u64) -> Result<String, AllocError>
-    ensures { IfOk result (λ text. string_bytes text ≡ decimal fuel) }
-{
-    format!(in alloc; "{fuel}")
-}
-
 /// The line of a run that returned a value.
 fn value_line(
     alloc: Global,
@@ -120,8 +113,8 @@ fn value_line(
 fn going_line(alloc: Global, fuel: u64) -> Result<Seq<u8>, AllocError>
     ensures { IfOk result (λ line. line ≡ lines.going_line fuel) }
 {
-    let digits = fuel_digits(alloc, fuel)?;
-    joined(alloc, &[b"GOING ", digits.as_bytes(), b"\n"])
+    let digits = number(alloc, fuel as usize)?;
+    joined(alloc, &[b"GOING ", digits.as_slice(), b"\n"])
 }
 
 /// The line of a run that ended with a throw of this object.

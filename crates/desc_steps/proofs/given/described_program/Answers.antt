@@ -1,8 +1,15 @@
 use Rattle.std.proofs.Common.{map, arith}
 use Rattle.std.proofs.lemmas.List.{length-map}
 use Rattle.input_steps.proofs.Files.{spell_length, spell_read}
-use Rattle.desc_steps.proofs.Answering.{files_go, named_if_given, names_if_given}
+use Rattle.desc_steps.proofs.Answering.{classes_refused, text_is_refused, files_go, named_if_given, names_if_given}
 use Rattle.desc_steps.proofs.given.described_program.Goals as goal
+
+pub returns-in-Err-clause-answers : goal.returns-in-Err-clause-answers
+returns-in-Err-clause-answers c = classes_refused c.args.desc.now (map (λ file. file.items) c.args.files.now) c.in-Err.refused c.in-Err.ensures.refused
+
+pub returns-in-Err-read_desc-clause-answers : goal.returns-in-Err-read_desc-clause-answers
+returns-in-Err-read_desc-clause-answers c =
+    text_is_refused c.args.desc.now (map (λ file. file.items) c.args.files.now) c.in-Ok.classes.items c.in-Err-read_desc.refused c.in-Ok.ensures.classes c.in-Err-read_desc.ensures.refused
 
 pub of_classes-requires-clause-few : goal.of_classes-requires-clause-few
 of_classes-requires-clause-few c =
@@ -12,6 +19,10 @@ of_classes-requires-clause-few c =
 
 pub of_classes-requires-clause-read : goal.of_classes-requires-clause-read
 of_classes-requires-clause-read c = spell_read _ _ c.in-Ok.ensures.classes
+
+pub returns-in-Ok-read_desc-clause-answers : goal.returns-in-Ok-read_desc-clause-answers
+returns-in-Ok-read_desc-clause-answers c =
+    files_go c.args.desc.now (map (λ file. file.items) c.args.files.now) c.in-Ok.classes.items c.in-Ok-read_desc.text c.of_classes.result c.in-Ok.ensures.classes c.in-Ok-read_desc.ensures.text c.of_classes.ensures.answers
 
 pub returns-in-Ok-read_desc-clause-named : goal.returns-in-Ok-read_desc-clause-named
 returns-in-Ok-read_desc-clause-named c =

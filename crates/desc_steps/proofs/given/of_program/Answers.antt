@@ -4,9 +4,19 @@ use Rattle.code_verify.specs.Typings.{typing_at}
 use Rattle.input_steps.specs.declared.refused.Refused.{Refused}
 use Rattle.desc_steps.specs.Answers.{OfProgram}
 use Rattle.desc_steps.specs.Given.{IsGiven}
-use Rattle.desc_steps.proofs.Answering.{others_refused, program_given}
+use Rattle.desc_steps.proofs.Answering.{calls_refused, types_refused, desc_is_refused, others_refused, program_given}
 use Rattle.desc_steps.proofs.IntForms.{int_forms}
 use Rattle.desc_steps.proofs.given.of_program.Goals as goal
+
+pub returns-in-Err-clause-answers : goal.returns-in-Err-clause-answers
+returns-in-Err-clause-answers c = calls_refused c.args.text (program_of c.args.program) c.in-Err.refused c.in-Err.ensures.refused
+
+pub returns-in-Err-typings-clause-answers : goal.returns-in-Err-typings-clause-answers
+returns-in-Err-typings-clause-answers c = types_refused c.args.text (program_of c.args.program) c.in-Err-typings.refused c.in-Ok.ensures.acyclic c.in-Err-typings.ensures.refused
+
+pub returns-in-Err-described-clause-answers : goal.returns-in-Err-described-clause-answers
+returns-in-Err-described-clause-answers c =
+    desc_is_refused c.args.text (program_of c.args.program) (typing_at c.in-Ok-typings.typing) c.in-Err-described.refused c.in-Ok.ensures.acyclic c.in-Ok-typings.ensures.typing c.in-Err-described.ensures.refused
 
 pub returns-then-not-is_int_program-clause-answers : goal.returns-then-not-is_int_program-clause-answers
 returns-then-not-is_int_program-clause-answers c =
