@@ -138,7 +138,7 @@ fn a_state_whose_pairs_break_a_rule_is_not(rt: HostRuntime) -> Result<(), Fail> 
     Ok(())
 }
 
-/// A cell of each sort: those of the ids 0, 2, 3, 4 and 5, and an array of references.
+/// A cell of each sort: those of the ids 0, 2, 3, 4 and 5, an array of references, and an unknown object that isn't null.
 fn cell_of_each_sort(alloc: Global) -> Result<Seq<(Id, Cell)>, AllocError> {
     let mut cells = Seq::new(alloc);
     for id in [0, 2, 3, 4, 5] {
@@ -149,6 +149,7 @@ fn cell_of_each_sort(alloc: Global) -> Result<Seq<(Id, Cell)>, AllocError> {
         base: Base::Num(Kind::Int),
     };
     push_cell(&mut cells, 6, Cell::Refs(element, 2, Shape::Dag))?;
+    push_cell(&mut cells, 7, Cell::Unk(element, false, Shape::Tree))?;
     Ok(cells)
 }
 
