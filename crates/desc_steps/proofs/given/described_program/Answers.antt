@@ -1,15 +1,11 @@
 use Rattle.std.proofs.Common.{map, arith}
 use Rattle.std.proofs.lemmas.List.{length-map}
 use Rattle.input_steps.proofs.Files.{spell_length, spell_read}
-use Rattle.desc_steps.proofs.Answering.{classes_refused, text_is_refused, files_go, named_if_given, names_if_given}
+use Rattle.desc_steps.proofs.Answering.{classes_refused, files_go, named_if_given, names_if_given}
 use Rattle.desc_steps.proofs.given.described_program.Goals as goal
 
 pub returns-in-Err-clause-answers : goal.returns-in-Err-clause-answers
 returns-in-Err-clause-answers c = classes_refused c.args.desc.now (map (λ file. file.items) c.args.files.now) c.in-Err.refused c.in-Err.ensures.refused
-
-pub returns-in-Err-read_desc-clause-answers : goal.returns-in-Err-read_desc-clause-answers
-returns-in-Err-read_desc-clause-answers c =
-    text_is_refused c.args.desc.now (map (λ file. file.items) c.args.files.now) c.in-Ok.classes.items c.in-Err-read_desc.refused c.in-Ok.ensures.classes c.in-Err-read_desc.ensures.refused
 
 pub of_classes-requires-clause-few : goal.of_classes-requires-clause-few
 of_classes-requires-clause-few c =
