@@ -10,22 +10,33 @@ Some hours of one core for all crates; other jobs on the machine hardly change p
 
 With --page it runs nothing: TIMES has lines of a crate, 'proof', 'tests', 'builds' or 'edits', and processor seconds, divided by
 tabs, and what may stand behind them, as gate_watch.py notes them while a gate runs. It writes the table of gate.md, in Markdown, a row a crate, the tests, tables and readers of
-cases counted with the crate that they test (COUNTED_WITH), the builds of programs among the tests. A time that OLDER alone has, from an earlier run, has a star; one that
+cases shared by the crates that they test, in proportion to their lines (TESTS_OF), the builds of programs among the tests. A time that OLDER alone has, from an earlier run, has a star; one that
 neither has is a dash. Below it stand the layers of docs/MAP.md with their sums.
 """
 import collections, pathlib, resource, shutil, subprocess, sys, tempfile
 
 TOP = pathlib.Path(__file__).resolve().parent.parent
 BUDGET = 240  # processor seconds for 1,000 lines
-# Crates of tests, tables, readers of cases and thin programs, and the crate whose budget they share.
-COUNTED_WITH = {
-    test: crate for crate, tests in {
-        'list_views': 'table_cases', 'json_view': 'json_cases', 'class_read': 'class_tables',
-        'class_program': 'entry_cases', 'code_verify': 'program_tables', 'abs_cells': 'low_calls state_cases',
-        'abs_ints': 'value_tables', 'abs_expand': 'state_tables', 'cert_form': 'cert_tables', 'descent': 'rule_cases proof_tables',
-        'run_call': 'line_cases', 'check_call': 'command_tables', 'describe': 'describe_cli', 'fill_call': 'certs_cli',
-        'jterm': 'jterm_cli jterm_calls',
-    }.items() for test in tests.split()
+# Crates of tests, tables, readers of cases and thin programs, and the crates whose budgets they share, each in proportion to its lines.
+TESTS_OF = {
+    'table_cases': 'code_decode class_asm class_program code_verify descent abs_expand cert_form run_call',
+    'json_cases': 'descent abs_expand cert_form',
+    'class_tables': 'code_decode class_read asm_lines asm_codes asm_pool class_asm',
+    'entry_cases': 'class_world class_program',
+    'program_tables': 'class_program code_verify input_text input_desc jvm_step',
+    'value_tables': 'abs_ints json_view jvm_heaps',
+    'low_calls': 'class_pool class_read code_decode jvm_values jvm_heaps abs_cells lin_core list_views',
+    'state_cases': 'abs_reach abs_heap abs_match abs_widen abs_expand',
+    'state_tables': 'abs_reach abs_heap abs_match abs_widen abs_expand',
+    'rule_cases': 'descent rank_search',
+    'proof_tables': 'descent rank_search',
+    'cert_tables': 'cert_form cert_write cert_verdict path_rules',
+    'line_cases': 'input_steps run_call prove_call check_call',
+    'command_tables': 'input_steps run_call prove_call check_call',
+    'describe_cli': 'describe',
+    'certs_cli': 'fill_call',
+    'jterm_cli': 'jterm',
+    'jterm_calls': 'jterm',
 }
 # The layers of docs/MAP.md.
 LAYER = {
@@ -40,6 +51,9 @@ LAYER = {
         'program': 'input_steps run_call describe desc_steps prove_call check_call fill_call jterm',
     }.items() for crate in crates_of.split()
 }
+# What the thirteen crates of the first measurement have become, without the programs of tables.
+THIRTEEN = ('list_views io_ports class_base json_view lin_core jvm_values class_pool code_decode class_read asm_lines asm_codes asm_pool '
+            'class_asm class_world class_program jterm').split()
 
 
 def crates():
@@ -98,57 +112,71 @@ class Page:
         self.times, self.older = times, older
         self.over, self.missing = [], []
 
-    def time(self, names, kind):
-        """What crates took, and how it is written."""
-        spent, known, mark = 0, False, ''
-        for name in names:
-            for times, old in ((self.times, ''), (self.older, '*')):
-                if kind in times[name]:
-                    spent, known, mark = spent + times[name][kind], True, mark or old
-                    break
-            else:
-                if kind == 'proof':
-                    self.missing.append(name)
-        return spent, format(round(spent), ',') + mark if known else '-'
+    def time(self, name, kind):
+        """What a crate took, and whether the older run says so alone; None where neither says."""
+        for times, is_old in ((self.times, False), (self.older, True)):
+            if kind in times[name]:
+                return times[name][kind], is_old
+        return None
 
-    def row(self, name, tests):
-        """Prints the row of a crate with its tests; its numbers: lines, seconds for proof, tests and edits, budget."""
-        size = sum(lines(TOP / 'crates' / one) for one in [name, *tests])
-        proof, proof_text = self.time([name], 'proof')
-        tested, tested_text = self.time(tests, 'proof')
-        also = sum(self.time([name, *tests], kind)[0] for kind in ('tests', 'builds'))
-        edits, edits_text = self.time([name, *tests], 'edits')
-        count = sum(len(list((TOP / 'crates' / one / 'must-fail').glob('*.edit'))) for one in [name, *tests])
-        budget, spent = size * BUDGET / 1000, proof + tested + also + edits
-        if spent > budget:
+    def tests(self, name, rows):
+        """What tests of a crate take of its budget: their lines and their seconds, by its share; whether a time is old; those that lack one."""
+        size, spent, is_old, lacking = 0, 0, False, []
+        for test, crates_of in TESTS_OF.items():
+            if name in crates_of.split():
+                share = self.size[name] / sum(self.size[one] for one in crates_of.split())
+                size += share * self.size[test]
+                if not self.time(test, 'proof') and not self.time(test, 'tests'):
+                    lacking.append(test)
+                for kind in ('proof', 'tests', 'builds', 'edits'):
+                    known = self.time(test, kind)
+                    if known:
+                        spent, is_old = spent + share * known[0], is_old or known[1]
+        return size, spent, is_old, lacking
+
+    def row(self, name, rows):
+        """Prints the row of a crate with its share of the tests; its numbers: lines, seconds for proof, tests and edits, all, budget."""
+        size, tested, tests_old, lacking = self.tests(name, rows)
+        size += self.size[name]
+        count = len(list((TOP / 'crates' / name / 'must-fail').glob('*.edit')))
+        spent, texts = [], []
+        for kind in ('proof', 'edits'):
+            known = self.time(name, kind) or (None, False)
+            spent.append(known[0] or 0)
+            texts.append('-' if known[0] is None else format(round(known[0]), ',') + '*' * known[1])
+            if known[0] is None and (kind == 'proof' or count):
+                lacking.append(name + ("'s edits" if kind == 'edits' else ''))
+        self.missing += [one for one in lacking if one not in self.missing]
+        texts.insert(1, format(round(tested), ',') + '*' * tests_old if tested else '-')
+        texts[2] += ' (%d)' % count if count else ''
+        budget, sum_of = size * BUDGET / 1000, spent[0] + tested + spent[1]
+        if sum_of > budget:
             self.over.append(name)
-        edits_text += ' (%d)' % count if count else ''
-        if also:
-            tested_text = format(round(tested + also), ',')
-        print('| `%s` | %s | %s | %s | %s | %s | %s |' % (name, format(size, ','), proof_text, tested_text, edits_text,
-                                                       format(round(spent), ','), format(round(budget), ',')))
-        return size, proof, tested + also, edits, spent, budget
+        print('| `%s` | %s | %s | %s | %s |' % (name, format(round(size), ','), ' | '.join(texts), format(round(sum_of), ','), format(round(budget), ',')))
+        return size, spent[0], tested, spent[1], sum_of, budget
 
     def write(self, rows):
-        groups = {name: [test for test in rows if COUNTED_WITH.get(test) == name] for name in rows if name not in COUNTED_WITH}
+        self.size = {name: lines(TOP / 'crates' / name) for name in rows}
         head = '| %s | Lines | Proof | Tests | Edits | All | Budget |\n|---|---|---|---|---|---|---|'
-        print(head % 'Crate, with its tests')
-        taken = {name: self.row(name, tests) for name, tests in groups.items()}
+        print(head % 'Crate, with its share of the tests')
+        taken = {name: self.row(name, rows) for name in rows if name not in TESTS_OF}
         print('\n' + head % 'Layer')
-        layers = {}
+        sums = {}
         for name, numbers in taken.items():
-            layers.setdefault(LAYER[name], []).append(numbers)
-        layers['all'] = list(taken.values())
-        for layer, of in layers.items():
+            sums.setdefault(LAYER[name], []).append(numbers)
+        sums['all'] = list(taken.values())
+        sums['what the thirteen crates have become'] = [taken[name] for name in THIRTEEN]
+        for layer, of in sums.items():
             print('| %s | %s |' % (layer, ' | '.join(format(round(sum(column)), ',') for column in zip(*of))))
         for title, names in (('Over their budget', self.over), ('Not timed', self.missing)):
             print('\n%s: %s.' % (title, ', '.join('`%s`' % n for n in names) or 'none'))
 
 
 def be_complete(rows):
-    """Ends where COUNTED_WITH and LAYER don't name exactly the crates of crates.txt."""
-    lacking = [name for name in rows if name not in COUNTED_WITH and name not in LAYER]
-    gone = [name for name in [*COUNTED_WITH, *COUNTED_WITH.values(), *LAYER] if name not in rows]
+    """Ends where TESTS_OF and LAYER don't name exactly the crates of crates.txt."""
+    lacking = [name for name in rows if name not in TESTS_OF and name not in LAYER]
+    tested = [name for crates_of in TESTS_OF.values() for name in crates_of.split()]
+    gone = [name for name in [*TESTS_OF, *tested, *LAYER, *THIRTEEN] if name not in rows]
     if lacking or gone:
         sys.exit('gate.py: in neither table: %s; no more in crates.txt: %s' % (' '.join(lacking) or 'none', ' '.join(gone) or 'none'))
 
