@@ -10,7 +10,7 @@ use lin_core::Interval;
 ///
 /// `Obj` and `Nums` are *known* cells, `Refs` and `Unk` are *hazy* ones: of a hazy id's object more is not known than its
 /// type and the shape of its region.
-#[derive(Debug, Drop)]
+#[derive(Drop)]
 pub enum Cell {
     /// An int of the interval.
     Int(Interval),
@@ -28,7 +28,7 @@ pub enum Cell {
 }
 
 /// A sort of cells.
-#[derive(Clone, Copy, Debug, PartialEq, Eq)]
+#[derive(Clone, Copy, PartialEq, Eq)]
 pub enum CellSort {
     /// Every cell.
     Any,

@@ -9,7 +9,7 @@ use std::marker::Model;
 pub type Id = u16;
 
 /// A list of ids, most of which are short: the ids of an instance's fields. It takes no memory up to four ids.
-#[derive(Drop, Debug)]
+#[derive(Drop)]
 pub struct Ids {
     ids: SmallVec<Id, 4>,
 }

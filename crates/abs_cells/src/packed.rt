@@ -12,7 +12,7 @@ use std::alloc::{AllocError, Global};
 use std::marker::Model;
 
 /// The slots of ids, and a row of bits for each slot.
-#[derive(Debug, Drop)]
+#[derive(Drop)]
 struct Packed {
     /// The slot of each id that was ever in a pair.
     slots: Vec<Option<u16>>,
@@ -24,7 +24,7 @@ struct Packed {
 
 /// Pairs held as packed bits: each id that was ever in a pair has a slot, and two slots a bit. A call on ids that have
 /// slots goes to their bit at once, and a new id takes a row of words.
-#[derive(Debug, Drop)]
+#[derive(Drop)]
 pub struct PackedPairs {
     packed: Packed,
 }

@@ -76,7 +76,7 @@ pub trait Pairs: Drop {
 }
 
 /// Pairs held as the rising list that they mean.
-#[derive(Debug, Drop)]
+#[derive(Drop)]
 pub struct ListPairs {
     pairs: Vec<(Id, Id)>,
 }

@@ -7,7 +7,7 @@ use crate::pairs::Pairs;
 use std::alloc::{AllocError, Global};
 
 /// A call on pairs of ids.
-#[derive(Clone, Copy, Debug, PartialEq, Eq)]
+#[derive(Clone, Copy, PartialEq, Eq)]
 pub enum PairCall {
     /// Adds a pair.
     Add(Id, Id),

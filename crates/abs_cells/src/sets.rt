@@ -8,7 +8,7 @@ use std::marker::Model;
 
 /// A set of numbers below 2,048, of which each has a bit. It takes no memory. Contracts ask with
 /// `has_id` what is in it.
-#[derive(Debug, Drop)]
+#[derive(Drop)]
 pub struct IdSet {
     words: [u64; 32],
 }

@@ -10,7 +10,7 @@ use list_views::Seq;
 use std::marker::Model;
 
 /// A frame whose places hold ids. Two are equal where their methods, places and lists of ids are.
-#[derive(Debug, Drop)]
+#[derive(Drop)]
 pub struct AbsFrame {
     method: u32,
     pc: u16,
@@ -74,7 +74,7 @@ impl AbsFrame {
 /// record of lists, whatever form its pairs are held in.
 ///
 /// The pairs `eq` have one object; the regions of the pairs `share` meet, or the one's object lies in the other's region.
-#[derive(Debug, Drop)]
+#[derive(Drop)]
 pub struct AbsState<P: Pairs> {
     frames: Seq<AbsFrame>,
     throwing: Option<Id>,

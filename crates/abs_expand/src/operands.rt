@@ -2,7 +2,7 @@
 use abs_cells::Id;
 
 /// An operand of an operation on ints.
-#[derive(Clone, Copy, Debug)]
+#[derive(Clone, Copy)]
 pub(crate) enum Operand {
     /// A number that the instruction names.
     Known(i32),

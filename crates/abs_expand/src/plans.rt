@@ -4,7 +4,7 @@ use abs_cells::{AbsFrame, Cell, Id};
 use list_views::Seq;
 
 /// What a step does to ids.
-#[derive(Debug, Drop)]
+#[derive(Drop)]
 pub(crate) enum Act {
     /// Nothing.
     Nothing,
@@ -13,7 +13,7 @@ pub(crate) enum Act {
 }
 
 /// Where the fresh id goes.
-#[derive(Clone, Copy, Debug)]
+#[derive(Clone, Copy)]
 pub(crate) enum Goal {
     /// Nowhere.
     Nowhere,
@@ -26,7 +26,7 @@ pub(crate) enum Goal {
 }
 
 /// The rows of a step's link.
-#[derive(Debug, Drop)]
+#[derive(Drop)]
 pub(crate) enum Rows {
     /// None.
     Nothing,
@@ -35,7 +35,7 @@ pub(crate) enum Rows {
 }
 
 /// One step.
-#[derive(Debug, Drop)]
+#[derive(Drop)]
 pub(crate) struct Turn {
     /// The ids whose cells become others.
     pub(crate) changed: Seq<(Id, Cell)>,
@@ -50,7 +50,7 @@ pub(crate) struct Turn {
 }
 
 /// What becomes of a state.
-#[derive(Debug, Drop)]
+#[derive(Drop)]
 pub(crate) enum Plan {
     /// The run ends with the next step.
     Ends,

@@ -7,7 +7,7 @@ use crate::operands::Operand;
 use abs_ints::{Few, ShortRow};
 
 /// Rows over two operands and a fresh id.
-#[derive(Debug, Drop)]
+#[derive(Drop)]
 pub(crate) struct RowsOver {
     /// The left operand.
     pub(crate) left: Operand,

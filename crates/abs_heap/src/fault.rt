@@ -5,7 +5,7 @@ ghost use Rattle.abs_heap.specs.declared.fault.HeapFault.TheVariants.{Memory};
 use std::alloc::{AllocError, AllocFailed};
 
 /// Why a call on the abstract heap gives no children.
-#[derive(Clone, Copy, Debug, PartialEq, Eq)]
+#[derive(Clone, Copy, PartialEq, Eq)]
 pub enum HeapFault {
     /// A child has more than 512 ids.
     TooManyIds,

@@ -6,7 +6,7 @@ use crate::few::Few;
 use lin_core::{Interval, RowKind};
 
 /// Where the machine goes on after an operation on ints.
-#[derive(Clone, Copy, Debug, PartialEq, Eq)]
+#[derive(Clone, Copy, PartialEq, Eq)]
 pub enum Way {
     /// The operator gives a result. For a sum or a difference, the exact one is an int.
     Inside,
@@ -23,7 +23,7 @@ pub enum Way {
 }
 
 /// Something known of the two operands and the result: a sum of multiples of them and a constant is as the kind says.
-#[derive(Clone, Copy, Debug, PartialEq, Eq)]
+#[derive(Clone, Copy, PartialEq, Eq)]
 pub struct ShortRow {
     /// What is known of the sum.
     pub kind: RowKind,
@@ -71,7 +71,7 @@ impl ShortRow {
 }
 
 /// One case of an operation on two abstract ints.
-#[derive(Debug, Drop)]
+#[derive(Drop)]
 pub struct IntCase {
     /// What the left operand is narrowed to.
     pub left: Interval,

@@ -5,7 +5,7 @@ ghost use Rattle.std.specs.List.{cons_option};
 use std::marker::Model;
 
 /// A list of at most three items. It takes no memory.
-#[derive(Debug, Drop)]
+#[derive(Drop)]
 pub struct Few<T> {
     first: Option<T>,
     second: Option<T>,

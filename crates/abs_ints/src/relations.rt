@@ -8,7 +8,7 @@ use crate::parts::{above, below, from, up_to};
 use lin_core::Interval;
 
 /// How two ints stand to each other.
-#[derive(Clone, Copy, Debug, PartialEq, Eq)]
+#[derive(Clone, Copy, PartialEq, Eq)]
 pub enum Relation {
     /// They are equal.
     Equal,

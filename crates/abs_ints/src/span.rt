@@ -9,7 +9,7 @@ use lin_core::Interval;
 use std::marker::Model;
 
 /// The whole numbers from `lo` to `hi`, if any.
-#[derive(Clone, Copy, Debug)]
+#[derive(Clone, Copy)]
 pub(crate) struct Wide {
     lo: i64,
     hi: i64,
@@ -116,7 +116,7 @@ fn product(x: i32, y: i32) -> i64
 }
 
 /// The whole numbers from `lo` to `hi`, both at most 2^40 in size: ints, and exact sums and differences of ints.
-#[derive(Clone, Copy, Debug)]
+#[derive(Clone, Copy)]
 pub(crate) struct Span {
     lo: i64,
     hi: i64,

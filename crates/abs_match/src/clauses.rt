@@ -1,7 +1,7 @@
 //! Why one state is no instance of another, and the clauses that are asked of each id.
 
 /// The first clause that fails.
-#[derive(Clone, Copy, Debug, PartialEq, Eq)]
+#[derive(Clone, Copy, PartialEq, Eq)]
 pub struct MatchFault {
     /// The clause: 0 of the map, 1 of positions, 2 of the mode, 3 of cells, 4 of pairs with one object, 5 of pairs that
     /// share, 6 of shapes.
@@ -11,7 +11,7 @@ pub struct MatchFault {
 }
 
 /// The clauses that are asked of each id alone.
-#[derive(Clone, Copy, Debug, PartialEq, Eq)]
+#[derive(Clone, Copy, PartialEq, Eq)]
 pub(crate) enum IdClause {
     /// The image's cell is under the id's.
     Cells,
@@ -24,7 +24,7 @@ pub(crate) enum IdClause {
 }
 
 /// The sorts of cells of which an id's partners may be.
-#[derive(Clone, Copy, Debug, PartialEq, Eq)]
+#[derive(Clone, Copy, PartialEq, Eq)]
 pub(crate) enum OtherSort {
     /// References, `Null` too.
     NoInt,

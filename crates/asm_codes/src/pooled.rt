@@ -7,7 +7,7 @@ use asm_lines::CodeLine;
 use std::marker::Model;
 
 /// What a line names in the pool.
-#[derive(Clone, Copy, Debug)]
+#[derive(Clone, Copy)]
 pub struct PoolOperand {
     /// The index of the entry that the line names; 0 where it names none.
     pub entry: u16,

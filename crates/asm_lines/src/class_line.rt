@@ -11,7 +11,7 @@ use list_views::Seq;
 use std::alloc::{AllocError, Global};
 
 /// What the next word of a class line is.
-#[derive(Clone, Copy, Debug)]
+#[derive(Clone, Copy)]
 pub(crate) enum Expected {
     /// A word that stands for itself, or the end.
     Any,

@@ -10,7 +10,7 @@ use std::alloc::{AllocError, AllocFailed, Global};
 
 /// The first broken rule of a listing. Lines are counted from 1. Of several faults on one line the one that stands first
 /// here is named.
-#[derive(Clone, Copy, Debug, PartialEq, Eq)]
+#[derive(Clone, Copy, PartialEq, Eq)]
 pub enum AsmFault {
     /// A byte outside 32 to 126, a line that is none where it stands, or a word that is none where it stands.
     Syntax { line: usize },

@@ -30,7 +30,7 @@ fn is_before(a: AsmFault, b: AsmFault) -> bool
 }
 
 /// The first fault so far.
-#[derive(Clone, Copy, Debug)]
+#[derive(Clone, Copy)]
 pub struct First {
     /// None so far where there is none.
     pub fault: Option<AsmFault>,

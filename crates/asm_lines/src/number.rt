@@ -9,7 +9,7 @@ use list_views::Seq;
 use std::alloc::{AllocError, Global};
 
 /// A whole number of a listing. One above 2^64 - 1 in size has none, since no field of a class file holds it.
-#[derive(Clone, Copy, Debug, PartialEq, Eq)]
+#[derive(Clone, Copy, PartialEq, Eq)]
 pub struct Number {
     /// Whether a `-` stands before it.
     pub negative: bool,

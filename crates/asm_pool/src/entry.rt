@@ -4,7 +4,7 @@ ghost use Rattle.std.specs.Prelude.{◌≡◌, nat_lt, length, ◌^◌};
 ghost use Rattle.asm_pool.specs.Entries.{is_short, has_text, width, seen};
 
 /// An entry, without the numbers of the entries that it names.
-#[derive(Clone, Copy, Debug, PartialEq, Eq, Hash)]
+#[derive(Clone, Copy, PartialEq, Eq, Hash)]
 pub enum Entry<'a> {
     /// A text.
     Utf8(&'a [u8]),

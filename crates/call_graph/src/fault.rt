@@ -8,7 +8,7 @@ use list_views::Seq;
 use std::alloc::{AllocError, AllocFailed, Global};
 
 /// What is wrong with the calls of a program.
-#[derive(Debug, Drop)]
+#[derive(Drop)]
 pub enum CallFault {
     /// Methods call each other in a cycle.
     Recursive {

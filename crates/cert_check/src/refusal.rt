@@ -8,7 +8,7 @@ use path_rules::PathFault;
 use std::alloc::{AllocError, AllocFailed};
 
 /// What is wrong with an item of a certificate.
-#[derive(Clone, Copy, Debug, PartialEq, Eq)]
+#[derive(Clone, Copy, PartialEq, Eq)]
 pub enum Cause {
     /// The graph is no good one.
     Graph(What),
@@ -24,7 +24,7 @@ pub enum Cause {
 ///
 /// Of a certificate with `n` nodes, item 1 is the root, item 2 + k node k, item 2 + n the cuts, item 3 + n the paths, and item
 /// 4 + n + j step j of the proof. Item 0 is its form, which its reader tests.
-#[derive(Clone, Copy, Debug, PartialEq, Eq)]
+#[derive(Clone, Copy, PartialEq, Eq)]
 pub enum Refusal {
     /// An item fails.
     Item {

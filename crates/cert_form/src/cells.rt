@@ -19,7 +19,7 @@ use list_views::Seq;
 use std::alloc::Global;
 
 /// The words of cells.
-#[derive(Clone, Copy, Debug, PartialEq, Eq)]
+#[derive(Clone, Copy, PartialEq, Eq)]
 pub(crate) enum CellWord {
     /// An int.
     Int,

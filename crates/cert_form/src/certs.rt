@@ -25,7 +25,7 @@ use std::marker::Model;
 use term_graph::{By, PartSource};
 
 /// What is kept of a certificate beside its value.
-#[derive(Debug, Drop)]
+#[derive(Drop)]
 struct Kept {
     /// The cuts.
     cuts: Seq<u32>,

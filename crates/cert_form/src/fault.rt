@@ -4,7 +4,7 @@ use list_views::Seq;
 use std::alloc::{AllocError, AllocFailed};
 
 /// Why bytes aren't a certificate.
-#[derive(Debug, Drop, PartialEq)]
+#[derive(Drop, PartialEq)]
 pub enum CertFault {
     /// The bytes are no JSON, or one of the values is not what a certificate has there.
     Json(JsonFault),

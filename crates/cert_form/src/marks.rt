@@ -9,7 +9,7 @@ use std::marker::Model;
 use term_graph::By;
 
 /// Which nodes of a graph are named as children by those that were added. It is seen as the list of one mark for each node.
-#[derive(Debug, Drop)]
+#[derive(Drop)]
 pub struct NamedNodes {
     marks: Seq<bool>,
 }

@@ -21,7 +21,7 @@ fn class_in(names: &[Seq<u8>], name: &[u8]) -> Option<u32>
 }
 
 /// The names of classes, in the order of their numbers. It is seen as the list of the names.
-#[derive(Debug, Drop)]
+#[derive(Drop)]
 pub struct ClassNames {
     names: Seq<Seq<u8>>,
 }

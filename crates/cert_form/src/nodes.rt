@@ -21,7 +21,7 @@ use std::marker::Model;
 use term_graph::By;
 
 /// What a node says. It is seen as a part of a graph.
-#[derive(Debug, Drop)]
+#[derive(Drop)]
 pub(crate) struct NodeText {
     state: Option<StateParts>,
     by: By,

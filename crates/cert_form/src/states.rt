@@ -186,7 +186,7 @@ fn throw_field(alloc: Global, view: &View<'_, '_>) -> Result<Option<Id>, CertFau
 }
 
 /// The parts of a state, its pairs as lists. It is seen as an abstract state.
-#[derive(Debug, Drop)]
+#[derive(Drop)]
 pub(crate) struct StateParts {
     frames: Seq<AbsFrame>,
     throwing: Option<Id>,

@@ -314,7 +314,7 @@ impl Said<bool> for CutForm {
 // ---- listed rules
 
 /// The words of listed rules.
-#[derive(Clone, Copy, Debug, PartialEq, Eq)]
+#[derive(Clone, Copy, PartialEq, Eq)]
 pub(crate) enum RuleWord {
     /// The form never rises.
     Weak,
@@ -470,7 +470,7 @@ impl Said<()> for RankRule {
 // ---- steps
 
 /// The words of steps.
-#[derive(Clone, Copy, Debug, PartialEq, Eq)]
+#[derive(Clone, Copy, PartialEq, Eq)]
 pub(crate) enum StepWord {
     /// There is no rule.
     Empty,

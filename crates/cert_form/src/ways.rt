@@ -18,7 +18,7 @@ use std::alloc::Global;
 use term_graph::By;
 
 /// The words of ways to leave a node.
-#[derive(Clone, Copy, Debug, PartialEq, Eq)]
+#[derive(Clone, Copy, PartialEq, Eq)]
 pub(crate) enum WayWord {
     /// One step, or a split into cases.
     Expand,

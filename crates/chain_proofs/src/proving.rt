@@ -14,7 +14,7 @@ use list_views::Seq;
 use std::alloc::{AllocError, Global};
 
 /// A rule that is left, by its number, with the cuts at its ends.
-#[derive(Clone, Copy, Debug, PartialEq, Eq)]
+#[derive(Clone, Copy, PartialEq, Eq)]
 pub struct LeftRule {
     /// The rule's number.
     pub rule: u32,
@@ -34,7 +34,7 @@ pub(crate) enum Turn {
 }
 
 /// What becomes of all rules.
-#[derive(Debug, Drop)]
+#[derive(Drop)]
 pub enum Proved {
     /// A proof whose steps are all there, to be checked as a whole (`check_proof` of `descent`).
     Whole(Proof),

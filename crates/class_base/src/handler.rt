@@ -1,7 +1,7 @@
 //! Entries of exception tables (JVM specification, SE 8, section 4.7.3).
 
 /// An entry of an exception table. Places are counted in bytes from the start of the code.
-#[derive(Clone, Copy, Debug, PartialEq, Eq)]
+#[derive(Clone, Copy, PartialEq, Eq)]
 pub struct Handler {
     /// Where the range begins.
     pub start: u16,

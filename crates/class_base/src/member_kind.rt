@@ -7,7 +7,7 @@ use crate::methods::method_words;
 use crate::types::field_type;
 
 /// What a member of a class is.
-#[derive(Clone, Copy, Debug, PartialEq, Eq)]
+#[derive(Clone, Copy, PartialEq, Eq)]
 pub enum MemberKind {
     /// A field.
     Field,

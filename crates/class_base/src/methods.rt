@@ -10,7 +10,7 @@ use list_views::Seq;
 use std::alloc::{AllocError, Global};
 
 /// The types of a method's parameters, without a receiver, and of its result.
-#[derive(Drop, Debug)]
+#[derive(Drop)]
 pub struct MethodType<'t> {
     /// The parameters, from left to right.
     pub params: Seq<FieldType<'t>>,

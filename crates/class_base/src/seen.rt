@@ -9,7 +9,7 @@ use std::collections::BTreeSet;
 use std::marker::Model;
 
 /// Names with descriptors. A look-up compares with as many of them as the number of all has binary digits.
-#[derive(Debug, Drop)]
+#[derive(Drop)]
 pub struct Seen<'a> {
     keys: BTreeSet<(&'a [u8], &'a [u8])>,
 }

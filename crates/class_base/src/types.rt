@@ -8,7 +8,7 @@ use crate::class_name::is_class_name;
 use list_views::Bytes;
 
 /// What stands under the dimensions of a type.
-#[derive(Drop, Debug)]
+#[derive(Drop)]
 pub enum Element<'t> {
     /// A primitive type by its letter: `B`, `C`, `D`, `F`, `I`, `J`, `S` or `Z`.
     Primitive(u8),
@@ -17,7 +17,7 @@ pub enum Element<'t> {
 }
 
 /// A type as a descriptor writes it.
-#[derive(Drop, Debug)]
+#[derive(Drop)]
 pub struct FieldType<'t> {
     /// The number of array dimensions, 0 where it is no array.
     pub dims: u8,

@@ -12,7 +12,7 @@ use crate::reading::entry_at;
 use std::marker::Model;
 
 /// Entries by their numbers. `places` says where each begins; where none does, the input's length stands.
-#[derive(Debug, Drop)]
+#[derive(Drop)]
 pub(crate) struct Entries<'a> {
     pub(crate) bytes: &'a [u8],
     pub(crate) places: Vec<usize>,

@@ -3,7 +3,7 @@
 use list_views::Seq;
 
 /// An entry of a constant pool, as its text says it. Indexes are numbers of other entries.
-#[derive(Debug, Drop)]
+#[derive(Drop)]
 pub enum PoolEntry {
     /// A text: bytes of the class file's own form of UTF-8.
     Utf8(Seq<u8>),
@@ -42,7 +42,7 @@ pub enum PoolEntry {
 }
 
 /// An entry that stands in the input.
-#[derive(Clone, Copy, Debug)]
+#[derive(Clone, Copy)]
 pub(crate) enum EntryView<'a> {
     Utf8(&'a [u8]),
     Integer(i32),

@@ -11,7 +11,7 @@ use std::alloc::{AllocError, AllocFailed, Global};
 /// The first fault of a pool. Places are counted from the start of the input.
 ///
 /// The first in file order comes, and [`PoolFault::BadIndex`] only where there is no other.
-#[derive(Clone, Copy, Debug, PartialEq, Eq)]
+#[derive(Clone, Copy, PartialEq, Eq)]
 pub enum PoolFault {
     /// A field doesn't fit into the input; `at` is where it starts.
     Truncated { at: usize },

@@ -18,7 +18,7 @@ use std::marker::Model;
 /// a Long or Double takes two numbers.
 ///
 /// What it hands out are parts of the input. A look-up takes the same time whatever the pool's length, and no memory.
-#[derive(Debug, Drop)]
+#[derive(Drop)]
 pub struct Pool<'a> {
     entries: Entries<'a>,
 }

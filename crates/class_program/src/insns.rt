@@ -9,7 +9,7 @@ use std::marker::Model;
 
 /// The instructions of a method, each with its place in bytes from the code's start. The places rise, and the first is 0.
 /// It is seen as their list.
-#[derive(Debug, Drop)]
+#[derive(Drop)]
 pub struct Instructions {
     items: Seq<(u16, Op)>,
 }

@@ -6,7 +6,7 @@ use code_decode::Insn;
 use jvm_values::{Slot, Ty};
 
 /// An instance field that an instruction names (JVM specification, section 5.4.3.2).
-#[derive(Clone, Copy, Debug, PartialEq, Eq)]
+#[derive(Clone, Copy, PartialEq, Eq)]
 pub struct FieldUse {
     /// The class that the instruction names, by its number.
     pub class: u32,
@@ -17,7 +17,7 @@ pub struct FieldUse {
 }
 
 /// A field by its class's number and its place among the class's fields, from 0.
-#[derive(Clone, Copy, Debug, PartialEq, Eq, Hash)]
+#[derive(Clone, Copy, PartialEq, Eq, Hash)]
 pub struct FieldRef {
     /// The class's number.
     pub class: u32,
@@ -26,7 +26,7 @@ pub struct FieldRef {
 }
 
 /// A static field that an instruction names (JVM specification, section 5.4.3.2).
-#[derive(Clone, Copy, Debug, PartialEq, Eq)]
+#[derive(Clone, Copy, PartialEq, Eq)]
 pub struct StaticUse {
     /// The field that look-up finds.
     pub field: FieldRef,
@@ -35,7 +35,7 @@ pub struct StaticUse {
 }
 
 /// A method that an instruction names (JVM specification, sections 5.4.3.3 and 5.4.3.4).
-#[derive(Debug, Drop)]
+#[derive(Drop)]
 pub struct Call {
     /// The class or interface that the instruction names, by its number.
     pub class: u32,
@@ -51,7 +51,7 @@ pub struct Call {
 }
 
 /// An instruction of a reached method: its names stand for what resolution gives.
-#[derive(Debug, Drop)]
+#[derive(Drop)]
 pub enum Op {
     /// An instruction that names no pool entry.
     Plain(Insn),

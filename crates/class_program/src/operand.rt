@@ -5,7 +5,7 @@ ghost use Rattle.class_program.specs.Operands.{operand_of};
 use code_decode::Insn;
 
 /// An instruction that names a class.
-#[derive(Clone, Copy, Debug, PartialEq, Eq)]
+#[derive(Clone, Copy, PartialEq, Eq)]
 pub(crate) enum ClassForm {
     New,
     Anewarray,
@@ -14,21 +14,21 @@ pub(crate) enum ClassForm {
 }
 
 /// An instruction that names an instance field.
-#[derive(Clone, Copy, Debug, PartialEq, Eq)]
+#[derive(Clone, Copy, PartialEq, Eq)]
 pub(crate) enum FieldForm {
     Getfield,
     Putfield,
 }
 
 /// An instruction that names a static field.
-#[derive(Clone, Copy, Debug, PartialEq, Eq)]
+#[derive(Clone, Copy, PartialEq, Eq)]
 pub(crate) enum StaticForm {
     Getstatic,
     Putstatic,
 }
 
 /// An instruction that names a method.
-#[derive(Clone, Copy, Debug, PartialEq, Eq)]
+#[derive(Clone, Copy, PartialEq, Eq)]
 pub(crate) enum CallForm {
     Virtual,
     Special,
@@ -37,7 +37,7 @@ pub(crate) enum CallForm {
 }
 
 /// What an instruction takes from the constant pool. Numbers are those of pool entries.
-#[derive(Clone, Copy, Debug, PartialEq, Eq)]
+#[derive(Clone, Copy, PartialEq, Eq)]
 pub(crate) enum Operand {
     /// Nothing.
     Nothing,

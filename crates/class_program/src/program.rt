@@ -16,7 +16,7 @@ use jvm_values::Slot;
 use list_views::{Bytes, Seq};
 
 /// A range of code whose throws a handler takes (JVM specification, section 4.7.3).
-#[derive(Clone, Copy, Debug, PartialEq, Eq)]
+#[derive(Clone, Copy, PartialEq, Eq)]
 pub struct CatchRange {
     /// The first place of the range.
     pub start: u16,
@@ -29,7 +29,7 @@ pub struct CatchRange {
 }
 
 /// A method that an entry reaches.
-#[derive(Debug, Drop)]
+#[derive(Drop)]
 pub struct Method<'a> {
     /// The class that declares it, by its number.
     pub class: u32,
@@ -54,7 +54,7 @@ pub struct Method<'a> {
 }
 
 /// A static field that reached instructions name.
-#[derive(Debug, Drop)]
+#[derive(Drop)]
 pub struct StaticField<'a> {
     /// The class that declares it, by its number.
     pub class: u32,

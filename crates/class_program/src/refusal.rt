@@ -6,7 +6,7 @@ use list_views::Seq;
 use std::alloc::{AllocError, AllocFailed};
 
 /// Why an instruction is refused, whatever its method and its place.
-#[derive(Debug, Drop)]
+#[derive(Drop)]
 pub(crate) enum Refusal {
     /// It names a class of this name, and no class has it.
     MissingClass(Seq<u8>),

@@ -19,7 +19,7 @@ use class_read::MethodView;
 use class_world::MethodRef;
 
 /// What a virtual or interface call does.
-#[derive(Clone, Copy, Debug, PartialEq, Eq)]
+#[derive(Clone, Copy, PartialEq, Eq)]
 pub enum Selected {
     /// It runs the method of this number.
     Method(u32),

@@ -14,7 +14,7 @@ use list_views::Seq;
 use std::alloc::{AllocError, Global};
 
 /// What the parameters and the result of a method hold.
-#[derive(Debug, Drop)]
+#[derive(Drop)]
 pub(crate) struct Signature {
     /// The parameters, without a receiver.
     pub(crate) params: Seq<Slot>,

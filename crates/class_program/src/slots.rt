@@ -11,7 +11,7 @@ use std::marker::Model;
 use std::rc::Rc;
 
 /// What parameters hold, in their order. It is seen as the list.
-#[derive(Debug, Drop)]
+#[derive(Drop)]
 pub struct Slots {
     items: Rc<Seq<Slot>>,
 }

@@ -14,7 +14,7 @@ use std::alloc::{AllocError, AllocFailed, Global};
 /// The first in file order comes, the pool before all that follows it. `at` is the place of the field that breaks the
 /// rule, counted from the start of the file. An attribute length that isn't its content's counts at the content's end. Of two
 /// faults at one place the one on what ends there comes first, else the one that stands first here.
-#[derive(Clone, Copy, Debug, PartialEq, Eq)]
+#[derive(Clone, Copy, PartialEq, Eq)]
 pub enum ClassFault {
     /// The file doesn't begin with 0xcafebabe.
     BadMagic,

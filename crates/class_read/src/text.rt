@@ -5,7 +5,7 @@ use class_pool::PoolEntry;
 use list_views::Seq;
 
 /// A class file in all its parts. Names, descriptors, classes and entries are indexes of the pool.
-#[derive(Debug, Drop)]
+#[derive(Drop)]
 pub struct ClassText {
     /// The minor version, which no rule speaks of.
     pub minor: u16,
@@ -30,7 +30,7 @@ pub struct ClassText {
 }
 
 /// A field or a method.
-#[derive(Debug, Drop)]
+#[derive(Drop)]
 pub struct MemberText {
     /// The access flags.
     pub flags: u16,
@@ -43,7 +43,7 @@ pub struct MemberText {
 }
 
 /// An attribute.
-#[derive(Debug, Drop)]
+#[derive(Drop)]
 pub enum AttrText {
     /// One that is skipped by its length.
     Skipped {

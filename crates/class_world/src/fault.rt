@@ -7,7 +7,7 @@ use list_views::Seq;
 use std::alloc::{AllocError, AllocFailed, Global};
 
 /// A method by its class, its name and its descriptor.
-#[derive(Debug, Drop)]
+#[derive(Drop)]
 pub struct MethodName {
     /// The class that declares it.
     pub class: Seq<u8>,
@@ -31,7 +31,7 @@ impl MethodName {
 }
 
 /// The first rule that classes break as a world, or that the methods reached from an entry break.
-#[derive(Debug, Drop)]
+#[derive(Drop)]
 pub enum LinkFault {
     /// Two classes have this name, or a given class has the name of a built-in one (JVM specification, section 5.3).
     DuplicateClass {

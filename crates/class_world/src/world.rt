@@ -23,7 +23,7 @@ use list_views::Seq;
 use std::alloc::Global;
 
 /// A method by its class's number and its place among the class's methods, from 0.
-#[derive(Clone, Copy, Debug, PartialEq, Eq, Hash)]
+#[derive(Clone, Copy, PartialEq, Eq, Hash)]
 pub struct MethodRef {
     /// The class's number.
     pub class: u32,

@@ -9,7 +9,7 @@ use std::alloc::{AllocError, AllocFailed, Global};
 
 /// What is wrong with a code or with an exception table. `pc` is the place of an instruction, counted in bytes from the
 /// start of the code.
-#[derive(Clone, Copy, Debug, PartialEq, Eq)]
+#[derive(Clone, Copy, PartialEq, Eq)]
 pub enum CodeFault {
     /// The code ends inside the instruction.
     Truncated { pc: u16 },

@@ -2,7 +2,7 @@
 use list_views::Seq;
 
 /// A key of `lookupswitch` and the place that it leads to.
-#[derive(Clone, Copy, Debug, PartialEq, Eq)]
+#[derive(Clone, Copy, PartialEq, Eq)]
 pub struct Case {
     /// The key.
     pub key: i32,
@@ -12,7 +12,7 @@ pub struct Case {
 
 /// An instruction. A target is the place of an instruction, counted in bytes from the start of the code; a pool entry and
 /// a local are given by their index. The short forms are instructions of their own, and so are those behind `wide`.
-#[derive(Debug, Drop)]
+#[derive(Drop)]
 pub enum Insn {
     /// `nop`, opcode 0.
     Nop,

@@ -5,7 +5,7 @@ ghost use Rattle.code_verify.specs.declared.fault.VerifyFault.TheVariants.{Memor
 use std::alloc::{AllocError, AllocFailed};
 
 /// The first method of a program that has no typing.
-#[derive(Clone, Copy, Debug, PartialEq, Eq)]
+#[derive(Clone, Copy, PartialEq, Eq)]
 pub enum VerifyFault {
     /// The reached method of this number has no typing, and those of lower numbers have one (JVM specification, section
     /// 4.10).

@@ -3,7 +3,7 @@ use jvm_values::Ty;
 use op_forms::ItemKind;
 
 /// What an instruction asks of an operand on the stack.
-#[derive(Clone, Copy, Debug, PartialEq, Eq)]
+#[derive(Clone, Copy, PartialEq, Eq)]
 pub enum Want {
     /// An int.
     Int,

@@ -6,7 +6,7 @@ use lin_core::LinFault;
 use std::alloc::{AllocError, AllocFailed};
 
 /// The rule of proof steps that is broken.
-#[derive(Clone, Copy, Debug, PartialEq, Eq)]
+#[derive(Clone, Copy, PartialEq, Eq)]
 pub enum DescentFault {
     /// The rule is in the step's set and not covered by the step, or the other way round.
     NotCovered {
@@ -47,7 +47,7 @@ pub enum DescentFault {
 }
 
 /// The first fault of a proof.
-#[derive(Clone, Copy, Debug, PartialEq, Eq)]
+#[derive(Clone, Copy, PartialEq, Eq)]
 pub enum StepFault {
     /// The step breaks a rule.
     At {

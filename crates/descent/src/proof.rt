@@ -3,7 +3,7 @@ use list_views::Seq;
 
 /// The form of a cut: a constant, multiples of ints and multiples of sizes. Its value at a state of the cut ranks that
 /// state.
-#[derive(Debug, PartialEq, Drop)]
+#[derive(PartialEq, Drop)]
 pub struct CutForm {
     /// The cut.
     pub cut: u32,
@@ -17,7 +17,7 @@ pub struct CutForm {
 
 /// A rule in a rank step, with what shows its rows. A list of multipliers names rows of the rule, and has at most 65,536
 /// entries.
-#[derive(Debug, PartialEq, Drop)]
+#[derive(PartialEq, Drop)]
 pub enum RankRule {
     /// The form never rises on the rule.
     Weak {
@@ -38,7 +38,7 @@ pub enum RankRule {
 }
 
 /// A rank step without its rest.
-#[derive(Debug, PartialEq, Drop)]
+#[derive(PartialEq, Drop)]
 pub struct RankStep {
     /// Whether sizes count, with the listed weights; else the forms have ints alone, and no class has a weight.
     pub size: bool,
@@ -51,7 +51,7 @@ pub struct RankStep {
 }
 
 /// One step. It is made for a set of rules, and leaves smaller sets to later steps, which it names by number.
-#[derive(Debug, PartialEq, Drop)]
+#[derive(PartialEq, Drop)]
 pub enum ProofStep {
     /// There is no rule.
     Empty,
@@ -81,7 +81,7 @@ pub enum ProofStep {
 }
 
 /// A proof: steps by number. Step 0 takes all rules.
-#[derive(Debug, PartialEq, Drop)]
+#[derive(PartialEq, Drop)]
 pub struct Proof {
     /// The steps.
     pub steps: Seq<ProofStep>,

@@ -3,7 +3,7 @@ use lin_core::WRow;
 use list_views::Seq;
 
 /// A position of a frame of a state.
-#[derive(Clone, Copy, Debug, PartialEq, Eq)]
+#[derive(Clone, Copy, PartialEq, Eq)]
 pub struct Place {
     /// The frame, the bottom one being 0.
     pub frame: u32,
@@ -14,7 +14,7 @@ pub struct Place {
 }
 
 /// The int or the size that an id has at an end of a rule, as a sum over the rule's variables.
-#[derive(Debug, PartialEq, Drop)]
+#[derive(PartialEq, Drop)]
 pub struct SlotForm {
     /// The id.
     pub id: u16,
@@ -31,7 +31,7 @@ pub struct SlotForm {
 }
 
 /// A rule from one cut to the next: rows over variables of its own, and the slots of both ends in these variables.
-#[derive(Debug, PartialEq, Drop)]
+#[derive(PartialEq, Drop)]
 pub struct PathRule {
     /// The cut at which it starts.
     pub from: u32,

@@ -72,7 +72,7 @@ fn merge_stack<T: Types>(
 }
 
 /// What a frame that comes to a place does there.
-#[derive(Clone, Copy, Debug, PartialEq, Eq)]
+#[derive(Clone, Copy, PartialEq, Eq)]
 pub(crate) enum Coming {
     /// The place has types as wide.
     Same,

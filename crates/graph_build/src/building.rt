@@ -10,7 +10,7 @@ use std::alloc::{AllocError, AllocFailed, Global};
 use term_graph::Graph;
 
 /// What was built: a disciplined graph.
-#[derive(Debug, Drop)]
+#[derive(Drop)]
 pub enum Built<P: Pairs> {
     /// No node is open.
     Closed(Graph<P>),
@@ -21,7 +21,7 @@ pub enum Built<P: Pairs> {
 }
 
 /// Why nothing was built: want of memory.
-#[derive(Clone, Copy, Debug, PartialEq, Eq)]
+#[derive(Clone, Copy, PartialEq, Eq)]
 pub enum BuildFault {
     /// Want of memory.
     Memory,

@@ -15,7 +15,7 @@ use std::alloc::{AllocError, Global};
 use term_graph::{By, Graph, Node, NodeSource};
 
 /// What is due at a node.
-#[derive(Debug, Drop)]
+#[derive(Drop)]
 pub(crate) enum Next {
     /// It is expanded.
     Growing,

@@ -10,7 +10,7 @@ use list_views::Seq;
 use std::alloc::{AllocError, AllocFailed, Global};
 
 /// What a state becomes.
-#[derive(Debug, Drop)]
+#[derive(Drop)]
 pub enum Grown<P: Pairs> {
     /// The run ends with the next step.
     End,
@@ -19,7 +19,7 @@ pub enum Grown<P: Pairs> {
 }
 
 /// Why a state can't grow, or two can't be widened.
-#[derive(Clone, Copy, Debug, PartialEq, Eq)]
+#[derive(Clone, Copy, PartialEq, Eq)]
 pub enum GrowFault {
     /// A state would have more than 512 ids.
     TooManyIds,

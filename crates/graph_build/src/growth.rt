@@ -33,7 +33,7 @@ pub(crate) enum Plan<P: Pairs> {
 }
 
 /// Why a graph grows no more.
-#[derive(Clone, Copy, Debug, PartialEq, Eq)]
+#[derive(Clone, Copy, PartialEq, Eq)]
 pub(crate) enum Stop {
     /// It would have more nodes than the limit.
     Nodes,

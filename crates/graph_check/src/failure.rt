@@ -8,7 +8,7 @@ use abs_expand::ExpandFault;
 use std::alloc::{AllocError, AllocFailed};
 
 /// Why a node is no good one, or want of memory.
-#[derive(Clone, Copy, Debug, PartialEq, Eq)]
+#[derive(Clone, Copy, PartialEq, Eq)]
 pub(crate) enum Failure {
     /// The node has a fault.
     Fails(What),

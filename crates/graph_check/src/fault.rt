@@ -6,7 +6,7 @@ use abs_match::MatchFault;
 use std::alloc::{AllocError, AllocFailed};
 
 /// What is wrong with a node.
-#[derive(Clone, Copy, Debug, PartialEq, Eq)]
+#[derive(Clone, Copy, PartialEq, Eq)]
 pub enum What {
     /// Node 0 is not there, or its state isn't the root's.
     Root,
@@ -33,7 +33,7 @@ pub enum What {
 }
 
 /// Why a graph is no good one: its first fault, or want of memory.
-#[derive(Clone, Copy, Debug, PartialEq, Eq)]
+#[derive(Clone, Copy, PartialEq, Eq)]
 pub enum CheckFault {
     /// A node has a fault.
     At {

@@ -5,7 +5,7 @@ ghost use Rattle.graph_fill.specs.declared.fault.FillFault.TheVariants.{Memory};
 use std::alloc::{AllocError, AllocFailed};
 
 /// Why a graph can't be filled.
-#[derive(Clone, Copy, Debug, PartialEq, Eq)]
+#[derive(Clone, Copy, PartialEq, Eq)]
 pub enum FillFault {
     /// The state of a node has an expansion, and isn't one of ints.
     NotOfInts {

@@ -11,7 +11,7 @@ use input_text::DescFault;
 use std::alloc::{AllocError, AllocFailed};
 
 /// Why there is no answer.
-#[derive(Debug, Drop)]
+#[derive(Drop)]
 pub enum Refused {
     /// The input has this fault at this place.
     At {
@@ -25,7 +25,7 @@ pub enum Refused {
 }
 
 /// The file or the step that has a fault.
-#[derive(Clone, Copy, Debug, PartialEq, Eq)]
+#[derive(Clone, Copy, PartialEq, Eq)]
 pub enum Place {
     /// The class file of this number, counted from 0 in the order of the words.
     Class(u32),
@@ -44,7 +44,7 @@ pub enum Place {
 }
 
 /// What is wrong with the input.
-#[derive(Debug, Drop)]
+#[derive(Drop)]
 pub enum Fault {
     /// The first rule that a class file breaks.
     Class(ClassFault),

@@ -7,7 +7,7 @@ use std::alloc::{AllocError, AllocFailed};
 /// Why a description or a state isn't one, or doesn't fit its method.
 ///
 /// Inputs are the parameters and then the static fields, numbered from 0; objects are numbered from 0.
-#[derive(Debug, Drop)]
+#[derive(Drop)]
 pub enum DescFault {
     /// The text is no JSON, or one of its values is not what the table of fields asks for.
     Json(JsonFault),

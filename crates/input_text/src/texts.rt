@@ -3,7 +3,7 @@ use jvm_values::{Kind, Shape, Value};
 use list_views::Seq;
 
 /// The method that a description or a state names.
-#[derive(Debug, Drop)]
+#[derive(Drop)]
 pub struct EntryName {
     /// The name of its class.
     pub class: Seq<u8>,
@@ -14,7 +14,7 @@ pub struct EntryName {
 }
 
 /// What a description says of one input: of a parameter or of a static field.
-#[derive(Debug, Drop)]
+#[derive(Drop)]
 pub enum InputText {
     /// An int from one number to another, both included.
     Int {
@@ -35,7 +35,7 @@ pub enum InputText {
 }
 
 /// A description as its text says it. Inputs are the parameters and then the static fields, numbered from 0.
-#[derive(Debug, Drop)]
+#[derive(Drop)]
 pub struct DescText {
     /// The method.
     pub entry: EntryName,
@@ -50,7 +50,7 @@ pub struct DescText {
 }
 
 /// What a state says of one object.
-#[derive(Debug, Drop)]
+#[derive(Drop)]
 pub enum ObjectText {
     /// An instance of the class of a name.
     Instance {
@@ -76,7 +76,7 @@ pub enum ObjectText {
 }
 
 /// A state as its text says it.
-#[derive(Debug, Drop)]
+#[derive(Drop)]
 pub struct StateText {
     /// The method.
     pub entry: EntryName,

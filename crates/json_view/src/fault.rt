@@ -12,7 +12,7 @@ use std::alloc::{AllocError, AllocFailed, Global};
 /// Why a text or a field of a value isn't read.
 ///
 /// A place is the JSON pointer (RFC 6901) of the value that breaks the rule; the root's is empty.
-#[derive(Debug, Drop, PartialEq)]
+#[derive(Drop, PartialEq)]
 pub enum JsonFault {
     /// The bytes are no JSON text that `serde_json` reads.
     NotJson,

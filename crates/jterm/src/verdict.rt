@@ -4,7 +4,7 @@ use list_views::Seq;
 use prove_core::Reason;
 
 /// What a command does with the files that it names.
-#[derive(Clone, Copy, Debug, PartialEq, Eq)]
+#[derive(Clone, Copy, PartialEq, Eq)]
 pub enum Request {
     /// To prove that a method ends. `nodes` is the limit on the nodes of the graph that is built.
     Prove {
@@ -23,7 +23,7 @@ pub enum Request {
 }
 
 /// The answer of a command whose input is not refused.
-#[derive(Debug, Drop)]
+#[derive(Drop)]
 pub struct Verdict {
     /// The exit status.
     pub status: u8,

@@ -11,7 +11,7 @@ use list_views::Stack;
 use std::alloc::{AllocError, Global};
 
 /// What is to be done in a search for cycles.
-#[derive(Clone, Copy, Debug)]
+#[derive(Clone, Copy)]
 enum Turn {
     /// The object of this number is entered, where it was not before.
     Enter(u32),

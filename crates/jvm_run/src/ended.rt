@@ -2,7 +2,7 @@
 use jvm_values::Value;
 
 /// How a run of so many steps ended.
-#[derive(Clone, Copy, Debug, PartialEq, Eq)]
+#[derive(Clone, Copy, PartialEq, Eq)]
 pub enum Ended {
     /// The steps are all done, and the run goes on.
     Out,

@@ -3,7 +3,7 @@ use crate::types::{Kind, Ty};
 use list_views::Seq;
 
 /// A value on a stack, in a local, a field or an array of references.
-#[derive(Clone, Copy, Debug, PartialEq, Eq)]
+#[derive(Clone, Copy, PartialEq, Eq)]
 pub enum Value {
     /// A number of 32 bits with a sign.
     Int(i32),
@@ -14,7 +14,7 @@ pub enum Value {
 }
 
 /// An object of the heap.
-#[derive(Debug, Drop)]
+#[derive(Drop)]
 pub enum Object {
     /// An instance of a class, with the values of its fields, those of the topmost superclass first.
     Instance {
@@ -40,7 +40,7 @@ pub enum Object {
 }
 
 /// The objects that a run has made, each under its number, the first under 0.
-#[derive(Debug, Drop)]
+#[derive(Drop)]
 pub struct Heap {
     /// The objects.
     pub objects: Seq<Object>,

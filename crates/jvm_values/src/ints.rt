@@ -7,7 +7,7 @@ use crate::types::Kind;
 /// An operator that takes ints to an int (JVM specification, section 6.5).
 ///
 /// Negation is subtraction from 0, and the increment of a local is a sum.
-#[derive(Clone, Copy, Debug, PartialEq, Eq)]
+#[derive(Clone, Copy, PartialEq, Eq)]
 pub enum IntOp {
     /// The sum, wrapped to 32 bits (`iadd`, `iinc`).
     Add,
@@ -104,7 +104,7 @@ fn shifted_right_with_zeros(left: i32, right: i32) -> i32
 }
 
 /// A condition between two ints (JVM specification, section 6.5, `if<cond>` and `if_icmp<cond>`).
-#[derive(Clone, Copy, Debug, PartialEq, Eq)]
+#[derive(Clone, Copy, PartialEq, Eq)]
 pub enum Cond {
     /// The ints are equal.
     Eq,

@@ -1,7 +1,7 @@
 //! Shapes of the part of a heap that a value reaches, and its term.
 
 /// A property of all objects that a value reaches, itself included.
-#[derive(Clone, Copy, Debug, PartialEq, Eq)]
+#[derive(Clone, Copy, PartialEq, Eq)]
 pub enum Shape {
     /// One path leads to each object.
     Tree,
@@ -12,7 +12,7 @@ pub enum Shape {
 }
 
 /// The unfolding of a heap from a value whose region has no cycle.
-#[derive(Debug, Drop)]
+#[derive(Drop)]
 pub enum Term {
     /// Null.
     Null,

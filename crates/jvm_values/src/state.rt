@@ -3,7 +3,7 @@ use crate::heap::{Heap, Value};
 use list_views::{Seq, Stack};
 
 /// The frame of a call that runs (JVM specification, section 2.6).
-#[derive(Debug, Drop)]
+#[derive(Drop)]
 pub struct Frame {
     /// The method's number among the reached methods.
     pub method: u32,
@@ -17,7 +17,7 @@ pub struct Frame {
 }
 
 /// Whether a state runs instructions or looks for a handler.
-#[derive(Clone, Copy, Debug, PartialEq, Eq)]
+#[derive(Clone, Copy, PartialEq, Eq)]
 pub enum Mode {
     /// The top frame's instruction runs next.
     Normal,
@@ -26,7 +26,7 @@ pub enum Mode {
 }
 
 /// A state of the machine.
-#[derive(Debug, Drop)]
+#[derive(Drop)]
 pub struct State {
     /// The frames, seen with the running call's first beside the stack's room.
     pub frames: Stack<Frame>,

@@ -6,7 +6,7 @@ ghost use Rattle.jvm_values.specs.Kinds.{kind_code, kind_of_code, least_of, grea
 /// The kinds of whole numbers that fields and arrays hold (JVM specification, section 2.3).
 ///
 /// A value on a stack or in a local is always an int.
-#[derive(Clone, Copy, Debug, PartialEq, Eq)]
+#[derive(Clone, Copy, PartialEq, Eq)]
 pub enum Kind {
     /// 0 or 1.
     Boolean,
@@ -108,7 +108,7 @@ fn low_short(value: i32) -> i32
 }
 
 /// What stands under the dimensions of a type.
-#[derive(Clone, Copy, Debug, PartialEq, Eq)]
+#[derive(Clone, Copy, PartialEq, Eq)]
 pub enum Base {
     /// The class or interface of this number.
     Class(u32),
@@ -119,7 +119,7 @@ pub enum Base {
 /// A type: its base under so many array dimensions.
 ///
 /// It is a reference type where `dims` is above 0 or the base is a class.
-#[derive(Clone, Copy, Debug, PartialEq, Eq)]
+#[derive(Clone, Copy, PartialEq, Eq)]
 pub struct Ty {
     /// The number of array dimensions, 0 where it is no array.
     pub dims: u8,
@@ -128,7 +128,7 @@ pub struct Ty {
 }
 
 /// What a field, a parameter or an array item holds.
-#[derive(Clone, Copy, Debug, PartialEq, Eq)]
+#[derive(Clone, Copy, PartialEq, Eq)]
 pub enum Slot {
     /// A number of this kind.
     Num(Kind),

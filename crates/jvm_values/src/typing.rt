@@ -3,7 +3,7 @@ use crate::types::Ty;
 use list_views::{Seq, Stack};
 
 /// What a local variable or a stack entry holds.
-#[derive(Clone, Copy, Debug, PartialEq, Eq)]
+#[derive(Clone, Copy, PartialEq, Eq)]
 pub enum PlaceType {
     /// Nothing that may be used: a local variable before it is set, or where two ways differ. No stack entry has it.
     Unset,
@@ -16,7 +16,7 @@ pub enum PlaceType {
 }
 
 /// The types of a frame's places.
-#[derive(Debug, Drop)]
+#[derive(Drop)]
 pub struct FrameType {
     /// The local variables' types.
     pub locals: Seq<PlaceType>,

@@ -6,7 +6,7 @@ ghost use Rattle.lin_core.specs.Intervals.{Bounds, interval_of, IsIn};
 use std::marker::Model;
 
 /// The ints from `lo` to `hi`, both included. `lo` is at most `hi`.
-#[derive(Clone, Copy, Debug, PartialEq, Eq)]
+#[derive(Clone, Copy, PartialEq, Eq)]
 pub struct Interval {
     lo: i32,
     hi: i32,

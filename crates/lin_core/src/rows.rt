@@ -2,7 +2,7 @@
 use list_views::Seq;
 
 /// What a row says of its value.
-#[derive(Clone, Copy, Debug, PartialEq, Eq)]
+#[derive(Clone, Copy, PartialEq, Eq)]
 pub enum RowKind {
     /// The value is at least 0.
     AtLeastZero,
@@ -13,7 +13,7 @@ pub enum RowKind {
 /// Something known: the sum of the terms, the constant and the multiples of class weights is as the kind says. A term is
 /// a variable and its coefficient. The weights of classes are given beside the rows, where a combination is made; a class
 /// without a weight has 0.
-#[derive(Debug, PartialEq, Drop)]
+#[derive(PartialEq, Drop)]
 pub struct WRow {
     /// What is known of the value.
     pub kind: RowKind,
@@ -26,7 +26,7 @@ pub struct WRow {
 }
 
 /// Something to be shown: that the sum of the terms and the constant is at least 0.
-#[derive(Debug, PartialEq, Drop)]
+#[derive(PartialEq, Drop)]
 pub struct Target {
     /// The variables with their coefficients, each variable above the one before.
     pub terms: Seq<(u32, i64)>,

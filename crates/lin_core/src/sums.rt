@@ -10,7 +10,7 @@ use std::alloc::{AllocError, Global};
 use std::marker::Model;
 
 /// What one variable has in a sum. The number counts only where the round is the sum's own.
-#[derive(Clone, Copy, Debug)]
+#[derive(Clone, Copy)]
 struct Cell {
     value: i128,
     round: u64,
@@ -20,7 +20,7 @@ struct Cell {
 ///
 /// A contract sees the list of the coefficients and the constant. Each time that the sum is cleared a new round
 /// begins, so clearing costs nothing for the variables.
-#[derive(Debug, Drop)]
+#[derive(Drop)]
 pub struct Scratch {
     cells: Vec<Cell>,
     round: u64,

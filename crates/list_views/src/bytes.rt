@@ -4,7 +4,7 @@ ghost use Rattle.std.specs.Prelude.{◌≡◌, ◌==◌, List, ℕ, length};
 use std::marker::Model;
 
 /// A slice of bytes inside a larger input. A type that holds one is equal to another where the bytes are.
-#[derive(Drop, Debug)]
+#[derive(Drop)]
 pub struct Bytes<'a> {
     bytes: &'a [u8],
 }

@@ -8,7 +8,7 @@ use std::alloc::{AllocError, AllocFailed, Allocator, Global};
 use std::marker::Model;
 
 /// A growable list of items.
-#[derive(Drop, Debug)]
+#[derive(Drop)]
 pub struct Seq<T> {
     items: Vec<T>,
 }

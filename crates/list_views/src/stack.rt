@@ -7,7 +7,7 @@ use std::alloc::{AllocError, AllocFailed, Allocator, Global};
 use std::marker::Model;
 
 /// A stack of items. Its value is a pair: the items, the top first, and the number of items for which it has room.
-#[derive(Drop, Debug)]
+#[derive(Drop)]
 pub struct Stack<T> {
     items: Vec<T>,
 }

@@ -9,7 +9,7 @@ use list_views::Seq;
 use std::alloc::{AllocError, Global};
 
 /// Ranks, or a cycle.
-#[derive(Debug, Drop)]
+#[derive(Drop)]
 pub enum Ranking {
     /// A rank for each number.
     Ranks(Seq<u32>),

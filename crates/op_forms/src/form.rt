@@ -8,7 +8,7 @@ use code_decode::{Case, Insn};
 use jvm_values::{Cond, IntOp, Kind, Ty};
 
 /// A reordering of the top of the operand stack (JVM specification, section 6.5). Every value has one word.
-#[derive(Clone, Copy, Debug, PartialEq, Eq)]
+#[derive(Clone, Copy, PartialEq, Eq)]
 pub enum Shuffle {
     /// Takes the top value.
     Pop,
@@ -31,7 +31,7 @@ pub enum Shuffle {
 }
 
 /// The arrays of numbers that an instruction reads or writes.
-#[derive(Clone, Copy, Debug, PartialEq, Eq)]
+#[derive(Clone, Copy, PartialEq, Eq)]
 pub enum ItemKind {
     /// Arrays of int (`iaload`, `iastore`).
     Int,

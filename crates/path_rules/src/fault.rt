@@ -5,7 +5,7 @@ ghost use Rattle.path_rules.specs.declared.fault.PathFault.TheVariants.{Memory};
 use std::alloc::{AllocError, AllocFailed};
 
 /// What stands in the way of the rules of a graph's paths.
-#[derive(Clone, Copy, Debug, PartialEq, Eq)]
+#[derive(Clone, Copy, PartialEq, Eq)]
 pub enum PathFault {
     /// A cycle has no cut.
     Uncut {

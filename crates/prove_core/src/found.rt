@@ -10,7 +10,7 @@ use std::alloc::{AllocError, AllocFailed};
 use term_graph::Graph;
 
 /// A graph with its cuts, and a proof over the rules of its paths.
-#[derive(Debug, Drop)]
+#[derive(Drop)]
 pub struct Cert<P: Pairs> {
     /// The graph.
     pub graph: Graph<P>,
@@ -21,7 +21,7 @@ pub struct Cert<P: Pairs> {
 }
 
 /// Why no certificate is given.
-#[derive(Debug, Drop)]
+#[derive(Drop)]
 pub enum Reason<P: Pairs> {
     /// The next growth of this graph would pass the limit of nodes.
     Nodes(Graph<P>),
@@ -46,7 +46,7 @@ pub enum Reason<P: Pairs> {
 }
 
 /// What a search finds.
-#[derive(Debug, Drop)]
+#[derive(Drop)]
 pub enum Found<P: Pairs> {
     /// The bytes of a valid certificate, in form 2.
     Certificate(Seq<u8>),
@@ -55,7 +55,7 @@ pub enum Found<P: Pairs> {
 }
 
 /// Why a search doesn't answer.
-#[derive(Clone, Copy, Debug, PartialEq, Eq)]
+#[derive(Clone, Copy, PartialEq, Eq)]
 pub enum SearchFault {
     /// Want of memory.
     Memory,

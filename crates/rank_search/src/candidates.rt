@@ -9,7 +9,7 @@ use std::alloc::AllocError;
 
 /// So many times the int at one place and so many times that at another one; the places by their numbers in a list. The
 /// second multiple is 0 where one int is the form.
-#[derive(Clone, Copy, Debug, PartialEq, Eq)]
+#[derive(Clone, Copy, PartialEq, Eq)]
 pub(crate) struct Candidate {
     pub(crate) one: usize,
     pub(crate) times: i64,

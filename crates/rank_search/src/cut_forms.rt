@@ -8,7 +8,7 @@ use list_views::Seq;
 use std::alloc::{AllocError, Global};
 
 /// An end of a rule at a cut.
-#[derive(Clone, Copy, Debug, PartialEq, Eq)]
+#[derive(Clone, Copy, PartialEq, Eq)]
 struct End {
     cut: u32,
     rule: usize,

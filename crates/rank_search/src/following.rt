@@ -15,21 +15,21 @@ use list_views::Seq;
 use std::alloc::{AllocError, Global};
 
 /// A row that bounds what stands at a place where a rule starts, and its constant.
-#[derive(Clone, Copy, Debug, PartialEq, Eq)]
+#[derive(Clone, Copy, PartialEq, Eq)]
 pub(crate) struct BoundRow {
     pub(crate) row: usize,
     pub(crate) base: i64,
 }
 
 /// What has to be added to a form so that it is at least 0 where a rule starts, with the multipliers that show it.
-#[derive(Debug, PartialEq, Drop)]
+#[derive(PartialEq, Drop)]
 pub(crate) struct Bound {
     pub(crate) rows: Seq<(u32, i64)>,
     pub(crate) base: i64,
 }
 
 /// What falls by at least so much along a rule, with the multipliers that show it; and what bounds it, if something does.
-#[derive(Debug, PartialEq, Drop)]
+#[derive(PartialEq, Drop)]
 pub(crate) struct Followed {
     pub(crate) falls: i64,
     pub(crate) fall: Seq<(u32, i64)>,

@@ -1,7 +1,7 @@
 //! Fractions of whole numbers of at most 128 bits.
 
 /// A fraction: the numerator, and a denominator above 0. Where a number would be larger, there is no result.
-#[derive(Clone, Copy, Debug, PartialEq, Eq)]
+#[derive(Clone, Copy, PartialEq, Eq)]
 pub(crate) struct Fraction {
     above: i128,
     below: i128,

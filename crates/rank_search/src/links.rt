@@ -1,7 +1,7 @@
 //! Links: what the equations of a path say of one variable by another.
 
 /// A variable is another one plus a number.
-#[derive(Clone, Copy, Debug, PartialEq, Eq)]
+#[derive(Clone, Copy, PartialEq, Eq)]
 pub struct Link {
     /// The other variable.
     pub from: u32,
@@ -13,7 +13,7 @@ pub struct Link {
 
 /// A variable beside a link's two, which is a number: the row that it is at least that, the row that it is at most that, and
 /// its coefficient in the link's row.
-#[derive(Clone, Copy, Debug, PartialEq, Eq)]
+#[derive(Clone, Copy, PartialEq, Eq)]
 pub(crate) struct Beside {
     pub(crate) least: usize,
     pub(crate) most: usize,
@@ -21,7 +21,7 @@ pub(crate) struct Beside {
 }
 
 /// A link with the rows that say it: its equation, taken as it stands or back, and what is beside.
-#[derive(Clone, Copy, Debug, PartialEq, Eq)]
+#[derive(Clone, Copy, PartialEq, Eq)]
 pub(crate) struct Tie {
     pub(crate) link: Link,
     pub(crate) row: usize,
@@ -30,7 +30,7 @@ pub(crate) struct Tie {
 }
 
 /// How a variable is come to from another one: what it has more, and the last of the ties that lead there.
-#[derive(Clone, Copy, Debug, PartialEq, Eq)]
+#[derive(Clone, Copy, PartialEq, Eq)]
 pub(crate) struct Come {
     pub(crate) by: i64,
     pub(crate) last: Option<Tie>,

@@ -2,7 +2,7 @@
 use descent::Place;
 
 /// By which links a part is followed along a rule.
-#[derive(Clone, Copy, Debug, PartialEq, Eq)]
+#[derive(Clone, Copy, PartialEq, Eq)]
 pub(crate) enum Course {
     /// An int by the equations of its links.
     Ints,
@@ -15,7 +15,7 @@ pub(crate) enum Course {
 }
 
 /// So many times what stands at a place.
-#[derive(Clone, Copy, Debug, PartialEq, Eq)]
+#[derive(Clone, Copy, PartialEq, Eq)]
 pub(crate) struct Part {
     pub(crate) place: Place,
     pub(crate) times: i64,

@@ -10,7 +10,7 @@ use list_views::Seq;
 use std::alloc::{AllocError, Global};
 
 /// What a form falls by along a rule, and what has to be added so that it is at least 0 at the start, each with the rows that show it.
-#[derive(Debug, PartialEq, Drop)]
+#[derive(PartialEq, Drop)]
 pub(crate) struct Reasons {
     pub(crate) falls: i64,
     pub(crate) fall: Seq<(usize, i64)>,

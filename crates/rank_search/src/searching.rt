@@ -17,7 +17,7 @@ use list_views::Seq;
 use std::alloc::{AllocError, Global};
 
 /// A plain form: it is the same at every cut of the rules.
-#[derive(Debug, PartialEq, Drop)]
+#[derive(PartialEq, Drop)]
 pub enum PlainForm {
     /// One or two places with the multiples of their ints.
     Ints(Seq<(Place, i64)>),
@@ -26,7 +26,7 @@ pub enum PlainForm {
 }
 
 /// A stepwise form: the int at a place of every cut of the rules, or its negative.
-#[derive(Clone, Copy, Debug, PartialEq, Eq)]
+#[derive(Clone, Copy, PartialEq, Eq)]
 pub struct StepwiseForm {
     /// Whether the negative is meant.
     pub negative: bool,

@@ -12,7 +12,7 @@ use std::marker::Model;
 
 /// A graph: its nodes, each under its number, the first under 0. It is seen as the list of its nodes, of which there are at
 /// most 2^32 - 16.
-#[derive(Debug, Drop)]
+#[derive(Drop)]
 pub struct Graph<P: Pairs> {
     nodes: Seq<Node<P>>,
 }

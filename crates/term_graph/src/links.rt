@@ -4,7 +4,7 @@ use lin_core::RowKind;
 use list_views::Seq;
 
 /// The state at which a row reads an id's int.
-#[derive(Clone, Copy, Debug, PartialEq, Eq)]
+#[derive(Clone, Copy, PartialEq, Eq)]
 pub enum Side {
     /// The state that the edge leaves.
     Before,
@@ -14,7 +14,7 @@ pub enum Side {
 
 /// Something known of the ints of an edge's two states: the sum of the terms and the constant is as the kind says. A term
 /// is a side, an int id of the state on that side, and its coefficient.
-#[derive(Debug, PartialEq, Drop)]
+#[derive(PartialEq, Drop)]
 pub struct LinkRow {
     /// What is known of the value.
     pub kind: RowKind,
@@ -25,7 +25,7 @@ pub struct LinkRow {
 }
 
 /// What an edge to a child says beside its two states. An id that both have stands for one value.
-#[derive(Debug, PartialEq, Drop)]
+#[derive(PartialEq, Drop)]
 pub struct Link {
     /// What is known of the ints.
     pub rows: Seq<LinkRow>,
@@ -37,7 +37,7 @@ pub struct Link {
 }
 
 /// The links of a graph: for each node one for each of its children, in their order.
-#[derive(Debug, Drop)]
+#[derive(Drop)]
 pub struct Links {
     /// The links of each node.
     pub nodes: Seq<Seq<Link>>,

@@ -7,7 +7,7 @@ use list_views::Seq;
 use std::marker::Model;
 
 /// How a node is left. Nodes are named by their numbers, from 0.
-#[derive(Debug, Drop)]
+#[derive(Drop)]
 pub enum By {
     /// One step, or a split of the state into cases: the nodes of the children, in their order.
     Expand(Seq<u32>),
@@ -26,7 +26,7 @@ pub enum By {
 
 /// A node: the state that it describes, and how it is left. It is seen as a record, whatever form the state's pairs are
 /// held in.
-#[derive(Debug, Drop)]
+#[derive(Drop)]
 pub struct Node<P: Pairs> {
     state: AbsState<P>,
     by: By,
@@ -78,7 +78,7 @@ impl<P: Pairs> Node<P> {
 }
 
 /// A child of a state: the child's own state, and what the edge to it says beside the two. It is seen as a record.
-#[derive(Debug, Drop)]
+#[derive(Drop)]
 pub struct Child<P: Pairs> {
     state: AbsState<P>,
     link: Link,
