@@ -41,7 +41,7 @@ TESTS_OF = {
 # The layers of docs/MAP.md.
 LAYER = {
     crate: layer for layer, crates_of in {
-        'base': 'list_views fault_words io_ports json_view input_text number_graphs lin_core',
+        'base': 'list_views io_ports json_view input_text number_graphs lin_core',
         'class files': 'class_base class_pool code_decode class_read class_world class_program input_desc call_graph op_forms asm_lines '
                        'asm_codes asm_pool class_asm',
         'machine': 'jvm_values jvm_heaps frame_types jvm_step code_verify jvm_run',

@@ -1,6 +1,6 @@
 -- The faults of listings in words.
 use Rattle.std.specs.Prelude.{ℕ, List, [], ◌∷◌, codes}
-use Rattle.fault_words.specs.Words.{joined, number_field}
+use Rattle.list_views.specs.FaultWords.{joined, number_field}
 use Rattle.asm_lines.specs.declared.fault.AsmFault.{AsmFault}
 use Rattle.asm_lines.specs.declared.fault.AsmFault.TheVariants.{Syntax, UnknownOpcode, UnknownLabel, DuplicateLabel, OutOfRange, NoEnd, Memory}
 

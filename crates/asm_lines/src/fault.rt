@@ -4,7 +4,7 @@ ghost use Rattle.std.specs.Prelude.{◌≡◌, IfOk};
 ghost use Rattle.asm_lines.specs.Faults.{fault_name, fault_fields, fault_text};
 ghost use Rattle.asm_lines.specs.declared.fault.AsmFault.TheVariants.{Memory};
 
-use fault_words::{joined, number_field};
+use list_views::fault_words::{joined, number_field};
 use list_views::Seq;
 use std::alloc::{AllocError, AllocFailed, Global};
 

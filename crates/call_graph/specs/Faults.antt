@@ -1,6 +1,6 @@
 -- The fault of calls in words.
 use Rattle.std.specs.Prelude.{ℕ, List, [], ◌∷◌, codes}
-use Rattle.fault_words.specs.Words.{joined}
+use Rattle.list_views.specs.FaultWords.{joined}
 use Rattle.class_world.specs.Faults.{method_fields}
 use Rattle.call_graph.specs.declared.fault.CallFault.{CallFault}
 use Rattle.call_graph.specs.declared.fault.CallFault.TheVariants.{Recursive, Memory}

@@ -3,7 +3,7 @@ ghost use Rattle.std.specs.Prelude.{◌≡◌, IfOk};
 ghost use Rattle.call_graph.specs.Faults.{fault_name, fault_fields, fault_text};
 
 use class_world::MethodName;
-use fault_words::joined;
+use list_views::fault_words::joined;
 use list_views::Seq;
 use std::alloc::{AllocError, AllocFailed, Global};
 

@@ -1,6 +1,6 @@
 -- The faults of certificates in words.
 use Rattle.std.specs.Prelude.{ℕ, List, [], ◌∷◌, codes}
-use Rattle.fault_words.specs.Words.{joined, bytes_field}
+use Rattle.list_views.specs.FaultWords.{joined, bytes_field}
 use Rattle.json_view.specs.Faults.{fault_name as json_name, fault_fields as json_fields}
 use Rattle.cert_form.specs.declared.fault.CertFault.{CertFault}
 use Rattle.cert_form.specs.declared.fault.CertFault.TheVariants.{Json, Limit, Memory}

@@ -6,7 +6,7 @@
 ghost use Rattle.std.specs.Prelude.{◌≤◌, ◌^◌, length, IfOk};
 
 use check_call::Outcome;
-use fault_words::joined;
+use list_views::fault_words::joined;
 use fill_call::fill_line;
 use input_steps::{Refused, refusal_text};
 use io_ports::{FileFault, Files, RealFiles, Sink, StdSink};

@@ -1,6 +1,6 @@
 -- The causes of refused certificates in words.
 use Rattle.std.specs.Prelude.{ℕ, List, [], ◌∷◌, codes}
-use Rattle.fault_words.specs.Words.{joined, number_field}
+use Rattle.list_views.specs.FaultWords.{joined, number_field}
 use Rattle.lin_core.specs.declared.faults.LinFault.{LinFault}
 use Rattle.lin_core.specs.declared.faults.LinFault.TheVariants as lin
 use Rattle.descent.specs.declared.faults.DescentFault.{DescentFault}

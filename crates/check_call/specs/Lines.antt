@@ -1,7 +1,7 @@
 -- The outcomes of a check, with their lines.
 use Rattle.std.specs.Prelude.{ℕ, List, [], ◌∷◌, codes}
 use Rattle.std.specs.Fmt.{decimal}
-use Rattle.fault_words.specs.Words.{joined}
+use Rattle.list_views.specs.FaultWords.{joined}
 use Rattle.check_call.specs.declared.outcome.Outcome.{Outcome}
 
 -- `ACCEPTED` and a newline

@@ -3,7 +3,7 @@ ghost use Rattle.std.specs.Prelude.{◌≡◌, IfOk};
 ghost use Rattle.desc_steps.specs.Answers.{AnswersAs};
 ghost use Rattle.check_call.specs.Lines.{refused_line, accepted, refused_at};
 
-use fault_words::{joined, number};
+use list_views::fault_words::{joined, number};
 use input_steps::Refused;
 use list_views::Seq;
 use std::alloc::{AllocError, Global};

@@ -1,6 +1,6 @@
 -- The faults of pools in words.
 use Rattle.std.specs.Prelude.{ℕ, List, [], ◌∷◌, codes}
-use Rattle.fault_words.specs.Words.{joined, number_field}
+use Rattle.list_views.specs.FaultWords.{joined, number_field}
 use Rattle.class_pool.specs.declared.fault.PoolFault.{PoolFault}
 use Rattle.class_pool.specs.declared.fault.PoolFault.TheVariants.{Truncated, BadTag, BadUtf8, BadIndex, Memory}
 

@@ -4,7 +4,7 @@ ghost use Rattle.std.specs.Prelude.{◌≡◌, IfOk};
 ghost use Rattle.class_pool.specs.declared.fault.PoolFault.TheVariants.{Memory};
 ghost use Rattle.class_pool.specs.Faults.{fault_name, fault_fields, fault_text};
 
-use fault_words::{joined, number_field};
+use list_views::fault_words::{joined, number_field};
 use list_views::Seq;
 use std::alloc::{AllocError, AllocFailed, Global};
 

@@ -5,7 +5,7 @@ ghost use Rattle.class_read.specs.declared.fault.ClassFault.TheVariants.{Memory}
 ghost use Rattle.class_read.specs.Faults.{fault_name, fault_fields, fault_text};
 
 use class_pool::PoolFault;
-use fault_words::{joined, number_field};
+use list_views::fault_words::{joined, number_field};
 use list_views::Seq;
 use std::alloc::{AllocError, AllocFailed, Global};
 

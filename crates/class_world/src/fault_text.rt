@@ -4,7 +4,7 @@ ghost use Rattle.code_decode.specs.Faults.{pc_field};
 ghost use Rattle.class_world.specs.Faults.{fault_name, name_field, method_fields, fault_fields, fault_text};
 
 use crate::fault::{LinkFault, MethodName};
-use fault_words::{bytes_field, joined, number_field};
+use list_views::fault_words::{bytes_field, joined, number_field};
 use list_views::Seq;
 use std::alloc::{AllocError, Global};
 

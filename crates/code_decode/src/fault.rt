@@ -3,7 +3,7 @@ ghost use Rattle.std.specs.Prelude.{◌≡◌, IfOk};
 ghost use Rattle.code_decode.specs.declared.fault.CodeFault.TheVariants.{Memory};
 ghost use Rattle.code_decode.specs.Faults.{fault_name, pc_field, op_fields, fault_fields, fault_text};
 
-use fault_words::{joined, number_field};
+use list_views::fault_words::{joined, number_field};
 use list_views::Seq;
 use std::alloc::{AllocError, AllocFailed, Global};
 

@@ -1,7 +1,7 @@
 -- The line that says why an input is refused.
 use Rattle.std.specs.Prelude.{ℕ, List, [], ◌∷◌, ◌++◌, codes}
 use Rattle.std.specs.Fmt.{decimal}
-use Rattle.fault_words.specs.Words.{joined}
+use Rattle.list_views.specs.FaultWords.{joined}
 use Rattle.asm_lines.specs.Faults.{fault_text as listing_fault_text}
 use Rattle.class_read.specs.Faults.{fault_text as class_fault_text}
 use Rattle.class_world.specs.Faults.{fault_text as link_fault_text}

@@ -4,7 +4,7 @@ ghost use Rattle.input_steps.specs.Lines.{fault_text, place_text, refusal_line, 
 
 use crate::refused::{Fault, Place};
 use class_world::MethodName;
-use fault_words::joined;
+use list_views::fault_words::joined;
 use list_views::Seq;
 use std::alloc::{AllocError, Global};
 

@@ -1,6 +1,6 @@
 -- The faults of descriptions and states in words.
 use Rattle.std.specs.Prelude.{ℕ, List, [], ◌∷◌, codes}
-use Rattle.fault_words.specs.Words.{joined, number_field}
+use Rattle.list_views.specs.FaultWords.{joined, number_field}
 use Rattle.json_view.specs.Faults.{fault_name as json_name, fault_fields as json_fields}
 use Rattle.input_text.specs.declared.fault.DescFault.{DescFault}
 use Rattle.input_text.specs.declared.fault.DescFault.TheVariants.{Json, NoMethod, Abstract, ParamCount, ParamKind, EmptyInterval, UnknownType, BadPair, BadObject, StaticCount, Memory}

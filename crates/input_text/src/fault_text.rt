@@ -3,7 +3,7 @@ ghost use Rattle.std.specs.Prelude.{◌≡◌, IfOk};
 ghost use Rattle.input_text.specs.Faults.{fault_name, fault_fields, fault_text};
 
 use crate::fault::DescFault;
-use fault_words::{joined, number_field};
+use list_views::fault_words::{joined, number_field};
 use list_views::Seq;
 use std::alloc::{AllocError, Global};
 

@@ -1,6 +1,6 @@
 -- The faults of JSON values in words.
 use Rattle.std.specs.Prelude.{ℕ, List, [], ◌∷◌, codes}
-use Rattle.fault_words.specs.Words.{joined, bytes_field}
+use Rattle.list_views.specs.FaultWords.{joined, bytes_field}
 use Rattle.json_view.specs.declared.fault.JsonFault.{JsonFault}
 use Rattle.json_view.specs.declared.fault.JsonFault.TheVariants.{NotJson, WrongKind, MissingField, UnknownField, OutOfRange, Memory}
 

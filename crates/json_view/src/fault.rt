@@ -5,7 +5,7 @@ ghost use Rattle.json_view.specs.Faults.{fault_name, fault_fields, fault_text};
 ghost use Rattle.std.specs.Prelude.{◌≡◌, IfOk};
 
 use crate::place::Place;
-use fault_words::{bytes_field, joined};
+use list_views::fault_words::{bytes_field, joined};
 use list_views::Seq;
 use std::alloc::{AllocError, AllocFailed, Global};
 

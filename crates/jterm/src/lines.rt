@@ -2,7 +2,7 @@
 ghost use Rattle.std.specs.Prelude.{◌≡◌, IfOk};
 ghost use Rattle.jterm.specs.Lines.{usage_lines, memory_line, write_line, file_line, read_line, file_fault_text};
 
-use fault_words::joined;
+use list_views::fault_words::joined;
 use io_ports::FileFault;
 use list_views::Seq;
 use std::alloc::{AllocError, Global};

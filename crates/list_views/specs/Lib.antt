@@ -1,3 +1,4 @@
 pub mod Options
 pub mod Results
 pub mod ByteLists
+pub mod FaultWords

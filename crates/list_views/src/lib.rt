@@ -5,6 +5,7 @@
 #![tactic(auto)]
 
 mod bytes;
+pub mod fault_words;
 mod seq;
 mod stack;
 

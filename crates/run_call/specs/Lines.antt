@@ -2,7 +2,7 @@
 use Rattle.std.specs.Prelude.{ℕ, List, [], ◌∷◌, replicate, slice_get, Some, None, codes}
 use Rattle.std.specs.Fmt.{decimal, signed_decimal}
 use Rattle.std.specs.Option.{option_map_or}
-use Rattle.fault_words.specs.Words.{joined}
+use Rattle.list_views.specs.FaultWords.{joined}
 use Rattle.jvm_values.specs.declared.types.Kind.{Kind}
 use Rattle.jvm_values.specs.declared.types.Kind.TheVariants as kinds
 use Rattle.jvm_values.specs.declared.types.Base.{Base}

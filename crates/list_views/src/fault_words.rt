@@ -1,12 +1,11 @@
 //! How faults are put into words: a name, and then each field as ` name=value`. The names in class files are bytes that
 //! need not be text, so all words are lists of bytes.
-#![tactic(auto)]
 
 ghost use Rattle.std.specs.Prelude.{◌≡◌, IfOk, map, string_bytes};
 ghost use Rattle.std.specs.Fmt.{decimal};
-ghost use Rattle.fault_words.specs.Words.{joined, number_field, bytes_field};
+ghost use Rattle.list_views.specs.FaultWords.{joined, number_field, bytes_field};
 
-use list_views::Seq;
+use crate::seq::Seq;
 use std::alloc::{AllocError, Global};
 
 /// The pieces, one behind the other.
