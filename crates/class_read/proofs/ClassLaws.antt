@@ -18,7 +18,7 @@ use Rattle.class_read.specs.Content.{ClassContent}
 use Rattle.class_read.specs.Reading.{Read, ◌>>=◌, pure, place}
 use Rattle.class_read.specs.Text.{u2, counted, attr_text, member_text, magic_number, class_bytes}
 use Rattle.class_read.specs.Rules.{IsClass, name_of, WellFormed, is_read_major, field_of, method_of, skipped_of, skipped_in, content_of, Spells}
-use Rattle.class_read.specs.FirstFault.{interfaces_at, pool_read, pool_field_at, end_at, body_at, file_at, whole_at, without_rest, class_in}
+use Rattle.class_read.specs.FirstFault.{interfaces_at, pool_read, pool_field_at, end_at, lists_at, body_at, file_at, whole_at, without_rest, class_in}
 use Rattle.class_read.proofs.Exact.{IsBytes, IsBytes-drop, Exact, then_exact, made_exact, told_exact, passing_exact, u2_exact, u4_exact, listed_exact, bind_ok, tested_ok, parts_of}
 use Rattle.class_read.proofs.AttributeLaws.{class_exact, AreOthers, others_exact}
 use Rattle.class_read.proofs.MemberLaws.{AreFields, AreMethods, fields_exact, methods_exact}
@@ -86,7 +86,7 @@ body_content major pool b = record {
 }
 
 body_exact : (total major : ℕ) (pool : List PoolEntry) → Exact (body_at total major pool) body_text (IsBody pool) (body_content major pool)
-unfolding body_at
+unfolding body_at lists_at
 body_exact total major pool =
     then_exact (u2_exact total) (λ flags. then_exact (class_exact total pool) (λ name. then_exact (class_exact total pool) (λ super_name. then_exact (interfaces_exact total pool) (λ interfaces.
     then_exact (fields_exact total pool) (λ fields. then_exact (methods_exact total pool) (λ methods.

@@ -202,12 +202,9 @@ interfaces_at total pool = do
 abbrev pub end_at : ℕ → List ℕ → Read (Unit {0})
 end_at total bytes = holding (length bytes == 0) TrailingBytes total bytes
 
--- what follows the pool, in a file of this major
-unfoldable pub body_at : ℕ → ℕ → List PoolEntry → List ℕ → Read ClassContent
-body_at total major pool = do
-  flags ← u2_at total
-  name ← class_index_at total pool
-  super_name ← class_index_at total pool
+-- the lists of a class that says this before them
+unfoldable pub lists_at : ℕ → List PoolEntry → ℕ → ℕ → List ℕ → List ℕ → List ℕ → Read ClassContent
+lists_at total pool major flags name super_name = do
   interfaces ← interfaces_at total pool
   fields ← fields_at total pool
   methods ← methods_at total pool
@@ -223,6 +220,14 @@ body_at total major pool = do
     pool = pool;
     skipped = fields.1 + methods.1 + skipped;
   })
+
+-- what follows the pool, in a file of this major
+unfoldable pub body_at : ℕ → ℕ → List PoolEntry → List ℕ → Read ClassContent
+body_at total major pool = do
+  flags ← u2_at total
+  name ← class_index_at total pool
+  super_name ← class_index_at total pool
+  lists_at total pool major flags name super_name
 
 -- The constant pool, by the reading of pools.
 abbrev pub pool_read : Result (List PoolEntry × Unread) PoolFault → Read (List PoolEntry)

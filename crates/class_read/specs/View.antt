@@ -1,10 +1,13 @@
 -- Members and codes where they stand in the file are seen as their contents.
-use Rattle.std.specs.Prelude.{ℕ, Option, Some, None}
+use Rattle.std.specs.Prelude.{ℕ, List, map, Option, Some, None}
+use Rattle.class_pool.specs.declared.entry.PoolEntry.{PoolEntry}
 use Rattle.class_read.specs.declared.view.FieldView.{FieldView}
 use Rattle.class_read.specs.declared.view.MethodView.{MethodView}
 use Rattle.class_read.specs.declared.view.CodeView.{CodeView}
 use Rattle.class_read.specs.declared.method.Found.{Found}
-use Rattle.class_read.specs.Content.{FieldContent, MethodContent, CodeContent}
+use Rattle.class_read.specs.declared.view.Front.{Front}
+use Rattle.class_read.specs.declared.view.Lists.{Lists}
+use Rattle.class_read.specs.Content.{FieldContent, MethodContent, CodeContent, ClassContent}
 
 abbrev pub field_content : FieldView → FieldContent
 field_content f = record { flags = f.flags; name = f.name.now; desc = f.desc.now }
@@ -22,3 +25,17 @@ method_content m = record { flags = m.flags; name = m.name.now; desc = m.desc.no
 -- the code that was found so far, and how many attributes are no code
 abbrev pub found_content : Found → Option CodeContent × ℕ
 found_content f = (code_contents f.code, f.skipped)
+
+-- the class of what its file says
+abbrev pub class_content : List PoolEntry → Front → Lists → ClassContent
+class_content pool front lists = record {
+  major = front.major;
+  flags = front.flags;
+  name = front.name.now;
+  super_name = front.super_name.now;
+  interfaces = map (λ i. i.now) lists.interfaces;
+  fields = map field_content lists.fields;
+  methods = map method_content lists.methods;
+  pool = pool;
+  skipped = lists.skipped;
+}

@@ -139,77 +139,87 @@ fn method<'a>(
 }
 
 fn field_times<'a>(
-    alloc: Global,
     total: usize,
     pool: &KnownPool<'a>,
+    seen: &mut SeenMembers,
+    fields: &mut Seq<FieldView<'a>>,
     count: u16,
     bytes: &'a [u8],
-) -> Result<((Seq<FieldView<'a>>, u64), &'a [u8]), ClassFault>
-    ensures fields { Gives (λ x. ((map field_content x.0.0, x.0.1), x.1.now)) result (repeated (more_fields_at total pool.now) count ([], 0) bytes.now) }
-    ensures small { IfOk result (λ x. x.0.1 < 2 ^ 48) }
+) -> Result<(u64, &'a [u8]), ClassFault>
+    requires seen { seen.old ≡ [] }
+    requires fields { fields.old ≡ [] }
+    ensures fields { Gives (λ x. ((map field_content fields.new, x.0), x.1.now)) result (repeated (more_fields_at total pool.now) count ([], 0) bytes.now) }
+    ensures small { IfOk result (λ x. x.0 < 2 ^ 48) }
 {
-    let mut seen = SeenMembers::new(alloc);
-    let mut fields = Seq::new(alloc);
     let mut skipped = 0;
     let mut rest = bytes;
     'fields: for _ in 0..count {
-        let ((more, attributes), after) = field(total, pool, &mut seen, rest)?;
+        let ((more, attributes), after) = field(total, pool, seen, rest)?;
         fields.push(more)?;
         skipped += attributes;
         rest = after;
     }
-    Ok(((fields, skipped), rest))
+    Ok((skipped, rest))
 }
 
-/// The fields of a class, and how many attributes they have.
+/// The fields of a class, into a list that is empty before, and how many attributes they have.
 #[tactic(auto, unfolding(crate::specs::FirstFault::fields_at))]
 pub(crate) fn fields<'a>(
     alloc: Global,
     total: usize,
     pool: &KnownPool<'a>,
+    fields: &mut Seq<FieldView<'a>>,
     bytes: &'a [u8],
-) -> Result<((Seq<FieldView<'a>>, u64), &'a [u8]), ClassFault>
-    ensures fields { Gives (λ x. ((map field_content x.0.0, x.0.1), x.1.now)) result (fields_at total pool.now bytes.now) }
-    ensures small { IfOk result (λ x. x.0.1 < 2 ^ 48) }
+) -> Result<(u64, &'a [u8]), ClassFault>
+    requires { fields.old ≡ [] }
+    ensures fields { Gives (λ x. ((map field_content fields.new, x.0), x.1.now)) result (fields_at total pool.now bytes.now) }
+    ensures small { IfOk result (λ x. x.0 < 2 ^ 48) }
 {
     let (count, rest) = u2(total, bytes)?;
-    field_times(alloc, total, pool, count, rest)
+    let mut seen = SeenMembers::new(alloc);
+    field_times(total, pool, &mut seen, fields, count, rest)
 }
 
 fn method_times<'a>(
     alloc: Global,
     total: usize,
     pool: &KnownPool<'a>,
+    seen: &mut SeenMembers,
+    methods: &mut Seq<MethodView<'a>>,
     count: u16,
     bytes: &'a [u8],
-) -> Result<((Seq<MethodView<'a>>, u64), &'a [u8]), ClassFault>
-    ensures methods { Gives (λ x. ((map method_content x.0.0, x.0.1), x.1.now)) result (repeated (more_methods_at total pool.now) count ([], 0) bytes.now) }
-    ensures small { IfOk result (λ x. x.0.1 < 2 ^ 48) }
+) -> Result<(u64, &'a [u8]), ClassFault>
+    requires seen { seen.old ≡ [] }
+    requires methods { methods.old ≡ [] }
+    ensures methods { Gives (λ x. ((map method_content methods.new, x.0), x.1.now)) result (repeated (more_methods_at total pool.now) count ([], 0) bytes.now) }
+    ensures small { IfOk result (λ x. x.0 < 2 ^ 48) }
 {
-    let mut seen = SeenMembers::new(alloc);
-    let mut methods = Seq::new(alloc);
     let mut skipped = 0;
     let mut rest = bytes;
     'methods: for _ in 0..count {
-        let ((more, attributes), after) = method(alloc, total, pool, &mut seen, rest)?;
+        let ((more, attributes), after) = method(alloc, total, pool, seen, rest)?;
         methods.push(more)?;
         skipped += attributes;
         rest = after;
     }
-    Ok(((methods, skipped), rest))
+    Ok((skipped, rest))
 }
 
-/// The methods of a class, and how many of their attributes and of their codes' attributes are no code.
+/// The methods of a class, into a list that is empty before, and how many of their attributes and of their codes'
+/// attributes are no code.
 #[tactic(auto, unfolding(crate::specs::FirstFault::methods_at))]
 pub(crate) fn methods<'a>(
     alloc: Global,
     total: usize,
     pool: &KnownPool<'a>,
+    methods: &mut Seq<MethodView<'a>>,
     bytes: &'a [u8],
-) -> Result<((Seq<MethodView<'a>>, u64), &'a [u8]), ClassFault>
-    ensures methods { Gives (λ x. ((map method_content x.0.0, x.0.1), x.1.now)) result (methods_at total pool.now bytes.now) }
-    ensures small { IfOk result (λ x. x.0.1 < 2 ^ 48) }
+) -> Result<(u64, &'a [u8]), ClassFault>
+    requires { methods.old ≡ [] }
+    ensures methods { Gives (λ x. ((map method_content methods.new, x.0), x.1.now)) result (methods_at total pool.now bytes.now) }
+    ensures small { IfOk result (λ x. x.0 < 2 ^ 48) }
 {
     let (count, rest) = u2(total, bytes)?;
-    method_times(alloc, total, pool, count, rest)
+    let mut seen = SeenMembers::new(alloc);
+    method_times(alloc, total, pool, &mut seen, methods, count, rest)
 }

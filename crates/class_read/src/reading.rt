@@ -4,15 +4,16 @@ ghost use Rattle.std.specs.Prelude.{◌≡◌, ◌<◌, ◌+◌, ℕ, List, [], 
 ghost use Rattle.list_views.specs.ByteLists.{IsBytes};
 ghost use Rattle.class_read.specs.Reading.{Gives, repeated, collected};
 ghost use Rattle.class_read.specs.Content.{ClassContent};
+ghost use Rattle.class_read.specs.View.{class_content};
 ghost use Rattle.class_read.specs.Rules.{is_read_major, Spells};
-ghost use Rattle.class_read.specs.FirstFault.{class_index_at, interfaces_at, magic_at, major_at, of_pool, IsEnd, pool_field_at, end_at, body_at, file_at, whole_at, class_in};
+ghost use Rattle.class_read.specs.FirstFault.{class_index_at, interfaces_at, magic_at, major_at, of_pool, IsEnd, pool_field_at, end_at, lists_at, body_at, file_at, class_in};
 
 use crate::attribute::{attributes, class_index};
 use crate::fault::ClassFault;
 use crate::field::{place, u2, u4};
 use crate::known::KnownPool;
 use crate::member::{fields, methods};
-use crate::view::ClassView;
+use crate::view::{ClassView, Front, Lists, class_view};
 use class_pool::{Pool, PoolFault};
 use list_views::Seq;
 use std::alloc::Global;
@@ -46,35 +47,36 @@ fn major(total: usize, bytes: &[u8]) -> Result<(u16, &[u8]), ClassFault>
 }
 
 fn interface_times<'a>(
-    alloc: Global,
     total: usize,
     pool: &KnownPool<'a>,
+    interfaces: &mut Seq<&'a [u8]>,
     count: u16,
     bytes: &'a [u8],
-) -> Result<(Seq<&'a [u8]>, &'a [u8]), ClassFault>
-    ensures { Gives (λ x. (map (λ i. i.now) x.0, x.1.now)) result (repeated (collected (class_index_at total pool.now)) count [] bytes.now) }
+) -> Result<&'a [u8], ClassFault>
+    ensures { Gives (λ x. (map (λ i. i.now) interfaces.new, x.now)) result (repeated (collected (class_index_at total pool.now)) count (map (λ i. i.now) interfaces.old) bytes.now) }
 {
-    let mut interfaces = Seq::new(alloc);
     let mut rest = bytes;
     'interfaces: for _ in 0..count {
         let (name, after) = class_index(total, pool, rest)?;
         interfaces.push(name)?;
         rest = after;
     }
-    Ok((interfaces, rest))
+    Ok(rest)
 }
 
+/// The names of the interfaces, into a list that is empty before.
 #[tactic(auto, unfolding(crate::specs::FirstFault::interfaces_at))]
 fn interfaces<'a>(
-    alloc: Global,
     total: usize,
     pool: &KnownPool<'a>,
+    interfaces: &mut Seq<&'a [u8]>,
     bytes: &'a [u8],
-) -> Result<(Seq<&'a [u8]>, &'a [u8]), ClassFault>
-    ensures { Gives (λ x. (map (λ i. i.now) x.0, x.1.now)) result (interfaces_at total pool.now bytes.now) }
+) -> Result<&'a [u8], ClassFault>
+    requires { interfaces.old ≡ [] }
+    ensures { Gives (λ x. (map (λ i. i.now) interfaces.new, x.now)) result (interfaces_at total pool.now bytes.now) }
 {
     let (count, rest) = u2(total, bytes)?;
-    interface_times(alloc, total, pool, count, rest)
+    interface_times(total, pool, interfaces, count, rest)
 }
 
 fn of_pool(fault: PoolFault) -> ClassFault
@@ -115,8 +117,58 @@ fn end(total: usize, bytes: &[u8]) -> Result<&[u8], ClassFault>
     Ok(bytes)
 }
 
-/// What follows the pool.
+/// The lists of a class into `lists`, which are empty before, and how many attributes are no code.
+#[tactic(auto, unfolding(crate::specs::FirstFault::lists_at))]
+fn put_lists<'a>(
+    alloc: Global,
+    total: usize,
+    pool: &KnownPool<'a>,
+    front: Front<'a>,
+    lists: &mut Lists<'a>,
+    bytes: &'a [u8],
+) -> Result<&'a [u8], ClassFault>
+    requires interfaces { lists.old.interfaces ≡ [] }
+    requires fields { lists.old.fields ≡ [] }
+    requires methods { lists.old.methods ≡ [] }
+    ensures { Gives (λ x. (class_content pool.now front.entry lists.new, x.now)) result (lists_at total pool.now front.entry.major front.entry.flags front.entry.name.now front.entry.super_name.now bytes.now) }
+{
+    let rest = interfaces(total, pool, &mut lists.interfaces, bytes)?;
+    let (of_fields, rest) = fields(alloc, total, pool, &mut lists.fields, rest)?;
+    let (of_methods, rest) = methods(alloc, total, pool, &mut lists.methods, rest)?;
+    let (of_class, rest) = attributes(total, pool, rest)?;
+    lists.skipped = of_fields + of_methods + u64::from(of_class);
+    Ok(rest)
+}
+
+/// What follows the pool: what stands before the lists, and these into `lists`, which are empty before.
 #[tactic(auto, unfolding(crate::specs::FirstFault::body_at))]
+fn parts<'a>(
+    alloc: Global,
+    total: usize,
+    major: u16,
+    pool: &KnownPool<'a>,
+    lists: &mut Lists<'a>,
+    bytes: &'a [u8],
+) -> Result<(Front<'a>, &'a [u8]), ClassFault>
+    requires interfaces { lists.old.interfaces ≡ [] }
+    requires fields { lists.old.fields ≡ [] }
+    requires methods { lists.old.methods ≡ [] }
+    ensures { Gives (λ x. (class_content pool.now x.0 lists.new, x.1.now)) result (body_at total major pool.now bytes.now) }
+{
+    let (flags, rest) = u2(total, bytes)?;
+    let (name, rest) = class_index(total, pool, rest)?;
+    let (super_name, rest) = class_index(total, pool, rest)?;
+    let front = Front {
+        major,
+        flags,
+        name,
+        super_name,
+    };
+    let rest = put_lists(alloc, total, pool, front, lists, rest)?;
+    Ok((front, rest))
+}
+
+/// What follows the pool.
 fn body<'a>(
     alloc: Global,
     total: usize,
@@ -126,25 +178,9 @@ fn body<'a>(
 ) -> Result<(ClassView<'a>, &'a [u8]), ClassFault>
     ensures { Gives (λ x. (x.0, x.1.now)) result (body_at total major pool.entry bytes.now) }
 {
-    let (flags, rest) = u2(total, bytes)?;
-    let (name, rest) = class_index(total, &pool, rest)?;
-    let (super_name, rest) = class_index(total, &pool, rest)?;
-    let (interfaces, rest) = interfaces(alloc, total, &pool, rest)?;
-    let ((fields, of_fields), rest) = fields(alloc, total, &pool, rest)?;
-    let ((methods, of_methods), rest) = methods(alloc, total, &pool, rest)?;
-    let (of_class, rest) = attributes(total, &pool, rest)?;
-    let class = ClassView {
-        major,
-        flags,
-        name,
-        super_name,
-        interfaces,
-        fields,
-        methods,
-        pool: pool.into_pool(),
-        skipped: of_fields + of_methods + u64::from(of_class),
-    };
-    Ok((class, rest))
+    let mut lists = Lists::new(alloc);
+    let (front, rest) = parts(alloc, total, major, &pool, &mut lists, bytes)?;
+    Ok((class_view(front, lists, pool.into_pool()), rest))
 }
 
 #[tactic(auto, unfolding(crate::specs::FirstFault::file_at))]
@@ -160,20 +196,13 @@ fn file<'a>(alloc: Global, bytes: &'a [u8]) -> Result<(ClassView<'a>, &'a [u8]),
     body(alloc, total, major, pool, rest)
 }
 
-#[tactic(auto, unfolding(crate::specs::FirstFault::whole_at))]
-fn whole<'a>(alloc: Global, bytes: &'a [u8]) -> Result<(ClassView<'a>, &'a [u8]), ClassFault>
-    ensures { Gives (λ x. (x.0, x.1.now)) result (whole_at (length bytes.now) bytes.now) }
-{
-    let (class, rest) = file(alloc, bytes)?;
-    let rest = end(bytes.len(), rest)?;
-    Ok((class, rest))
-}
-
-#[tactic(auto, unfolding(crate::specs::FirstFault::class_in))]
+/// A whole file, and no byte after it.
+#[tactic(auto, unfolding(crate::specs::FirstFault::class_in, crate::specs::FirstFault::whole_at))]
 fn class<'a>(alloc: Global, bytes: &'a [u8]) -> Result<ClassView<'a>, ClassFault>
     ensures { Gives (λ c. c) result (class_in bytes.now) }
 {
-    let (class, _) = whole(alloc, bytes)?;
+    let (class, rest) = file(alloc, bytes)?;
+    end(bytes.len(), rest)?;
     Ok(class)
 }
 

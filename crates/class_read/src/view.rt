@@ -1,8 +1,12 @@
 //! The content of a class file, with names and code as slices of the file.
 
+ghost use Rattle.std.specs.Prelude.{◌≡◌, []};
+ghost use Rattle.class_read.specs.View.{class_content};
+
 use class_base::Handler;
 use class_pool::Pool;
 use list_views::Seq;
+use std::alloc::Global;
 use std::marker::Model;
 
 /// A class as its file says it. Its value is the content alone: the bytes of names, descriptors and code, and the pool's
@@ -66,6 +70,48 @@ pub struct CodeView<'a> {
     pub table: Seq<Handler>,
 }
 
+/// What a class file says before its lists.
+#[derive(Clone, Copy)]
+pub(crate) struct Front<'a> {
+    /// The major version of the file.
+    pub major: u16,
+    /// The access flags.
+    pub flags: u16,
+    /// The name of the class.
+    pub name: &'a [u8],
+    /// The name of the superclass.
+    pub super_name: &'a [u8],
+}
+
+/// The lists of a class file as far as they are read.
+#[derive(Drop)]
+pub(crate) struct Lists<'a> {
+    /// The names of the interfaces.
+    pub interfaces: Seq<&'a [u8]>,
+    /// The fields in file order.
+    pub fields: Seq<FieldView<'a>>,
+    /// The methods in file order.
+    pub methods: Seq<MethodView<'a>>,
+    /// How many attributes of the file are no method's `Code`.
+    pub skipped: u64,
+}
+
+impl<'a> Lists<'a> {
+    /// Lists that are empty.
+    pub(crate) fn new(alloc: Global) -> Lists<'a>
+        ensures interfaces { result.interfaces ≡ [] }
+        ensures fields { result.fields ≡ [] }
+        ensures methods { result.methods ≡ [] }
+    {
+        Lists {
+            interfaces: Seq::new(alloc),
+            fields: Seq::new(alloc),
+            methods: Seq::new(alloc),
+            skipped: 0,
+        }
+    }
+}
+
 impl<'a> Model for ClassView<'a> {
     ghost use Rattle.class_read.specs.Content.{ClassContent};
 
@@ -85,4 +131,21 @@ impl<'a> Model for ClassView<'a> {
       pool = c.pool;
       skipped = c.skipped;
     } };
+}
+
+/// The class of what its file says.
+pub(crate) fn class_view<'a>(front: Front<'a>, lists: Lists<'a>, pool: Pool<'a>) -> ClassView<'a>
+    ensures { result ≡ class_content pool.entry front.entry lists.entry }
+{
+    ClassView {
+        major: front.major,
+        flags: front.flags,
+        name: front.name,
+        super_name: front.super_name,
+        interfaces: lists.interfaces,
+        fields: lists.fields,
+        methods: lists.methods,
+        pool,
+        skipped: lists.skipped,
+    }
 }
