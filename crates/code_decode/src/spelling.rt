@@ -8,7 +8,7 @@ use crate::insn::{Case, Insn};
 use list_views::Seq;
 
 /// The opcode of an instruction and its operands. The first number of each form is the opcode.
-#[derive(Drop)]
+#[derive(Clone, Copy)]
 pub enum SpellingView<'a> {
     /// No operands.
     Plain(u8),

@@ -1,5 +1,5 @@
 //! Writing a code.
-ghost use Rattle.std.specs.Prelude.{◌≡◌, ◌++◌, ◌∷◌, ◌<◌, ◌-◌, pos, ◌+ℤ◌, OnOk, IfOk, Ok};
+ghost use Rattle.std.specs.Prelude.{◌≡◌, ◌++◌, ◌∷◌, [], ◌<◌, ◌-◌, pos, ◌+ℤ◌, OnOk, IfOk, Ok};
 ghost use Rattle.std.specs.Int.{w16, w32, to_be_bytes};
 ghost use Rattle.std.specs.Int.RustNames.{FitsSigned};
 ghost use Rattle.std.specs.List.{flat_map};
@@ -123,16 +123,14 @@ fn put_lookup(out: &mut Vec<u8>, pc: u16, default: u16, cases: &[Case]) -> Resul
     put_zeros(out, padding_of(pc))?;
     put_target(out, pc, default)?;
     put_word(out, cases.len() as u32)?;
-    put_cases(out, pc, cases)?;
-    Ok(())
+    put_cases(out, pc, cases)
 }
 
 fn put_far_jump(out: &mut Vec<u8>, op: u8, pc: u16, target: u16) -> Result<(), AllocError>
     ensures { OnOk result (out.new.items ≡ out.old.items ++ op ∷ signed w32 (distance pc target)) }
 {
     out.push(op)?;
-    put_target(out, pc, target)?;
-    Ok(())
+    put_target(out, pc, target)
 }
 
 fn put_table_insn(
@@ -147,8 +145,7 @@ fn put_table_insn(
     ensures { OnOk result (out.new.items ≡ out.old.items ++ op ∷ table_text pc (zeros (padding_of pc)) default low.now targets.now) }
 {
     out.push(op)?;
-    put_table(out, pc, default, low, targets)?;
-    Ok(())
+    put_table(out, pc, default, low, targets)
 }
 
 fn put_lookup_insn(
@@ -162,16 +159,14 @@ fn put_lookup_insn(
     ensures { OnOk result (out.new.items ≡ out.old.items ++ op ∷ lookup_text pc (zeros (padding_of pc)) default cases.now) }
 {
     out.push(op)?;
-    put_lookup(out, pc, default, cases)?;
-    Ok(())
+    put_lookup(out, pc, default, cases)
 }
 
 fn put_wide_local(out: &mut Vec<u8>, op: u8, local: u16) -> Result<(), AllocError>
     ensures { OnOk result (out.new.items ≡ out.old.items ++ 196 ∷ op ∷ to_be_bytes w16 local) }
 {
     out.extend_from_slice(&[WIDE, op])?;
-    put_pair(out, local)?;
-    Ok(())
+    put_pair(out, local)
 }
 
 fn put_wide_increment(out: &mut Vec<u8>, op: u8, local: u16, value: &i16) -> Result<(), AllocError>
@@ -179,8 +174,42 @@ fn put_wide_increment(out: &mut Vec<u8>, op: u8, local: u16, value: &i16) -> Res
 {
     out.extend_from_slice(&[WIDE, op])?;
     put_pair(out, local)?;
-    put_signed_pair(out, value)?;
-    Ok(())
+    put_signed_pair(out, value)
+}
+
+fn put_byte(out: &mut Vec<u8>, number: u8) -> Result<(), AllocError>
+    ensures { OnOk result (out.new.items ≡ out.old.items ++ number ∷ []) }
+{
+    Ok(out.push(number)?)
+}
+
+fn put_pair_insn(out: &mut Vec<u8>, op: u8, number: u16) -> Result<(), AllocError>
+    ensures { OnOk result (out.new.items ≡ out.old.items ++ op ∷ to_be_bytes w16 number) }
+{
+    out.push(op)?;
+    put_pair(out, number)
+}
+
+fn put_signed_pair_insn(out: &mut Vec<u8>, op: u8, value: &i16) -> Result<(), AllocError>
+    ensures { OnOk result (out.new.items ≡ out.old.items ++ op ∷ signed w16 value.now) }
+{
+    out.push(op)?;
+    put_signed_pair(out, value)
+}
+
+fn put_near_jump(out: &mut Vec<u8>, op: u8, pc: u16, target: u16) -> Result<(), AllocError>
+    requires { Reaches w16 pc target }
+    ensures { OnOk result (out.new.items ≡ out.old.items ++ op ∷ signed w16 (distance pc target)) }
+{
+    out.push(op)?;
+    put_near_target(out, pc, target)
+}
+
+fn put_interface(out: &mut Vec<u8>, op: u8, entry: u16, count: u8) -> Result<(), AllocError>
+    ensures { OnOk result (out.new.items ≡ out.old.items ++ op ∷ (to_be_bytes w16 entry ++ count ∷ 0 ∷ [])) }
+{
+    put_pair_insn(out, op, entry)?;
+    out.extend_from_slice(&[count, 0])
 }
 
 fn put_spelling(out: &mut Vec<u8>, pc: u16, spelling: SpellingView<'_>) -> Result<(), AllocError>
@@ -188,43 +217,27 @@ fn put_spelling(out: &mut Vec<u8>, pc: u16, spelling: SpellingView<'_>) -> Resul
     ensures { OnOk result (out.new.items ≡ out.old.items ++ spelling_text pc (zeros (padding_of pc)) (shown spelling.entry)) }
 {
     match spelling {
-        SpellingView::Plain(op) => out.push(op)?,
-        SpellingView::Byte(op, number) => out.extend_from_slice(&[op, number])?,
-        SpellingView::Pair(op, number) => {
-            out.push(op)?;
-            put_pair(out, number)?;
-        }
-        SpellingView::SignedByte(op, value) => out.extend_from_slice(&[op, value.cast_unsigned()])?,
-        SpellingView::SignedPair(op, value) => {
-            out.push(op)?;
-            put_signed_pair(out, &value)?;
-        }
-        SpellingView::Jump(op, target) => {
-            out.push(op)?;
-            put_near_target(out, pc, target)?;
-        }
-        SpellingView::FarJump(op, target) => put_far_jump(out, op, pc, target)?,
+        SpellingView::Plain(op) => put_byte(out, op),
+        SpellingView::Byte(op, number) => out.extend_from_slice(&[op, number]),
+        SpellingView::Pair(op, number) => put_pair_insn(out, op, number),
+        SpellingView::SignedByte(op, value) => out.extend_from_slice(&[op, value.cast_unsigned()]),
+        SpellingView::SignedPair(op, value) => put_signed_pair_insn(out, op, &value),
+        SpellingView::Jump(op, target) => put_near_jump(out, op, pc, target),
+        SpellingView::FarJump(op, target) => put_far_jump(out, op, pc, target),
         SpellingView::Increment(op, local, value) => {
-            out.extend_from_slice(&[op, local, value.cast_unsigned()])?;
+            out.extend_from_slice(&[op, local, value.cast_unsigned()])
         }
         SpellingView::Table(op, default, low, targets) => {
-            put_table_insn(out, op, pc, default, &low, targets.as_slice())?;
+            put_table_insn(out, op, pc, default, &low, targets.as_slice())
         }
         SpellingView::Lookup(op, default, cases) => {
-            put_lookup_insn(out, op, pc, default, cases.as_slice())?;
+            put_lookup_insn(out, op, pc, default, cases.as_slice())
         }
-        SpellingView::Interface(op, entry, count) => {
-            out.push(op)?;
-            put_pair(out, entry)?;
-            out.extend_from_slice(&[count, 0])?;
-        }
-        SpellingView::Array(op, code) => out.extend_from_slice(&[op, code])?,
-        SpellingView::WideLocal(op, local) => put_wide_local(out, op, local)?,
-        SpellingView::WideIncrement(op, local, value) => put_wide_increment(
-            out, op, local, &value,
-        )?,
+        SpellingView::Interface(op, entry, count) => put_interface(out, op, entry, count),
+        SpellingView::Array(op, code) => out.extend_from_slice(&[op, code]),
+        SpellingView::WideLocal(op, local) => put_wide_local(out, op, local),
+        SpellingView::WideIncrement(op, local, value) => put_wide_increment(out, op, local, &value),
     }
-    Ok(())
 }
 
 /// Puts the bytes of one instruction, which stands at `pc`, behind those in `out`; padding is zero bytes.
