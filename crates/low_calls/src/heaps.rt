@@ -44,6 +44,33 @@ fn region_of(alloc: Global, heap: &Heap, value: Value) -> Result<Option<Seq<u32>
     }
 }
 
+/// Whether the values have these shapes.
+fn have_shapes(
+    alloc: Global,
+    heap: &Heap,
+    wanted: &[(Value, Option<Shape>)],
+) -> Result<bool, AllocError> {
+    for (value, shape) in wanted {
+        if shape_of(alloc, heap, *value)? != *shape {
+            return Ok(false);
+        }
+    }
+    Ok(true)
+}
+
+/// Whether the value's region is these numbers.
+fn has_region(
+    alloc: Global,
+    heap: &Heap,
+    value: Value,
+    numbers: &[u32],
+) -> Result<bool, AllocError> {
+    match &region_of(alloc, heap, value)? {
+        Some(found) => Ok(found.as_slice() == numbers),
+        None => Ok(false),
+    }
+}
+
 /// Three instances, of which the first two name each other and the third names nothing.
 fn ring(alloc: Global) -> Result<Heap, AllocError> {
     heap_of(
@@ -56,50 +83,64 @@ fn ring(alloc: Global) -> Result<Heap, AllocError> {
     )
 }
 
+/// The shapes of the values of a ring: none for what is in the cycle, and a tree for what it leaves out.
+static IN_RING: [(Value, Option<Shape>); 5] = [
+    (Value::Ref(0), Some(Shape::Any)),
+    (Value::Ref(1), Some(Shape::Any)),
+    (Value::Ref(2), Some(Shape::Tree)),
+    (Value::Null, Some(Shape::Tree)),
+    (Value::Ref(3), None),
+];
+
 #[test]
 fn a_cycle_has_no_shape(rt: HostRuntime) -> Result<(), Fail> {
     let heap = ring(rt.alloc())?;
-    assert!(rt; shape_of(rt.alloc(), &heap, Value::Ref(0))? == Some(Shape::Any));
-    assert!(rt; shape_of(rt.alloc(), &heap, Value::Ref(1))? == Some(Shape::Any));
-    assert!(rt; tree_of(rt.alloc(), &heap, Value::Ref(1))? == Some(false));
+    assert!(rt; have_shapes(rt.alloc(), &heap, &IN_RING)?);
     Ok(())
 }
 
 #[test]
-fn what_a_cycle_leaves_out_is_a_tree(rt: HostRuntime) -> Result<(), Fail> {
+fn a_cycle_is_no_tree(rt: HostRuntime) -> Result<(), Fail> {
     let heap = ring(rt.alloc())?;
-    assert!(rt; shape_of(rt.alloc(), &heap, Value::Ref(2))? == Some(Shape::Tree));
-    assert!(rt; shape_of(rt.alloc(), &heap, Value::Null)? == Some(Shape::Tree));
-    assert!(rt; shape_of(rt.alloc(), &heap, Value::Ref(3))? == None);
+    assert!(rt; tree_of(rt.alloc(), &heap, Value::Ref(1))? == Some(false));
     Ok(())
+}
+
+/// Whether the regions of a ring are what is reached in it.
+fn has_regions(alloc: Global, heap: &Heap) -> Result<bool, AllocError> {
+    if !has_region(alloc, heap, Value::Ref(0), &[0, 1])? {
+        return Ok(false);
+    }
+    has_region(alloc, heap, Value::Ref(2), &[2])
 }
 
 #[test]
 fn a_region_is_what_is_reached(rt: HostRuntime) -> Result<(), Fail> {
     let heap = ring(rt.alloc())?;
-    match region_of(rt.alloc(), &heap, Value::Ref(0))? {
-        Some(numbers) => assert!(rt; numbers.as_slice() == [0, 1].as_slice()),
-        None => assert!(rt; false),
-    }
-    match region_of(rt.alloc(), &heap, Value::Ref(2))? {
-        Some(numbers) => assert!(rt; numbers.as_slice() == [2].as_slice()),
-        None => assert!(rt; false),
-    }
+    assert!(rt; has_regions(rt.alloc(), &heap)?);
     Ok(())
 }
 
-#[test]
-fn what_is_named_twice_is_no_tree(rt: HostRuntime) -> Result<(), Fail> {
-    let heap = heap_of(
-        rt.alloc(),
+/// Three instances, of which the first names the others, and the second the third.
+fn named_twice(alloc: Global) -> Result<Heap, AllocError> {
+    heap_of(
+        alloc,
         &[
             [Value::Ref(1), Value::Ref(2)],
             [Value::Ref(2), Value::Null],
             [Value::Null, Value::Null],
         ],
-    )?;
-    assert!(rt; shape_of(rt.alloc(), &heap, Value::Ref(0))? == Some(Shape::Dag));
-    assert!(rt; shape_of(rt.alloc(), &heap, Value::Ref(1))? == Some(Shape::Tree));
+    )
+}
+
+#[test]
+fn what_is_named_twice_is_no_tree(rt: HostRuntime) -> Result<(), Fail> {
+    let heap = named_twice(rt.alloc())?;
+    let wanted = [
+        (Value::Ref(0), Some(Shape::Dag)),
+        (Value::Ref(1), Some(Shape::Tree)),
+    ];
+    assert!(rt; have_shapes(rt.alloc(), &heap, &wanted)?);
     Ok(())
 }
 

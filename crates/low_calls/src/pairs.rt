@@ -5,8 +5,8 @@ use abs_cells::{IdSet, ListPairs, PackedPairs, PairCall, Pairs, replay};
 use std::alloc::{AllocError, Global};
 use std::test::Fail;
 
-/// A pair in either order, taken away in the other.
-fn either_order<P: Pairs>(alloc: Global) -> Result<Vec<bool>, AllocError> {
+/// Whether a pair that is added in either order is there in either, and is taken away by either.
+fn has_no_order<P: Pairs>(alloc: Global) -> Result<bool, AllocError> {
     let mut pairs = P::empty(alloc);
     let calls = [
         PairCall::Add(1, 2),
@@ -15,15 +15,14 @@ fn either_order<P: Pairs>(alloc: Global) -> Result<Vec<bool>, AllocError> {
         PairCall::Remove(1, 2),
         PairCall::Has(1, 2),
     ];
-    replay(alloc, &mut pairs, &calls)
+    let answers = replay(alloc, &mut pairs, &calls)?;
+    Ok(answers.as_slice() == [true, false].as_slice())
 }
 
 #[test]
 fn a_pair_has_no_order(rt: HostRuntime) -> Result<(), Fail> {
-    let listed = either_order::<ListPairs>(rt.alloc())?;
-    let packed = either_order::<PackedPairs>(rt.alloc())?;
-    assert!(rt; listed.as_slice() == [true, false].as_slice());
-    assert!(rt; packed.as_slice() == [true, false].as_slice());
+    assert!(rt; has_no_order::<ListPairs>(rt.alloc())?);
+    assert!(rt; has_no_order::<PackedPairs>(rt.alloc())?);
     Ok(())
 }
 
@@ -41,16 +40,27 @@ fn many<P: Pairs>(alloc: Global) -> Result<P, AllocError> {
     Ok(pairs)
 }
 
+/// Whether both forms have the same pairs at these places.
+fn list_alike(listed: &ListPairs, packed: &PackedPairs) -> bool {
+    for n in [0, 1, 142, 143, 5000, 8787, 8788, 20000] {
+        if packed.nth(n) != listed.nth(n) {
+            return false;
+        }
+    }
+    listed.nth(0) == Some((0, 7))
+}
+
+/// Whether a pair that was taken away is missing, and one that was not is there.
+fn has_what_was_left<P: Pairs>(pairs: &P) -> bool {
+    !pairs.has(23, 3) && pairs.has(24, 3)
+}
+
 #[test]
 fn both_forms_list_the_same_pairs(rt: HostRuntime) -> Result<(), Fail> {
     let listed = many::<ListPairs>(rt.alloc())?;
     let packed = many::<PackedPairs>(rt.alloc())?;
-    assert!(rt; listed.nth(0) == Some((0, 7)));
-    for n in [0, 1, 142, 143, 5000, 8787, 8788, 20000] {
-        assert!(rt; packed.nth(n) == listed.nth(n));
-    }
-    assert!(rt; !packed.has(23, 3) && packed.has(24, 3));
-    assert!(rt; !listed.has(23, 3) && listed.has(24, 3));
+    let have_left = has_what_was_left(&listed) && has_what_was_left(&packed);
+    assert!(rt; have_left && list_alike(&listed, &packed));
     Ok(())
 }
 
@@ -63,10 +73,8 @@ fn only(a: u16) -> IdSet
     set
 }
 
-#[test]
-fn both_forms_touch_the_same_sets(rt: HostRuntime) -> Result<(), Fail> {
-    let listed = many::<ListPairs>(rt.alloc())?;
-    let packed = many::<PackedPairs>(rt.alloc())?;
+/// Whether the pairs touch two sets just where one has a number and the other a number that it stands with.
+fn touch_what_they_hold<P: Pairs>(pairs: &P) -> bool {
     for (a, b, touched) in [
         (3, 24, true),
         (24, 3, true),
@@ -75,22 +83,41 @@ fn both_forms_touch_the_same_sets(rt: HostRuntime) -> Result<(), Fail> {
         (90, 149, false),
         (0, 0, false),
     ] {
-        assert!(rt; listed.touches(&only(a), &only(b)) == touched);
-        assert!(rt; packed.touches(&only(a), &only(b)) == touched);
+        if pairs.touches(&only(a), &only(b)) != touched {
+            return false;
+        }
     }
+    true
+}
+
+/// Whether many pairs touch the sets that they should.
+fn many_touch<P: Pairs>(alloc: Global) -> Result<bool, AllocError> {
+    let pairs = many::<P>(alloc)?;
+    Ok(touch_what_they_hold(&pairs))
+}
+
+#[test]
+fn both_forms_touch_the_same_sets(rt: HostRuntime) -> Result<(), Fail> {
+    assert!(rt; many_touch::<ListPairs>(rt.alloc())?);
+    assert!(rt; many_touch::<PackedPairs>(rt.alloc())?);
     Ok(())
+}
+
+/// Whether two lists of pairs have the same at these places.
+fn are_alike<P: Pairs>(pairs: &P, others: &P) -> bool {
+    for n in [0, 1, 142, 8787, 20000] {
+        if pairs.nth(n) != others.nth(n) {
+            return false;
+        }
+    }
+    true
 }
 
 /// Whether a copy of many pairs has the same at these places.
 fn copied_alike<P: Pairs>(alloc: Global) -> Result<bool, AllocError> {
     let pairs = many::<P>(alloc)?;
     let copy = pairs.copied(alloc)?;
-    for n in [0, 1, 142, 8787, 20000] {
-        if copy.nth(n) != pairs.nth(n) {
-            return Ok(false);
-        }
-    }
-    Ok(true)
+    Ok(are_alike(&copy, &pairs))
 }
 
 #[test]

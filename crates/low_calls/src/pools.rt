@@ -9,69 +9,105 @@ use std::test::Fail;
 const POOL: &[u8] =
     b"\x00\x0b\x01\x00\x01\x41\x07\x00\x01\x05\x01\x02\x03\x04\x05\x06\x07\x08\x03\xff\xff\xff\xfe\x01\x00\x01\x66\x01\x00\x03\x28\x29\x49\x0c\x00\x06\x00\x07\x0a\x00\x02\x00\x08\x08\x00\x06";
 
+/// The tag of each entry; None where there is none.
+static TAGS: [Option<u8>; 12] = [
+    None,
+    Some(1),
+    Some(7),
+    Some(5),
+    None,
+    Some(3),
+    Some(1),
+    Some(1),
+    Some(12),
+    Some(10),
+    Some(8),
+    None,
+];
+
+/// Whether the entries have their tags.
+fn has_tags(pool: &Pool<'_>) -> bool {
+    for (i, tag) in (0..12u16).zip(TAGS.iter()) {
+        if pool.tag(i) != *tag {
+            return false;
+        }
+    }
+    true
+}
+
+/// Whether texts, numbers and names are told where they are, and nowhere else.
+fn has_values(pool: &Pool<'_>) -> bool {
+    pool.utf8(1) == Some(b"A".as_slice())
+        && pool.utf8(2) == None
+        && pool.integer(5) == Some(-2)
+        && pool.integer(3) == None
+        && pool.class_name(2) == Some(b"A".as_slice())
+        && pool.class_name(10) == None
+}
+
+/// Whether a method, and the texts of names, are told where they are, and nowhere else.
+fn has_names(pool: &Pool<'_>) -> bool {
+    let member = (10, b"A".as_slice(), b"f".as_slice(), b"()I".as_slice());
+    pool.member(9) == Some(member)
+        && pool.member(8) == None
+        && pool.name_index(2) == Some(1)
+        && pool.name_index(1) == None
+}
+
 #[test]
 fn entries_are_asked_by_number(rt: HostRuntime) -> Result<(), Fail> {
     let (pool, next) = Pool::read(rt.alloc(), POOL, 0)?;
-    assert!(rt; next == POOL.len());
-    assert!(rt; pool.count() == 11);
-    let tags = [
-        None,
-        Some(1),
-        Some(7),
-        Some(5),
-        None,
-        Some(3),
-        Some(1),
-        Some(1),
-        Some(12),
-        Some(10),
-        Some(8),
-        None,
-    ];
-    for (i, tag) in tags.iter().enumerate() {
-        assert!(rt; pool.tag(i as u16) == *tag);
-    }
-    assert!(rt; pool.utf8(1) == Some(b"A".as_slice()));
-    assert!(rt; pool.utf8(2) == None);
-    assert!(rt; pool.integer(5) == Some(-2));
-    assert!(rt; pool.integer(3) == None);
-    assert!(rt; pool.class_name(2) == Some(b"A".as_slice()));
-    assert!(rt; pool.class_name(10) == None);
-    let member = (10, b"A".as_slice(), b"f".as_slice(), b"()I".as_slice());
-    assert!(rt; pool.member(9) == Some(member));
-    assert!(rt; pool.member(8) == None);
+    let is_whole = next == POOL.len() && pool.count() == 11;
+    assert!(rt; is_whole && has_tags(&pool) && has_values(&pool) && has_names(&pool));
     Ok(())
+}
+
+/// Adds an entry behind the others.
+fn put(entries: &mut Seq<PoolEntry>, entry: PoolEntry) -> Result<(), AllocError> {
+    entries.push(entry).map_err(|_| AllocError)
+}
+
+/// Adds a text behind the others.
+fn put_text(alloc: Global, entries: &mut Seq<PoolEntry>, text: &[u8]) -> Result<(), AllocError> {
+    put(entries, PoolEntry::Utf8(Seq::from_slice(alloc, text)?))
+}
+
+/// Adds the first four entries.
+fn put_first(alloc: Global, entries: &mut Seq<PoolEntry>) -> Result<(), AllocError> {
+    put_text(alloc, entries, b"A")?;
+    put(entries, PoolEntry::Class(1))?;
+    put(entries, PoolEntry::Long(0x0102_0304_0506_0708))?;
+    put(entries, PoolEntry::Integer(-2))
+}
+
+/// Adds the last five entries: a method and what it is made of, and a constant of text.
+fn put_last(alloc: Global, entries: &mut Seq<PoolEntry>) -> Result<(), AllocError> {
+    put_text(alloc, entries, b"f")?;
+    put_text(alloc, entries, b"()I")?;
+    put(entries, PoolEntry::NameAndType(6, 7))?;
+    let member = PoolEntry::Member {
+        tag: 10,
+        class: 2,
+        name_and_type: 8,
+    };
+    put(entries, member)?;
+    put(entries, PoolEntry::Str(6))
 }
 
 fn entries(alloc: Global) -> Result<Seq<PoolEntry>, AllocError> {
     let mut entries = Seq::new(alloc);
-    entries.push(PoolEntry::Utf8(Seq::from_slice(alloc, b"A")?))?;
-    entries.push(PoolEntry::Class(1))?;
-    entries.push(PoolEntry::Long(0x0102_0304_0506_0708))?;
-    entries.push(PoolEntry::Integer(-2))?;
-    entries.push(PoolEntry::Utf8(Seq::from_slice(alloc, b"f")?))?;
-    entries.push(PoolEntry::Utf8(Seq::from_slice(alloc, b"()I")?))?;
-    entries.push(PoolEntry::NameAndType(6, 7))?;
-    entries.push(PoolEntry::Member {
-        tag: 10,
-        class: 2,
-        name_and_type: 8,
-    })?;
-    entries.push(PoolEntry::Str(6))?;
+    put_first(alloc, &mut entries)?;
+    put_last(alloc, &mut entries)?;
     Ok(entries)
 }
 
 #[test]
 fn a_pool_is_written_as_it_is_read(rt: HostRuntime) -> Result<(), Fail> {
-    let alloc = rt.alloc();
-    let entries = entries(alloc)?;
+    let entries = entries(rt.alloc())?;
     assert!(rt; has_texts(entries.as_slice()));
-    let mut out = Seq::new(alloc);
+    let mut out = Seq::new(rt.alloc());
     write_pool(&mut out, entries.as_slice())?;
     assert!(rt; out.as_slice() == POOL);
-    let (pool, _) = Pool::read(alloc, out.as_slice(), 0)?;
-    assert!(rt; pool.name_index(2) == Some(1));
-    assert!(rt; pool.name_index(1) == None);
     Ok(())
 }
 
