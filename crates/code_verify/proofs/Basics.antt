@@ -5,17 +5,7 @@ use Rattle.std.specs.List.{AllZip}
 use Rattle.std.specs.Option.{option_and_then}
 use Rattle.list_views.specs.Options.{asked}
 use Rattle.std.proofs.lemmas.Bool.{false≢true, ltb-true, lt-ltb}
-
-pub some_is : {A : Type 0} {x y : A} → Some x ≡ Some y → x ≡ y
-some_is e = cc
-
-pub none_is_not_some : {A : Type 0} (x : A) → None ≡ Some x → ⊥
-none_is_not_some x e = cc
-
--- what a chain of two answers was
-pub given : {A B : Type 0} (f : A → Option B) (x : Option A) (c : B) → option_and_then f x ≡ Some c → (y : A) × ((x ≡ Some y) × (f y ≡ Some c))
-given f None c e = absurd (cc)
-given f (Some y) c e = (y, (refl, e))
+use Rattle.jvm_values.proofs.Options.{some_is, none_is_not_some}
 
 -- a test that was asked came out
 pub was_asked : {B : Type 0} (test : Bool) (f : Unit {0} → Option B) (c : B) → option_and_then f (asked test) ≡ Some c → (test ≡ true) × (f tt ≡ Some c)

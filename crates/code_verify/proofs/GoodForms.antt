@@ -7,6 +7,7 @@ use Rattle.jvm_values.specs.declared.types.Slot.{Slot}
 use Rattle.jvm_values.specs.Subtyping.{class_type, IsSlot, IsReference}
 use Rattle.jvm_values.specs.Kinds.{kind_of_code}
 use Rattle.jvm_values.specs.declared.types.Kind.{Kind}
+use Rattle.jvm_values.proofs.Options.{some_is, none_is_not_some}
 use Rattle.code_decode.specs.declared.insn.Insn.{Insn}
 use Rattle.code_decode.specs.declared.insn.Insn.TheVariants as insns
 use Rattle.class_program.specs.declared.op.Op.{Op}
@@ -21,7 +22,6 @@ use Rattle.op_forms.specs.Forms.{Form, form_of, form_of_insn, number_array}
 use Rattle.op_forms.specs.Forms.Form.{Getstatic, Putstatic, Getfield, Putfield, Invokevirtual, Invokespecial, Invokestatic, Invokeinterface, New, Newarray, Anewarray, Checkcast}
 use Rattle.code_verify.specs.Rows.{static_slot}
 use Rattle.code_verify.specs.Answers.{IsGoodForm}
-use Rattle.code_verify.proofs.Basics.{some_is, none_is_not_some}
 
 -- forms that name nothing of the world
 abbrev is_plain : Form → Bool

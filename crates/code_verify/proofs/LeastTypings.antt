@@ -6,6 +6,7 @@ use Rattle.std.proofs.lemmas.Bool.{false≢true, eqb-true, cases_lt}
 use Rattle.std.proofs.lemmas.List.Elements.{All-nil, All-cons, All-append, All-head, All-tail, All-filter, length_all_zip}
 use Rattle.jvm_values.specs.declared.typing.PlaceType.TheVariants as places
 use Rattle.jvm_values.specs.States.{PlaceTypes}
+use Rattle.jvm_values.proofs.Options.{some_is, none_is_not_some}
 use Rattle.class_world.specs.Types.{erase}
 use Rattle.class_world.specs.WorldTypes.{types_of}
 use Rattle.class_program.specs.declared.op.Op.{Op}
@@ -26,7 +27,6 @@ use Rattle.code_verify.specs.Flows.{ways, covers, caught_class, caught_frame, on
 use Rattle.code_verify.specs.Flows.IsReachable.{start, onwards}
 use Rattle.code_verify.specs.Typings.{IsTyping, IsLeastTyping, entry_frame, entry_flow}
 use Rattle.code_verify.specs.Solving.{IsClosedAt}
-use Rattle.code_verify.proofs.Basics.{some_is, none_is_not_some}
 use Rattle.code_verify.proofs.Running.{caught_of_world, run_proper, flows_ran, did_run, flows_within, takes_flows, led_places}
 use Rattle.code_verify.proofs.Solved.{reached_typed, entry_proper, too_many}
 

@@ -7,6 +7,7 @@ use Rattle.std.proofs.lemmas.List.Elements.{All-weaker}
 use Rattle.jvm_values.specs.declared.typing.FrameType.{FrameType}
 use Rattle.jvm_values.specs.States.{PlaceTypes, types_of as seen}
 use Rattle.jvm_values.specs.TypedHeaps.{WorldTypes}
+use Rattle.jvm_values.proofs.Options.{some_is, none_is_not_some}
 use Rattle.class_world.specs.WorldTypes.{types_of}
 use Rattle.class_program.specs.declared.program.Method.{Method}
 use Rattle.class_program.specs.Programs.{Program}
@@ -16,7 +17,6 @@ use Rattle.code_verify.specs.declared.fault.VerifyFault.TheVariants.{NoTyping, M
 use Rattle.code_verify.specs.Flows.{IsReachable}
 use Rattle.code_verify.specs.Answers.{Names}
 use Rattle.code_verify.specs.Typings.{IsTyped, IsTyping, HasTyping, IsLeastTyping, entry_flow, IsTypingOf, IsFirstUntyped, IsRefusal, typing_at}
-use Rattle.code_verify.proofs.Basics.{some_is, none_is_not_some}
 
 abbrev pub Lists : Type 0
 Lists = List (List (Option FrameType))

@@ -18,6 +18,7 @@ use Rattle.jvm_values.specs.declared.typing.PlaceType.TheVariants as places
 use Rattle.jvm_values.specs.States.{PlaceTypes}
 use Rattle.jvm_values.specs.Subtyping.{class_type, array_of, array_of_numbers, IsSlot, IsReference, IsReferenceBase}
 use Rattle.jvm_values.specs.TypedHeaps.{WorldTypes}
+use Rattle.jvm_values.proofs.Options.{some_is, none_is_not_some, given}
 use Rattle.class_world.specs.WorldTypes.{types_of}
 use Rattle.class_world.specs.BuiltIns.{throwable}
 use Rattle.class_program.specs.declared.op.Call.{Call}
@@ -33,7 +34,7 @@ use Rattle.code_verify.specs.declared.want.Want.TheVariants as wants
 use Rattle.code_verify.specs.Operands.{is_int, is_reference, item_place, place_of, want_of}
 use Rattle.code_verify.specs.Rows.{taken, with_result, acted, iload_types, aload_types, sets, istore_types, top_place, astore_types, iinc_types, shuffle_types, aaload_types, argument_wants, special_receiver, static_slot, getstatic_types, putstatic_types, ireturn_types, areturn_types, return_types, types_after}
 use Rattle.code_verify.specs.Answers.{IsGoodForm}
-use Rattle.code_verify.proofs.Basics.{some_is, none_is_not_some, given, was_asked, chosen, zip_at, zip_set, zip_long, all_at}
+use Rattle.code_verify.proofs.Basics.{was_asked, chosen, zip_at, zip_set, zip_long, all_at}
 use Rattle.code_verify.proofs.TypeShapes.{erased_of_world}
 use Rattle.code_verify.proofs.OperandLaws.{int_within, reference_within, item_within, item_of_world, slot_of_world, taken_within, taken_all}
 use Rattle.code_verify.proofs.Shuffling.{shuffled_zip, shuffled_all}

@@ -12,6 +12,7 @@ use Rattle.jvm_values.specs.declared.typing.PlaceType.TheVariants as places
 use Rattle.jvm_values.specs.States.{PlaceTypes}
 use Rattle.jvm_values.specs.Subtyping.{IsReference}
 use Rattle.jvm_values.specs.TypedHeaps.{WorldTypes}
+use Rattle.jvm_values.proofs.Options.{some_is, none_is_not_some, given}
 use Rattle.class_world.specs.World.{World}
 use Rattle.class_world.specs.Types.{erase}
 use Rattle.class_world.specs.WorldTypes.{types_of}
@@ -28,7 +29,7 @@ use Rattle.frame_types.specs.Growth.{is_led_to}
 use Rattle.frame_types.specs.GrowthLaws.{Laws, within_refl, frame_trans, any_left, any_right}
 use Rattle.code_verify.specs.Rows.{types_after}
 use Rattle.code_verify.specs.Flows.{is_inside, ways, covers, caught_class, CanCatch, caught_frame, onward, caught, runs_at, flows_from, ways_of_op, places_from}
-use Rattle.code_verify.proofs.Basics.{some_is, none_is_not_some, given, was_asked}
+use Rattle.code_verify.proofs.Basics.{was_asked}
 use Rattle.code_verify.proofs.TypeShapes.{erased_of_world}
 use Rattle.code_verify.proofs.RowLaws.{types_within, types_proper}
 use Rattle.code_verify.proofs.GoodForms.{form_good}

@@ -3,10 +3,10 @@ use Rattle.std.proofs.Common.{◌≡◌, List, [], ◌∷◌, Option, Some, None
 use Rattle.std.specs.Prelude.{All}
 use Rattle.std.specs.List.{AllZip}
 use Rattle.std.proofs.lemmas.List.Elements.{All-head, All-tail, All-cons}
+use Rattle.jvm_values.proofs.Options.{some_is, none_is_not_some}
 use Rattle.op_forms.specs.declared.form.Shuffle.{Shuffle}
 use Rattle.op_forms.specs.declared.form.Shuffle.TheVariants.{Pop, Pop2, Dup, DupX1, DupX2, Dup2, Dup2X1, Dup2X2, Swap}
 use Rattle.op_forms.specs.Forms.{shuffled}
-use Rattle.code_verify.proofs.Basics.{some_is, none_is_not_some}
 
 zip_Pop : {A : Type 0} (R : A → A → Type 0) (xs ys zs : List A) → AllZip R xs ys → shuffled Pop ys ≡ Some zs → (rest : List A) × ((shuffled Pop xs ≡ Some rest) × AllZip R rest zs)
 zip_Pop R [] [] zs h e = absurd (none_is_not_some zs e)

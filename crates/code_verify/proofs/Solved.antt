@@ -13,6 +13,7 @@ use Rattle.jvm_values.specs.declared.typing.PlaceType.TheVariants as places
 use Rattle.jvm_values.specs.States.{PlaceTypes}
 use Rattle.jvm_values.specs.Subtyping.{IsSlot}
 use Rattle.jvm_values.specs.TypedHeaps.{WorldTypes}
+use Rattle.jvm_values.proofs.Options.{some_is, none_is_not_some}
 use Rattle.class_world.specs.WorldTypes.{types_of}
 use Rattle.class_program.specs.declared.program.Method.{Method}
 use Rattle.class_program.specs.Programs.{Program}
@@ -28,7 +29,7 @@ use Rattle.code_verify.specs.Flows.IsReachable.{start, onwards}
 use Rattle.code_verify.specs.Typings.{IsTyped, IsTyping, HasTyping, IsLeastTyping, entry_frame, entry_flow}
 use Rattle.code_verify.specs.Answers.{Looks}
 use Rattle.code_verify.specs.Solving.{IsClosedAt, IsSolving}
-use Rattle.code_verify.proofs.Basics.{some_is, none_is_not_some, zip_long}
+use Rattle.code_verify.proofs.Basics.{zip_long}
 use Rattle.code_verify.proofs.OperandLaws.{slot_of_world}
 use Rattle.code_verify.proofs.Running.{flows_within, takes_flows, led_places, leads_there}
 

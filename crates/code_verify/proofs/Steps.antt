@@ -4,6 +4,7 @@ use Rattle.std.specs.Prelude.{All, IsTrue, MatchBool, slice_set}
 use Rattle.std.proofs.lemmas.Bool.{false≢true}
 use Rattle.jvm_values.specs.declared.typing.FrameType.{FrameType}
 use Rattle.jvm_values.specs.States.{PlaceTypes}
+use Rattle.jvm_values.proofs.Options.{some_is}
 use Rattle.class_world.specs.WorldTypes.{types_of}
 use Rattle.class_program.specs.declared.program.CatchRange.{CatchRange}
 use Rattle.class_program.specs.declared.program.Method.{Method}
@@ -20,7 +21,6 @@ use Rattle.code_verify.specs.Flows.{flows_from, CanCatch}
 use Rattle.code_verify.specs.Typings.{HasTyping, IsLeastTyping, entry_frame, entry_flow}
 use Rattle.code_verify.specs.Answers.{Looks}
 use Rattle.code_verify.specs.Solving.{IsSolving}
-use Rattle.code_verify.proofs.Basics.{some_is}
 use Rattle.code_verify.proofs.FlowLaws.{came}
 use Rattle.code_verify.proofs.Solved.{refused, solved, finished, first_solving, first_refused, entry_proper}
 

@@ -10,8 +10,8 @@ use Rattle.jvm_values.specs.declared.types.Base.TheVariants.{Class, Num}
 use Rattle.jvm_values.specs.Subtyping.{class_type, object_type, array_of, array_of_numbers, IsReference, IsReferenceBase, IsErased, IsArrayAbove}
 use Rattle.jvm_values.specs.TypedHeaps.{WorldTypes}
 use Rattle.jvm_values.specs.Joins.{item_under, item_of}
+use Rattle.jvm_values.proofs.Options.{some_is, none_is_not_some}
 use Rattle.frame_types.specs.GrowthLaws.{Laws}
-use Rattle.code_verify.proofs.Basics.{some_is, none_is_not_some}
 
 pub same_type : (a b : Ty) → a.dims ≡ b.dims → a.base ≡ b.base → a ≡ b
 same_type a b p q =
