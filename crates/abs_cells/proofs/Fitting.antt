@@ -1,12 +1,11 @@
 -- What fitting gives.
 use Rattle.std.proofs.Common.{◌≡◌, ℕ, suc, ◌<◌, ◌≤◌, List, [], ◌∷◌, length, inl, inr, refl, sym, ap, ◌∙◌, arith}
-use Rattle.std.specs.List.{AllZip}
 use Rattle.std.proofs.lemmas.Bool.{cases_lt}
+use Rattle.std.proofs.lemmas.Slice.Zip.{AllZip-long}
 use Rattle.jvm_values.specs.declared.heap.Value.{Value}
 use Rattle.jvm_values.specs.States.{MachineFrame}
-use Rattle.abs_cells.specs.AbstractStates.{AbstractFrame}
 use Rattle.abs_cells.specs.Cells.{Share}
-use Rattle.abs_cells.specs.Fits.{Meaning, FitsFrame, with_statics}
+use Rattle.abs_cells.specs.Fits.{FitsFrame, with_statics}
 use Rattle.abs_cells.proofs.PairLaws.{has_swapped}
 use Rattle.abs_cells.specs.Laws.{FittingFramesAgree, KnownIdsAreApart}
 
@@ -15,15 +14,9 @@ length-with_statics statics [] = refl
 length-with_statics statics (frame ∷ []) = refl
 length-with_statics statics (frame ∷ below ∷ rest) = ap suc (length-with_statics statics (below ∷ rest))
 
-length_zip : (meaning : Meaning) (frames : List AbstractFrame) (machine : List MachineFrame) → AllZip (FitsFrame meaning) frames machine → length frames ≡ length machine
-length_zip meaning [] [] h = refl
-length_zip meaning [] (m ∷ machine) h = absurd h
-length_zip meaning (f ∷ frames) [] h = absurd h
-length_zip meaning (f ∷ frames) (m ∷ machine) h = ap suc (length_zip meaning frames machine h.1)
-
 pub frames_agree : FittingFramesAgree
 frames_agree types state machine meaning h =
-    length_zip meaning state.frames (with_statics machine.statics machine.frames) h.positions ∙ length-with_statics machine.statics machine.frames
+    sym (AllZip-long (FitsFrame meaning) state.frames (with_statics machine.statics machine.frames) h.positions) ∙ length-with_statics machine.statics machine.frames
 
 below_of : {a b : ℕ} → b ≤ a → (b ≡ a → ⊥) → b < a
 below_of {a} {b} l d = elim (cases_lt b a) [ inl m ↦ m | inr m ↦ absurd (d (omega (arith, l, m))) ]

@@ -5,6 +5,7 @@ use Rattle.std.specs.List.{AllZip}
 use Rattle.std.proofs.lemmas.Bool.{false≢true, cases_Bool, and_from, lt-ltb}
 use Rattle.std.proofs.lemmas.Int.{ints}
 use Rattle.std.proofs.lemmas.List.Elements.{All-nil}
+use Rattle.std.proofs.lemmas.Slice.Zip.{AllZip-long}
 use Rattle.jvm_values.specs.declared.types.Ty.{Ty}
 use Rattle.jvm_values.specs.declared.types.Base.{Base}
 use Rattle.jvm_values.specs.declared.types.Base.TheVariants as bases
@@ -295,12 +296,6 @@ held_at types heap ss vs n slot value z e f =
     let r = zipped_at (Holds types heap) ss vs n slot z e in
     subst (Holds types heap slot) (some_is (sym r.1.0 ∙ f)) r.1.1
 
-zip_length : {A B : Type 0} (R : A → B → Type 0) (xs : List A) (ys : List B) → AllZip R xs ys → length xs ≡ length ys
-zip_length R [] [] z = refl
-zip_length R [] (y ∷ ys) z = absurd z
-zip_length R (x ∷ xs) [] z = absurd z
-zip_length R (x ∷ xs) (y ∷ ys) z = ap suc (zip_length R xs ys z.1)
-
 -- an object that reaches itself through a value that it holds has a region of any shape
 module _ (heap : Heap) (holder value : Value) (o n : ℕ) (object : Object) (names : target holder ≡ Some o) (stands : slice_get heap.objects o ≡ Some object) (got : slice_get (values_of object) n ≡ Some value) where
   never_empty : (p : List ℕ) → n ∷ p ≡ [] → ⊥
@@ -356,7 +351,7 @@ module _ (types : WorldTypes) (state child : AbstractState) (machine : MachineSt
   iagrees = kept_others state m is.ids fields is.fresh.free
 
   long : length is.ids ≡ length fields
-  long = is.count ∙ zip_length (Holds types heap) (types.fields class) fields object_typed.1.1
+  long = is.count ∙ sym (AllZip-long (Holds types heap) (types.fields class) fields object_typed.1.1)
 
   iitself : (v : Value) (p : ℕ) → target v ≡ Some p → Region heap v p
   iitself v p t = record { start = p; names = t; reaches = record { path = []; leads = refl } }

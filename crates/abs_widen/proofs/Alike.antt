@@ -4,7 +4,7 @@ use Rattle.std.specs.Prelude.{nat_eq, if◌then◌else◌}
 use Rattle.std.specs.List.{AllZip, AllByRecursion}
 use Rattle.std.specs.Option.{option_map_or}
 use Rattle.std.proofs.lemmas.Bool.{or_left, or_right, or_cases, and_from, and_parts, cases_Bool, cases_eq, ne_eqb, eq-eqb, false≢true, not_from_true}
-use Rattle.std.proofs.lemmas.List.Elements.{All-head, All-tail}
+use Rattle.std.proofs.lemmas.List.Elements.{All-head, All-tail, length_all_zip}
 use Rattle.jvm_values.proofs.Options.{some_is, none_is_not_some}
 use Rattle.jvm_values.specs.declared.types.Ty.{Ty}
 use Rattle.jvm_values.specs.declared.types.Kind.{Kind}
@@ -28,7 +28,7 @@ use Rattle.abs_widen.specs.Visiting.{AreAsLong, ArePairCells}
 use Rattle.abs_widen.proofs.Closed.{holds_among}
 use Rattle.abs_widen.proofs.Sides.{field_cell}
 use Rattle.abs_widen.proofs.Visiting.{all_joined}
-use Rattle.abs_widen.proofs.Zips.{all_reversed, all_length}
+use Rattle.abs_widen.proofs.Zips.{all_reversed}
 
 -- ---- cells of a sound state
 
@@ -249,6 +249,6 @@ all_as_long a b [] [] h = tt
 all_as_long a b [] (o ∷ others) h = absurd h
 all_as_long a b (f ∷ frames) [] h = absurd h
 all_as_long a b (f ∷ frames) (o ∷ others) h = (
-  record { locals = h.0.locals; stacks = all_length (λ x y. are_alike a b x y ≡ true) f.stack o.stack h.0.stacks },
+  record { locals = h.0.locals; stacks = length_all_zip (λ x y. are_alike a b x y ≡ true) f.stack o.stack h.0.stacks },
   all_as_long a b frames others h.1,
 )

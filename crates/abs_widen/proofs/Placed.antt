@@ -5,6 +5,7 @@ use Rattle.std.specs.List.{AllZip, flat_map}
 use Rattle.std.specs.Option.{option_and_then, option_map}
 use Rattle.std.proofs.lemmas.List.{length-map}
 use Rattle.std.proofs.lemmas.Option.{slice_get-map}
+use Rattle.std.proofs.lemmas.List.Elements.{length_all_zip}
 use Rattle.jvm_values.proofs.Options.{some_is, none_is_not_some, given}
 use Rattle.abs_cells.specs.AbstractStates.{AbstractFrame, AbstractState}
 use Rattle.abs_reach.specs.Instances.{Place, local, entry, frame_at, id_at, FrameHead, head_of, is_thrown}
@@ -12,7 +13,7 @@ use Rattle.abs_widen.specs.Visits.{is_among, are_alike, local_pair, some_in, loc
 use Rattle.abs_widen.specs.Visiting.{AreAsLong}
 use Rattle.abs_widen.specs.Widening.{number_of, merged_locals, merged_frame, merged_frames, AreFramesAlike}
 use Rattle.abs_widen.proofs.Closed.{among_front, among_back, among_first, positions_among}
-use Rattle.abs_widen.proofs.Zips.{zip_reversed, map_reversed, all_length, all_reversed}
+use Rattle.abs_widen.proofs.Zips.{zip_reversed, map_reversed, all_reversed}
 
 -- ---- items of lists
 
@@ -55,7 +56,7 @@ module _ (a b : AbstractState) (pairs : List (ℕ × ℕ)) where
 
   head_is : (f o : AbstractFrame) → AreFramesAlike a b f o → head_of f ≡ head_of (merged_frame a b pairs f o)
   head_is f o h =
-      let long = all_length (λ x y. are_alike a b x y ≡ true) f.stack o.stack h.stacks in
+      let long = length_all_zip (λ x y. are_alike a b x y ≡ true) f.stack o.stack h.stacks in
       ap (λ (d : ℕ). record { method = f.method; pc = f.pc; depth = d }) (sym (length-map (zip f.stack o.stack) (number_of pairs) ∙ zip_long f.stack o.stack long))
 
   pub first_heads : (frames others : List AbstractFrame) → AllZip (AreFramesAlike a b) frames others → map head_of frames ≡ map head_of (merged_frames a b pairs frames others)
@@ -112,7 +113,7 @@ module _ (a b result : AbstractState) (pairs : List (ℕ × ℕ)) (are : ArePair
     frames_turned : reverse result.frames ≡ map (λ both. merged_frame a b pairs both.0 both.1) both_frames
     frames_turned =
         ap reverse frames_are ∙ sym (map_reversed (λ both. merged_frame a b pairs both.0 both.1) (zip a.frames b.frames))
-        ∙ ap (map (λ both. merged_frame a b pairs both.0 both.1)) (sym (zip_reversed a.frames b.frames (all_length AreAsLong a.frames b.frames long)))
+        ∙ ap (map (λ both. merged_frame a b pairs both.0 both.1)) (sym (zip_reversed a.frames b.frames (length_all_zip AreAsLong a.frames b.frames long)))
 
     -- a frame of the widening is made of two
     frame_from : (f : ℕ) (frame : AbstractFrame) → frame_at result f ≡ Some frame → (both : AbstractFrame × AbstractFrame) × ((slice_get both_frames f ≡ Some both) × (merged_frame a b pairs both.0 both.1 ≡ frame))

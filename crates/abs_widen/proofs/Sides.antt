@@ -1,6 +1,7 @@
 -- The cells of a pair of two sound states.
 use Rattle.std.proofs.Common.{◌≡◌, ◌∙◌, ℕ, Bool, cond, List, length, Some, None, sym, ap, subst, inl, inr, eq-eqb}
 use Rattle.std.proofs.lemmas.Bool.{cases_eq, ne_eqb}
+use Rattle.std.proofs.lemmas.Slice.Zip.{AllZip-long}
 use Rattle.jvm_values.proofs.Options.{none_is_not_some, some_is}
 use Rattle.jvm_values.specs.TypedHeaps.{WorldTypes}
 use Rattle.abs_cells.specs.declared.cells.Cell.{Cell}
@@ -9,7 +10,6 @@ use Rattle.abs_cells.specs.AbstractStates.{AbstractState}
 use Rattle.abs_cells.specs.Sound.{IsSoundCell, IsOfSlot}
 use Rattle.abs_widen.specs.Rows.{fields_in}
 use Rattle.abs_widen.specs.Visiting.{AreCellsOf}
-use Rattle.abs_widen.proofs.Zips.{all_length}
 
 -- an instance of the class
 pub field_cell : (class : ℕ) (q : Cell) (more : List ℕ) → fields_in class q ≡ Some more → q ≡ Obj class more
@@ -31,4 +31,4 @@ module _ (types : WorldTypes) (a b : AbstractState) (pair : ℕ × ℕ) (p q : C
   fields_long class ids e more f =
       let first = subst (IsSoundCell types a) e of.first_sound in
       let second = subst (IsSoundCell types b) (field_cell class q more f) of.second_sound in
-      sym (all_length (IsOfSlot a) (types.fields class) ids first.1.1) ∙ all_length (IsOfSlot b) (types.fields class) more second.1.1
+      AllZip-long (IsOfSlot a) (types.fields class) ids first.1.1 ∙ sym (AllZip-long (IsOfSlot b) (types.fields class) more second.1.1)

@@ -4,7 +4,7 @@ use Rattle.std.specs.Prelude.{slice_get}
 use Rattle.std.specs.List.{AllZip, AllByRecursion, list_any, flat_map}
 use Rattle.std.specs.Option.{option_map}
 use Rattle.std.proofs.lemmas.Bool.{or_left, or_right, and_parts, and_from, false≢true, cases_lt, cases_eq, eq-eqb, ne_eqb, not_from_true}
-use Rattle.std.proofs.lemmas.List.Elements.{All-nil, All-cons}
+use Rattle.std.proofs.lemmas.List.Elements.{All-nil, All-cons, length_all_zip}
 use Rattle.std.proofs.lemmas.Option.{slice_get-get_or, slice_get_within, get_or_from_slice_get}
 use Rattle.jvm_values.proofs.Options.{some_is, none_is_not_some}
 use Rattle.jvm_values.specs.TypedHeaps.{WorldTypes}
@@ -58,17 +58,11 @@ module _ (a b : AbstractState) where
     | inr t ↦ or_right (is_among p (frame_pairs a b f o)) (list_any (λ both. is_among p (frame_pairs a b both.0 both.1)) (zip frames others)) (straight_any p frames others long.1 t)
   ]
 
-  frames_long : (frames others : List AbstractFrame) → AllZip AreAsLong frames others → length frames ≡ length others
-  frames_long [] [] h = refl
-  frames_long [] (o ∷ others) h = absurd h
-  frames_long (f ∷ frames) [] h = absurd h
-  frames_long (f ∷ frames) (o ∷ others) h = ap suc (frames_long frames others h.1)
-
   pub straight_placed : (p : ℕ × ℕ) → AllZip AreAsLong a.frames b.frames → is_among p (flat_map straight_pairs (zip a.frames b.frames)) ≡ true → is_among p (position_pairs a b) ≡ true
   straight_placed p long h =
       among_front p (frames_pairs a b (reverse a.frames) (reverse b.frames)) (some_in (thrown_pair a.throwing b.throwing))
       (any_flat (is_same p) (λ both. frame_pairs a b both.0 both.1) (zip (reverse a.frames) (reverse b.frames))
-      ∙ ap (list_any (λ both. is_among p (frame_pairs a b both.0 both.1))) (zip_reversed a.frames b.frames (frames_long a.frames b.frames long))
+      ∙ ap (list_any (λ both. is_among p (frame_pairs a b both.0 both.1))) (zip_reversed a.frames b.frames (length_all_zip AreAsLong a.frames b.frames long))
       ∙ any_reversed (λ both. is_among p (frame_pairs a b both.0 both.1)) (zip a.frames b.frames)
       ∙ straight_any p a.frames b.frames long h)
 

@@ -67,12 +67,6 @@ module _ {A B : Type 0} where
       (subst (λ (l : List B). AllZip R (reverse xs ++ x ∷ []) l) (sym (reverse-append (y ∷ []) ys))
       (all_last R (reverse xs) (reverse ys) x y (all_reversed R xs ys h.1) h.0))
 
-  pub all_length : (R : A → B → Type 0) (xs : List A) (ys : List B) → AllZip R xs ys → length xs ≡ length ys
-  all_length R [] [] h = refl
-  all_length R [] (y ∷ ys) h = absurd h
-  all_length R (x ∷ xs) [] h = absurd h
-  all_length R (x ∷ xs) (y ∷ ys) h = ap suc (all_length R xs ys h.1)
-
   pub all_at : (R : A → B → Type 0) (xs : List A) (ys : List B) (n : ℕ) (x : A) (y : B) → AllZip R xs ys → n < length xs → R (get_or xs n x) (get_or ys n y)
   all_at R [] ys n x y h l = absurd (omega (arith, l))
   all_at R (u ∷ xs) [] n x y h l = absurd h

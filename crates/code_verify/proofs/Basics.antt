@@ -1,5 +1,5 @@
 -- Options, tests and lists, place by place.
-use Rattle.std.proofs.Common.{◌≡◌, ℕ, zero, suc, ◌+◌, ◌<◌, Bool, true, false, cond, ltb, ◌&&◌, List, [], ◌∷◌, length, Option, Some, None, refl, sym, ap, subst, ◌∙◌, arith}
+use Rattle.std.proofs.Common.{◌≡◌, ℕ, zero, suc, ◌+◌, ◌<◌, Bool, true, false, cond, ltb, ◌&&◌, List, [], ◌∷◌, Option, Some, None, refl, sym, subst, ◌∙◌, arith}
 use Rattle.std.specs.Prelude.{slice_get, slice_set, All}
 use Rattle.std.specs.List.{AllZip}
 use Rattle.std.specs.Option.{option_and_then}
@@ -34,12 +34,6 @@ zip_set R [] (z ∷ ys) n a b h r = absurd h
 zip_set R (x ∷ xs) [] n a b h r = absurd h
 zip_set R (x ∷ xs) (z ∷ ys) zero a b h r = (r, h.1)
 zip_set R (x ∷ xs) (z ∷ ys) (suc n) a b h r = (h.0, zip_set R xs ys n a b h.1 r)
-
-pub zip_long : {A : Type 0} (R : A → A → Type 0) (xs ys : List A) → AllZip R xs ys → length xs ≡ length ys
-zip_long R [] [] h = refl
-zip_long R [] (z ∷ ys) h = absurd h
-zip_long R (x ∷ xs) [] h = absurd h
-zip_long R (x ∷ xs) (z ∷ ys) h = ap suc (zip_long R xs ys h.1)
 
 pub all_at : {A : Type 0} (P : A → Type 0) (xs : List A) → All P xs → (n : ℕ) (x : A) → slice_get xs n ≡ Some x → P x
 all_at P [] h n x e = absurd (none_is_not_some x e)

@@ -5,7 +5,7 @@ use Rattle.std.specs.List.{AllZip}
 use Rattle.std.specs.Option.{option_map, option_and_then}
 use Rattle.list_views.specs.Options.{asked}
 use Rattle.std.proofs.lemmas.List.{length-set}
-use Rattle.std.proofs.lemmas.List.Elements.{All-set, All-cons, All-head, All-tail}
+use Rattle.std.proofs.lemmas.List.Elements.{All-set, All-cons, All-head, All-tail, length_all_zip}
 use Rattle.jvm_values.specs.declared.types.Ty.{Ty}
 use Rattle.jvm_values.specs.declared.types.Kind.{Kind}
 use Rattle.jvm_values.specs.declared.types.Base.{Base}
@@ -34,7 +34,7 @@ use Rattle.code_verify.specs.declared.want.Want.TheVariants as wants
 use Rattle.code_verify.specs.Operands.{is_int, is_reference, item_place, place_of, want_of}
 use Rattle.code_verify.specs.Rows.{taken, with_result, acted, iload_types, aload_types, sets, istore_types, top_place, astore_types, iinc_types, shuffle_types, aaload_types, argument_wants, special_receiver, static_slot, getstatic_types, putstatic_types, ireturn_types, areturn_types, return_types, types_after}
 use Rattle.code_verify.specs.Answers.{IsGoodForm}
-use Rattle.code_verify.proofs.Basics.{was_asked, chosen, zip_at, zip_set, zip_long, all_at}
+use Rattle.code_verify.proofs.Basics.{was_asked, chosen, zip_at, zip_set, all_at}
 use Rattle.code_verify.proofs.TypeShapes.{erased_of_world}
 use Rattle.code_verify.proofs.OperandLaws.{int_within, reference_within, item_within, item_of_world, slot_of_world, taken_within, taken_all}
 use Rattle.code_verify.proofs.Shuffling.{shuffled_zip, shuffled_all}
@@ -180,7 +180,7 @@ module _ (types : WorldTypes) (laws : Laws types) where
   sets_within : (n : ℕ) (x y : PlaceType) (xs ys : List PlaceType) (a b wide : PlaceTypes) → IsFrameWithin types a b → IsWithin types x y → AllZip (IsWithin types) xs ys → sets n y ys b ≡ Some wide → Narrower types (sets n x xs a) wide
   sets_within n x y xs ys a b wide w r s e =
       let c = chosen (nat_lt n (length b.locals)) (Some (record { locals = slice_set b.locals n y; stack = ys })) wide e in
-      let same : nat_lt n (length a.locals) ≡ true = ap (nat_lt n) (zip_long (IsWithin types) a.locals b.locals w.locals) ∙ c.0 in (
+      let same : nat_lt n (length a.locals) ≡ true = ap (nat_lt n) (length_all_zip (IsWithin types) a.locals b.locals w.locals) ∙ c.0 in (
         record { locals = slice_set a.locals n x; stack = xs },
         (
           ap (λ (test : Bool). cond test (Some (record { locals = slice_set a.locals n x; stack = xs })) None) same,

@@ -5,7 +5,7 @@ use Rattle.std.specs.List.{list_any}
 use Rattle.std.specs.Option.{is_some}
 use Rattle.std.proofs.lemmas.Bool.{false≢true, eqb-true, cases_lt}
 use Rattle.std.proofs.lemmas.List.{length-set, length-map, length-replicate, get_or-set_other}
-use Rattle.std.proofs.lemmas.List.Elements.{All-nil, All-cons, All-append, All-replicate}
+use Rattle.std.proofs.lemmas.List.Elements.{All-nil, All-cons, All-append, All-replicate, length_all_zip}
 use Rattle.jvm_values.specs.declared.types.Slot.{Slot}
 use Rattle.jvm_values.specs.declared.typing.FrameType.{FrameType}
 use Rattle.jvm_values.specs.declared.typing.PlaceType.{PlaceType}
@@ -29,7 +29,6 @@ use Rattle.code_verify.specs.Flows.IsReachable.{start, onwards}
 use Rattle.code_verify.specs.Typings.{IsTyped, IsTyping, HasTyping, IsLeastTyping, entry_frame, entry_flow}
 use Rattle.code_verify.specs.Answers.{Looks}
 use Rattle.code_verify.specs.Solving.{IsClosedAt, IsSolving}
-use Rattle.code_verify.proofs.Basics.{zip_long}
 use Rattle.code_verify.proofs.OperandLaws.{slot_of_world}
 use Rattle.code_verify.proofs.Running.{flows_within, takes_flows, led_places, leads_there}
 
@@ -283,7 +282,7 @@ module _ (p : Program) (m : Method) (good : IsGood p) (g : IsGoodMethod p m) (la
   pub too_many : m.max_locals < length m.params → HasTyping p m → ⊥
   too_many l (other, t) =
       let c = (t.each 0 t.entry.there t.entry.is_there).limits.proper.count in
-      let w = zip_long (IsWithin (types_of p.world)) (entry_frame (types_of p.world) m).locals t.entry.there.locals t.entry.wide.locals in
+      let w = length_all_zip (IsWithin (types_of p.world)) (entry_frame (types_of p.world) m).locals t.entry.there.locals t.entry.wide.locals in
       absurd (omega (arith, entry_count, c, w, l))
 
   pub entry_proper : length m.params ≤ m.max_locals → IsProper (types_of p.world) m.max_locals (entry_frame (types_of p.world) m)

@@ -1,7 +1,7 @@
 -- A description of a program about ints fits some state.
 use Rattle.std.proofs.Common.{◌≡◌, ℕ, zero, suc, ◌+◌, ◌-◌, ◌≤◌, List, [], ◌∷◌, ◌++◌, length, map, replicate, slice_get, Option, Some, None, refl, ap, sym, ◌∙◌, subst, arith, append-nil, length-append}
 use Rattle.std.proofs.lemmas.List.{length-replicate, length-map}
-use Rattle.std.proofs.lemmas.List.Elements.{All-nil}
+use Rattle.std.proofs.lemmas.List.Elements.{All-nil, length_all_zip}
 use Rattle.std.specs.Int.Signed.{◌≤ℤ◌, ≤ℤ_refl}
 use Rattle.std.specs.List.{AllZip}
 use Rattle.lin_core.specs.Intervals.{Bounds}
@@ -12,7 +12,6 @@ use Rattle.jvm_values.specs.declared.state.Mode.TheVariants.{Normal}
 use Rattle.jvm_values.specs.declared.types.Kind.TheVariants as kinds
 use Rattle.jvm_values.specs.declared.types.Slot.{Slot}
 use Rattle.jvm_values.specs.declared.types.Slot.TheVariants.{Num}
-use Rattle.jvm_values.specs.declared.typing.PlaceType.{PlaceType}
 use Rattle.jvm_values.specs.declared.typing.PlaceType.TheVariants as holding
 use Rattle.jvm_values.specs.Heaps.{target}
 use Rattle.jvm_values.specs.States.{MachineFrame, MachineState}
@@ -102,18 +101,12 @@ described_count desc files p described only named =
     as_many p.world many (text.params ++ text.statics) described.inputs said
     (named.is_described.inputs_are ∙ ap (λ (found : List Slot). inputs_from p.world found (text.params ++ text.statics)) slots)
 
-within_length : (types : WorldTypes) (narrow wide : List PlaceType) → AllZip (IsWithin types) narrow wide → length narrow ≡ length wide
-within_length types [] [] h = refl
-within_length types [] (p ∷ wide) h = absurd h
-within_length types (b ∷ narrow) [] h = absurd h
-within_length types (b ∷ narrow) (p ∷ wide) h = let e = within_length types narrow wide h.1 in ap suc e
-
 -- the parameters of a method with a typing fit in the locals
 params_fit : (p : Program) (method : Method) (typing : CodeTypes) → IsTyping p method typing → length method.params ≤ method.max_locals
 params_fit p method typing typed =
     let entry = typed.entry in
     let types : WorldTypes = types_of p.world in
-    let same = within_length types (entry_frame types method).locals entry.there.locals entry.wide.locals in
+    let same = length_all_zip (IsWithin types) (entry_frame types method).locals entry.there.locals entry.wide.locals in
     let wide : length entry.there.locals ≡ method.max_locals = (typed.each 0 entry.there entry.is_there).limits.proper.count in
     let split : length (entry_frame types method).locals ≡ length (map (place_of types) method.params) + length (replicate (method.max_locals - length method.params) holding.Unset) = length-append _ _ in
     let front : length (map (place_of types) method.params) ≡ length method.params = length-map method.params (place_of types) in

@@ -6,6 +6,7 @@ use Rattle.std.specs.Option.{option_map_or}
 use Rattle.std.proofs.lemmas.Bool.{false≢true, and_parts, cases_order}
 use Rattle.std.proofs.lemmas.Int.{ints}
 use Rattle.std.proofs.lemmas.List.{length-map}
+use Rattle.std.proofs.lemmas.Slice.Zip.{AllZip-long}
 use Rattle.jvm_values.specs.declared.types.Ty.{Ty}
 use Rattle.jvm_values.specs.declared.types.Slot.{Slot}
 use Rattle.jvm_values.specs.declared.types.Slot.TheVariants as slots
@@ -36,7 +37,7 @@ use Rattle.input_desc.specs.Descs.{has_receiver, desc_fault, IsDescribed}
 use Rattle.input_desc.specs.Fitting.{FitsInput, IsListed, FitsDescription}
 use Rattle.input_desc.proofs.Unfit.{all_fitting}
 use Rattle.input_desc.proofs.Wider.{Laws, has_wider, erased_twice}
-use Rattle.input_desc.proofs.Zipped.{zip_append, zip_length, zip_before}
+use Rattle.input_desc.proofs.Zipped.{zip_append, zip_before}
 use Rattle.describe.specs.declared.inputs.Listed.TheVariants.{Same, Share}
 use Rattle.describe.specs.Starts.{HasReceiver, IsStartState}
 use Rattle.describe.specs.Whole.{is_any, is_open, is_nullable, behind, are_comparable, ListsAll, IsWhole}
@@ -182,7 +183,7 @@ whole_fits p desc state laws whole start =
       one = start.one;
       start = start.start;
       normal = start.normal;
-      count = zip_length (Holds types heap) (map argument_slot start.method.params) start.args start.arguments ∙ length-map start.method.params argument_slot;
+      count = AllZip-long (Holds types heap) (map argument_slot start.method.params) start.args start.arguments ∙ length-map start.method.params argument_slot;
       statics = start.statics;
       typed = start.typed;
       inputs = fit_all p.world heap (has_receiver p) (slots_of p) desc.inputs given laws opened whole.nullable (λ e. received_more start.args state.statics (start.receiver e)) held;

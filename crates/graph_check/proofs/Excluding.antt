@@ -4,6 +4,7 @@ use Rattle.std.specs.List.{AllZip}
 use Rattle.std.proofs.lemmas.List.{length-map}
 use Rattle.std.proofs.lemmas.List.Elements.{All-get_or}
 use Rattle.std.proofs.lemmas.Option.{slice_get_within, get_or_from_slice_get}
+use Rattle.std.proofs.lemmas.Slice.Zip.{AllZip-long}
 use Rattle.jvm_values.proofs.Options.{some_is, none_is_not_some}
 use Rattle.abs_cells.specs.AbstractStates.{AbstractState}
 use Rattle.abs_reach.specs.Instances.{InstanceOf, IsFirstFault}
@@ -45,12 +46,6 @@ few_or_many counts n few many =
     let small : many.count ≤ 512 = subst (λ (c : ℕ). c ≤ 512) (get_or_from_slice_get counts n many.count many.count many.is) (All-get_or (λ (c : ℕ). c ≤ 512) counts n many.count (slice_get_within counts n many.count many.is) few) in
     let large = many.many in
     omega (arith, small, large)
-
-zip_length : {A B : Type 0} (R : A → B → Type 0) (xs : List A) (ys : List B) → AllZip R xs ys → length xs ≡ length ys
-zip_length R [] [] z = refl
-zip_length R [] (y ∷ ys) z = absurd z
-zip_length R (x ∷ xs) [] z = absurd z
-zip_length R (x ∷ xs) (y ∷ ys) z = ap suc (zip_length R xs ys z.1)
 
 -- where two lists have the same states, the one has a child with the other's state
 pub record SameAt (children : List GraphChild) (place : ℕ) (state : AbstractState) : Type 0 where
@@ -96,7 +91,7 @@ plain_same p typing state plain a b g h = children_same (types_of p.world) state
 module _ (p : Program) (typing : ℕ → CodeTypes) (nodes : List GraphNode) (state : AbstractState) (all_same : HasSameStates p typing state) where
   no_miscount : (a b : List GraphChild) (named : List ℕ) → HasChildren p typing state a → HasChildren p typing state b → AllZip (NamesChild nodes) a named → length b ≢ length named → ⊥
   no_miscount a b named g h names counts =
-      counts (sym (length-map b (λ (child : GraphChild). child.state)) ∙ ap length (sym (all_same a b g h)) ∙ length-map a (λ (child : GraphChild). child.state) ∙ zip_length (NamesChild nodes) a named names)
+      counts (sym (length-map b (λ (child : GraphChild). child.state)) ∙ ap length (sym (all_same a b g h)) ∙ length-map a (λ (child : GraphChild). child.state) ∙ sym (AllZip-long (NamesChild nodes) a named names))
 
   no_other : (a b : List GraphChild) (named : List ℕ) (place : ℕ) → HasChildren p typing state a → HasChildren p typing state b → AllZip (NamesChild nodes) a named → IsFirstOtherChild nodes b named place → ⊥
   no_other a b named place g h names other =

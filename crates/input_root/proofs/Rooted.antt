@@ -6,6 +6,7 @@ use Rattle.std.specs.Option.{option_map_or, unwrap_or}
 use Rattle.std.proofs.lemmas.Bool.{false≢true, and_from}
 use Rattle.std.proofs.lemmas.List.{length-map}
 use Rattle.std.proofs.lemmas.List.Elements.{All-nil, All-append, All-map, All-replicate, All-cons}
+use Rattle.std.proofs.lemmas.Slice.Zip.{AllZip-long}
 use Rattle.jvm_values.specs.declared.types.Ty.{Ty}
 use Rattle.jvm_values.specs.declared.types.Slot.{Slot}
 use Rattle.jvm_values.specs.declared.types.Slot.TheVariants as slots
@@ -48,7 +49,7 @@ use Rattle.input_desc.proofs.Faultless.{neither, counted}
 use Rattle.input_desc.proofs.GoodDescs.{texts_count}
 use Rattle.input_desc.proofs.TypedInputs.{split}
 use Rattle.input_root.specs.Roots.{input_values, FittingStatesAreTyped, FittingStatesAreDescribed}
-use Rattle.input_desc.proofs.Zipped.{zip_append, zip_length, zip_at, zip_replicate, zip_map}
+use Rattle.input_desc.proofs.Zipped.{zip_append, zip_at, zip_replicate, zip_map}
 use Rattle.input_desc.proofs.Wider.{Laws, has_wider}
 use Rattle.input_root.proofs.Holding.{all_hold, input_erased}
 use Rattle.input_root.proofs.Listed.{listed, listed_kept, listed_in_both}
@@ -287,7 +288,7 @@ shown p desc state fits =
     let start = fits.start in
     let meaning = input_values (args ++ state.statics) in
     let args_count : length (params_of p) ≡ length args = ap length (params_are p method fits.entry) ∙ sym fits.count in
-    let statics_count : length (statics_of p) ≡ length state.statics = sym (zip_length (Holds (types_of p.world) state.heap) (statics_of p) state.statics fits.statics) in
+    let statics_count : length (statics_of p) ≡ length state.statics = sym (AllZip-long (Holds (types_of p.world) state.heap) (statics_of p) state.statics fits.statics) in
     let locals_count : locals_of p ≡ method.max_locals = ap (λ o. option_map_or (λ m. m.max_locals) o 0) fits.entry in
     let ids : initial_locals (locals_of p) (length (params_of p)) (length (statics_of p)) ≡ initial_locals method.max_locals (length args) (length state.statics) =
     ap (λ n. initial_locals n (length (params_of p)) (length (statics_of p))) locals_count

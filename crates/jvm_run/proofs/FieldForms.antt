@@ -8,6 +8,7 @@ use Rattle.std.proofs.lemmas.Option.{slice_get_within}
 use Rattle.std.proofs.lemmas.List.{length-replicate}
 use Rattle.std.proofs.lemmas.List.Elements.{All-set, All-replicate}
 use Rattle.std.proofs.lemmas.Int.{ints}
+use Rattle.std.proofs.lemmas.Slice.Zip.{AllZip-long}
 use Rattle.list_views.specs.Options.{◌>>=◌, asked}
 use Rattle.jvm_values.specs.declared.heap.Value.{Value}
 use Rattle.jvm_values.specs.declared.heap.Value.TheVariants as values
@@ -44,7 +45,7 @@ use Rattle.code_verify.specs.Flows.{falls}
 use Rattle.code_verify.specs.TypedStates.{HasPlaceType, HasStack}
 use Rattle.jvm_step.specs.Effects.{Effect, with_stack, pushes, on_object, fields_in, getstatic_effect, putstatic_effect, getfield_effect, putfield_effect, with_item}
 use Rattle.jvm_step.specs.Operands.{kept, is_assignable, is_passed}
-use Rattle.jvm_run.proofs.Lists.{zip_length, zip_get, zip_set_right}
+use Rattle.jvm_run.proofs.Lists.{zip_get, zip_set_right}
 use Rattle.jvm_run.proofs.Numbers.{narrowed_is}
 use Rattle.jvm_run.proofs.Values.{Laws, Grows, grows_set, held, heap_set, holds_grown}
 use Rattle.jvm_run.proofs.Forms.{Here, Stands, Well, FrameGood, HeapGood, StaticsGood, Fits, types_here, acted_of, left, pushed, TopReference, top_reference_of, asks_below, rest_has, Found, on_object_well, bind_well, asked_well, fits_grown, passed_by, TopPassed, top_passed_of}
@@ -99,7 +100,7 @@ putstatic_well here s f place after e =
     let top = top_passed_of types s.laws heap g.0 [] a.below here.before.stack frame.stack s.stack a.taken_is in
     let slot : Slot = there.field_.slot in
     let typed : HasPlaceType types heap (place_of types slot) (Some top.value) = subst (λ (x : Slot). HasPlaceType types heap (place_of types x) (Some top.value)) (sym there.slot_is) top.typed in
-    let within : ltb place (length statics) ≡ true = lt-ltb place (length statics) (subst (λ (n : ℕ). place < n) (zip_length R here.program.statics statics s.statics) (slice_get_within here.program.statics place there.field_ there.there)) in
+    let within : ltb place (length statics) ≡ true = lt-ltb place (length statics) (subst (λ (n : ℕ). place < n) (sym (AllZip-long R here.program.statics statics s.statics)) (slice_get_within here.program.statics place there.field_ there.there)) in
     let both : (is_passed types heap slot top.value && ltb place (length statics)) ≡ true = and_from (is_passed types heap slot top.value) (ltb place (length statics)) (passed_by types heap slot top.value typed) within in
     let good : StaticsGood here after (with_stack frame top.rest, set statics place (kept slot top.value)) = record {
       statics = zip_set_right R here.program.statics statics place there.field_ (kept slot top.value) s.statics there.there (kept_held types heap slot top.value typed);

@@ -3,6 +3,7 @@ use Rattle.std.proofs.Common.{◌≡◌, ℕ, zero, suc, ◌+◌, ◌-◌, ◌<�
 use Rattle.std.specs.Prelude.{slice_get, All, IfSome}
 use Rattle.std.specs.List.{AllZip}
 use Rattle.std.proofs.lemmas.List.Elements.{All-nil, All-cons, All-head, All-tail, All-append, All-replicate, All-drop, All-weaker}
+use Rattle.std.proofs.lemmas.Slice.Zip.{AllZip-long}
 use Rattle.jvm_values.specs.declared.heap.Value.{Value}
 use Rattle.jvm_values.specs.declared.heap.Value.TheVariants as values
 use Rattle.jvm_values.specs.declared.heap.Heap.{Heap}
@@ -22,7 +23,7 @@ use Rattle.code_verify.specs.Operands.{place_of}
 use Rattle.code_verify.specs.Typings.{IsTyping, IsTypingOf, entry_frame, entry_flow}
 use Rattle.code_verify.specs.TypedStates.{HasPlaceType, HasStack, IsTypedFrame, IsRunning, IsUnwinding, IsCaller, AreCallers}
 use Rattle.jvm_step.specs.Running.{new_frame}
-use Rattle.jvm_run.proofs.Lists.{zip_length, zip_append, zip_through}
+use Rattle.jvm_run.proofs.Lists.{zip_append, zip_through}
 use Rattle.jvm_run.proofs.Values.{Laws, Grows, place_wider, placed_in_heap, in_heap_grown}
 use Rattle.jvm_run.proofs.Forms.{Fits, stack_grown, locals_grown, references_grown}
 
@@ -139,12 +140,12 @@ pub entered_running : (p : Program) (typing : ℕ → CodeTypes) → Laws (types
 entered_running p typing laws heap m number arguments is_m typed h =
     let types = types_of p.world in
     let P : Option Value → Type 0 = λ local. IfSome local (IsInHeap (length heap.objects)) in
-    let same : length m.params ≡ length arguments = zip_length (λ slot value. HasPlaceType types heap (place_of types slot) (Some value)) m.params arguments h in
+    let same : length m.params ≡ length arguments = sym (AllZip-long (λ slot value. HasPlaceType types heap (place_of types slot) (Some value)) m.params arguments h) in
     let rest : AllZip (HasPlaceType types heap) (replicate (m.max_locals - length m.params) places.Unset) (replicate (m.max_locals - length arguments) None) = subst (λ (n : ℕ). AllZip (HasPlaceType types heap) (replicate (m.max_locals - length m.params) places.Unset) (replicate (m.max_locals - n) None)) same (unset_locals types heap (m.max_locals - length m.params)) in
     let locals : List (Option Value) = map Some arguments ++ replicate (m.max_locals - length arguments) None in
     let has : AllZip (HasPlaceType types heap) (entry_frame types m).locals locals = zip_append (HasPlaceType types heap) (map (place_of types) m.params) (map Some arguments) (replicate (m.max_locals - length m.params) places.Unset) (replicate (m.max_locals - length arguments) None) (entered_locals types heap m.params arguments h) rest in
     let takes = typed.entry in
     let wide : AllZip (HasPlaceType types heap) takes.there.locals locals = locals_wider types laws heap (entry_frame types m).locals takes.there.locals locals takes.wide.locals has in
-    let count : length locals ≡ m.max_locals = sym (zip_length (HasPlaceType types heap) takes.there.locals locals wide) ∙ (typed.each 0 takes.there takes.is_there).limits.proper.count in
+    let count : length locals ≡ m.max_locals = AllZip-long (HasPlaceType types heap) takes.there.locals locals wide ∙ (typed.each 0 takes.there takes.is_there).limits.proper.count in
     running_at p typing laws heap m number 0 (entry_frame types m) locals [] is_m typed count takes has
     (All-append P (map Some arguments) (replicate (m.max_locals - length arguments) None) (entered_references types heap m.params arguments h) (All-replicate P (m.max_locals - length arguments) None tt)) tt

@@ -1,5 +1,5 @@
 -- Lists whose items are alike place by place.
-use Rattle.std.proofs.Common.{◌≡◌, ℕ, zero, suc, ◌+◌, ◌<◌, ◌≤◌, Bool, true, false, cond, ◌||◌, eqb, List, [], ◌∷◌, ◌++◌, length, get_or, set, take, drop, replicate, map, reverse, filter, Option, Some, None, ◌⊎◌, inl, inr, refl, sym, ap, ◌∙◌, subst, arith}
+use Rattle.std.proofs.Common.{◌≡◌, ℕ, zero, suc, ◌+◌, ◌<◌, ◌≤◌, Bool, true, false, cond, ◌||◌, eqb, List, [], ◌∷◌, ◌++◌, length, get_or, set, take, drop, replicate, map, reverse, filter, Option, Some, None, ◌⊎◌, inl, inr, refl, sym, ◌∙◌, subst, arith}
 use Rattle.std.specs.Prelude.{slice_get, All, find}
 use Rattle.std.specs.List.{AllZip, list_any}
 use Rattle.std.proofs.lemmas.List.{reverse-append, length-append}
@@ -16,12 +16,6 @@ cond_given false o x e = absurd (none_is_not_some x e)
 -- ---- place by place
 
 module _ {A B : Type 0} (R : A → B → Type 0) where
-  pub zip_length : (xs : List A) (ys : List B) → AllZip R xs ys → length xs ≡ length ys
-  zip_length [] [] h = refl
-  zip_length [] (y ∷ ys) h = absurd h
-  zip_length (x ∷ xs) [] h = absurd h
-  zip_length (x ∷ xs) (y ∷ ys) h = ap suc (zip_length xs ys h.1)
-
   -- what stands on the right at a place where something stands on the left
   pub record Beside (ys : List B) (i : ℕ) (x : A) : Type 0 where
     pub other : B

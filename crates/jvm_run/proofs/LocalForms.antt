@@ -7,6 +7,7 @@ use Rattle.std.specs.Option.{option_and_then}
 use Rattle.std.proofs.lemmas.Bool.{false≢true, ltb-true, lt-ltb}
 use Rattle.std.proofs.lemmas.List.Elements.{All-set}
 use Rattle.std.proofs.lemmas.Option.{slice_get_within}
+use Rattle.std.proofs.lemmas.Slice.Zip.{AllZip-long}
 use Rattle.list_views.specs.Options.{◌>>=◌, asked}
 use Rattle.jvm_values.specs.declared.heap.Value.{Value}
 use Rattle.jvm_values.specs.declared.heap.Value.TheVariants as values
@@ -26,7 +27,7 @@ use Rattle.code_verify.specs.Flows.{falls}
 use Rattle.code_verify.specs.TypedStates.{HasPlaceType, HasStack}
 use Rattle.jvm_step.specs.Effects.{Effect, with_stack, int_of_local, reference_of_local, sets, iload_effect, aload_effect, istore_effect, astore_effect, iinc_effect}
 use Rattle.jvm_step.specs.Operands.{int_of, reference_of, top_reference}
-use Rattle.jvm_run.proofs.Lists.{cond_given, zip_length, zip_get, zip_set, zip_set_right, Beside}
+use Rattle.jvm_run.proofs.Lists.{cond_given, zip_get, zip_set, zip_set_right, Beside}
 use Rattle.jvm_run.proofs.Numbers.{wrapped_is_int}
 use Rattle.jvm_run.proofs.Values.{placed_in_heap}
 use Rattle.jvm_run.proofs.Forms.{Here, Stands, Well, FrameGood, Fits, types_here, pushed, reference_top}
@@ -132,7 +133,7 @@ set_well here s f n place value below rest after e set_ h k =
     let heap = here.work.heap in
     let frame = here.work.frame in
     let g = cond_given (ltb n (length here.before.locals)) (Some (record { locals = set here.before.locals n place; stack = below })) after e in
-    let long : length here.before.locals ≡ length frame.locals = zip_length (HasPlaceType types heap) here.before.locals frame.locals s.locals in
+    let long : length here.before.locals ≡ length frame.locals = sym (AllZip-long (HasPlaceType types heap) here.before.locals frame.locals s.locals) in
     let within : ltb n (length frame.locals) ≡ true = subst (λ (k : ℕ). ltb n k ≡ true) long g.0 in
     let new : MachineFrame = record frame { locals = set frame.locals n (Some value); stack = rest } in
     let fit : FrameGood here after new = subst (λ (a : PlaceTypes). Fits types heap a frame new) (some_is g.1) (record {

@@ -1,9 +1,10 @@
 use Rattle.std.proofs.Common.{◌≡◌, ◌∙◌, List, reverse, ap}
 use Rattle.std.proofs.lemmas.Result.{IfOk-weaker}
+use Rattle.std.proofs.lemmas.List.Elements.{length_all_zip}
 use Rattle.abs_cells.specs.AbstractStates.{AbstractFrame}
 use Rattle.abs_widen.specs.Widening.{merged_frame, merged_frames}
 use Rattle.abs_widen.specs.Visiting.{AreAsLong}
-use Rattle.abs_widen.proofs.Zips.{all_reversed_as, all_length, mapped_reversed}
+use Rattle.abs_widen.proofs.Zips.{all_reversed_as, mapped_reversed}
 use Rattle.abs_widen.proofs.numbers.frames_of.Goals as goal
 
 pub merged_frames-requires-clause-long : goal.merged_frames-requires-clause-long
@@ -18,5 +19,5 @@ returns g c =
     ap reverse (e
     ∙ ap (λ (l : List AbstractFrame). merged_frames c.args.a.now c.args.b.now c.args.pairs.now l c.frames-2.result.now) c.frames.ensures
     ∙ ap (λ (l : List AbstractFrame). merged_frames c.args.a.now c.args.b.now c.args.pairs.now (reverse c.args.a.now.frames) l) c.frames-2.ensures)
-    ∙ mapped_reversed (λ both. merged_frame c.args.a.now c.args.b.now c.args.pairs.now both.0 both.1) c.args.a.now.frames c.args.b.now.frames (all_length AreAsLong c.args.a.now.frames c.args.b.now.frames c.requires.long))
+    ∙ mapped_reversed (λ both. merged_frame c.args.a.now c.args.b.now c.args.pairs.now both.0 both.1) c.args.a.now.frames c.args.b.now.frames (length_all_zip AreAsLong c.args.a.now.frames c.args.b.now.frames c.requires.long))
     c.merged_frames.ensures
