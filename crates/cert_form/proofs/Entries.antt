@@ -1,6 +1,6 @@
 -- Lists of entries, read one after another.
 use Rattle.std.proofs.Common.{◌≡◌, ℕ, zero, suc, ◌+◌, List, [], ◌∷◌, ◌++◌, Result, Ok, Err, Some, refl, sym, ap, ◌∙◌, subst, arith}
-use Rattle.serde_json.specs.Data.{Data, null, boolean, number, string, array, object, Items, no_items, item}
+use Rattle.serde_json.specs.Data.{Data, null, boolean, number, string, array, object, Items}
 use Rattle.serde_json.specs.Events.{items_len}
 use Rattle.serde_json.specs.Find.{at}
 use Rattle.json_view.specs.Answers.{same}
@@ -8,7 +8,7 @@ use Rattle.json_view.specs.Located.{Located}
 use Rattle.json_view.specs.Reading.{item_of, item_count, items_of}
 use Rattle.json_view.specs.declared.fault.JsonFault.{JsonFault}
 use Rattle.json_view.specs.declared.fault.JsonFault.TheVariants.{WrongKind}
-use Rattle.json_view.proofs.Behind.{items_after, items_in, nth_after, item_found}
+use Rattle.json_view.proofs.Behind.{items_after, items_in, nth_after, item_found, all_in}
 use Rattle.cert_form.specs.declared.fault.CertFault.{CertFault}
 use Rattle.cert_form.specs.declared.fault.CertFault.TheVariants.{Json, Limit, Memory}
 use Rattle.cert_form.specs.Answers.{Reader, Says, Tells, json}
@@ -86,18 +86,6 @@ no_list_by reader place (array items) fault t = no_fault fault (items_len items)
 -- it is no list
 pub no_list : {A : Type 0} (reader : List A → Reader A) (here : Located) (fault : CertFault) → Tells {T = ℕ} same (Err fault) (json (items_of here)) → Says (Err fault) (entries_of reader here)
 no_list reader here fault t = no_list_by reader here.place here.value fault t
-
-all_after : (items : Items) → items_after (items_len items) items ≡ no_items
-all_after no_items = refl
-all_after (item d ds) = all_after ds
-
-all_in : (value : Data) → items_after (item_count value) (items_in value) ≡ no_items
-all_in null = refl
-all_in (boolean b) = refl
-all_in (number n) = refl
-all_in (string s) = refl
-all_in (object ms) = refl
-all_in (array items) = all_after items
 
 -- all entries are read
 pub is_read : {A : Type 0} (reader : List A → Reader A) (here : Located) (count : ℕ) (front : List A) → Goes reader here count front → count ≡ item_count here.value → entries_of reader here ≡ Ok front

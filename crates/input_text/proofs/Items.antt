@@ -1,15 +1,14 @@
 -- Lists of items, read one after another.
 use Rattle.std.proofs.Common.{◌≡◌, ℕ, zero, suc, ◌+◌, List, [], ◌∷◌, ◌++◌, Result, Ok, Err, Some, refl, sym, ap, ◌∙◌, subst, arith, append_assoc, append-nil}
 use Rattle.std.specs.Prelude.{IsErrAnd}
-use Rattle.serde_json.specs.Data.{Data, null, boolean, number, string, array, object, Items, no_items, item}
-use Rattle.serde_json.specs.Events.{items_len}
+use Rattle.serde_json.specs.Data.{Data, null, boolean, number, string, array, object, Items}
 use Rattle.serde_json.specs.Find.{at}
 use Rattle.json_view.specs.Located.{Located}
 use Rattle.json_view.specs.Reading.{item_of, item_count, items_of}
 use Rattle.json_view.specs.declared.fault.JsonFault.{JsonFault}
 use Rattle.json_view.specs.declared.fault.JsonFault.TheVariants.{NotJson, WrongKind, MissingField, UnknownField, OutOfRange, Memory}
 use Rattle.json_view.specs.Answers.{StandsFor}
-use Rattle.json_view.proofs.Behind.{items_after, items_in, nth_after, item_found}
+use Rattle.json_view.proofs.Behind.{items_after, items_in, nth_after, item_found, all_in}
 use Rattle.input_text.specs.Answers.{Reader, Says}
 use Rattle.input_text.specs.Fields.{◌>>=◌, items_from, list_of}
 
@@ -98,18 +97,6 @@ pub stops : {A : Type 0} (reader : Reader A) (here there : Located) (n : ℕ) (f
 stops {A = A} reader here there n front fault goes e s =
     subst (λ (r : Result (List A) JsonFault). Says (Err fault) r) (sym (next_is reader here there n front goes e))
     (says_err fault (reader there) front (λ x. items_from reader here.place (suc n) (items_after (suc n) (items_in here.value)) >>= λ xs. Ok (x ∷ xs)) s)
-
-all_after : (items : Items) → items_after (items_len items) items ≡ no_items
-all_after no_items = refl
-all_after (item d ds) = all_after ds
-
-all_in : (value : Data) → items_after (item_count value) (items_in value) ≡ no_items
-all_in null = refl
-all_in (boolean b) = refl
-all_in (number n) = refl
-all_in (string s) = refl
-all_in (object ms) = refl
-all_in (array items) = all_after items
 
 -- all items are read
 pub is_read : {A : Type 0} (reader : Reader A) (here : Located) (count : ℕ) (front : List A) → Goes reader here count front → count ≡ item_count here.value → list_of reader here ≡ Ok front

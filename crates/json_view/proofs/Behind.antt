@@ -2,9 +2,10 @@
 use Rattle.std.proofs.Common.{◌≡◌, ℕ, zero, suc, List, Option, Some, None, refl, ap}
 use Rattle.std.specs.Prelude.{option_map}
 use Rattle.serde_json.specs.Data.{Data, null, boolean, number, string, array, object, Items, no_items, item}
+use Rattle.serde_json.specs.Events.{items_len}
 use Rattle.serde_json.specs.Find.{get_item, at}
 use Rattle.json_view.specs.Located.{Located}
-use Rattle.json_view.specs.Reading.{at_item}
+use Rattle.json_view.specs.Reading.{item_count, at_item}
 
 -- the items behind the first n
 abbrev pub items_after : ℕ → Items → Items
@@ -37,3 +38,16 @@ nth_after n (array items) value e = first_after n items value e
 pub item_found : (place : List ℕ) (n : ℕ) (found : Option Data) (there : Located) → option_map (at_item place n) found ≡ Some there → (value : Data) × ((found ≡ Some value) × (at_item place n value ≡ there))
 item_found place n None there e = let no : ⊥ = cc in absurd no
 item_found place n (Some value) there e = (value, (refl, cc))
+
+-- behind the last item there are none
+all_after : (items : Items) → items_after (items_len items) items ≡ no_items
+all_after no_items = refl
+all_after (item d ds) = all_after ds
+
+pub all_in : (value : Data) → items_after (item_count value) (items_in value) ≡ no_items
+all_in null = refl
+all_in (boolean b) = refl
+all_in (number n) = refl
+all_in (string s) = refl
+all_in (object ms) = refl
+all_in (array items) = all_after items
