@@ -26,9 +26,13 @@ fault_name Memory = codes "Memory"
 abbrev pub name_field : List ℕ → List ℕ
 name_field name = bytes_field (codes "name") name
 
+-- the pieces of a method's name, `CLASS.NAMEDESC`, and what stands behind them
+abbrev pub method_pieces : List ℕ → List ℕ → List ℕ → List (List ℕ) → List (List ℕ)
+method_pieces class name desc more = class ∷ codes "." ∷ name ∷ desc ∷ more
+
 -- a method as `CLASS.NAMEDESC`, and further fields
 abbrev pub method_fields : MethodName → List ℕ → List ℕ
-method_fields method more = joined (codes " method=" ∷ method.class ∷ codes "." ∷ method.name ∷ method.desc ∷ more ∷ [])
+method_fields method more = joined (codes " method=" ∷ method_pieces method.class method.name method.desc (more ∷ []))
 
 abbrev pub fault_fields : LinkFault → List ℕ
 fault_fields (DuplicateClass name) = name_field name

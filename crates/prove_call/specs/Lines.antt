@@ -4,6 +4,7 @@ use Rattle.std.specs.Fmt.{decimal}
 use Rattle.std.specs.List.{flat_map}
 use Rattle.std.specs.Option.{option_map_or}
 use Rattle.list_views.specs.FaultWords.{joined}
+use Rattle.class_world.specs.Faults.{method_pieces}
 use Rattle.class_world.specs.World.{World}
 use Rattle.class_program.specs.declared.program.Method.{Method}
 use Rattle.class_program.specs.Programs.{Program}
@@ -31,7 +32,7 @@ class_text world class = option_map_or (λ c. c.name) (slice_get world class) []
 
 -- `CLASS.NAMEDESC`
 abbrev pub method_text : World → Method → List ℕ
-method_text world m = joined (class_text world m.class ∷ codes "." ∷ m.name ∷ m.desc ∷ [])
+method_text world m = joined (method_pieces (class_text world m.class) m.name m.desc [])
 
 -- where a frame is: `CLASS.NAMEDESC@PC`
 abbrev pub frame_text : Program → AbstractFrame → List ℕ
