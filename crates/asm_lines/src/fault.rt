@@ -4,8 +4,8 @@ ghost use Rattle.std.specs.Prelude.{◌≡◌, IfOk};
 ghost use Rattle.asm_lines.specs.Faults.{fault_name, fault_fields, fault_text};
 ghost use Rattle.asm_lines.specs.declared.fault.AsmFault.TheVariants.{Memory};
 
-use list_views::fault_words::{joined, number_field};
 use list_views::Seq;
+use list_views::fault_words::{joined, number_field};
 use std::alloc::{AllocError, AllocFailed, Global};
 
 /// The first broken rule of a listing. Lines are counted from 1. Of several faults on one line the one that stands first

@@ -3,8 +3,8 @@ ghost use Rattle.std.specs.Prelude.{◌≡◌, IfOk};
 ghost use Rattle.call_graph.specs.Faults.{fault_name, fault_fields, fault_text};
 
 use class_world::MethodName;
-use list_views::fault_words::joined;
 use list_views::Seq;
+use list_views::fault_words::joined;
 use std::alloc::{AllocError, AllocFailed, Global};
 
 /// What is wrong with the calls of a program.

@@ -3,8 +3,8 @@ ghost use Rattle.std.specs.Prelude.{◌≡◌, IfOk};
 ghost use Rattle.cert_form.specs.Faults.{fault_name, fault_fields, fault_text};
 
 use crate::fault::CertFault;
-use list_views::fault_words::{bytes_field, joined};
 use list_views::Seq;
+use list_views::fault_words::{bytes_field, joined};
 use std::alloc::{AllocError, Global};
 
 impl CertFault {

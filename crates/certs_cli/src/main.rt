@@ -6,11 +6,11 @@
 ghost use Rattle.std.specs.Prelude.{◌≤◌, ◌^◌, length, IfOk};
 
 use check_call::Outcome;
-use list_views::fault_words::joined;
 use fill_call::fill_line;
 use input_steps::{Refused, refusal_text};
 use io_ports::{FileFault, Files, RealFiles, Sink, StdSink};
 use list_views::Seq;
+use list_views::fault_words::joined;
 use std::alloc::{AllocError, AllocFailed, Global};
 use std::env;
 use std::io::ErrorKind;

@@ -4,9 +4,9 @@ ghost use Rattle.check_call.specs.Causes.{two_fields, lin_name, lin_fields, what
 
 use cert_check::Cause;
 use descent::{DescentFault, LinFault};
-use list_views::fault_words::{joined, number_field};
 use graph_check::What;
 use list_views::Seq;
+use list_views::fault_words::{joined, number_field};
 use path_rules::PathFault;
 use std::alloc::{AllocError, Global};
 

@@ -3,9 +3,9 @@ ghost use Rattle.std.specs.Prelude.{◌≡◌, IfOk};
 ghost use Rattle.desc_steps.specs.Answers.{AnswersAs};
 ghost use Rattle.check_call.specs.Lines.{refused_line, accepted, refused_at};
 
-use list_views::fault_words::{joined, number};
 use input_steps::Refused;
 use list_views::Seq;
+use list_views::fault_words::{joined, number};
 use std::alloc::{AllocError, Global};
 
 /// What is said of a certificate.

@@ -4,8 +4,8 @@ ghost use Rattle.std.specs.Prelude.{◌≡◌, IfOk};
 ghost use Rattle.class_pool.specs.declared.fault.PoolFault.TheVariants.{Memory};
 ghost use Rattle.class_pool.specs.Faults.{fault_name, fault_fields, fault_text};
 
-use list_views::fault_words::{joined, number_field};
 use list_views::Seq;
+use list_views::fault_words::{joined, number_field};
 use std::alloc::{AllocError, AllocFailed, Global};
 
 /// The first fault of a pool. Places are counted from the start of the input.

@@ -4,8 +4,8 @@ ghost use Rattle.input_steps.specs.Lines.{fault_text, place_text, refusal_line, 
 
 use crate::refused::{Fault, Place};
 use class_world::MethodName;
-use list_views::fault_words::joined;
 use list_views::Seq;
+use list_views::fault_words::joined;
 use std::alloc::{AllocError, Global};
 
 /// A method without a typing, in words.

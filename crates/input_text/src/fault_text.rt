@@ -3,8 +3,8 @@ ghost use Rattle.std.specs.Prelude.{◌≡◌, IfOk};
 ghost use Rattle.input_text.specs.Faults.{fault_name, fault_fields, fault_text};
 
 use crate::fault::DescFault;
-use list_views::fault_words::{joined, number_field};
 use list_views::Seq;
+use list_views::fault_words::{joined, number_field};
 use std::alloc::{AllocError, Global};
 
 impl DescFault {

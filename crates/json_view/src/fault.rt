@@ -5,8 +5,8 @@ ghost use Rattle.json_view.specs.Faults.{fault_name, fault_fields, fault_text};
 ghost use Rattle.std.specs.Prelude.{◌≡◌, IfOk};
 
 use crate::place::Place;
-use list_views::fault_words::{bytes_field, joined};
 use list_views::Seq;
+use list_views::fault_words::{bytes_field, joined};
 use std::alloc::{AllocError, AllocFailed, Global};
 
 /// Why a text or a field of a value isn't read.

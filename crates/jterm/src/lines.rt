@@ -2,9 +2,9 @@
 ghost use Rattle.std.specs.Prelude.{◌≡◌, IfOk};
 ghost use Rattle.jterm.specs.Lines.{usage_lines, memory_line, write_line, file_line, read_line, file_fault_text};
 
-use list_views::fault_words::joined;
 use io_ports::FileFault;
 use list_views::Seq;
+use list_views::fault_words::joined;
 use std::alloc::{AllocError, Global};
 
 /// The words are no command. A line for each command that is built follows, with its words.

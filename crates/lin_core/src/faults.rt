@@ -3,7 +3,7 @@ use std::error::Error;
 use std::fmt;
 
 /// Why a list of multipliers is refused: the first entry `n`, counted from 0, that breaks a rule.
-#[derive(Clone, Copy, PartialEq, Eq)]
+#[derive(Clone, Copy, Debug, PartialEq, Eq)]
 pub enum LinFault {
     /// The entry names a row that is not there.
     BadIndex {

@@ -8,9 +8,9 @@ ghost use Rattle.prove_call.specs.Said.{yes_with, maybe_with, Tells};
 use crate::lines::reason_text;
 use abs_cells::PackedPairs;
 use class_program::Program;
-use list_views::fault_words::joined;
 use input_steps::Refused;
 use list_views::Seq;
+use list_views::fault_words::joined;
 use prove_core::{Found, Reason};
 use std::alloc::Global;
 

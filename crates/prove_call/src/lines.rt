@@ -8,8 +8,8 @@ ghost use Rattle.prove_call.specs.Lines.{class_text, method_text, frame_text, ru
 use abs_cells::{AbsFrame, AbsState, Pairs};
 use class_program::{Method, Program};
 use class_world::World;
-use list_views::fault_words::{joined, number};
 use list_views::Seq;
+use list_views::fault_words::{joined, number};
 use prove_core::{LeftRule, Reason};
 use std::alloc::{AllocError, Global};
 use term_graph::Graph;

@@ -5,10 +5,10 @@ ghost use Rattle.class_world.specs.Worlds.{classes_of};
 ghost use Rattle.run_call.specs.Lines as lines;
 
 use class_world::World;
-use list_views::fault_words::{joined, number};
 use jvm_run::Ended;
 use jvm_values::{Base, Heap, Kind, Object, Ty, Types, Value};
 use list_views::Seq;
+use list_views::fault_words::{joined, number};
 use std::alloc::{AllocError, Global};
 
 /// The name of the class of a number.
