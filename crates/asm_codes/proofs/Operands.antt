@@ -5,7 +5,7 @@ use Rattle.std.specs.Option.{option_and_then}
 use Rattle.std.specs.List.{AllByRecursion, list_all}
 use Rattle.std.specs.Int.{w8, w16, w32}
 use Rattle.std.specs.Int.RustNames.{FitsSigned, int_le, int_lt}
-use Rattle.std.proofs.lemmas.Bool.{ltb-true}
+use Rattle.std.proofs.lemmas.Bool.{ltb-true, and_parts}
 use Rattle.std.proofs.lemmas.Bool.Decides.{nat_tests}
 use Rattle.std.proofs.lemmas.Int.{ints}
 use Rattle.code_decode.specs.declared.insn.Case.{Case}
@@ -21,7 +21,7 @@ use Rattle.code_decode.proofs.Lengths.{table_len, lookup_len}
 use Rattle.asm_lines.specs.declared.number.Number.{Number}
 use Rattle.asm_lines.specs.declared.operation.Operation.{Operation}
 use Rattle.asm_lines.specs.declared.operation.Operation.TheVariants.{Plain, Local, Bipush, Sipush, LoadInt, LoadString, Member, Class, Newarray, Iinc, Jump, GotoW, Tableswitch, Lookupswitch}
-use Rattle.asm_lines.proofs.NumberFits.{chained, guarded, both, lies, int_fits}
+use Rattle.asm_lines.proofs.NumberFits.{chained, guarded, lies, int_fits}
 use Rattle.asm_codes.specs.declared.pooled.PoolOperand.{PoolOperand}
 use Rattle.asm_lines.specs.Numbers.{signed_of, unsigned_of, pair_of, int_of}
 use Rattle.asm_codes.specs.Instructions.{Places, target, between, byte_value, pair_value, with_operand, local_insn, entry_insn, load_insn, interface_insn, member_insn, array_insn, increment, increment_insn, highest_fits, table_of_low, table_insn, make_case, cases_of, lookup_of, lookup_insn, insn_of}
@@ -109,7 +109,7 @@ entry_fits pc op n i h =
 load_fits : (pc op n : ℕ) (i : Insn) → load_insn op n ≡ Some i → Fits pc i
 load_fits pc op n i h =
     elim (chosen (eqb op 18 && nat_lt n 256) (Some (insns.Ldc n)) (entry_insn 19 n) (Some i) h) [
-      | inl p ↦ subst (Fits pc) (some_is (insns.Ldc n) i p.1) (below n 256 (both (eqb op 18) (nat_lt n 256) p.0).1)
+      | inl p ↦ subst (Fits pc) (some_is (insns.Ldc n) i p.1) (below n 256 (and_parts (eqb op 18) (nat_lt n 256) p.0).1)
       | inr p ↦ entry_fits pc 19 n i p.1
     ]
 
@@ -118,7 +118,7 @@ member_fits pc op n words i h =
     elim (chosen (eqb op 185) (interface_insn n words) (entry_insn op n) (Some i) h) [
       | inl p ↦
           let g = guarded (nat_lt n 65536 && nat_lt words 256) (Some (insns.Invokeinterface n words)) i p.1 in
-          let t = both (nat_lt n 65536) (nat_lt words 256) g.0 in
+          let t = and_parts (nat_lt n 65536) (nat_lt words 256) g.0 in
           subst (Fits pc) (some_is (insns.Invokeinterface n words) i g.1) (below n 65536 t.0, below words 256 t.1)
       | inr p ↦ entry_fits pc op n i p.1
     ]
@@ -126,7 +126,7 @@ member_fits pc op n words i h =
 array_fits : (pc code : ℕ) (i : Insn) → array_insn code ≡ Some i → Fits pc i
 array_fits pc code i h =
     let g = guarded (nat_le 4 code && nat_le code 11) (Some (insns.Newarray code)) i h in
-    let t = both (nat_le 4 code) (nat_le code 11) g.0 in
+    let t = and_parts (nat_le 4 code) (nat_le code 11) g.0 in
     subst (Fits pc) (some_is (insns.Newarray code) i g.1) (grind (arith, nat_tests), grind (arith, nat_tests))
 
 byte_value_fits : (n : Number) (v : ℤ) → byte_value n ≡ Some v → FitsSigned w8 v
@@ -149,7 +149,7 @@ increment_fits : (pc n : ℕ) (v : ℤ) → n < 2 ^ 16 → FitsSigned w16 v → 
 increment_fits pc n v small fits =
     elim (chosen (nat_lt n 256 && between (negsuc 127) (pos 127) v) (insns.Iinc n v) (insns.WideIinc n v) (increment n v) refl) [
       | inl p ↦
-          let t = both (nat_lt n 256) (between (negsuc 127) (pos 127) v) p.0 in
+          let t = and_parts (nat_lt n 256) (between (negsuc 127) (pos 127) v) p.0 in
           let l = lies (negsuc 127) (pos 127) v t.1 in
           subst (Fits pc) p.1 (below n 256 t.0, omega (arith, ints, l.0, l.1))
       | inr p ↦ subst (Fits pc) p.1 (small, fits)
@@ -165,12 +165,12 @@ increment_insn_fits pc n m i h =
 
 near_reaches : (pc place : ℕ) → place < 2 ^ 16 → is_within 32767 pc place ≡ true → Reaches w16 pc place
 near_reaches pc place small h =
-    let t = both (nat_le (place - pc) 32767) (nat_le (pc - place) 32768) h in
+    let t = and_parts (nat_le (place - pc) 32767) (nat_le (pc - place) 32768) h in
     record { place = small; fits = grind (arith, ints, nat_tests) }
 
 far_reaches : (pc place : ℕ) → place < 2 ^ 16 → is_within 2147483647 pc place ≡ true → Reaches w32 pc place
 far_reaches pc place small h =
-    let t = both (nat_le (place - pc) 2147483647) (nat_le (pc - place) 2147483648) h in
+    let t = and_parts (nat_le (place - pc) 2147483647) (nat_le (pc - place) 2147483648) h in
     record { place = small; fits = grind (arith, ints, nat_tests) }
 
 -- ---- switches
@@ -182,7 +182,7 @@ length-map f (x ∷ xs) = ap suc (length-map f xs)
 all_far : (places : Places) (pc : ℕ) (labels : List (List ℕ)) → IsNear places → list_all (is_far places pc) labels ≡ true → AllByRecursion (Reaches w32 pc) (map (target places) labels)
 all_far places pc [] near h = tt
 all_far places pc (l ∷ ls) near h =
-    let t = both (is_far places pc l) (list_all (is_far places pc) ls) h in
+    let t = and_parts (is_far places pc l) (list_all (is_far places pc) ls) h in
     (far_reaches pc (target places l) (near l) t.0, all_far places pc ls near t.1)
 
 highest : (low : ℤ) (n : ℕ) → FitsSigned w32 low → int_le (low +ℤ pos (n - 1)) (pos 2147483647) ≡ true → FitsSigned w32 (low +ℤ pos (n - 1))
@@ -195,7 +195,7 @@ table_fits : (places : Places) (pc : ℕ) (low : Number) (default : List ℕ) (l
 table_fits places pc low default labels i near far all h =
     let c = chained (table_of_low places default labels) (int_of low) i h in
     let g = guarded (highest_fits c.0 (length labels)) (Some (insns.Tableswitch (target places default) c.0 (map (target places) labels))) i c.2 in
-    let t = both (nat_lt 0 (length labels)) (int_le (c.0 +ℤ pos (length labels - 1)) (pos 2147483647)) g.0 in
+    let t = and_parts (nat_lt 0 (length labels)) (int_le (c.0 +ℤ pos (length labels - 1)) (pos 2147483647)) g.0 in
     let same = length-map (target places) labels in
     let lowest = int_fits low c.0 c.1 in
     let is_table : IsTable pc (target places default) c.0 (map (target places) labels) = record {
@@ -216,7 +216,7 @@ cases_fit places pc [] cases near all h = subst (AllByRecursion (IsFitCase pc)) 
 cases_fit places pc (c ∷ cs) cases near all h =
     let k = chained (λ key. option_map (λ rest. make_case key (target places c.1) ∷ rest) (cases_of places cs)) (int_of c.0) cases h in
     let m = mapped (λ (rest : List Case). make_case k.0 (target places c.1) ∷ rest) (cases_of places cs) cases k.2 in
-    let t = both (is_far places pc c.1) (list_all (λ (d : Number × List ℕ). is_far places pc d.1) cs) all in
+    let t = and_parts (is_far places pc c.1) (list_all (λ (d : Number × List ℕ). is_far places pc d.1) cs) all in
     subst (AllByRecursion (IsFitCase pc)) m.2 ((int_fits c.0 k.0 k.1, far_reaches pc (target places c.1) (near c.1) t.0), cases_fit places pc cs m.0 near t.1 m.1)
 
 lookup_fits : (places : Places) (pc : ℕ) (default : List ℕ) (cs : List (Number × List ℕ)) (i : Insn) → IsNear places
@@ -224,7 +224,7 @@ lookup_fits : (places : Places) (pc : ℕ) (default : List ℕ) (cs : List (Numb
 lookup_fits places pc default cs i near far all h =
     let c = chained (lookup_of (target places default)) (cases_of places cs) i h in
     let g = guarded (nat_lt (length c.0) (2 ^ 31) && is_rising c.0) (Some (insns.Lookupswitch (target places default) c.0)) i c.2 in
-    let t = both (nat_lt (length c.0) (2 ^ 31)) (is_rising c.0) g.0 in
+    let t = and_parts (nat_lt (length c.0) (2 ^ 31)) (is_rising c.0) g.0 in
     let is_lookup : IsLookup pc (target places default) c.0 = record {
       otherwise = far_reaches pc (target places default) (near default) far;
       few = below (length c.0) (2 ^ 31) t.0;
@@ -257,10 +257,10 @@ fits places need (Jump op label) pc i near r h =
     fits_as pc i (spellings.Jump op (target places label)) (operand spellings.Jump with_jump op (target places label) i jump_rows h) (near_reaches pc (target places label) (near label) r)
 fits places need (GotoW label) pc i near r h = subst (Fits pc) (some_is (insns.GotoW (target places label)) i h) (far_reaches pc (target places label) (near label) r)
 fits places need (Tableswitch low default labels) pc i near r h =
-    let t = both (is_far places pc default) (list_all (is_far places pc) labels) r in
+    let t = and_parts (is_far places pc default) (list_all (is_far places pc) labels) r in
     table_fits places pc low default labels i near t.0 t.1 h
 fits places need (Lookupswitch default cases) pc i near r h =
-    let t = both (is_far places pc default) (list_all (λ (c : Number × List ℕ). is_far places pc c.1) cases) r in
+    let t = and_parts (is_far places pc default) (list_all (λ (c : Number × List ℕ). is_far places pc c.1) cases) r in
     lookup_fits places pc default cases i near t.0 t.1 h
 
 -- ---- sizes

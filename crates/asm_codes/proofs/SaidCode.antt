@@ -15,7 +15,6 @@ use Rattle.asm_lines.specs.declared.item.Item.{Item}
 use Rattle.asm_lines.specs.declared.item.Item.TheVariants as items
 use Rattle.asm_lines.specs.declared.listing.CodeLine.{CodeLine}
 use Rattle.asm_lines.specs.declared.operation.Operation.{Operation}
-use Rattle.asm_lines.proofs.NumberFits.{both}
 use Rattle.asm_lines.specs.declared.fault.AsmFault.{AsmFault}
 use Rattle.asm_codes.specs.declared.code.MethodCode.{MethodCode}
 use Rattle.asm_codes.specs.declared.pooled.PoolOperand.{PoolOperand}

@@ -1,5 +1,6 @@
 -- The instruction that an operation gives is the one of its line.
 use Rattle.std.proofs.Common.{◌≡◌, ℕ, ◌^◌, ℤ, Bool, true, false, cond, ◌&&◌, eqb, eqb-true, List, [], ◌∷◌, length, map, Option, Some, None, is_some, refl, sym, ap, subst, ◌∙◌, pos, negsuc, inl, inr}
+use Rattle.std.proofs.lemmas.Bool.{and_parts}
 use Rattle.std.specs.Prelude.{option_map, nat_lt, nat_le}
 use Rattle.std.specs.Option.{option_and_then, option_map_or}
 use Rattle.std.specs.List.{list_all}
@@ -15,7 +16,7 @@ use Rattle.asm_lines.specs.declared.number.Number.{Number}
 use Rattle.asm_lines.specs.declared.operation.Operation.{Operation}
 use Rattle.asm_lines.specs.declared.operation.Operation.TheVariants.{Plain, Local, Bipush, Sipush, LoadInt, LoadString, Member, Class, Newarray, Iinc, Jump, GotoW, Tableswitch, Lookupswitch}
 use Rattle.asm_lines.specs.Numbers.{signed_of, pair_of, int_of}
-use Rattle.asm_lines.proofs.NumberFits.{chained, guarded, both}
+use Rattle.asm_lines.proofs.NumberFits.{chained, guarded}
 use Rattle.asm_codes.specs.declared.pooled.PoolOperand.{PoolOperand}
 use Rattle.asm_codes.specs.Instructions.{Places, target, between, byte_value, pair_value, with_operand, local_insn, entry_insn, load_insn, interface_insn, member_insn, array_insn, increment, increment_insn, highest_fits, table_of_low, table_insn, make_case, cases_of, lookup_of, lookup_insn, insn_of}
 use Rattle.asm_codes.specs.LineFaults.{operation_labels, knows}
@@ -34,14 +35,14 @@ known places label h = placed_at (places label) h
 all_known : (places : Places) (labels : List (List ℕ)) → knows places labels ≡ true → map places labels ≡ map (λ (n : ℕ). Some n) (map (target places) labels)
 all_known places [] h = refl
 all_known places (label ∷ labels) h =
-    let k = both (is_some (places label)) (knows places labels) h in
+    let k = and_parts (is_some (places label)) (knows places labels) h in
     ap (λ (o : Option ℕ). o ∷ map places labels) (known places label k.0) ∙ ap (λ (os : List (Option ℕ)). Some (target places label) ∷ os) (all_known places labels k.1)
 
 pub first_known : (places : Places) (label : List ℕ) (labels : List (List ℕ)) → knows places (label ∷ labels) ≡ true → places label ≡ Some (target places label)
-first_known places label labels h = known places label (both (is_some (places label)) (knows places labels) h).0
+first_known places label labels h = known places label (and_parts (is_some (places label)) (knows places labels) h).0
 
 pub others_known : (places : Places) (label : List ℕ) (labels : List (List ℕ)) → knows places (label ∷ labels) ≡ true → knows places labels ≡ true
-others_known places label labels h = (both (is_some (places label)) (knows places labels) h).1
+others_known places label labels h = (and_parts (is_some (places label)) (knows places labels) h).1
 
 -- ---- instructions without operands
 

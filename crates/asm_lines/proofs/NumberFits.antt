@@ -5,6 +5,7 @@ use Rattle.std.specs.Option.{option_and_then}
 use Rattle.std.specs.Int.{w32}
 use Rattle.std.specs.Int.RustNames.{FitsSigned, int_le}
 use Rattle.std.proofs.lemmas.Int.{ints}
+use Rattle.std.proofs.lemmas.Bool.{and_parts}
 use Rattle.code_decode.proofs.Takes.{some_is}
 use Rattle.asm_lines.specs.declared.number.Number.{Number}
 use Rattle.asm_lines.specs.Numbers.{signed_of, int_of}
@@ -17,12 +18,8 @@ pub guarded : {A : Type 0} (b : Bool) (o : Option A) (y : A) → cond b o None �
 guarded true o y h = (refl, h)
 guarded false o y h = absurd cc
 
-pub both : (a b : Bool) → (a && b) ≡ true → (a ≡ true) × (b ≡ true)
-both true b h = (refl, h)
-both false b h = absurd cc
-
 pub lies : (low high v : ℤ) → (int_le low v && int_le v high) ≡ true → (low ≤ℤ v) × (v ≤ℤ high)
-lies low high v h = let p = both (int_le low v) (int_le v high) h in (grind (arith, ints), grind (arith, ints))
+lies low high v h = let p = and_parts (int_le low v) (int_le v high) h in (grind (arith, ints), grind (arith, ints))
 
 pub int_fits : (n : Number) (v : ℤ) → int_of n ≡ Some v → FitsSigned w32 v
 int_fits n v h =

@@ -4,7 +4,7 @@ use Rattle.std.specs.Prelude.{filter, codes, bit_and, bit_or, nat_lt}
 use Rattle.std.specs.List.{AllByRecursion}
 use Rattle.std.specs.Option.{option_map_or}
 use Rattle.std.specs.Str.{bytes_eq}
-use Rattle.std.proofs.lemmas.Bool.{ltb-true}
+use Rattle.std.proofs.lemmas.Bool.{ltb-true, and_parts}
 use Rattle.std.proofs.lemmas.Nat.{or_lt}
 use Rattle.code_decode.specs.Spellings as spellings
 use Rattle.code_decode.specs.Spellings.{Spelling, spelling}
@@ -43,10 +43,6 @@ abbrev pub PlainOption : Option (List ℕ) → Type 0
 PlainOption None = Unit {0}
 PlainOption (Some text) = IsPlain text
 
-both : (a b : Bool) → (a && b) ≡ true → (a ≡ true) × (b ≡ true)
-both true b h = (refl, h)
-both false b h = absurd cc
-
 onto_plain : (b : ℕ) (ps : Words) → is_plain_byte b ≡ true → ArePlain ps → ArePlain (onto b ps)
 onto_plain b [] h k = (rw h refl, tt)
 onto_plain b (p ∷ ps) h k = (rw h k.0, k.1)
@@ -58,7 +54,7 @@ parted b false ps h k = onto_plain b ps h k
 parts_plain : (at : ℕ) (bytes : List ℕ) → IsPlain bytes → ArePlain (parts at bytes)
 parts_plain at [] h = tt
 parts_plain at (b ∷ bytes) h =
-    let p = both (is_plain_byte b) (is_plain bytes) h in
+    let p = and_parts (is_plain_byte b) (is_plain bytes) h in
     parted b (eqb b at) (parts at bytes) p.0 (parts_plain at bytes p.1)
 
 kept : (c : Bool) (w : List ℕ) (ws : Words) → IsPlain w → ArePlain ws → ArePlain (cond c (w ∷ ws) ws)

@@ -1,16 +1,12 @@
 -- A method's flags, public but for `private`, say whether it has code, and so do the sizes of its line.
 use Rattle.std.proofs.Common.{◌≡◌, ℕ, zero, suc, ◌<◌, ◌^◌, Bool, true, false, cond, not, ◌&&◌, eqb, is_some, refl, subst, ◌∙◌, arith, inl, inr}
 use Rattle.std.specs.Prelude.{bit_and, bit_or}
-use Rattle.std.proofs.lemmas.Bool.{cases_lt}
+use Rattle.std.proofs.lemmas.Bool.{cases_lt, and_parts}
 use Rattle.std.proofs.lemmas.Nat.{or_lt}
 use Rattle.class_read.specs.Rules.{has_code}
 use Rattle.asm_lines.specs.declared.statement.MethodLine.{MethodLine}
 use Rattle.asm_lines.proofs.PlainWords.{GoodHead}
 use Rattle.class_asm.specs.Rules.{method_flags}
-
-both_of : (a b : Bool) → (a && b) ≡ true → (a ≡ true) × (b ≡ true)
-both_of true b h = (refl, h)
-both_of false b h = absurd cc
 
 abbrev flags_in : ℕ → ℕ
 flags_in flags = cond (eqb (bit_and flags 0x0002) 0) (bit_or flags 0x0001) flags
@@ -29,7 +25,7 @@ all_agree (suc n) = agrees n && all_agree n
 each_agrees : (m n : ℕ) → all_agree m ≡ true → n < m → agrees n ≡ true
 each_agrees zero n h l = absurd (omega (arith, l))
 each_agrees (suc m) n h l =
-    let p = both_of (agrees m) (all_agree m) h in
+    let p = and_parts (agrees m) (all_agree m) h in
     elim (cases_lt n m) [
       | inl less ↦ each_agrees m n p.1 less
       | inr more ↦

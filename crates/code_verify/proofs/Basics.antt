@@ -1,10 +1,10 @@
 -- Options, tests and lists, place by place.
-use Rattle.std.proofs.Common.{◌≡◌, ℕ, zero, suc, ◌+◌, ◌<◌, Bool, true, false, cond, ltb, ◌&&◌, List, [], ◌∷◌, Option, Some, None, refl, sym, subst, ◌∙◌, arith}
+use Rattle.std.proofs.Common.{◌≡◌, ℕ, zero, suc, ◌+◌, ◌<◌, Bool, true, false, cond, ltb, List, [], ◌∷◌, Option, Some, None, refl, sym, subst, ◌∙◌, arith}
 use Rattle.std.specs.Prelude.{slice_get, slice_set, All}
 use Rattle.std.specs.List.{AllZip}
 use Rattle.std.specs.Option.{option_and_then}
 use Rattle.list_views.specs.Options.{asked}
-use Rattle.std.proofs.lemmas.Bool.{false≢true, ltb-true, lt-ltb}
+use Rattle.std.proofs.lemmas.Bool.{ltb-true, lt-ltb}
 use Rattle.jvm_values.proofs.Options.{some_is, none_is_not_some}
 
 -- a test that was asked came out
@@ -16,10 +16,6 @@ was_asked false f c e = absurd (none_is_not_some c e)
 pub chosen : {B : Type 0} (test : Bool) (x : Option B) (c : B) → cond test x None ≡ Some c → (test ≡ true) × (x ≡ Some c)
 chosen true x c e = (refl, e)
 chosen false x c e = absurd (none_is_not_some c e)
-
-pub both : (a b : Bool) → (a && b) ≡ true → (a ≡ true) × (b ≡ true)
-both true b e = (refl, e)
-both false b e = absurd (false≢true e)
 
 pub zip_at : {A : Type 0} (R : A → A → Type 0) (xs ys : List A) → AllZip R xs ys → (n : ℕ) (y : A) → slice_get ys n ≡ Some y → (x : A) × ((slice_get xs n ≡ Some x) × R x y)
 zip_at R [] [] h n y e = absurd (none_is_not_some y e)

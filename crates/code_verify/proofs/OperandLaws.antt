@@ -3,7 +3,7 @@ use Rattle.std.proofs.Common.{◌≡◌, ℕ, zero, suc, ◌+◌, ◌<◌, ◌�
 use Rattle.std.specs.Prelude.{IsTrue, All}
 use Rattle.std.specs.List.{AllZip}
 use Rattle.std.specs.Option.{is_some, option_map}
-use Rattle.std.proofs.lemmas.Bool.{false≢true, ltb-true, lt-ltb, eqb-true}
+use Rattle.std.proofs.lemmas.Bool.{false≢true, ltb-true, lt-ltb, eqb-true, and_parts}
 use Rattle.std.proofs.lemmas.List.Elements.{All-head, All-tail}
 use Rattle.jvm_values.specs.declared.types.Ty.{Ty}
 use Rattle.jvm_values.specs.declared.types.Kind.{Kind}
@@ -25,7 +25,7 @@ use Rattle.code_verify.specs.declared.want.Want.{Want}
 use Rattle.code_verify.specs.declared.want.Want.TheVariants as wants
 use Rattle.code_verify.specs.Operands.{is_int, is_reference, is_below, is_array, is_base_for, is_numbers, is_references, fits, place_of, item_place}
 use Rattle.code_verify.specs.Rows.{taken}
-use Rattle.code_verify.proofs.Basics.{both, chosen}
+use Rattle.code_verify.proofs.Basics.{chosen}
 use Rattle.code_verify.proofs.TypeShapes.{same_type, items_below, numbers_below_same, dims_below, item_erased, erased_of_world, array_of_item}
 
 some_item : (o : Option Ty) → is_some o ≡ true → (x : Ty) × (o ≡ Some x)
@@ -96,7 +96,7 @@ module _ (types : WorldTypes) (laws : Laws types) where
   numbers_within for places.Int (places.Ref t) o w h = absurd w
   numbers_within for places.Null (places.Ref t) o w h = refl
   numbers_within for (places.Ref s) (places.Ref t) o w h =
-      let p = both (eqb t.dims 1) (is_base_for for t.base) h in
+      let p = and_parts (eqb t.dims 1) (is_base_for for t.base) h in
       let k = number_base for t.base p.1 in
       let is : t ≡ array_of_numbers k.0 = same_type t (array_of_numbers k.0) (eqb-true t.dims 1 p.0) k.1 in
       subst (λ (x : Ty). is_numbers for (places.Ref x) ≡ true) (sym (numbers_below_same types laws s t k.0 o.0 w is)) h
@@ -125,7 +125,7 @@ module _ (types : WorldTypes) (laws : Laws types) where
   fits_within wants.Reference a b o w h = reference_within a b w h
   fits_within (wants.Below t) a b o w h = below_within t a b w h
   fits_within (wants.BelowBoth s t) a b o w h =
-      let p = both (is_below types s b) (is_below types t b) h in
+      let p = and_parts (is_below types s b) (is_below types t b) h in
       and_true (is_below types s a) (is_below types t a) (below_within s a b w p.0) (below_within t a b w p.1)
   fits_within wants.Array a b o w h = array_within a b o w h
   fits_within (wants.Numbers for) a b o w h = numbers_within for a b o w h
