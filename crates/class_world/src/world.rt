@@ -1,11 +1,11 @@
 //! Worlds: linked classes.
 ghost use Rattle.std.specs.Prelude.{◌≡◌, ℕ, ◌+◌, ◌-◌, ◌<◌, ◌≤◌, ◌^◌, length, slice_get, IfOk, IfSome, IsTrue};
 ghost use Rattle.class_world.specs.World.{world_of, class_of, is_above};
-ghost use Rattle.class_world.specs.Linking.{Refuses, CanBeRead, has_few_members, has_short_codes, link_fault, later_fault};
+ghost use Rattle.class_world.specs.Linking.{Refuses, CanBeRead, has_few_members, has_short_codes, is_linked, link_fault, later_fault};
 ghost use Rattle.std.specs.List.{list_all, AllByRecursion};
 ghost use Rattle.class_world.specs.Fields.{fields_of};
 ghost use Rattle.class_world.specs.Members.{declared_method, find_method};
-ghost use Rattle.class_world.specs.Index.{IsIndex, has_places};
+ghost use Rattle.class_world.specs.Index.{HasDistinctMembers, IsIndex, has_places};
 ghost use Rattle.std.proofs.Props.{props};
 ghost use Rattle.class_world.specs.BuiltIns.{IsWorld};
 ghost use Rattle.class_world.specs.Once.{AreSought};
@@ -20,7 +20,7 @@ use crate::roster::Roster;
 use class_read::ClassView;
 use jvm_values::Slot;
 use list_views::Seq;
-use std::alloc::Global;
+use std::alloc::{AllocError, Global};
 
 /// A method by its class's number and its place among the class's methods, from 0.
 #[derive(Clone, Copy, PartialEq, Eq, Hash)]
@@ -80,6 +80,66 @@ fn keep_rules(alloc: Global, hierarchy: &Hierarchy<'_, '_>) -> Result<(), LinkFa
     hierarchy.keeps(alloc, LinkRule::DefaultMethod)
 }
 
+/// For each class the marks of those above it, where every class keeps the rules beside that of the names.
+fn ruled_above(alloc: Global, roster: &Roster<'_>) -> Result<Seq<Seq<bool>>, LinkFault>
+    ensures fault { Refuses result (later_fault roster.now.classes) }
+    ensures above { IfOk result (λ above. above ≡ above_table roster.now.classes) }
+{
+    let above = above_table(alloc, roster)?;
+    keep_rules(
+        alloc,
+        &Hierarchy {
+            roster,
+            above: above.as_slice(),
+        },
+    )?;
+    Ok(above)
+}
+
+/// What the fields of the instances of each class hold.
+///
+/// # Errors
+///
+/// Want of memory, of which instances with 2^32 and more fields are one case.
+fn placed_slots(alloc: Global, roster: &Roster<'_>) -> Result<Seq<Seq<Slot>>, AllocError>
+    ensures laid_out { IfOk result (λ slots. slots ≡ values_to (fields_of roster.now.classes) (length roster.now.classes)) }
+    ensures placed { IfOk result (λ slots. IsTrue (list_all has_places slots)) }
+{
+    let slots = roster.fields_table(alloc)?;
+    if !all_have_places(slots.as_slice()) {
+        return Err(AllocError);
+    }
+    Ok(slots)
+}
+
+/// What a world knows of the members of its classes beforehand.
+#[derive(Drop)]
+struct Members<'a> {
+    slots: Seq<Seq<Slot>>,
+    index: MemberIndex<'a>,
+    sought: Seq<Seq<u32>>,
+}
+
+/// The members of classes that are linked.
+fn members_of<'a>(alloc: Global, roster: &Roster<'a>) -> Result<Members<'a>, AllocError>
+    requires differ { AllByRecursion HasDistinctMembers roster.now.classes }
+    requires few { IsTrue (list_all has_few_members roster.now.classes) }
+    requires linked { IsTrue (is_linked roster.now.classes) }
+    ensures laid_out { IfOk result (λ m. m.slots ≡ values_to (fields_of roster.now.classes) (length roster.now.classes)) }
+    ensures placed { IfOk result (λ m. IsTrue (list_all has_places m.slots)) }
+    ensures indexed { IfOk result (λ m. IsIndex roster.now.classes m.index) }
+    ensures ordered { IfOk result (λ m. AreSought roster.now.classes (length roster.now.classes) m.sought) }
+{
+    let slots = placed_slots(alloc, roster)?;
+    let index = MemberIndex::of(alloc, roster)?;
+    let sought = roster.sought_table(alloc)?;
+    Ok(Members {
+        slots,
+        index,
+        sought,
+    })
+}
+
 impl<'a> World<'a> {
     /// Links the classes, which are numbered from 15 in their order.
     ///
@@ -94,26 +154,14 @@ impl<'a> World<'a> {
         ensures world { IfOk result (λ world. world.roster.classes ≡ world_of classes.entry.items) }
     {
         let roster = Roster::enrol(alloc, with_built_ins(alloc, classes)?)?;
-        let above = above_table(alloc, &roster)?;
-        keep_rules(
-            alloc,
-            &Hierarchy {
-                roster: &roster,
-                above: above.as_slice(),
-            },
-        )?;
-        let slots = roster.fields_table(alloc)?;
-        if !all_have_places(slots.as_slice()) {
-            return Err(LinkFault::Memory);
-        }
-        let index = MemberIndex::of(alloc, &roster)?;
-        let sought = roster.sought_table(alloc)?;
+        let above = ruled_above(alloc, &roster)?;
+        let members = members_of(alloc, &roster)?;
         Ok(World {
             roster,
             above,
-            slots,
-            index,
-            sought,
+            slots: members.slots,
+            index: members.index,
+            sought: members.sought,
         })
     }
 
