@@ -1,6 +1,7 @@
 //! The built-in classes: those of `java.lang` that instructions throw, with those above them (Java SE 6).
-ghost use Rattle.std.specs.Prelude.{◌≡◌, ◌++◌, List, [], map, IfOk};
-ghost use Rattle.class_world.specs.World.{built_in, built_ins, world_of};
+ghost use Rattle.std.specs.Prelude.{◌≡◌, [], ◌∷◌, map, IfOk, OnOk};
+ghost use Rattle.class_read.specs.View.{method_content};
+ghost use Rattle.class_world.specs.World.{built_in, built_in_init, built_ins, world_of};
 
 use class_pool::Pool;
 use class_read::{ClassView, CodeView, MethodView};
@@ -63,13 +64,9 @@ fn empty_pool(alloc: Global) -> Result<Pool<'static>, AllocError>
     }
 }
 
-/// A built-in class with its superclass's name. It has one method, `<init>()V`, which only returns.
-fn built_in(
-    alloc: Global,
-    name: &'static [u8],
-    super_name: &'static [u8],
-) -> Result<ClassView<'static>, AllocError>
-    ensures { IfOk result (λ class. class ≡ built_in name.now super_name.now) }
+/// The one method of a built-in class, `<init>()V`, which only returns.
+fn constructor(alloc: Global) -> Result<Seq<MethodView<'static>>, AllocError>
+    ensures { IfOk result (λ methods. map method_content methods ≡ built_in_init ∷ []) }
 {
     let mut methods = Seq::new(alloc);
     methods.push(MethodView {
@@ -83,6 +80,19 @@ fn built_in(
             table: Seq::new(alloc),
         }),
     })?;
+    Ok(methods)
+}
+
+/// A built-in class with its superclass's name.
+fn built_in(
+    alloc: Global,
+    name: &'static [u8],
+    super_name: &'static [u8],
+) -> Result<ClassView<'static>, AllocError>
+    ensures { IfOk result (λ class. class ≡ built_in name.now super_name.now) }
+{
+    let pool = empty_pool(alloc)?;
+    let methods = constructor(alloc)?;
     Ok(ClassView {
         major: 50,
         flags: 0x0021,
@@ -91,43 +101,56 @@ fn built_in(
         interfaces: Seq::new(alloc),
         fields: Seq::new(alloc),
         methods,
-        pool: empty_pool(alloc)?,
+        pool,
         skipped: 0,
     })
 }
 
-/// The built-in classes of these names and superclasses' names.
-fn classes_of<'a>(
+/// Puts the built-in classes of these names and superclasses' names into a list that is empty before.
+fn put_classes<'a>(
     alloc: Global,
     names: &[(&'static [u8], &'static [u8])],
-) -> Result<Seq<ClassView<'a>>, AllocError>
-    ensures { IfOk result (λ classes. classes ≡ map (λ n. built_in n.0.now n.1.now) names.now) }
+    classes: &mut Vec<ClassView<'a>>,
+) -> Result<(), AllocError>
+    requires { classes.old.items ≡ [] }
+    ensures { OnOk result (classes.new.items ≡ map (λ n. built_in n.0.now n.1.now) names.now) }
 {
-    let mut classes = Seq::new(alloc);
     for (name, super_name) in names {
         classes.push(built_in(alloc, *name, *super_name)?)?;
     }
-    Ok(classes)
+    Ok(())
 }
 
-/// The built-in classes.
+/// Puts the built-in classes into a list that is empty before.
 #[tactic(auto, unfolding(crate::specs::World::built_in_names))]
-fn built_ins<'a>(alloc: Global) -> Result<Seq<ClassView<'a>>, AllocError>
-    ensures { IfOk result (λ classes. classes ≡ built_ins) }
+fn put_built_ins<'a>(alloc: Global, classes: &mut Vec<ClassView<'a>>) -> Result<(), AllocError>
+    requires { classes.old.items ≡ [] }
+    ensures { OnOk result (classes.new.items ≡ built_ins) }
 {
-    classes_of(alloc, &NAMES)
+    put_classes(alloc, &NAMES, classes)
+}
+
+/// Puts the built-in classes into a list that is empty before, and after them the given ones.
+fn put_world<'a>(
+    alloc: Global,
+    classes: &mut Vec<ClassView<'a>>,
+    given: &mut Vec<ClassView<'a>>,
+) -> Result<(), AllocError>
+    requires { classes.old.items ≡ [] }
+    ensures { OnOk result (classes.new.items ≡ world_of given.old.items) }
+{
+    put_built_ins(alloc, classes)?;
+    classes.append(given)
 }
 
 /// The built-in classes, and after them the given ones.
 pub(crate) fn with_built_ins<'a>(
     alloc: Global,
-    given: Vec<ClassView<'a>>,
+    mut given: Vec<ClassView<'a>>,
 ) -> Result<Seq<ClassView<'a>>, AllocError>
     ensures { IfOk result (λ classes. classes ≡ world_of given.entry.items) }
 {
-    let mut classes = built_ins(alloc)?;
-    for class in given {
-        classes.push(class)?;
-    }
-    Ok(classes)
+    let mut classes = Vec::new(alloc);
+    put_world(alloc, &mut classes, &mut given)?;
+    Ok(Seq::from_vec(classes))
 }
