@@ -1,6 +1,7 @@
 //! What is above each class.
-ghost use Rattle.std.specs.Prelude.{◌≡◌, ℕ, ◌<◌, length, All, IfOk, OnOk};
-ghost use Rattle.class_world.specs.Tables.{above_table};
+ghost use Rattle.std.specs.Prelude.{◌≡◌, ℕ, ◌<◌, [], length, All, IfOk, OnOk};
+ghost use Rattle.class_world.specs.Once.{supers_once};
+ghost use Rattle.class_world.specs.Tables.{above_table, values_to};
 ghost use Rattle.class_world.specs.Marking.{marks_after, todo_after, listed_at, IsRow, IsClosed};
 
 use crate::roster::Roster;
@@ -46,15 +47,30 @@ fn above_row(alloc: Global, supers: &[Seq<u32>], class: usize) -> Result<Seq<boo
     Ok(Seq::from_vec(marks))
 }
 
-/// For each class a mark for each class: whether it is above the first.
+/// Puts the row of each class into a table that is empty before.
 #[tactic(auto, using(crate::proofs::Tables::values_more), unfolding(crate::specs::Tables::values_to))]
+fn put_rows(
+    alloc: Global,
+    roster: &Roster<'_>,
+    supers: &[Seq<u32>],
+    table: &mut Seq<Seq<bool>>,
+) -> Result<(), AllocError>
+    requires supers { supers.now ≡ values_to (supers_once roster.now.classes) (length roster.now.classes) }
+    requires empty { table.old ≡ [] }
+    ensures { OnOk result (table.new ≡ above_table roster.now.classes) }
+{
+    for class in 0..roster.classes.len() {
+        table.push(above_row(alloc, supers, class)?)?;
+    }
+    Ok(())
+}
+
+/// For each class a mark for each class: whether it is above the first.
 pub(crate) fn above_table(alloc: Global, roster: &Roster<'_>) -> Result<Seq<Seq<bool>>, AllocError>
     ensures { IfOk result (λ table. table ≡ above_table roster.now.classes) }
 {
     let supers = roster.supers_table(alloc)?;
     let mut table = Seq::new(alloc);
-    for class in 0..roster.classes.len() {
-        table.push(above_row(alloc, supers.as_slice(), class)?)?;
-    }
+    put_rows(alloc, roster, supers.as_slice(), &mut table)?;
     Ok(table)
 }

@@ -1,5 +1,5 @@
 //! What a world knows of each class's members beforehand.
-ghost use Rattle.std.specs.Prelude.{◌≡◌, ℕ, ◌+◌, ◌<◌, length, IfOk, IsTrue, map};
+ghost use Rattle.std.specs.Prelude.{◌≡◌, ℕ, ◌+◌, ◌<◌, [], length, IfOk, OnOk, IsTrue, map};
 ghost use Rattle.std.specs.List.{list_any, list_all, AllByRecursion};
 ghost use Rattle.class_read.specs.View.{field_content, method_content};
 ghost use Rattle.std.specs.Option.{option_len};
@@ -103,65 +103,103 @@ impl<'a> Roster<'a> {
     }
 
     #[tactic(auto, using(crate::proofs::Tables::values_more), unfolding(crate::specs::Tables::values_to))]
-    fn method_table(&self, alloc: Global) -> Result<Seq<MemberNames<'a>>, AllocError>
-        requires { AllByRecursion HasDistinctMembers self.now.classes }
-        ensures { IfOk result (λ table. table ≡ values_to (method_keys self.now.classes) (length self.now.classes)) }
+    fn put_method_table(
+        &self,
+        alloc: Global,
+        table: &mut Seq<MemberNames<'a>>,
+    ) -> Result<(), AllocError>
+        requires each { AllByRecursion HasDistinctMembers self.now.classes }
+        requires empty { table.old ≡ [] }
+        ensures { OnOk result (table.new ≡ values_to (method_keys self.now.classes) (length self.now.classes)) }
     {
-        let mut table = Seq::new(alloc);
         for class in 0..self.classes.len() {
             table.push(self.method_names_of(alloc, class)?)?;
         }
-        Ok(table)
+        Ok(())
     }
 
     #[tactic(auto, using(crate::proofs::Tables::values_more), unfolding(crate::specs::Tables::values_to))]
-    fn field_table(&self, alloc: Global) -> Result<Seq<MemberNames<'a>>, AllocError>
-        requires { AllByRecursion HasDistinctMembers self.now.classes }
-        ensures { IfOk result (λ table. table ≡ values_to (field_keys self.now.classes) (length self.now.classes)) }
+    fn put_field_table(
+        &self,
+        alloc: Global,
+        table: &mut Seq<MemberNames<'a>>,
+    ) -> Result<(), AllocError>
+        requires each { AllByRecursion HasDistinctMembers self.now.classes }
+        requires empty { table.old ≡ [] }
+        ensures { OnOk result (table.new ≡ values_to (field_keys self.now.classes) (length self.now.classes)) }
     {
-        let mut table = Seq::new(alloc);
         for class in 0..self.classes.len() {
             table.push(self.field_names_of(alloc, class)?)?;
         }
-        Ok(table)
+        Ok(())
     }
 
     #[tactic(auto, using(crate::proofs::Tables::values_more), unfolding(crate::specs::Tables::values_to))]
-    fn initialised_table(&self, alloc: Global) -> Result<Seq<bool>, AllocError>
-        ensures { IfOk result (λ table. table ≡ values_to (is_initialised self.now.classes) (length self.now.classes)) }
+    fn put_initialised_table(&self, table: &mut Seq<bool>) -> Result<(), AllocError>
+        requires { table.old ≡ [] }
+        ensures { OnOk result (table.new ≡ values_to (is_initialised self.now.classes) (length self.now.classes)) }
     {
-        let mut table = Seq::new(alloc);
         for class in 0..self.classes.len() {
             table.push(self.is_initialised(class))?;
         }
-        Ok(table)
+        Ok(())
     }
 
     #[tactic(auto, using(crate::proofs::Tables::values_more), unfolding(crate::specs::Tables::values_to))]
-    fn kept_table(&self, alloc: Global) -> Result<Seq<Seq<u32>>, AllocError>
-        requires { IsTrue (list_all has_few_members self.now.classes) }
-        ensures { IfOk result (λ table. table ≡ values_to (kept_row self.now.classes) (length self.now.classes)) }
+    fn put_kept_table(&self, alloc: Global, table: &mut Seq<Seq<u32>>) -> Result<(), AllocError>
+        requires each { IsTrue (list_all has_few_members self.now.classes) }
+        requires empty { table.old ≡ [] }
+        ensures { OnOk result (table.new ≡ values_to (kept_row self.now.classes) (length self.now.classes)) }
     {
-        let mut table = Seq::new(alloc);
         for class in 0..self.classes.len() {
             table.push(self.kept_row(alloc, class)?)?;
         }
-        Ok(table)
+        Ok(())
+    }
+}
+
+impl<'a> Roster<'a> {
+    /// Puts the tables of the classes into an index that is empty before.
+    fn put_index(&self, alloc: Global, index: &mut MemberIndex<'a>) -> Result<(), AllocError>
+        requires differ { AllByRecursion HasDistinctMembers self.now.classes }
+        requires few { IsTrue (list_all has_few_members self.now.classes) }
+        requires methods { index.old.methods ≡ [] }
+        requires fields { index.old.fields ≡ [] }
+        requires initialised { index.old.initialised ≡ [] }
+        requires kept { index.old.kept ≡ [] }
+        ensures { OnOk result (IsIndex self.now.classes index.new) }
+    {
+        self.put_method_table(alloc, &mut index.methods)?;
+        self.put_field_table(alloc, &mut index.fields)?;
+        self.put_initialised_table(&mut index.initialised)?;
+        self.put_kept_table(alloc, &mut index.kept)
     }
 }
 
 impl<'a> MemberIndex<'a> {
+    /// Tables without rows.
+    fn new(alloc: Global) -> MemberIndex<'a>
+        ensures methods { result.methods ≡ [] }
+        ensures fields { result.fields ≡ [] }
+        ensures initialised { result.initialised ≡ [] }
+        ensures kept { result.kept ≡ [] }
+    {
+        MemberIndex {
+            methods: Seq::new(alloc),
+            fields: Seq::new(alloc),
+            initialised: Seq::new(alloc),
+            kept: Seq::new(alloc),
+        }
+    }
+
     /// The tables of the classes of a roster.
     pub(crate) fn of(alloc: Global, roster: &Roster<'a>) -> Result<MemberIndex<'a>, AllocError>
         requires differ { AllByRecursion HasDistinctMembers roster.now.classes }
         requires few { IsTrue (list_all has_few_members roster.now.classes) }
         ensures { IfOk result (λ index. IsIndex roster.now.classes index) }
     {
-        Ok(MemberIndex {
-            methods: roster.method_table(alloc)?,
-            fields: roster.field_table(alloc)?,
-            initialised: roster.initialised_table(alloc)?,
-            kept: roster.kept_table(alloc)?,
-        })
+        let mut index = MemberIndex::new(alloc);
+        roster.put_index(alloc, &mut index)?;
+        Ok(index)
     }
 }

@@ -1,7 +1,7 @@
 use Rattle.std.proofs.Common.{◌≡◌}
 use Rattle.class_world.specs.Index.{kept_row}
 use Rattle.class_world.specs.Tables.{values_to}
-use Rattle.class_world.proofs.roster.Roster.kept_table.Given as goal
+use Rattle.class_world.proofs.roster.Roster.put_kept_table.Given as goal
 
 abbrev pub invariant-loop-class : goal.invariant-loop-class
 invariant-loop-class l = l.table ≡ values_to (kept_row l.self.classes) l.class
