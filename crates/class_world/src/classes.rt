@@ -7,7 +7,7 @@ ghost use Rattle.class_world.specs.Worlds.{classes_of};
 
 use crate::meaning::Meaning;
 use crate::world::World;
-use class_base::{ABSTRACT, FieldType, INTERFACE, has_flag};
+use class_base::FieldType;
 use class_read::ClassView;
 use jvm_values::Slot;
 use list_views::Seq;
@@ -44,14 +44,10 @@ impl<'a> World<'a> {
     }
 
     /// Whether a class of that number has instances of its own: it is there, and neither abstract nor an interface.
-    #[tactic(auto, unfolding(crate::specs::Fields::can_be_made))]
     pub fn has_instances(&self, class: u32) -> bool
         ensures { result ≡ can_be_made (classes_of self.now) class }
     {
-        match self.roster.classes.get(class as usize) {
-            Some(view) => !has_flag(view.flags, ABSTRACT) && !has_flag(view.flags, INTERFACE),
-            None => false,
-        }
+        self.roster.has_instances(class as usize)
     }
 
     /// What a type is in this world.

@@ -195,10 +195,7 @@ impl<'a> World<'a> {
         ensures { option_map (λ name. name.now) result ≡ first_static_init self.now.roster.classes class }
     {
         let first = self.first_initialised(class)?;
-        match self.roster.classes.get(first as usize) {
-            Some(view) => Some(view.name),
-            None => None,
-        }
+        self.roster.name_at(first as usize)
     }
 }
 

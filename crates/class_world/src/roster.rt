@@ -1,5 +1,7 @@
 //! The classes of a world with the index of their names, and what they extend and implement by numbers.
-ghost use Rattle.std.specs.Prelude.{◌≡◌, ℕ, ◌<◌, ◌^◌, length, IfOk};
+ghost use Rattle.std.specs.Prelude.{◌≡◌, ℕ, ◌<◌, ◌^◌, length, slice_get, IfOk};
+ghost use Rattle.std.specs.Option.{option_map};
+ghost use Rattle.class_world.specs.Fields.{can_be_made};
 ghost use Rattle.class_world.specs.World.{class_of, super_of, is_interface_class};
 ghost use Rattle.class_world.specs.Linking.{Refuses, first_broken, duplicate_class};
 ghost use Rattle.class_world.specs.Once.{interfaces_once, supers_once};
@@ -8,7 +10,7 @@ ghost use Rattle.class_world.specs.Tables.{names_of, values_to};
 use crate::fault::LinkFault;
 use crate::named::{Named, names_of};
 use crate::names::ClassNames;
-use class_base::{INTERFACE, has_flag};
+use class_base::{ABSTRACT, INTERFACE, has_flag};
 use class_read::ClassView;
 use list_views::Seq;
 use std::alloc::{AllocError, Global};
@@ -86,6 +88,27 @@ impl<'a> Roster<'a> {
         match self.classes.get(class as usize) {
             Some(view) => has_flag(view.flags, INTERFACE),
             None => false,
+        }
+    }
+
+    /// Whether a class of that number has instances of its own: it is there, and neither abstract nor an interface.
+    #[tactic(auto, unfolding(crate::specs::Fields::can_be_made))]
+    pub(crate) fn has_instances(&self, class: usize) -> bool
+        ensures { result ≡ can_be_made self.now.classes class }
+    {
+        match self.classes.get(class) {
+            Some(view) => !has_flag(view.flags, ABSTRACT) && !has_flag(view.flags, INTERFACE),
+            None => false,
+        }
+    }
+
+    /// The name of a class; None past the classes.
+    pub(crate) fn name_at(&self, class: usize) -> Option<&'a [u8]>
+        ensures { option_map (λ name. name.now) result ≡ option_map (λ c. c.name) (slice_get self.now.classes class) }
+    {
+        match self.classes.get(class) {
+            Some(view) => Some(view.name),
+            None => None,
         }
     }
 

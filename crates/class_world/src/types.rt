@@ -7,7 +7,6 @@ ghost use Rattle.class_world.specs.Types.{Sub, is_sub, is_sub_by, erase, is_refe
 ghost use Rattle.class_world.specs.Fields.{fields_of, can_be_made};
 
 use crate::world::World;
-use class_base::{ABSTRACT, INTERFACE, has_flag};
 use jvm_values::{Base, Kind, Slot, Ty, Types};
 
 fn is_same_kind(a: Kind, b: Kind) -> bool
@@ -132,12 +131,8 @@ impl<'a> Types for World<'a> {
         self.roster.classes.len() as u32
     }
 
-    #[tactic(auto, unfolding(crate::specs::Fields::can_be_made))]
     fn can_be_made(&self, class: u32) -> bool {
-        match self.roster.classes.get(class as usize) {
-            Some(view) => !has_flag(view.flags, ABSTRACT) && !has_flag(view.flags, INTERFACE),
-            None => false,
-        }
+        self.roster.has_instances(class as usize)
     }
 
     ghost laws = { λ w. world_laws w.roster.classes w.known.linked };
