@@ -7,6 +7,7 @@ use Rattle.std.proofs.lemmas.List.{take_more}
 use Rattle.std.proofs.lemmas.List.Folds.{list_any-append}
 use Rattle.std.proofs.lemmas.List.Sums.{count_by_more_yes, count_by_more_no}
 use Rattle.std.proofs.lemmas.Bool.Decides.{nat_tests}
+use Rattle.std.proofs.lemmas.Bool.{not-false, or_parts}
 use Rattle.std.specs.Prelude.{nat_le}
 use Rattle.std.specs.Option.{option_or, option_map_or, option_and_then}
 use Rattle.std.specs.List.{list_any}
@@ -22,14 +23,6 @@ use Rattle.asm_codes.specs.Places.{size_of, size_at, has_label}
 use Rattle.asm_codes.specs.LineFaults.{item_labels, knows, is_repeated, is_among, with_seen, reaches, passes, is_catch, entries_of, item_is_out, is_out, fault_of, line_fault, first_fault_from, first_fault}
 
 -- ---- a line without a fault
-
-either_false : (a b : Bool) → (a || b) ≡ false → (a ≡ false) × (b ≡ false)
-either_false true b h = absurd cc
-either_false false b h = (refl, h)
-
-not_false : (b : Bool) → not b ≡ false → b ≡ true
-not_false true h = refl
-not_false false h = absurd cc
 
 no_fault : (known repeated out : Bool) (line : ℕ) → cond (not known) (Some (UnknownLabel line)) (cond repeated (Some (DuplicateLabel line)) (cond out (Some (OutOfRange line)) None)) ≡ None
     → (known ≡ true) × (repeated ≡ false) × (out ≡ false)
@@ -49,9 +42,9 @@ pub sound : (places : Places) (before : List Pooled) (pc : ℕ) (x : Pooled) →
 sound places before pc x h =
     let item_out = item_is_out places (entries_of before) pc (is_some (insn_in nowhere x)) (size_at pc x) x.code.item in
     let n = no_fault (knows places (item_labels x.code.item)) (is_repeated before x.code.label) (is_out places (entries_of before) pc (is_some (insn_in nowhere x)) (size_at pc x) x) x.code.line h in
-    let a = either_false (not (is_some x.need) || item_out) (x.code.ends && eqb pc 0) n.2 in
-    let b = either_false (not (is_some x.need)) item_out a.0 in
-    record { known = n.0; new = n.1; needed = not_false (is_some x.need) b.0; inside = b.1; ended = a.1 }
+    let a = or_parts (not (is_some x.need) || item_out) (x.code.ends && eqb pc 0) n.2 in
+    let b = or_parts (not (is_some x.need)) item_out a.0 in
+    record { known = n.0; new = n.1; needed = not-false (is_some x.need) b.0; inside = b.1; ended = a.1 }
 
 -- ---- sizes
 
@@ -70,7 +63,7 @@ item_stays : (places : Places) (entries pc : ℕ) (need : Option PoolOperand) (i
     → pc + size_of pc (option_and_then (item_insn nowhere item) need) ≤ 65535
 item_stays places entries pc need (items.Insn operation) small h =
     let insn = option_and_then (item_insn nowhere (items.Insn operation)) need in
-    let a = either_false (not (is_some insn) || not (reaches places pc operation)) (passes pc (size_of pc insn)) h in
+    let a = or_parts (not (is_some insn) || not (reaches places pc operation)) (passes pc (size_of pc insn)) h in
     not_passed pc (size_of pc insn) small a.1
 item_stays places entries pc need items.Nothing small h = omega (arith, no_insn need items.Nothing (λ n. refl) pc)
 item_stays places entries pc need (items.Catch c) small h = omega (arith, no_insn need (items.Catch c) (λ n. refl) pc)
@@ -85,7 +78,7 @@ stays places before pc x small h = item_stays places (entries_of before) pc x.ne
 
 pub more_entries : (places : Places) (entries pc size : ℕ) (fits : Bool) (item : Item) → entries ≤ 65535 → item_is_out places entries pc fits size item ≡ false → cond (is_catch item) (entries + 1) entries ≤ 65535
 more_entries places entries pc size fits (items.Catch c) few h =
-    let a : nat_le 65535 entries ≡ false = (either_false _ (nat_le 65535 entries) h).1 in
+    let a : nat_le 65535 entries ≡ false = (or_parts _ (nat_le 65535 entries) h).1 in
     grind (arith, nat_tests)
 more_entries places entries pc size fits (items.Insn operation) few h = few
 more_entries places entries pc size fits items.Nothing few h = few

@@ -3,6 +3,7 @@ use Rattle.std.proofs.Common.{◌≡◌, ℕ, zero, ◌+◌, ◌<◌, ◌^◌, B
 use Rattle.std.specs.Option.{option_map_or, option_and_then}
 use Rattle.std.specs.List.{AllByRecursion, filter_map, cons_option}
 use Rattle.std.proofs.Math.Path.{fun_ext}
+use Rattle.std.proofs.lemmas.Bool.{not-false, or_parts}
 use Rattle.code_decode.specs.Codes.{Spells}
 use Rattle.code_decode.specs.Encoding.{plain_text, code_of}
 use Rattle.code_decode.specs.Texts.{padding_of, zeros, Fits}
@@ -39,14 +40,6 @@ pub record IsLine (named : Operation → PoolOperand → Type 0) (places : Place
   pub says : SaysLine (SaysInsn named places) item insns
   pub behind : behind item insns ≡ rest
 
-neither : (a b : Bool) → (a || b) ≡ false → (a ≡ false) × (b ≡ false)
-neither true b h = absurd cc
-neither false b h = (refl, h)
-
-is_not : (b : Bool) → not b ≡ false → b ≡ true
-is_not true h = refl
-is_not false h = absurd cc
-
 fitting : (named : Operation → PoolOperand → Type 0) (places : Places) (pc : ℕ) (need : PoolOperand) (operation : Operation) (o p : Option Insn) (rest : List (ℕ × Insn))
     → insn_of places need operation ≡ o → Alike o p → is_some p ≡ true → knows places (item_labels (items.Insn operation)) ≡ true → named operation need → IsLine named places (items.Insn operation) (placed pc o ++ rest) rest
 fitting named places pc need operation (Some i) p rest e a s k n = record { says = (need, n, insn_said places need operation i k e); behind = refl }
@@ -58,9 +51,9 @@ line_is : (named : Operation → PoolOperand → Type 0) (caught : Option (List 
     → IsLine named places item (placed pc (option_and_then (item_insn places item) need) ++ rest) rest
 line_is named caught places entries pc size None item rest s out k n = absurd cc
 line_is named caught places entries pc size (Some need) (items.Insn operation) rest s out k n =
-    let a = neither (not (is_some (insn_of nowhere need operation)) || not (reaches places pc operation)) (passes pc size) out in
-    let b = neither (not (is_some (insn_of nowhere need operation))) (not (reaches places pc operation)) a.0 in
-    fitting named places pc need operation (insn_of places need operation) (insn_of nowhere need operation) rest refl (alike places nowhere need operation) (is_not (is_some (insn_of nowhere need operation)) b.0) k n
+    let a = or_parts (not (is_some (insn_of nowhere need operation)) || not (reaches places pc operation)) (passes pc size) out in
+    let b = or_parts (not (is_some (insn_of nowhere need operation))) (not (reaches places pc operation)) a.0 in
+    fitting named places pc need operation (insn_of places need operation) (insn_of nowhere need operation) rest refl (alike places nowhere need operation) (not-false (is_some (insn_of nowhere need operation)) b.0) k n
 line_is named caught places entries pc size (Some need) items.Nothing rest s out k n = record { says = tt; behind = refl }
 line_is named caught places entries pc size (Some need) (items.Catch c) rest s out k n = record { says = tt; behind = refl }
 line_is named caught places entries pc size (Some need) (items.Attribute a) rest s out k n = record { says = tt; behind = refl }

@@ -3,6 +3,7 @@ use Rattle.std.proofs.Common.{◌≡◌, ◌<◌, ◌≤◌, ◌+◌, ◌^◌, �
 use Rattle.std.proofs.lemmas.Grind.{common_steps}
 use Rattle.std.proofs.lemmas.List.{append-nil, length-append}
 use Rattle.std.proofs.lemmas.List.Concat.{flat_map-append}
+use Rattle.std.proofs.lemmas.Bool.{not-false, or_parts}
 use Rattle.std.specs.Option.{option_or, option_map_or, option_and_then, option_to_list}
 use Rattle.std.specs.List.{cons_option}
 use Rattle.code_decode.specs.declared.insn.Insn.{Insn}
@@ -20,14 +21,6 @@ use Rattle.asm_codes.specs.MethodCodes.{FitsAt, IsWritable}
 use Rattle.asm_codes.proofs.Operands.{Alike, fits, alike}
 use Rattle.asm_codes.proofs.FirstFaults.{sound, stays, next_line}
 
-neither : (a b : Bool) → (a || b) ≡ false → (a ≡ false) × (b ≡ false)
-neither true b h = absurd cc
-neither false b h = (refl, h)
-
-is_not : (b : Bool) → not b ≡ false → b ≡ true
-is_not true h = refl
-is_not false h = absurd cc
-
 pub both_none : {A : Type 0} (o p : Option A) → option_or o p ≡ None → (o ≡ None) × (p ≡ None)
 both_none None p h = (refl, h)
 both_none (Some x) p h = absurd cc
@@ -41,9 +34,9 @@ operation_fits places pc need operation (Some i) near r h = fits places need ope
 item_fits : (places : Places) (entries pc size : ℕ) (is_fit : Bool) (need : Option PoolOperand) (item : Item) → IsNear places → item_is_out places entries pc is_fit size item ≡ false → FitsAt pc (option_and_then (item_insn places item) need)
 item_fits places entries pc size is_fit None item near h = tt
 item_fits places entries pc size is_fit (Some n) (items.Insn operation) near h =
-    let a = neither (not is_fit || not (reaches places pc operation)) (passes pc size) h in
-    let b = neither (not is_fit) (not (reaches places pc operation)) a.0 in
-    operation_fits places pc n operation (insn_of places n operation) near (is_not (reaches places pc operation) b.1) refl
+    let a = or_parts (not is_fit || not (reaches places pc operation)) (passes pc size) h in
+    let b = or_parts (not is_fit) (not (reaches places pc operation)) a.0 in
+    operation_fits places pc n operation (insn_of places n operation) near (not-false (reaches places pc operation) b.1) refl
 item_fits places entries pc size is_fit (Some n) items.Nothing near h = tt
 item_fits places entries pc size is_fit (Some n) (items.Catch c) near h = tt
 item_fits places entries pc size is_fit (Some n) (items.Attribute a) near h = tt

@@ -5,7 +5,7 @@ use Rattle.std.specs.List.{flat_map, list_any, fold, position_from, AllByRecursi
 use Rattle.std.specs.Option.{option_map_or}
 use Rattle.std.specs.Str.{bytes_eq}
 use Rattle.std.proofs.Math.Seq.{get_or-append_seam}
-use Rattle.std.proofs.lemmas.Bool.{eqb-true, eq-eqb}
+use Rattle.std.proofs.lemmas.Bool.{eqb-true, eq-eqb, or_right, or_left}
 use Rattle.std.proofs.lemmas.Bool.Decides.{Decides-int_eq, nat_tests}
 use Rattle.std.proofs.lemmas.Iterator.Adapters.{position_from-zero}
 use Rattle.std.proofs.lemmas.List.{get_or-append-add, map-append}
@@ -163,14 +163,6 @@ some_from p i (x ∷ xs) = some_by (p x) (some_from p (i + 1) xs)
 
 some_position : {A : Type 0} (p : A → Bool) (xs : List A) → is_some (position p xs) ≡ list_any p xs
 some_position p xs = ap is_some (position_from-zero p xs) ∙ some_from p 0 xs
-
-or_left : (a b : Bool) → a ≡ true → (a || b) ≡ true
-or_left true b h = refl
-or_left false b h = absurd cc
-
-or_right : (a b : Bool) → b ≡ true → (a || b) ≡ true
-or_right true b h = refl
-or_right false b h = h
 
 in_longer : (found : List Need) (n : Need) (x : Entry) → list_any (same x) (entries_of (found ++ n ∷ [])) ≡ (list_any (same x) (entries_of found) || (same x n.0 || false))
 in_longer found n x = ap (list_any (same x)) (map-append (λ (need : Need). need.0) found (n ∷ [])) ∙ list_any-append (same x) (entries_of found) (n.0 ∷ [])

@@ -3,7 +3,7 @@ use Rattle.std.proofs.Common.{◌≡◌, ℕ, zero, suc, ◌+◌, ◌-◌, ◌<�
 use Rattle.std.specs.Prelude.{Result, map, IfSome}
 use Rattle.std.specs.List.{list_all, list_any}
 use Rattle.std.specs.Option.{option_map_or, is_some}
-use Rattle.std.proofs.lemmas.Bool.{and_parts, ltb-true, eqb-true}
+use Rattle.std.proofs.lemmas.Bool.{and_parts, ltb-true, eqb-true, or_cases}
 use Rattle.class_pool.specs.declared.entry.PoolEntry.{PoolEntry}
 use Rattle.class_base.specs.declared.handler.Handler.{Handler}
 use Rattle.class_read.specs.Content.{CodeContent}
@@ -118,10 +118,6 @@ pub record IsBounded (begins : ℕ → Bool) (len : ℕ) (h : Handler) : Type 0 
   pub end : (begins h.end ≡ true) ⊎ (h.end ≡ len)
   pub handler : begins h.handler ≡ true
 
-or_parts_true : (a b : Bool) → (a || b) ≡ true → (a ≡ true) ⊎ (b ≡ true)
-or_parts_true true b e = inl refl
-or_parts_true false b e = inr e
-
 bounded : (begins : ℕ → Bool) (len : ℕ) (h : Handler) → bad_boundary begins len h ≡ None → IsBounded begins len h
 bounded begins len h e = go (begins h.start) (may_end begins len h.start h.end) (begins h.handler) refl refl refl e
   where
@@ -134,7 +130,7 @@ bounded begins len h e = go (begins h.start) (may_end begins len h.start h.end) 
         record {
           start = p;
           order = ltb-true h.start h.end ends.0;
-          end = elim (or_parts_true (begins h.end) (eqb h.end len) ends.1) [ inl x ↦ inl x | inr y ↦ inr (eqb-true h.end len y) ];
+          end = elim (or_cases (begins h.end) (eqb h.end len) ends.1) [ inl x ↦ inl x | inr y ↦ inr (eqb-true h.end len y) ];
           handler = r;
         }
 

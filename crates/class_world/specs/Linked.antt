@@ -4,7 +4,7 @@ use Rattle.std.specs.Prelude.{option_and_then, slice_get, is_none, filter_map}
 use Rattle.std.specs.List.{list_any, cons_option}
 use Rattle.std.specs.Option.{option_map_or, option_or}
 use Rattle.std.specs.Str.{bytes_eq}
-use Rattle.std.proofs.lemmas.Bool.{false≢true, eqb-true, and_parts, or_parts, and_cases}
+use Rattle.std.proofs.lemmas.Bool.{false≢true, eqb-true, and_parts, or_parts, and_cases, not-false}
 use Rattle.std.proofs.lemmas.List.Quantifiers.{position-Some}
 use Rattle.std.proofs.lemmas.Option.{slice_get_within}
 use Rattle.class_read.specs.Content.{ClassContent}
@@ -178,17 +178,13 @@ none_passes p [] e x h = absurd h
 none_passes p (y ∷ ys) e x (inl same) = subst (λ (z : ℕ). p z ≡ false) (sym same) (or_parts (p y) (list_any p ys) e).0
 none_passes p (y ∷ ys) e x (inr there) = none_passes p ys (or_parts (p y) (list_any p ys) e).1 x there
 
-not_false : (x : Bool) → not x ≡ false → x ≡ true
-not_false true e = refl
-not_false false e = absurd (false≢true (sym e))
-
 -- what the rule on superclasses and interfaces says of a class that is there
 right_facts : (world : World) → IsLinked world → (a : ℕ) (c : ClassContent) → slice_get world a ≡ Some c → ((b : ℕ) → super_of world a ≡ Some b → is_bad_superclass world c.flags b ≡ false) × ((b : ℕ) → IsIn b (interfaces_of world a) → is_interface_class world b ≡ true)
 unfolding bad_super
 right_facts world h a c s =
     let both = or_parts (option_map_or (is_bad_superclass world c.flags) (super_of world a) false) (list_any (λ i. not (is_interface_class world i)) (interfaces_of world a)) (if_none _ (BadSuper c.name) (h.right a c s)) in (
       λ b e. subst (λ (o : Option ℕ). option_map_or (is_bad_superclass world c.flags) o false ≡ false) e both.0,
-      λ b q. not_false (is_interface_class world b) (none_passes (λ i. not (is_interface_class world i)) (interfaces_of world a) both.1 b q),
+      λ b q. not-false (is_interface_class world b) (none_passes (λ i. not (is_interface_class world i)) (interfaces_of world a) both.1 b q),
     )
 
 class_flags : (world : World) (a : ℕ) (c : ClassContent) → slice_get world a ≡ Some c → is_interface_class world a ≡ is_interface c.flags
@@ -234,7 +230,7 @@ hierarchy world h =
             let bad = or_parts (is_interface_class world b) (is_interface r.0.flags && not (eqb b 0)) ((right_facts world h a r.0 r.1).0 b e) in
             elim (and_cases (is_interface r.0.flags) (not (eqb b 0)) bad.1) [
               | inl x ↦ absurd (clash a f (class_flags world a r.0 r.1 ∙ x))
-              | inr y ↦ eqb-true b 0 (not_false (eqb b 0) y)
+              | inr y ↦ eqb-true b 0 (not-false (eqb b 0) y)
             ]
         | inr q ↦ absurd (clash b ((right_facts world h a r.0 r.1).1 b q) o)
       ]

@@ -2,7 +2,7 @@
 use Rattle.std.proofs.Common.{◌≡◌, ℕ, zero, suc, ◌+◌, ◌<◌, ◌≤◌, ◌||◌, Bool, true, false, cond, List, [], ◌∷◌, length, map, Option, Some, None, ◌⊎◌, inl, inr, refl, sym, ap, subst, ◌∙◌, arith, eq-eqb}
 use Rattle.std.specs.Prelude.{All, IsTrue, nat_eq}
 use Rattle.std.specs.Option.{is_some}
-use Rattle.std.proofs.lemmas.Bool.{false≢true, eqb-true, cases_lt}
+use Rattle.std.proofs.lemmas.Bool.{false≢true, eqb-true, cases_lt, or_right, cases_eq}
 use Rattle.std.proofs.lemmas.List.Elements.{All-nil, All-cons, All-append, All-head, All-tail, All-filter, length_all_zip}
 use Rattle.jvm_values.specs.declared.typing.PlaceType.TheVariants as places
 use Rattle.jvm_values.specs.States.{PlaceTypes}
@@ -31,12 +31,6 @@ use Rattle.code_verify.proofs.Running.{caught_of_world, run_proper, flows_ran, d
 use Rattle.code_verify.proofs.Solved.{reached_typed, entry_proper, too_many}
 
 -- ---- places
-
-same_or_not : (a b : ℕ) → (a ≡ b) ⊎ (a ≡ b → ⊥)
-same_or_not zero zero = inl refl
-same_or_not zero (suc b) = inr (λ (e : zero ≡ suc b). cc)
-same_or_not (suc a) zero = inr (λ (e : suc a ≡ zero). cc)
-same_or_not (suc a) (suc b) = elim (same_or_not a b) [ inl h ↦ inl (ap suc h) | inr h ↦ inr (λ e. h (cc)) ]
 
 true_or_false : (b : Bool) → (b ≡ true) ⊎ (b ≡ false)
 true_or_false true = inl refl
@@ -96,10 +90,6 @@ put_other typing to frame place h = elim (true_or_false (nat_eq place to)) [
 
 -- ---- where flows lead
 
-or_right : (a b : Bool) → b ≡ true → (a || b) ≡ true
-or_right true b h = refl
-or_right false b h = h
-
 led_each : (m : Method) (flows : List Flow) → ((to : ℕ) → IsTrue (is_led_to flows to) → IsReachable m to) → All (λ (flow : Flow). IsReachable m flow.to) flows
 led_each m [] h = All-nil (λ (flow : Flow). IsReachable m flow.to)
 led_each m (flow ∷ flows) h =
@@ -158,7 +148,7 @@ module _ (p : Program) (m : Method) (good : IsGood p) (g : IsGoodMethod p m) (la
           depth_of (length frame.stack) (length t.there.stack) m.max_stack (length_all_zip (IsWithin (types_of p.world)) frame.stack t.there.stack t.wide.stack) (bounded.each flow.to t.there t.is_there).limits.depth
 
       later_more : IsAtMost (types_of p.world) typing later
-      later_more place found e = elim (same_or_not place flow.to) [
+      later_more place found e = elim (cases_eq place flow.to) [
         | inl s ↦ record { there = frame; is_there = put_there typing flow.to frame place s; wide = wide found (ap typing (sym s) ∙ e) }
         | inr s ↦ record { there = found; is_there = put_other typing flow.to frame place s ∙ e; wide = frame_refl (types_of p.world) laws m.max_locals found (part.frames place found e).proper }
       ]
@@ -166,11 +156,11 @@ module _ (p : Program) (m : Method) (good : IsGood p) (g : IsGoodMethod p m) (la
       later_part : IsPart later
       later_part = record {
         entry = takes_more (types_of p.world) laws typing later later_more (entry_flow (types_of p.world) m) part.entry;
-        frames = λ place found e. elim (same_or_not place flow.to) [
+        frames = λ place found e. elim (cases_eq place flow.to) [
           | inl s ↦ subst (IsFrame (types_of p.world) m.max_locals m.max_stack) (sym (later_is place found e s)) (record { proper = proper; depth = depth })
           | inr s ↦ part.frames place found (was place found e s)
         ];
-        below = λ other t place found e. elim (same_or_not place flow.to) [
+        below = λ other t place found e. elim (cases_eq place flow.to) [
           | inl s ↦
               let k = least other t in
               record {
@@ -180,7 +170,7 @@ module _ (p : Program) (m : Method) (good : IsGood p) (g : IsGoodMethod p m) (la
               }
           | inr s ↦ part.below other t place found (was place found e s)
         ];
-        reached = λ place found e. elim (same_or_not place flow.to) [
+        reached = λ place found e. elim (cases_eq place flow.to) [
           | inl s ↦ subst (IsReachable m) (sym s) coming.reached
           | inr s ↦ part.reached place found (was place found e s)
         ];
@@ -190,7 +180,7 @@ module _ (p : Program) (m : Method) (good : IsGood p) (g : IsGoodMethod p m) (la
       up found = way_up (types_of p.world) m.max_locals m.max_stack found
 
       later_up : (place : ℕ) → up (later place) ≤ up (typing place)
-      later_up place = elim (same_or_not place flow.to) [
+      later_up place = elim (cases_eq place flow.to) [
         | inl s ↦ under (up (later place)) (up (Some frame)) (up (typing flow.to)) (up (typing place)) (ap up (put_there typing flow.to frame place s)) less (ap (λ (k : ℕ). up (typing k)) s)
         | inr s ↦ same_up (up (typing place)) (up (later place)) (sym (ap up (put_other typing flow.to frame place s)))
       ]
@@ -395,7 +385,7 @@ module _ (p : Program) (m : Method) (good : IsGood p) (g : IsGoodMethod p m) (la
   begun = put (λ place. None) 0 (entry_frame (types_of p.world) m)
 
   begun_is : (place : ℕ) (frame : PlaceTypes) → begun place ≡ Some frame → (place ≡ 0) × (frame ≡ entry_frame (types_of p.world) m)
-  begun_is place frame e = elim (same_or_not place 0) [
+  begun_is place frame e = elim (cases_eq place 0) [
     | inl s ↦ (s, some_is (sym e ∙ put_there (λ place. None) 0 (entry_frame (types_of p.world) m) place s))
     | inr s ↦ absurd (none_is_not_some frame (sym (put_other (λ place. None) 0 (entry_frame (types_of p.world) m) place s) ∙ e))
   ]

@@ -1,9 +1,9 @@
 -- What the table of a method keeps while it grows, and what it is when nothing waits.
-use Rattle.std.proofs.Common.{◌≡◌, ℕ, zero, suc, ◌+◌, ◌-◌, ◌<◌, ◌≤◌, Bool, true, false, ◌||◌, List, [], ◌∷◌, ◌++◌, length, map, replicate, get_or, Option, Some, None, ◌⊎◌, inl, inr, refl, sym, ap, subst, ◌∙◌, arith, length-append}
+use Rattle.std.proofs.Common.{◌≡◌, ℕ, zero, suc, ◌+◌, ◌-◌, ◌<◌, ◌≤◌, Bool, true, false, ◌||◌, List, [], ◌∷◌, ◌++◌, length, map, replicate, get_or, Option, Some, None, inl, inr, refl, sym, ap, subst, ◌∙◌, arith, length-append}
 use Rattle.std.specs.Prelude.{All, IsTrue, slice_set, nat_eq}
 use Rattle.std.specs.List.{list_any}
 use Rattle.std.specs.Option.{is_some}
-use Rattle.std.proofs.lemmas.Bool.{false≢true, eqb-true, cases_lt}
+use Rattle.std.proofs.lemmas.Bool.{false≢true, eqb-true, cases_lt, cases_eq}
 use Rattle.std.proofs.lemmas.List.{length-set, length-map, length-replicate, get_or-set_other}
 use Rattle.std.proofs.lemmas.List.Elements.{All-nil, All-cons, All-append, All-replicate, length_all_zip}
 use Rattle.jvm_values.specs.declared.types.Slot.{Slot}
@@ -31,12 +31,6 @@ use Rattle.code_verify.specs.Answers.{Looks}
 use Rattle.code_verify.specs.Solving.{IsClosedAt, IsSolving}
 use Rattle.code_verify.proofs.OperandLaws.{slot_of_world}
 use Rattle.code_verify.proofs.Running.{flows_within, takes_flows, led_places, leads_there}
-
-same_or_not : (a b : ℕ) → (a ≡ b) ⊎ (a ≡ b → ⊥)
-same_or_not zero zero = inl refl
-same_or_not zero (suc b) = inr (λ (e : zero ≡ suc b). cc)
-same_or_not (suc a) zero = inr (λ (e : suc a ≡ zero). cc)
-same_or_not (suc a) (suc b) = elim (same_or_not a b) [ inl h ↦ inl (ap suc h) | inr h ↦ inr (λ e. h (cc)) ]
 
 unmarked : (xs : List Bool) (n : ℕ) → get_or (slice_set xs n false) n false ≡ false
 unmarked [] n = refl
@@ -90,7 +84,7 @@ module _ (p : Program) (m : Method) (good : IsGood p) (g : IsGoodMethod p m) (la
     mid_table = record {
       even = ap length marks ∙ length-set old.waiting place false ∙ s.is_table.even ∙ sym (ap length same_types);
       small = omega (arith, s.is_table.small, ap length same_types);
-      done = λ k l. elim (same_or_not k place) [
+      done = λ k l. elim (cases_eq k place) [
         | inl h ↦ ap (λ (xs : List Bool). waits xs k) marks ∙ ap (λ (n : ℕ). get_or (slice_set old.waiting place false) n false) h ∙ unmarked old.waiting place
         | inr h ↦ other_mark k h ∙ below k (omega (arith, low_is, l, h))
       ];
@@ -113,7 +107,7 @@ module _ (p : Program) (m : Method) (good : IsGood p) (g : IsGoodMethod p m) (la
       entry = subst (λ (xs : List (Option FrameType)). Takes (types_of p.world) (types_at xs) (entry_flow (types_of p.world) m)) (sym same_types) s.entry;
       below = below_mid;
       reached = λ k frame e. s.reached k frame (was_at k frame e);
-      closed = λ k frame e. elim (same_or_not k place) [
+      closed = λ k frame e. elim (cases_eq k place) [
         | inl h ↦ absurd (none_is_not_some frame (sym none ∙ ap (types_at mid.types) (sym h) ∙ e))
         | inr h ↦ elim (s.closed k frame (was_at k frame e)) [
           | inl w ↦ inl (other_mark k h ∙ w)
@@ -158,7 +152,7 @@ module _ (p : Program) (m : Method) (good : IsGood p) (g : IsGoodMethod p m) (la
           | inr led ↦ onwards place k (s.reached place frame (was_at place frame there)) (led_places p m place frame flows k e led)
         ];
         closed = λ k later is_later. elim (q.changes k) [
-          | inl same ↦ elim (same_or_not k place) [
+          | inl same ↦ elim (cases_eq k place) [
             | inl h ↦
                 let l : later ≡ frame = some_is (sym is_later ∙ same ∙ ap (types_at mid.types) h ∙ there) in
                 let c : IsClosedAt p m (types_at new.types) place frame = record { flows = flows; runs = e; taken = q.taken } in

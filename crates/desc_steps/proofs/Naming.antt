@@ -3,7 +3,7 @@ use Rattle.std.proofs.Common.{◌≡◌, ◌∙◌, ◌+◌, ◌<◌, ◌≤◌,
 use Rattle.std.specs.Prelude.{nat_lt}
 use Rattle.std.specs.List.{list_all}
 use Rattle.std.specs.Str.{IsAscii, is_utf8}
-use Rattle.std.proofs.lemmas.Bool.{and_parts, ltb-true}
+use Rattle.std.proofs.lemmas.Bool.{and_parts, ltb-true, and_from}
 use Rattle.std.proofs.lemmas.Str.{IsUtf8-from_ascii, is_utf8-from_IsUtf8}
 use Rattle.std.proofs.lemmas.List.{take_all, length-map}
 use Rattle.jvm_values.proofs.Options.{some_is, none_is_not_some}
@@ -50,9 +50,6 @@ all_named world so n is l =
 abbrev AreNames : World → Type 0
 AreNames classes = list_all is_class_name (names_of classes) ≡ true
 
-both_true : (a b : Bool) → a ≡ true → b ≡ true → (a && b) ≡ true
-both_true a b e f = ap (λ (c : Bool). c && b) e ∙ f
-
 -- bytes below 128 are text
 ascii : (bytes : List ℕ) → list_all (λ (b : ℕ). nat_lt b 128) bytes ≡ true → IsAscii bytes
 ascii [] h i = omega arith
@@ -68,7 +65,7 @@ plain_names (name ∷ names) h =
     let both = and_parts (is_plain_name name) (list_all is_plain_name names) h in
     let parts = and_parts (nat_lt 0 (length name) && list_all is_name_byte name) (list_all (λ (b : ℕ). nat_lt b 128) name) both.0 in
     let text : is_utf8 name ≡ true = is_utf8-from_IsUtf8 name (IsUtf8-from_ascii name (ascii name parts.1)) in
-    both_true (is_class_name name) (list_all is_class_name names) (both_true (nat_lt 0 (length name) && list_all is_name_byte name) (is_utf8 name) parts.0 text) (plain_names names both.1)
+    and_from (is_class_name name) (list_all is_class_name names) (and_from (nat_lt 0 (length name) && list_all is_name_byte name) (is_utf8 name) parts.0 text) (plain_names names both.1)
 
 built_in_names_are : AreNames built_ins
 unfolding built_in_names
@@ -81,13 +78,13 @@ spelled_names (f ∷ files) [] s = absurd s
 spelled_names (f ∷ files) (c ∷ classes) s =
     let spells : Spells f c = s.0 in
     let name : is_class_name c.name ≡ true = ap (λ (class : ClassContent). is_class_name class.name) (sym spells.content) ∙ spells.rules.this_class.good in
-    both_true (is_class_name c.name) (list_all is_class_name (names_of classes)) name (spelled_names files classes s.1)
+    and_from (is_class_name c.name) (list_all is_class_name (names_of classes)) name (spelled_names files classes s.1)
 
 joined_names : (classes more : World) → AreNames classes → AreNames more → AreNames (classes ++ more)
 joined_names [] more h k = k
 joined_names (c ∷ classes) more h k =
     let both = and_parts (is_class_name c.name) (list_all is_class_name (names_of classes)) h in
-    both_true (is_class_name c.name) (list_all is_class_name (names_of (classes ++ more))) both.0 (joined_names classes more both.1 k)
+    and_from (is_class_name c.name) (list_all is_class_name (names_of (classes ++ more))) both.0 (joined_names classes more both.1 k)
 
 -- so are those of a program's world
 pub names_are : (files : List (List ℕ)) (desc : List ℕ) (p : Program) (described : Desc) → NameProgram files desc p described → list_all is_class_name (names_of p.world) ≡ true

@@ -1,8 +1,8 @@
 -- Whether a state is one of ints.
-use Rattle.std.proofs.Common.{◌≡◌, ◌≤◌, ◌∙◌, ◌&&◌, ℕ, suc, Bool, true, false, cond, eqb, List, [], ◌∷◌, Some, slice_get, refl, sym, ap, arith, eq-eqb}
+use Rattle.std.proofs.Common.{◌≡◌, ◌≤◌, ◌∙◌, ℕ, suc, Bool, true, false, cond, eqb, List, [], ◌∷◌, Some, slice_get, refl, sym, ap, arith, eq-eqb}
 use Rattle.std.specs.List.{list_all}
 use Rattle.std.specs.Option.{is_none}
-use Rattle.std.proofs.lemmas.Bool.{and_parts, ne_eqb, eqb-true, false≢true}
+use Rattle.std.proofs.lemmas.Bool.{and_parts, ne_eqb, eqb-true, false≢true, and_from}
 use Rattle.jvm_values.proofs.Options.{none_is_not_some}
 use Rattle.abs_cells.specs.declared.cells.Cell.{Cell}
 use Rattle.abs_cells.specs.AbstractStates.{AbstractState}
@@ -31,15 +31,10 @@ from_low low id (c ∷ cells) cell rise at = go (eqb c.0 id) refl (λ f. from_lo
     go true t later = let same = eqb-true c.0 id t in omega (arith, rise.0, same)
     go false f later = let next = later f in omega (arith, rise.0, next)
 
-and_both : (a b : Bool) → a ≡ true → b ≡ true → (a && b) ≡ true
-and_both true true s t = refl
-and_both true false s t = t
-and_both false b s t = s
-
 all_ints : (low : ℕ) (cells : List (ℕ × Cell)) → AreIdsRising low cells → ((id : ℕ) (cell : Cell) → cell_in cells id ≡ Some cell → is_int cell ≡ true) → list_all (λ (c : ℕ × Cell). is_int c.1) cells ≡ true
 all_ints low [] rise ints = refl
 all_ints low (c ∷ cells) rise ints =
-    and_both (is_int c.1) (list_all (λ (x : ℕ × Cell). is_int x.1) cells) (ints c.0 c.1 (here c cells))
+    and_from (is_int c.1) (list_all (λ (x : ℕ × Cell). is_int x.1) cells) (ints c.0 c.1 (here c cells))
     (all_ints (suc c.0) cells rise.1.1 (λ id cell at.
     let later = from_low (suc c.0) id cells cell rise.1.1 at in
     ints id cell (past c cells id (ne_eqb c.0 id (omega (arith, later))) ∙ at)))
@@ -50,9 +45,9 @@ no_first xs e = ap (λ ys. is_none (slice_get ys 0)) e
 -- the test says so exactly
 ints_pass : (state : AbstractState) → AreIdsRising 0 state.cells → IsIntState state → has_ints state ≡ true
 ints_pass state rise ints =
-    and_both (is_none (slice_get state.eq 0)) _ (no_first state.eq ints.no_eq)
-    (and_both (is_none (slice_get state.share 0)) _ (no_first state.share ints.no_share)
-    (and_both (is_none state.throwing) _ (ap is_none ints.unthrown)
+    and_from (is_none (slice_get state.eq 0)) _ (no_first state.eq ints.no_eq)
+    (and_from (is_none (slice_get state.share 0)) _ (no_first state.share ints.no_share)
+    (and_from (is_none state.throwing) _ (ap is_none ints.unthrown)
     (all_ints 0 state.cells rise ints.cells)))
 
 passes_ints : (state : AbstractState) → has_ints state ≡ true → IsIntState state

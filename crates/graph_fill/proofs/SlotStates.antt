@@ -1,7 +1,7 @@
 -- What the slots are after states are put into them.
 use Rattle.std.proofs.Common.{◌≡◌, ◌<◌, ◌≤◌, ◌+◌, ◌∙◌, ◌||◌, ◌++◌, ℕ, zero, suc, Bool, true, false, cond, not, is_some, nat_lt, List, [], ◌∷◌, map, take, drop, length, Option, Some, None, slice_get, slice_set, slice_index_or, ◌⊎◌, inl, inr, refl, sym, ap, arith}
 use Rattle.std.specs.List.{list_any}
-use Rattle.std.proofs.lemmas.Bool.{lt-ltb, false≢true}
+use Rattle.std.proofs.lemmas.Bool.{lt-ltb, false≢true, cases_eq}
 use Rattle.jvm_values.proofs.Options.{some_is, none_is_not_some}
 use Rattle.abs_cells.specs.AbstractStates.{AbstractState}
 use Rattle.std.proofs.lemmas.List.{take_all}
@@ -31,17 +31,8 @@ put_other slots low other number state d = go (is_wanted slots low other)
     go true = set_other slots other number (Some state) d
     go false = refl
 
-number_cases : (a b : ℕ) → (a ≡ b) ⊎ (a ≡ b → ⊥)
-number_cases zero zero = inl refl
-number_cases zero (suc b) = inr (λ e. omega (arith, e))
-number_cases (suc a) zero = inr (λ e. omega (arith, e))
-number_cases (suc a) (suc b) = elim (number_cases a b) [
-  | inl e ↦ inl (ap suc e)
-  | inr d ↦ inr (λ e. d (omega (arith, e)))
-]
-
 put_keeps : (slots : Slots) (low other number : ℕ) (state given : AbstractState) → slice_get slots number ≡ Some (Some given) → slice_get (put low other state slots) number ≡ Some (Some given)
-put_keeps slots low other number state given at = elim (number_cases other number) [
+put_keeps slots low other number state given at = elim (cases_eq other number) [
   | inl e ↦
       ap (λ b. slice_get (cond b (slice_set slots other (Some state)) slots) number)
       (ap (λ k. is_wanted slots low k) e ∙ taken_not_wanted (nat_lt low number) (slice_get slots number) given at)
@@ -91,7 +82,7 @@ before_cons other number named place d n (suc k) l at = n k (omega (arith, l)) a
 pub all_put : (low : ℕ) (first : AbstractState) (children : List GraphChild) (from : ℕ) (named : List ℕ) (slots : Slots) (number : ℕ) → low < number → slice_get slots number ≡ Some None
     → IsUnnamed named (put_all low first children from named slots) number ⊎ IsNamedAt first children from named (put_all low first children from named slots) number
 all_put low first children from [] slots number l at = inl (record { is = at; never = λ place none. none_is_not_some number none })
-all_put low first children from (other ∷ named) slots number l at = elim (number_cases other number) [
+all_put low first children from (other ∷ named) slots number l at = elim (cases_eq other number) [
   | inl e ↦
       let here : slice_get (put low other (taken_at first children from) slots) number ≡ Some (Some (taken_at first children from)) =
       ap (λ k. slice_get (put low k (taken_at first children from) slots) number) e ∙ put_here slots low number (taken_at first children from) l at in

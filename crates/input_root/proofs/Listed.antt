@@ -1,16 +1,12 @@
 -- Pairs that are put into a set of pairs are there.
 use Rattle.std.proofs.Common.{◌≡◌, ℕ, ◌<◌, min, max, Bool, true, false, cond, List, [], ◌∷◌, ◌++◌, ◌⊎◌, inl, inr, sym, refl, ap, ◌∙◌, arith}
-use Rattle.std.specs.Prelude.{◌||◌, filter, All}
-use Rattle.std.proofs.lemmas.Bool.{false≢true, or_cases, cases_order}
+use Rattle.std.specs.Prelude.{filter, All}
+use Rattle.std.proofs.lemmas.Bool.{false≢true, or_cases, cases_order, or_right}
 use Rattle.std.proofs.lemmas.List.Elements.{All-head, All-tail}
 use Rattle.abs_cells.specs.PairLists.{pair_of, is_same, is_before, has_pair, with_pair, has, added}
 use Rattle.abs_cells.proofs.PairLaws.{has_swapped, is_same_from, same_is, or_true}
 use Rattle.input_desc.specs.Initial.{with_pairs}
 use Rattle.input_desc.specs.Fitting.{IsListed}
-
-or_second : (s t : Bool) → t ≡ true → (s || t) ≡ true
-or_second true t e = refl
-or_second false t e = e
 
 -- ---- one pair more
 
@@ -21,7 +17,7 @@ itself p (q ∷ rest) = go (itself p rest) (is_same p q) refl (is_before p q)
     go : has_pair p (with_pair p rest) ≡ true → (b : Bool) → is_same p q ≡ b → (c : Bool) → has_pair p (cond b (q ∷ rest) (cond c (p ∷ q ∷ rest) (q ∷ with_pair p rest))) ≡ true
     go in_rest true e c = or_true (is_same p q) (has_pair p rest) e
     go in_rest false e true = or_true (is_same p p) (has_pair p (q ∷ rest)) (is_same_from p p refl)
-    go in_rest false e false = or_second (is_same p q) (has_pair p (with_pair p rest)) in_rest
+    go in_rest false e false = or_right (is_same p q) (has_pair p (with_pair p rest)) in_rest
 
 stays : (p q : ℕ × ℕ) (xs : List (ℕ × ℕ)) → has_pair q xs ≡ true → has_pair q (with_pair p xs) ≡ true
 stays p q [] h = absurd (false≢true h)
@@ -29,11 +25,11 @@ stays p q (r ∷ rest) h = go (stays p q rest) (is_same p r) (is_before p r)
   where
     more : (has_pair q rest ≡ true → has_pair q (with_pair p rest) ≡ true) → (is_same q r ≡ true) ⊎ (has_pair q rest ≡ true) → has_pair q (r ∷ with_pair p rest) ≡ true
     more in_rest (inl e) = or_true (is_same q r) (has_pair q (with_pair p rest)) e
-    more in_rest (inr e) = or_second (is_same q r) (has_pair q (with_pair p rest)) (in_rest e)
+    more in_rest (inr e) = or_right (is_same q r) (has_pair q (with_pair p rest)) (in_rest e)
 
     go : (has_pair q rest ≡ true → has_pair q (with_pair p rest) ≡ true) → (b c : Bool) → has_pair q (cond b (r ∷ rest) (cond c (p ∷ r ∷ rest) (r ∷ with_pair p rest))) ≡ true
     go in_rest true c = h
-    go in_rest false true = or_second (is_same q p) (has_pair q (r ∷ rest)) h
+    go in_rest false true = or_right (is_same q p) (has_pair q (r ∷ rest)) h
     go in_rest false false = more in_rest (or_cases (is_same q r) (has_pair q rest) h)
 
 -- ---- many
@@ -100,7 +96,7 @@ pair_added p q (r ∷ rest) h = go (pair_added p q rest) (is_same p r) (is_befor
 
     later : (q ≡ p) ⊎ (has_pair q rest ≡ true) → (q ≡ p) ⊎ (has_pair q (r ∷ rest) ≡ true)
     later (inl e) = inl e
-    later (inr e) = inr (or_second (is_same q r) (has_pair q rest) e)
+    later (inr e) = inr (or_right (is_same q r) (has_pair q rest) e)
 
     behind : (has_pair q (with_pair p rest) ≡ true → (q ≡ p) ⊎ (has_pair q rest ≡ true)) → (is_same q r ≡ true) ⊎ (has_pair q (with_pair p rest) ≡ true) → (q ≡ p) ⊎ (has_pair q (r ∷ rest) ≡ true)
     behind in_rest (inl e) = inr (or_true (is_same q r) (has_pair q rest) e)

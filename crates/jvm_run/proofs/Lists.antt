@@ -1,10 +1,10 @@
 -- Lists whose items are alike place by place.
-use Rattle.std.proofs.Common.{◌≡◌, ℕ, zero, suc, ◌+◌, ◌<◌, ◌≤◌, Bool, true, false, cond, ◌||◌, eqb, List, [], ◌∷◌, ◌++◌, length, get_or, set, take, drop, replicate, map, reverse, filter, Option, Some, None, ◌⊎◌, inl, inr, refl, sym, ◌∙◌, subst, arith}
+use Rattle.std.proofs.Common.{◌≡◌, ℕ, zero, suc, ◌+◌, ◌<◌, ◌≤◌, Bool, true, false, cond, eqb, List, [], ◌∷◌, ◌++◌, length, get_or, set, take, drop, replicate, map, reverse, filter, Option, Some, None, inl, inr, refl, sym, ◌∙◌, subst, arith}
 use Rattle.std.specs.Prelude.{slice_get, All, find}
 use Rattle.std.specs.List.{AllZip, list_any}
 use Rattle.std.proofs.lemmas.List.{reverse-append, length-append}
 use Rattle.std.proofs.lemmas.List.Elements.{All-nil, All-cons, All-head, All-tail}
-use Rattle.std.proofs.lemmas.Bool.{false≢true, eqb-true}
+use Rattle.std.proofs.lemmas.Bool.{false≢true, eqb-true, or_cases}
 use Rattle.jvm_values.proofs.Options.{some_is, none_is_not_some}
 
 -- ---- options and tests
@@ -103,14 +103,10 @@ all_get P (a ∷ xs) (suc i) x h e = all_get P xs i x (All-tail P a xs h) e
 
 -- ---- items of a list
 
-pub or_given : (a b : Bool) → (a || b) ≡ true → (a ≡ true) ⊎ (b ≡ true)
-or_given true b e = inl refl
-or_given false b e = inr e
-
 -- what holds of each number of a list that is mapped holds of one that is among them
 pub all_among : {A : Type 0} (P : A → Type 0) (f : ℕ → A) (xs : List ℕ) (x : ℕ) → All P (map f xs) → list_any (eqb x) xs ≡ true → P (f x)
 all_among P f [] x h e = absurd (false≢true e)
-all_among P f (y ∷ xs) x h e = elim (or_given (eqb x y) (list_any (eqb x) xs) e) [
+all_among P f (y ∷ xs) x h e = elim (or_cases (eqb x y) (list_any (eqb x) xs) e) [
   | inl same ↦ subst (λ (z : ℕ). P (f z)) (sym (eqb-true x y same)) (All-head P (f y) (map f xs) h)
   | inr more ↦ all_among P f xs x (All-tail P (f y) (map f xs) h) more
 ]

@@ -3,7 +3,7 @@ use Rattle.std.proofs.Common.{◌≡◌, ℕ, zero, suc, ◌+◌, ◌-◌, ◌<�
 use Rattle.std.specs.Prelude.{slice_get, All, nat_lt, ◌==◌}
 use Rattle.std.specs.List.{AllZip, list_any}
 use Rattle.std.specs.Option.{option_map, is_some}
-use Rattle.std.proofs.lemmas.Bool.{false≢true, and_parts, ltb-true, eqb-true}
+use Rattle.std.proofs.lemmas.Bool.{false≢true, and_parts, ltb-true, eqb-true, or_cases}
 use Rattle.jvm_values.specs.declared.heap.Value.{Value}
 use Rattle.jvm_values.specs.declared.heap.Value.TheVariants as values
 use Rattle.jvm_values.specs.declared.heap.Object.{Object}
@@ -35,7 +35,7 @@ use Rattle.op_forms.specs.declared.form.ItemKind.TheVariants as items
 use Rattle.code_verify.specs.Operands.{is_numbers, is_base_for, is_for as typed_for, is_array}
 use Rattle.jvm_step.specs.Effects.{is_for, numbers_in, references_in, length_of}
 use Rattle.jvm_step.specs.Operands.{default_of}
-use Rattle.jvm_run.proofs.Lists.{or_given, all_get}
+use Rattle.jvm_run.proofs.Lists.{all_get}
 use Rattle.jvm_run.proofs.Numbers.{zero_is}
 use Rattle.jvm_run.proofs.Values.{Laws}
 
@@ -94,7 +94,7 @@ over_interface world linked zero a b e i o = absurd (false≢true e)
 over_interface world linked (suc steps) a b e i o =
     let h = hierarchy world (linked_from world linked) in
     let k = some_passes (λ (c : ℕ). eqb b c || leads_up (supers_of world) steps c b) (supers_of world a) e in
-    by h k.0 k.1.0 (is_interface_class world k.0) refl (or_given (eqb b k.0) (leads_up (supers_of world) steps k.0 b) k.1.1) (over_interface world linked steps k.0 b)
+    by h k.0 k.1.0 (is_interface_class world k.0) refl (or_cases (eqb b k.0) (leads_up (supers_of world) steps k.0 b) k.1.1) (over_interface world linked steps k.0 b)
   where
     no_root : (h : IsHierarchy (length world) (super_of world) (supers_of world) (is_interface_class world)) (n : ℕ) → leads_up (supers_of world) n 0 b ≡ true → ⊥
     no_root h zero f = false≢true f
@@ -112,8 +112,8 @@ erased_interface world class e = let at : Bool → Ty = λ b. record { dims = 0;
 
 above_root : (world : World) → is_linked world ≡ true → (a b : ℕ) → is_class_below world a b ≡ true → is_interface_class world a ≡ true → is_interface_class world b ≡ false → b ≡ 0
 unfolding is_class_below is_above
-above_root world linked a b e i o = elim (or_given (eqb b 0 || eqb a b) (leads_up (supers_of world) (length world) a b) e) [
-  | inl near ↦ elim (or_given (eqb b 0) (eqb a b) near) [
+above_root world linked a b e i o = elim (or_cases (eqb b 0 || eqb a b) (leads_up (supers_of world) (length world) a b) e) [
+  | inl near ↦ elim (or_cases (eqb b 0) (eqb a b) near) [
     | inl z ↦ eqb-true b 0 z
     | inr same ↦ absurd (false≢true (sym o ∙ (ap (is_interface_class world) (sym (eqb-true a b same)) ∙ i)))
   ]
