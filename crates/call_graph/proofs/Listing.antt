@@ -1,12 +1,9 @@
 -- What is listed is what can be called.
 use Rattle.std.proofs.Common.{◌≡◌, ◌⊎◌, ◌↔◌, inl, inr, ℕ, zero, suc, ◌+◌, ◌<◌, ◌≤◌, eqb, Bool, true, false, cond, List, [], ◌∷◌, ◌++◌, length, map, Option, Some, None, subst, ap, arith, refl, ◌∙◌, sym}
-use Rattle.std.specs.Prelude.{IsTrue, not, ◌&&◌, slice_get, option_and_then, option_map}
+use Rattle.std.specs.Prelude.{IsTrue, slice_get, option_and_then, option_map}
 use Rattle.std.specs.List.{filter_map, flat_map, range_with_len, cons_option}
 use Rattle.std.specs.Option.{option_map_or, option_to_list}
 use Rattle.std.proofs.lemmas.Bool.{false≢true, and_parts, eqb-true, cases_eq}
-use Rattle.std.proofs.lemmas.Option.{slice_get_within}
-use Rattle.class_read.specs.Content.{ClassContent}
-use Rattle.class_world.specs.World.{World, is_abstract, is_interface}
 use Rattle.class_world.specs.Fields.{can_be_made}
 use Rattle.class_world.specs.Types.{is_class_below}
 use Rattle.class_world.specs.Select.{is_receiver}
@@ -19,6 +16,7 @@ use Rattle.class_program.specs.declared.selected.Selected.TheVariants as answers
 use Rattle.class_program.specs.Instructions.{instruction_at, first_place}
 use Rattle.class_program.specs.Programs.{Program, refs_of, insn_at, op_at}
 use Rattle.class_program.specs.Selected.{CanRun, selection_at, selected_in, selected_at, can_receive, can_receive_at}
+use Rattle.class_program.proofs.Closed.{made_within}
 use Rattle.number_graphs.specs.Graphs.{IsWay, Leads, IsOnCycle, IsLeastOnCycle}
 use Rattle.call_graph.specs.Calls.{Calls}
 use Rattle.number_graphs.specs.Lists.{Has, row_at, Edge}
@@ -175,14 +173,6 @@ run_to p a place class b op e r =
     ap (λ (o : Option Op). cond (option_map_or (λ x. can_receive p.world x class) o false) (method_of (option_and_then (selected_in (refs_of p.methods)) (option_and_then (λ x. selection_at p.world x class) o))) None) e
     ∙ ap (λ (t : Bool). cond t (method_of (option_and_then (selected_in (refs_of p.methods)) (selection_at p.world op class))) None) r.0
     ∙ ap (λ (o : Option Selected). method_of o) r.1
-
-made_within : (world : World) (class : ℕ) → can_be_made world class ≡ true → class < length world
-unfolding can_be_made
-made_within world class e = at (slice_get world class) refl e
-  where
-    at : (o : Option ClassContent) → slice_get world class ≡ o → option_map_or (λ c. not (is_abstract c.flags) && not (is_interface c.flags)) o false ≡ true → class < length world
-    at None s k = absurd (false≢true k)
-    at (Some c) s k = slice_get_within world class c s
 
 receives_virtual : (p : Program) (class : ℕ) (call : Call) → IsTrue (can_receive p.world (Invokevirtual call) class) → class < length p.world
 unfolding can_receive

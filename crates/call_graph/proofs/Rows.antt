@@ -7,12 +7,13 @@ use Rattle.std.proofs.lemmas.Option.{slice_get_within, slice_get-get_or}
 use Rattle.class_program.specs.declared.program.Method.{Method}
 use Rattle.class_read.specs.Content.{ClassContent}
 use Rattle.class_world.specs.declared.fault.MethodName.{MethodName}
-use Rattle.class_program.specs.Good.{AllOf, IsGood, IsGoodMethod}
+use Rattle.class_program.specs.Good.{IsGood, IsGoodMethod}
 use Rattle.number_graphs.specs.Graphs.{IsOnCycle, IsLeastOnCycle}
 use Rattle.call_graph.specs.Calls.{Calls, IsNameOf, Answers}
 use Rattle.call_graph.specs.declared.fault.CallFault.TheVariants.{Recursive}
 use Rattle.call_graph.proofs.Listing.{none_calls, least_calls}
 use Rattle.class_program.specs.Programs.{Program}
+use Rattle.class_program.proofs.Got.{all_at}
 use Rattle.number_graphs.specs.Lists.{Edge, Ranked}
 use Rattle.number_graphs.specs.Laws.{CyclesAreListed, FallingHasNoCycle}
 use Rattle.number_graphs.specs.declared.ranking.Ranking.{Ranking}
@@ -66,12 +67,6 @@ rows_length p k (m ∷ methods) = ap suc (rows_length p (k + 1) methods)
 -- each method has a list
 pub graph_length : (p : Program) → length (graph_of p) ≡ length p.methods
 graph_length p = rows_length p 0 p.methods
-
--- what holds of all holds of one
-pub all_at : {A : Type 0} (P : A → Type 0) (xs : List A) (i : ℕ) (x : A) → AllOf P xs → slice_get xs i ≡ Some x → P x
-all_at P [] i x all e = let no : ⊥ = cc in absurd no
-all_at P (y ∷ xs) zero x all e = let same : y ≡ x = cc in subst P same all.0
-all_at P (y ∷ xs) (suc i) x all e = all_at P xs i x all.1 e
 
 -- ---- the answer
 

@@ -6,13 +6,14 @@ use Rattle.jvm_values.specs.declared.types.Kind.{Kind}
 use Rattle.jvm_values.specs.declared.types.Base.{Base}
 use Rattle.jvm_values.specs.declared.types.Base.TheVariants.{Class, Num}
 use Rattle.jvm_values.specs.Subtyping.{class_type, IsReference, IsReferenceBase, SubtypeLaws}
+use Rattle.jvm_values.proofs.Joining.{same_type}
 use Rattle.class_world.specs.World.{World, supers_of, is_above, is_interface_class, leads_up}
 use Rattle.class_world.specs.Types.{Sub, Extends, is_base_below, is_sub, is_class_below, erase_by}
 use Rattle.class_world.specs.Types.Sub.{same, follows, up, items, top}
 use Rattle.class_world.specs.Linking.{is_linked}
 use Rattle.class_world.specs.Walks.{Walk, Walk-from_leads, leads-from_any_Walk, IsIn-from_any, any-from_IsIn}
 use Rattle.class_world.specs.Classes.{below_up, below_cases}
-use Rattle.class_world.specs.Subtypes.{ty_eq, laws_of, stands_from, stands_to, same_kind}
+use Rattle.class_world.specs.Subtypes.{laws_of, stands_from, stands_to, same_kind}
 use Rattle.class_world.specs.Linked.{hierarchy, linked_from, class_order}
 
 module _ (world : World) (linked : is_linked world ≡ true) where
@@ -94,12 +95,12 @@ module _ (world : World) (linked : is_linked world ≡ true) where
 
       go : 0 < n → IsReference n a → IsReference n b → ((a.dims ≡ b.dims) × (is_base_below (is_class_below world) a.base b.base ≡ true)) ⊎ ((b.dims < a.dims) × (b.base ≡ Class 0)) → Sub world a b
       go s r q (inl p) =
-          subst (λ (t : Ty). Sub world a t) (ty_eq (at_depth a.dims b.base) b p.0 refl)
+          subst (λ (t : Ty). Sub world a t) (same_type (at_depth a.dims b.base) b p.0 refl)
           (alike a.dims a.base b.base r (q_at r.0 q.1 p.0) p.1)
         where
           q_at : a.dims ≤ 255 → IsReferenceBase n b.dims b.base → a.dims ≡ b.dims → IsReference n (at_depth a.dims b.base)
           q_at x y z = (x, subst (λ (k : ℕ). IsReferenceBase n k b.base) (sym z) y)
-      go s r q (inr p) = subst (λ (t : Ty). Sub world a t) (ty_eq (at_depth b.dims (Class 0)) b refl (sym p.1)) (by_depth b.dims a.dims a.base s p.0 r.0 r.1)
+      go s r q (inr p) = subst (λ (t : Ty). Sub world a t) (same_type (at_depth b.dims (Class 0)) b refl (sym p.1)) (by_depth b.dims a.dims a.base s p.0 r.0 r.1)
 
 pub least : (world : World) → is_linked world ≡ true → (a b : Ty) → (is_sub world a b ≡ true → Sub world a b) × (Sub world a b → is_sub world a b ≡ true)
 least world linked a b = (test_right world linked a b, test_finds world linked a b)

@@ -9,6 +9,7 @@ use Rattle.jvm_values.specs.declared.types.Base.{Base}
 use Rattle.jvm_values.specs.declared.types.Base.TheVariants.{Class, Num}
 use Rattle.jvm_values.specs.declared.types.Slot.{Slot}
 use Rattle.jvm_values.specs.Subtyping.{class_type, object_type, array_of, array_of_numbers, IsReference, IsReferenceBase, IsSlot, IsArrayAbove, SubtypeLaws}
+use Rattle.jvm_values.proofs.Joining.{same_type}
 use Rattle.class_world.specs.Types.{is_reference, is_reference_base, is_same_kind, is_base_below, is_object, is_sub_by, erased_base, erase_by}
 
 pub record IsClassOrder (n : ℕ) (below : ℕ → ℕ → Bool) (interface : ℕ → Bool) : Type 0 where
@@ -21,12 +22,6 @@ pub record IsClassOrder (n : ℕ) (below : ℕ → ℕ → Bool) (interface : �
   pub chain : (t a b : ℕ) → below t a ≡ true → below t b ≡ true → interface a ≡ false → interface b ≡ false → (below a b ≡ true) ⊎ (below b a ≡ true)
   pub class_root : interface 0 ≡ false
   pub interface_in : (a : ℕ) → interface a ≡ true → a < n
-
-pub ty_eq : (a b : Ty) → a.dims ≡ b.dims → a.base ≡ b.base → a ≡ b
-ty_eq a b p q =
-    let f : ℕ → Ty = λ d. record { dims = d; base = a.base } in
-    let g : Base → Ty = λ x. record { dims = b.dims; base = x } in
-    ap f p ∙ ap g q
 
 pub same_kind : (j k : Kind) → is_same_kind j k ≡ true → j ≡ k
 same_kind Boolean Boolean e = refl
@@ -131,7 +126,7 @@ module _ (n : ℕ) (below : ℕ → ℕ → Bool) (interface : ℕ → Bool) (h 
   antisym_stands a b s t = go s.2 t.2
     where
       go : ((a.dims ≡ b.dims) × BaseBelow a.base b.base) ⊎ ((b.dims < a.dims) × (b.base ≡ Class 0)) → ((b.dims ≡ a.dims) × BaseBelow b.base a.base) ⊎ ((a.dims < b.dims) × (a.base ≡ Class 0)) → a ≡ b
-      go (inl p) (inl q) = ty_eq a b p.0 (base_antisym a.base b.base p.1 q.1)
+      go (inl p) (inl q) = same_type a b p.0 (base_antisym a.base b.base p.1 q.1)
       go (inl p) (inr q) = absurd (omega (arith, p.0, q.0))
       go (inr p) (inl q) = absurd (omega (arith, p.0, q.0))
       go (inr p) (inr q) = absurd (omega (arith, p.0, q.0))
@@ -186,18 +181,18 @@ module _ (n : ℕ) (below : ℕ → ℕ → Bool) (interface : ℕ → Bool) (h 
       under (Class c) (Num k) e p q = absurd (false≢true e)
 
       of_root : (d : ℕ) → b.dims ≡ d → b.dims < a.dims + 1 → b.base ≡ Class 0 → (b ≡ object_type) ⊎ IsArrayAbove sub n a b
-      of_root zero e l f = inl (ty_eq b object_type e f)
+      of_root zero e l f = inl (same_type b object_type e f)
       of_root (suc d) e l f =
           let item : Ty = record { dims = d; base = Class 0 } in
           let fits : IsReference n item = (omega (arith, s.1.0, e), h.some) in
-          inr (item, fits, stands_to a item (r, fits, inr (omega (arith, e, l), refl)), ty_eq b (array_of item) (omega (arith, e)) f)
+          inr (item, fits, stands_to a item (r, fits, inr (omega (arith, e, l), refl)), same_type b (array_of item) (omega (arith, e)) f)
 
       go : ((a.dims + 1 ≡ b.dims) × BaseBelow a.base b.base) ⊎ ((b.dims < a.dims + 1) × (b.base ≡ Class 0)) → (b ≡ object_type) ⊎ IsArrayAbove sub n a b
       go (inr p) = of_root b.dims refl p.0 p.1
       go (inl p) =
           let item : Ty = record { dims = a.dims; base = b.base } in
           let fits : IsReference n item = (r.0, under a.base b.base p.1 r.1 s.1.1) in
-          inr (item, fits, stands_to a item (r, fits, inl (refl, p.1)), ty_eq b (array_of item) (sym p.0) refl)
+          inr (item, fits, stands_to a item (r, fits, inl (refl, p.1)), same_type b (array_of item) (sym p.0) refl)
 
   below_array_stands : (a b : Ty) → IsReference n (array_of a) → IsReference n (array_of b) → Stands a b → Stands (array_of a) (array_of b)
   below_array_stands a b r q s = (r, q, go s.2)
@@ -214,8 +209,8 @@ module _ (n : ℕ) (below : ℕ → ℕ → Bool) (interface : ℕ → Bool) (h 
       over (Class c) e = absurd (false≢true e)
 
       go : ((1 ≡ b.dims) × BaseBelow (Num k) b.base) ⊎ ((b.dims < 1) × (b.base ≡ Class 0)) → (b ≡ object_type) ⊎ (b ≡ array_of_numbers k)
-      go (inl p) = inr (ty_eq b (array_of_numbers k) (sym p.0) (over b.base p.1))
-      go (inr p) = inl (ty_eq b object_type (omega (arith, p.0)) p.1)
+      go (inl p) = inr (same_type b (array_of_numbers k) (sym p.0) (over b.base p.1))
+      go (inr p) = inl (same_type b object_type (omega (arith, p.0)) p.1)
 
   class_stands : (c : ℕ) (b : Ty) → Stands (class_type c) b → b.dims ≡ 0
   class_stands c b s = go s.2
@@ -263,8 +258,8 @@ module _ (n : ℕ) (below : ℕ → ℕ → Bool) (interface : ℕ → Bool) (h 
     antisymmetric = λ a b e f. antisym_stands a b (stands_from a b e) (stands_from b a f);
     object_on_top = λ a r. stands_to a object_type (top_stands a.dims a.base r);
     erase_up = λ a r. stands_to a (erase_by interface a) (erase_up_stands a.dims a.base r);
-    erase_erased = λ a r. ty_eq _ _ refl (erased_base_twice a.base);
-    erase_outside = λ a d r. ty_eq _ _ refl (erased_outside a.dims a.base (λ x. r (d, x)));
+    erase_erased = λ a r. same_type _ _ refl (erased_base_twice a.base);
+    erase_outside = λ a d r. same_type _ _ refl (erased_outside a.dims a.base (λ x. r (d, x)));
     erase_array = λ a r q. refl;
     erase_numbers = λ k. refl;
     array_below = λ a b r e. array_stands a b r (stands_from (array_of a) b e);

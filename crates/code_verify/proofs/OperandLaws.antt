@@ -18,6 +18,7 @@ use Rattle.jvm_values.specs.Subtyping.{array_of_numbers, IsSlot}
 use Rattle.jvm_values.specs.TypedHeaps.{WorldTypes}
 use Rattle.jvm_values.specs.Joins.{item_of}
 use Rattle.jvm_values.proofs.Options.{some_is, none_is_not_some}
+use Rattle.jvm_values.proofs.Joining.{same_type}
 use Rattle.op_forms.specs.declared.form.ItemKind.{ItemKind}
 use Rattle.frame_types.specs.Places.{IsWithin, IsOfWorld}
 use Rattle.frame_types.specs.GrowthLaws.{Laws}
@@ -26,7 +27,7 @@ use Rattle.code_verify.specs.declared.want.Want.TheVariants as wants
 use Rattle.code_verify.specs.Operands.{is_int, is_reference, is_below, is_array, is_base_for, is_numbers, is_references, fits, place_of, item_place}
 use Rattle.code_verify.specs.Rows.{taken}
 use Rattle.code_verify.proofs.Basics.{chosen}
-use Rattle.code_verify.proofs.TypeShapes.{same_type, items_below, numbers_below_same, dims_below, item_erased, erased_of_world, array_of_item}
+use Rattle.code_verify.proofs.TypeShapes.{items_below, numbers_below_same, dims_below, item_erased, erased_of_world, array_of_item}
 
 some_item : (o : Option Ty) → is_some o ≡ true → (x : Ty) × (o ≡ Some x)
 some_item None h = absurd (false≢true h)

@@ -74,7 +74,7 @@ deeper : (n d : ℕ) (base : Base) → IsReferenceBase n d base → IsReferenceB
 deeper n d (Class k) r = r
 deeper n d (Num kind) r = omega arith
 
-array_reference : (n : ℕ) (t : Ty) → IsReference n t → t.dims < 255 → IsReference n (array_of t)
+pub array_reference : (n : ℕ) (t : Ty) → IsReference n t → t.dims < 255 → IsReference n (array_of t)
 array_reference n t r l = (omega arith, deeper n t.dims t.base r.1)
 
 -- a result that may be pushed

@@ -11,13 +11,8 @@ use Rattle.jvm_values.specs.Subtyping.{class_type, object_type, array_of, array_
 use Rattle.jvm_values.specs.TypedHeaps.{WorldTypes}
 use Rattle.jvm_values.specs.Joins.{item_under, item_of}
 use Rattle.jvm_values.proofs.Options.{some_is, none_is_not_some}
+use Rattle.jvm_values.proofs.Joining.{same_type}
 use Rattle.frame_types.specs.GrowthLaws.{Laws}
-
-pub same_type : (a b : Ty) → a.dims ≡ b.dims → a.base ≡ b.base → a ≡ b
-same_type a b p q =
-    let f : ℕ → Ty = λ d. record { dims = d; base = a.base } in
-    let g : Base → Ty = λ x. record { dims = b.dims; base = x } in
-    ap f p ∙ ap g q
 
 pub array_inside : (a b : Ty) → array_of a ≡ array_of b → a ≡ b
 array_inside a b e =

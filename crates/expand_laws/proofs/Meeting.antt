@@ -34,7 +34,7 @@ use Rattle.code_verify.specs.Rows.{types_after, iload_types, iinc_types}
 use Rattle.jvm_step.specs.Running.{step, IsEnd}
 use Rattle.jvm_run.specs.Laws.{GoesTyped, HasInts, StepsAreTyped}
 use Rattle.jvm_run.proofs.Lists.{zip_get, all_get}
-use Rattle.jvm_run.proofs.Placed.{Placed, placed, at_has_all}
+use Rattle.jvm_run.proofs.Placed.{Placed, placed, at_has_all, asked_is}
 use Rattle.jvm_run.proofs.Stepping.{insn_there}
 use Rattle.term_graph.specs.Graphs.{GraphChild}
 use Rattle.abs_expand.specs.Plans.{Plan, ends, steps, by_null, by_class, by_equal}
@@ -107,10 +107,6 @@ is_normal meaning None (Throwing r) e h = absurd h
 is_normal meaning (Some id) mode e h = absurd (none_is_not_some id (sym e))
 
 -- ---- a local that is read is an int
-
-asked_is : (b : Bool) (u : Unit {0}) → asked b ≡ Some u → b ≡ true
-asked_is true u e = refl
-asked_is false u e = absurd (none_is_not_some u e)
 
 record IntPlace (there : PlaceTypes) (n : ℕ) : Type 0 where
   place : PlaceType

@@ -43,6 +43,7 @@ use Rattle.code_verify.specs.Operands.{fits, is_reference, item_place, is_number
 use Rattle.code_verify.specs.Rows.{taken, acted, top_place, aaload_types}
 use Rattle.code_verify.specs.Flows.{falls}
 use Rattle.code_verify.specs.TypedStates.{HasPlaceType, HasStack}
+use Rattle.code_verify.proofs.RowLaws.{array_reference}
 use Rattle.jvm_values.specs.Joins.{item_of}
 use Rattle.jvm_step.specs.Effects.{Effect, with_stack, pushes, on_object, on_item, item_at, index_below, length_of, numbers_in, references_in, with_number, with_item, makes, array_made, zeros, nulls, newarray_effect, anewarray_effect, arraylength_effect, number_load_effect, aaload_effect, number_store_effect, aastore_effect}
 use Rattle.jvm_step.specs.Operands.{is_null_or_below, top_int}
@@ -52,7 +53,7 @@ use Rattle.jvm_run.proofs.Values.{Laws, Grows, grows_by, grows_set, heap_with, h
 use Rattle.jvm_run.proofs.Lists.{get_last}
 use Rattle.jvm_run.proofs.Forms.{Here, Stands, Well, FrameGood, HeapGood, Fits, types_here, acted_of, left, pushed, top_int_of, TopReference, top_reference_of, asks_any, asks_array, asks_numbers, asks_references, reference_top, rest_has, Found, on_object_well, bind_well, asked_well, fits_grown}
 use Rattle.jvm_run.proofs.IntForms.{one_int, OneInt}
-use Rattle.jvm_run.proofs.Objects.{reference_array, reference_numbers, NumberArray, number_array, ReferenceArray, reference_array_of, SomeArray, some_array, typed_at}
+use Rattle.jvm_run.proofs.Objects.{reference_numbers, NumberArray, number_array, ReferenceArray, reference_array_of, SomeArray, some_array, typed_at}
 
 -- ---- new arrays
 
@@ -104,7 +105,7 @@ anewarray_by : (here : Here) → Stands here → IsTrue (falls here.form) → (t
 anewarray_by here s f t r d after below rest (negsuc n) e h k = (omega arith, omega arith)
 anewarray_by here s f t r d after below rest (pos n) e h k =
     let types = types_here here in
-    (f, made_good here s after below rest (types.erase (array_of t)) (Refs t (replicate n values.Null)) e h (nulls_typed types here.work.heap t n r d (small_count n k)) (s.laws.erase_up (array_of t) (reference_array types.classes t r d)))
+    (f, made_good here s after below rest (types.erase (array_of t)) (Refs t (replicate n values.Null)) e h (nulls_typed types here.work.heap t n r d (small_count n k)) (s.laws.erase_up (array_of t) (array_reference types.classes t r d)))
 
 pub anewarray_well : (here : Here) → Stands here → IsTrue (falls here.form) → (t : Ty) → IsReference (types_here here).classes t → t.dims < 255 → (after : PlaceTypes) → acted (types_here here) (wants.Int ∷ []) (Some (places.Ref ((types_here here).erase (array_of t)))) here.before ≡ Some after → Well here (HeapGood here after) (anewarray_effect t here.work.frame here.work.heap)
 unfolding anewarray_effect

@@ -60,12 +60,14 @@ use Rattle.class_program.proofs.Got.{all_at}
 use Rattle.code_verify.specs.Operands.{fits, is_reference, place_of, want_of}
 use Rattle.code_verify.specs.Rows.{taken, acted, called, argument_wants, special_receiver, is_constructor as types_constructor}
 use Rattle.code_verify.specs.TypedStates.{HasPlaceType, HasStack, argument_count}
+use Rattle.code_verify.proofs.Basics.{chosen}
+use Rattle.code_verify.proofs.RowLaws.{array_reference}
 use Rattle.jvm_step.specs.Effects.{Effect, on_object, are_passed, below_arguments, is_constructor, is_special_receiver, runs_or_lacks, class_of_object, answer_of, selected_effect, invokestatic_effect, invokespecial_effect, selecting_effect}
 use Rattle.jvm_step.specs.Operands.{top_reference, is_passed, is_assignable}
-use Rattle.jvm_run.proofs.Lists.{cond_given, zip_drop, zip_reverse}
+use Rattle.jvm_run.proofs.Lists.{zip_drop, zip_reverse}
 use Rattle.jvm_run.proofs.Values.{Laws, own_type}
 use Rattle.jvm_run.proofs.Forms.{Here, Stands, Well, FrameGood, IsCalling, types_here, acted_of, TopReference, top_reference_of, AsksReference, asks_any, asks_below, asks_both, Found, on_object_well, bind_well, asked_well, if_well, passed_by, fits_slot}
-use Rattle.jvm_run.proofs.Objects.{class_same, reference_array, reference_numbers, erased_class, class_below_by, below_class_by, erased_above, typed_at, numbers_root, references_root}
+use Rattle.jvm_run.proofs.Objects.{class_same, reference_numbers, erased_class, class_below_by, below_class_by, erased_above, typed_at, numbers_root, references_root}
 use Rattle.jvm_run.proofs.ObjectForms.{top_is}
 
 -- ---- arguments
@@ -84,7 +86,7 @@ passed_of types laws heap [] more below wanted stack h e = record { typed = tt; 
 passed_of types laws heap (slot ∷ params) more below [] stack h e = absurd (none_is_not_some below e)
 passed_of types laws heap (slot ∷ params) more below (place ∷ wanted) [] h e = absurd h
 passed_of types laws heap (slot ∷ params) more below (place ∷ wanted) (value ∷ rest) h e =
-    let g = cond_given (fits types (want_of slot) place) (taken types (map want_of params ++ more) wanted) below e in
+    let g = chosen (fits types (want_of slot) place) (taken types (map want_of params ++ more) wanted) below e in
     let k = passed_of types laws heap params more below wanted rest h.1 g.1 in
     record { typed = (fits_slot types laws heap slot place value g.0 h.0, k.typed); has = k.has; others = k.others }
 
@@ -268,7 +270,7 @@ object_below here s (Instance class fields) over h l e =
     let types = types_here here in
     s.laws.transitive (class_type class) (class_type over) (types.erase (class_type over)) (below_class_by here.program.world s.linked class over h.0 l e) (s.laws.erase_up (class_type over) (omega arith, l))
 object_below here s (Nums kind list) over h l e = array_below here s (array_of_numbers kind) over l (reference_numbers (types_here here).classes kind) e
-object_below here s (Refs element list) over h l e = array_below here s (array_of element) over l (reference_array (types_here here).classes element h.1.1.0 h.1.0) e
+object_below here s (Refs element list) over h l e = array_below here s (array_of element) over l (array_reference (types_here here).classes element h.1.1.0 h.1.0) e
 
 -- what the selected method does
 selected_well : (here : Here) → Stands here → (call : Call) (after : PlaceTypes) (more : List Want) (below : List PlaceType) (rest : List Value) (r : ℕ) (object : Object) (answer : Selected)

@@ -38,10 +38,11 @@ use Rattle.code_verify.specs.Operands.{fits, want_of, place_of, is_int, is_refer
 use Rattle.code_verify.specs.Rows.{taken, with_result, acted}
 use Rattle.code_verify.specs.Flows.{falls, jumps}
 use Rattle.code_verify.specs.TypedStates.{HasPlaceType, HasStack, argument_count}
+use Rattle.code_verify.proofs.Basics.{chosen}
 use Rattle.jvm_step.specs.Effects.{Effect, effect_on, with_stack, on_object}
 use Rattle.jvm_step.specs.Operands.{top, top_int, top_reference, object_at, is_of_type, is_passed}
 use Rattle.jvm_step.specs.Table.{Work, on_frame, on_heap, on_statics}
-use Rattle.jvm_run.proofs.Lists.{cond_given, zip_map}
+use Rattle.jvm_run.proofs.Lists.{zip_map}
 use Rattle.jvm_run.proofs.Values.{Laws, Grows, grows_same, holds_grown, place_grown, local_grown, type_wider}
 
 -- ---- where a form stands
@@ -237,7 +238,7 @@ pub top_reference_of : (types : WorldTypes) (heap : Heap) (want : Want) (more : 
 top_reference_of types heap want more below [] stack asks h e = absurd (none_is_not_some below e)
 top_reference_of types heap want more below (place ∷ under) [] asks h e = absurd h
 top_reference_of types heap want more below (place ∷ under) (value ∷ rest) asks h e =
-    let g = cond_given (fits types want place) (taken types more under) below e in
+    let g = chosen (fits types want place) (taken types more under) below e in
     record {
       place = place;
       value = value;
@@ -389,5 +390,5 @@ pub top_passed_of : (types : WorldTypes) → Laws types → (heap : Heap) (slot 
 top_passed_of types laws heap slot more below [] stack h e = absurd (none_is_not_some below e)
 top_passed_of types laws heap slot more below (place ∷ under) [] h e = absurd h
 top_passed_of types laws heap slot more below (place ∷ under) (value ∷ rest) h e =
-    let g = cond_given (fits types (want_of slot) place) (taken types more under) below e in
+    let g = chosen (fits types (want_of slot) place) (taken types more under) below e in
     record { value = value; rest = rest; under = under; is_top = refl; typed = fits_slot types laws heap slot place value g.0 h.0; has = h.1; others = g.1 }

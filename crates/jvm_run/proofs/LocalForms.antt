@@ -25,9 +25,10 @@ use Rattle.code_verify.specs.Operands.{is_int, is_reference}
 use Rattle.code_verify.specs.Rows.{taken, top_place, iload_types, aload_types, istore_types, astore_types, iinc_types, sets as types_set}
 use Rattle.code_verify.specs.Flows.{falls}
 use Rattle.code_verify.specs.TypedStates.{HasPlaceType, HasStack}
+use Rattle.code_verify.proofs.Basics.{chosen}
 use Rattle.jvm_step.specs.Effects.{Effect, with_stack, int_of_local, reference_of_local, sets, iload_effect, aload_effect, istore_effect, astore_effect, iinc_effect}
 use Rattle.jvm_step.specs.Operands.{int_of, reference_of, top_reference}
-use Rattle.jvm_run.proofs.Lists.{cond_given, zip_get, zip_set, zip_set_right, Beside}
+use Rattle.jvm_run.proofs.Lists.{zip_get, zip_set, zip_set_right, Beside}
 use Rattle.jvm_run.proofs.Numbers.{wrapped_is_int}
 use Rattle.jvm_run.proofs.Values.{placed_in_heap}
 use Rattle.jvm_run.proofs.Forms.{Here, Stands, Well, FrameGood, Fits, types_here, pushed, reference_top}
@@ -132,7 +133,7 @@ set_well here s f n place value below rest after e set_ h k =
     let types = types_here here in
     let heap = here.work.heap in
     let frame = here.work.frame in
-    let g = cond_given (ltb n (length here.before.locals)) (Some (record { locals = set here.before.locals n place; stack = below })) after e in
+    let g = chosen (ltb n (length here.before.locals)) (Some (record { locals = set here.before.locals n place; stack = below })) after e in
     let long : length here.before.locals ≡ length frame.locals = sym (AllZip-long (HasPlaceType types heap) here.before.locals frame.locals s.locals) in
     let within : ltb n (length frame.locals) ≡ true = subst (λ (k : ℕ). ltb n k ≡ true) long g.0 in
     let new : MachineFrame = record frame { locals = set frame.locals n (Some value); stack = rest } in

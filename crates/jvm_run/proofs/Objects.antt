@@ -21,14 +21,14 @@ use Rattle.jvm_values.specs.Subtyping.{class_type, object_type, array_of, array_
 use Rattle.jvm_values.specs.TypedHeaps.{WorldTypes, type_of, HasType, Holds, IsTypedObject, IsTypedHeap}
 use Rattle.jvm_values.specs.Joins.{item_of, item_under}
 use Rattle.jvm_values.proofs.Options.{some_is, none_is_not_some}
-use Rattle.jvm_values.proofs.Joining.{array_of_item}
+use Rattle.jvm_values.proofs.Joining.{array_of_item, same_type}
 use Rattle.class_world.specs.World.{World, is_interface_class, super_of, supers_of, leads_up, is_above}
 use Rattle.class_world.specs.Walks.{IsIn}
 use Rattle.class_world.specs.Classes.{IsHierarchy}
 use Rattle.class_world.specs.Types.{is_class_below, is_sub, erase, erase_by}
 use Rattle.class_world.specs.Linking.{is_linked}
 use Rattle.class_world.specs.WorldTypes.{types_of}
-use Rattle.class_world.specs.Subtypes.{stands_from, stands_to, ty_eq}
+use Rattle.class_world.specs.Subtypes.{stands_from, stands_to}
 use Rattle.class_world.specs.Linked.{linked_from, hierarchy, class_order}
 use Rattle.op_forms.specs.declared.form.ItemKind.{ItemKind}
 use Rattle.op_forms.specs.declared.form.ItemKind.TheVariants as items
@@ -58,13 +58,6 @@ class_same a b e = base_same (bases.Class a) (bases.Class b) (ap (λ (t : Ty). t
 
     base_same : (x y : Base) → x ≡ y → class_in x ≡ class_in y
     base_same x y f = ap class_in f
-
-pub reference_array : (classes : ℕ) (t : Ty) → IsReference classes t → t.dims < 255 → IsReference classes (array_of t)
-reference_array classes t r l = (omega (arith, l), base t.base r.1)
-  where
-    base : (x : Base) → IsReferenceBase classes t.dims x → IsReferenceBase classes (t.dims + 1) x
-    base (bases.Class class) h = h
-    base (bases.Num kind) h = omega arith
 
 pub reference_numbers : (classes : ℕ) (kind : Kind) → IsReference classes (array_of_numbers kind)
 reference_numbers classes kind = (omega arith, omega arith)
@@ -262,7 +255,7 @@ reference_array_of types laws heap (Refs element list) t item h s e = elim (laws
   | inr above ↦
       let under : Ty = above.0 in
       let arrays : array_of item ≡ array_of under = sym (array_of_item t item e) ∙ above.3 in
-      let same : item ≡ under = ty_eq item under (let d : item.dims + 1 ≡ under.dims + 1 = ap dims_of arrays in omega (arith, d)) (ap (λ (x : Ty). x.base) arrays) in
+      let same : item ≡ under = same_type item under (let d : item.dims + 1 ≡ under.dims + 1 = ap dims_of arrays in omega (arith, d)) (ap (λ (x : Ty). x.base) arrays) in
       record { element = element; list = list; object_is = refl; below = subst (λ (x : Ty). IsTrue (types.sub element x)) (sym same) above.2; typed = h }
 ]
 

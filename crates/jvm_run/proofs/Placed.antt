@@ -36,7 +36,7 @@ pub record Placed (p : Program) (m : Method) (typing : CodeTypes) (place : ℕ) 
   pub onwards : All (Takes (types_of p.world) typing) (onward after (ways form next))
   pub handlers : All (Takes (types_of p.world) typing) (caught p.world place frame m.table)
 
-asked_is : (b : Bool) (u : Unit {0}) → asked b ≡ Some u → b ≡ true
+pub asked_is : (b : Bool) (u : Unit {0}) → asked b ≡ Some u → b ≡ true
 asked_is true u e = refl
 asked_is false u e = absurd (none_is_not_some u e)
 

@@ -29,13 +29,13 @@ use Rattle.code_verify.specs.Operands.{fits, place_of, want_of}
 use Rattle.code_verify.specs.Rows.{taken, with_result, acted, called, argument_wants, special_receiver, types_after}
 use Rattle.code_verify.specs.Flows.{falls}
 use Rattle.code_verify.specs.TypedStates.{argument_count}
-use Rattle.jvm_run.proofs.Lists.{cond_given}
+use Rattle.code_verify.proofs.Basics.{chosen}
 use Rattle.jvm_run.proofs.Forms.{acted_of}
 
 taken_drop : (types : WorldTypes) (asks : List Want) (stack below : List PlaceType) → taken types asks stack ≡ Some below → drop (length asks) stack ≡ below
 taken_drop types [] stack below e = some_is e
 taken_drop types (want ∷ asks) [] below e = absurd (none_is_not_some below e)
-taken_drop types (want ∷ asks) (place ∷ stack) below e = taken_drop types asks stack below (cond_given (fits types want place) (taken types asks stack) below e).1
+taken_drop types (want ∷ asks) (place ∷ stack) below e = taken_drop types asks stack below (chosen (fits types want place) (taken types asks stack) below e).1
 
 arguments_count : (call : Call) → length (argument_wants call) ≡ length call.params
 arguments_count call = length-map (reverse call.params) want_of ∙ length-reverse call.params

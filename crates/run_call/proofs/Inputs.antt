@@ -21,6 +21,7 @@ use Rattle.jvm_run.proofs.TypedRuns.{never_stuck, starts_typed}
 use Rattle.input_desc.specs.declared.states.StateInput.{StateInput}
 use Rattle.input_desc.specs.Given.{params_of, field_slot, argument_slot}
 use Rattle.input_desc.specs.States.{IsTypedInput}
+use Rattle.input_desc.proofs.Zipped.{zip_map}
 use Rattle.input_steps.specs.Programs.{HasTypings}
 
 -- ---- arguments and static fields
@@ -36,13 +37,6 @@ argument_places types heap [] [] h = tt
 argument_places types heap [] (arg ∷ args) h = absurd h
 argument_places types heap (slot ∷ params) [] h = absurd h
 argument_places types heap (slot ∷ params) (arg ∷ args) h = (argument_place types heap slot arg h.0, argument_places types heap params args h.1)
-
--- the first list is one of values of a function
-zip_map : {A B C : Type 0} (f : C → A) (R : A → B → Type 0) (xs : List C) (ys : List B) → AllZip R (map f xs) ys → AllZip (λ x y. R (f x) y) xs ys
-zip_map f R [] [] h = tt
-zip_map f R [] (y ∷ ys) h = absurd h
-zip_map f R (x ∷ xs) [] h = absurd h
-zip_map f R (x ∷ xs) (y ∷ ys) h = (h.0, zip_map f R xs ys h.1)
 
 -- ---- the start
 
