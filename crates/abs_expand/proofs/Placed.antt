@@ -6,6 +6,7 @@ use Rattle.std.specs.Option.{option_map_or}
 use Rattle.std.proofs.lemmas.Bool.{false≢true, cases_eq, and_parts, and_from, eqb-true, eq-eqb, ne_eqb}
 use Rattle.std.proofs.lemmas.List.{reverse-append, reverse-reverse, length-reverse, length-map, length-take-le, drop_all, take_more, take_all, take-append-le}
 use Rattle.std.proofs.lemmas.List.Elements.{All-from_recursion, recursion_from_All}
+use Rattle.std.proofs.Math.Bool.{and-true}
 use Rattle.list_views.proofs.Reversed.{reverse-take}
 use Rattle.jvm_values.specs.declared.types.Slot.{Slot}
 use Rattle.jvm_values.specs.declared.types.Slot.TheVariants as slots
@@ -89,10 +90,6 @@ module _ (state : AbstractState) where
 
 -- ---- the other way round
 
-and_last : (b : Bool) → (b && true) ≡ b
-and_last true = refl
-and_last false = refl
-
 and_turned : (b c : Bool) → (b && c) ≡ (c && b)
 and_turned true true = refl
 and_turned true false = refl
@@ -104,7 +101,7 @@ and_apart true b c = refl
 and_apart false b c = refl
 
 zip_behind : {A B : Type 0} (test : A → B → Bool) (xs : List A) (ys : List B) (x : A) (y : B) → length xs ≡ length ys → all_zip test (xs ++ x ∷ []) (ys ++ y ∷ []) ≡ (all_zip test xs ys && test x y)
-zip_behind test [] [] x y l = and_last (test x y)
+zip_behind test [] [] x y l = and-true (test x y)
 zip_behind test [] (b ∷ ys) x y l = absurd (omega (arith, l))
 zip_behind test (a ∷ xs) [] x y l = absurd (omega (arith, l))
 zip_behind test (a ∷ xs) (b ∷ ys) x y l =

@@ -4,7 +4,7 @@ use Rattle.std.specs.Prelude.{slice_get, position, option_and_then, IsTrue}
 use Rattle.std.specs.List.{list_any, list_all, position_or_len}
 use Rattle.std.specs.Option.{option_map, option_map_or, option_to_list}
 use Rattle.std.specs.Str.{bytes_eq}
-use Rattle.std.proofs.lemmas.Bool.{false≢true, and_parts, ltb-true}
+use Rattle.std.proofs.lemmas.Bool.{false≢true, and_parts, ltb-true, not-true}
 use Rattle.std.proofs.lemmas.Slice.Eq.{bytes_eq-Decides}
 use Rattle.class_read.specs.Content.{MethodContent}
 use Rattle.jvm_values.specs.declared.types.Slot.{Slot}
@@ -178,10 +178,6 @@ pub record IsNamedCall (world : World) (current : ℕ) (form : CallForm) (call :
 same_method_at : (a b : MethodContent) (o : Option MethodContent) → o ≡ Some a → o ≡ Some b → a ≡ b
 same_method_at a b o p q = cc
 
-not_is : (b : Bool) → not b ≡ true → b ≡ false
-not_is true e = absurd (false≢true e)
-not_is false e = refl
-
 call_named : (world : World) → is_linked world ≡ true → (current : ℕ) (form : CallForm) (m : Member) (class : ℕ) (s : Signature) (ref : MethodRef) → class < length world → signature_of world m.desc ≡ Ok s → method_called world current form class m.name m.desc ≡ Ok ref → IsNamedCall world current form (record { class = class; method = ref; params = s.params; result = s.result; target = None })
 unfolding method_called found_fit
 call_named world linked current form m class s ref l means e =
@@ -331,7 +327,7 @@ module _ (p : Program) (typed : AllOf (IsTyped p.world) p.methods) where
       let good : IsGoodCall p.world (numbered (refs_of p.methods) call) = record { class = n.good.class; method = n.good.method; there = n.good.there; params = n.good.params; result = n.good.result } in
       record {
         good = good;
-        class = not_is (is_interface_class p.world call.class) n.class_fits;
+        class = not-true (is_interface_class p.world call.class) n.class_fits;
         number = number;
         target = target;
         takes = takes_at p.world p.methods typed call.method n.good.method (numbered (refs_of p.methods) call) number [] n.good.there n.means (without call.method.class n.good.method.flags call.params fit.0) target;
@@ -370,7 +366,7 @@ module _ (p : Program) (typed : AllOf (IsTyped p.world) p.methods) where
   unfolding runs method_fit
   special_good b current call n h =
       let good : IsGoodCall p.world (numbered (refs_of p.methods) call) = record { class = n.good.class; method = n.good.method; there = n.good.there; params = n.good.params; result = n.good.result } in
-      record { good = good; class = not_is (is_interface_class p.world call.class) n.class_fits; constructor = n.own; above = n.above; runs = by (is_abstract n.good.method.flags) refl }
+      record { good = good; class = not-true (is_interface_class p.world call.class) n.class_fits; constructor = n.own; above = n.above; runs = by (is_abstract n.good.method.flags) refl }
     where
       refs : List MethodRef
       refs = refs_of p.methods
@@ -433,7 +429,7 @@ module _ (p : Program) (typed : AllOf (IsTyped p.world) p.methods) where
   unfolding selection_at
   virtual_good linked current call n h = record {
     good = n.good;
-    class = not_is (is_interface_class p.world call.class) n.class_fits;
+    class = not-true (is_interface_class p.world call.class) n.class_fits;
     none = n.none;
     answers = λ class r.
         let a = op_answered p.world (refs_of p.methods) (Invokevirtual call) class h r in

@@ -6,6 +6,7 @@ use Rattle.std.proofs.Math.Seq.{drop-cons}
 use Rattle.std.proofs.lemmas.Bool.{false≢true}
 use Rattle.std.proofs.lemmas.List.Folds.{list_any-append}
 use Rattle.std.proofs.lemmas.List.Concat.{flat_map-append}
+use Rattle.std.proofs.Math.Bool.{or-false}
 use Rattle.class_world.specs.World.{World, super_of, interfaces_of, supers_of, listed, leads_up, line_of}
 use Rattle.class_world.specs.Walks.{IsIn, IsIn-from_any, any-from_IsIn, AnyOf-here}
 use Rattle.class_world.specs.Resolve.{first_found, with_interfaces, superinterfaces_of}
@@ -21,10 +22,6 @@ numbers_more numbers xs all i x d more e l q m =
 
 -- ---- tests
 
-or_nothing : (b : Bool) → (b || false) ≡ b
-or_nothing true = refl
-or_nothing false = refl
-
 or_same : (a b : Bool) → (b ≡ true → a ≡ true) → (a || b) ≡ a
 or_same true b h = refl
 or_same false true h = absurd (false≢true (h refl))
@@ -39,10 +36,10 @@ any_with p numbers x = go (list_any (eqb x) numbers) refl
   where
     go : (b : Bool) → list_any (eqb x) numbers ≡ b → list_any p (cond b numbers (numbers ++ x ∷ [])) ≡ (list_any p numbers || p x)
     go true e = sym (or_same (list_any p numbers) (p x) (λ h. AnyOf-here p numbers x (IsIn-from_any x numbers e) h))
-    go false e = list_any-append p numbers (x ∷ []) ∙ ap (λ b. list_any p numbers || b) (or_nothing (p x))
+    go false e = list_any-append p numbers (x ∷ []) ∙ ap (λ b. list_any p numbers || b) (or-false (p x))
 
 any_numbers : (p : ℕ → Bool) (numbers xs : List ℕ) → list_any p (with_numbers numbers xs) ≡ (list_any p numbers || list_any p xs)
-any_numbers p numbers [] = sym (or_nothing (list_any p numbers))
+any_numbers p numbers [] = sym (or-false (list_any p numbers))
 any_numbers p numbers (x ∷ xs) =
     any_numbers p (with_number numbers x) xs
     ∙ ap (λ b. b || list_any p xs) (any_with p numbers x)

@@ -4,6 +4,7 @@ use Rattle.std.specs.Prelude.{All, filter, min, max}
 use Rattle.std.proofs.lemmas.Bool.{ltb-true, ltb-false, lt-ltb, le-ltb, le-leb, lt-leb}
 use Rattle.std.proofs.lemmas.List.{take_more}
 use Rattle.std.proofs.lemmas.List.Elements.{filter-append, All-weaker}
+use Rattle.std.proofs.Math.Bool.{and-false}
 use Rattle.jvm_values.specs.declared.typing.PlaceType.{PlaceType}
 use Rattle.jvm_values.specs.declared.typing.PlaceType.TheVariants as places
 use Rattle.jvm_values.specs.States.{PlaceTypes}
@@ -20,15 +21,11 @@ use Rattle.code_verify.specs.Solving.{IsPassed, narrowed}
 
 -- ---- places of a range
 
-false_right : (a : Bool) → (a && false) ≡ false
-false_right true = refl
-false_right false = refl
-
 pub before_range : (q : ℕ) (range : CatchRange) → q < range.start → covers q range ≡ false
 before_range q range l = ap (λ (b : Bool). b && ltb q range.end) (lt-leb range.start q l)
 
 pub past_range : (q : ℕ) (range : CatchRange) → range.end ≤ q → covers q range ≡ false
-past_range q range l = ap (λ (b : Bool). leb range.start q && b) (le-ltb q range.end l) ∙ false_right (leb range.start q)
+past_range q range l = ap (λ (b : Bool). leb range.start q && b) (le-ltb q range.end l) ∙ and-false (leb range.start q)
 
 pub in_range : (q : ℕ) (range : CatchRange) → range.start ≤ q → q < range.end → covers q range ≡ true
 in_range q range l k = ap (λ (b : Bool). b && ltb q range.end) (le-leb range.start q l) ∙ lt-ltb q range.end k

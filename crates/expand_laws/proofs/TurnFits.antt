@@ -1,8 +1,8 @@
 -- The child of a step of a state of ints fits the machine's state after it, and the edge to it holds.
-use Rattle.std.proofs.Common.{◌≡◌, ◌∙◌, ◌<◌, eqb, ℕ, zero, suc, ℤ, Bool, true, false, List, [], ◌∷◌, ◌++◌, length, map, Option, Some, None, slice_get, refl, sym, ap, subst, arith}
+use Rattle.std.proofs.Common.{◌≡◌, ◌∙◌, ◌<◌, eqb, ℕ, zero, suc, ℤ, true, false, List, [], ◌∷◌, ◌++◌, length, map, Option, Some, None, slice_get, refl, sym, ap, subst, arith}
 use Rattle.std.specs.Prelude.{slice_set}
 use Rattle.std.specs.List.{All, AllByRecursion, AllZip}
-use Rattle.std.proofs.lemmas.Bool.{false≢true, eqb-true}
+use Rattle.std.proofs.lemmas.Bool.{false≢true, eqb-true, false_from_ne_true}
 use Rattle.std.proofs.lemmas.List.Elements.{recursion_from_All}
 use Rattle.lin_core.specs.Intervals.{Bounds, IsIn}
 use Rattle.jvm_values.specs.declared.heap.Value.{Value}
@@ -34,10 +34,6 @@ pub record FitsChild (types : WorldTypes) (state : AbstractState) (machine : Mac
   pub edge : Edge state machine meaning child.link child.state after meaning_after
   pub steps : child.link.step ≡ true
 
-not_true : (b : Bool) → (b ≡ true → ⊥) → b ≡ false
-not_true true h = absurd (h refl)
-not_true false h = refl
-
 -- ids that have cells are apart from a fresh one
 abbrev pub AreApart : AbstractState → ℕ → Type 0
 AreApart state fresh = (x : ℕ) → HasCell (λ _. true) state x → eqb fresh x ≡ false
@@ -48,7 +44,7 @@ there_first (Some x) b cell e f = none_is_not_some x (sym f)
 
 -- an id without a cell after narrowing is fresh
 pub fresh_apart : (state changed : AbstractState) (list : List (ℕ × Cell)) (id : ℕ) → ((x : ℕ) → cell_at changed x ≡ with_cells list state x) → cell_at changed id ≡ None → AreApart state id
-fresh_apart state changed list id cells free x h = not_true (eqb id x) (λ e. there_first (cell_in list x) (cell_at state x) h.cell h.is (sym (cells x) ∙ ap (cell_at changed) (sym (eqb-true id x e)) ∙ free))
+fresh_apart state changed list id cells free x h = false_from_ne_true (eqb id x) (λ e. there_first (cell_in list x) (cell_at state x) h.cell h.is (sym (cells x) ∙ ap (cell_at changed) (sym (eqb-true id x e)) ∙ free))
 
 -- the frame of the machine with the values of the static fields behind its locals
 abbrev pub whole_frame : List Value → MachineFrame → MachineFrame
