@@ -2,7 +2,7 @@
 use Rattle.std.proofs.Common.{◌≡◌, ◌∙◌, inl, inr, ℕ, ◌+◌, ◌<◌, ◌≤◌, List, length, Some, subst, ap, arith, sym}
 use Rattle.std.specs.Prelude.{slice_get}
 use Rattle.std.proofs.lemmas.Bool.{cases_lt}
-use Rattle.std.proofs.lemmas.Option.{slice_get_within}
+use Rattle.std.proofs.lemmas.Option.{slice_get_within, same_Some}
 use Rattle.term_graph.specs.Graphs.{GraphNode}
 use Rattle.class_program.specs.Programs.{Program}
 use Rattle.frame_types.specs.Tables.{CodeTypes}
@@ -13,14 +13,11 @@ use Rattle.cert_tables.specs.Tests.{HaveIntStates}
 pub none : (graph : List GraphNode) → HaveIntStates graph 0
 none graph = record { each = λ n node l e. absurd (omega (arith, l)) }
 
-some_is : {A : Type 0} (a b : A) → Some a ≡ Some b → a ≡ b
-some_is a b e = cc
-
 pub one_more : (graph : List GraphNode) (n : ℕ) (node : GraphNode) → HaveIntStates graph n → slice_get graph n ≡ Some node → IsIntState node.state → HaveIntStates graph (n + 1)
 one_more graph n node so there is = record {
   each = λ k x l e. elim (cases_lt k n) as (λ o. IsIntState x.state) [
     | inl m ↦ so.each k x m e
-    | inr m ↦ let same : k ≡ n = omega (arith, l, m) in subst (λ (y : GraphNode). IsIntState y.state) (some_is node x (sym there ∙ (ap (slice_get graph) (sym same) ∙ e))) is
+    | inr m ↦ let same : k ≡ n = omega (arith, l, m) in subst (λ (y : GraphNode). IsIntState y.state) (same_Some node x (sym there ∙ (ap (slice_get graph) (sym same) ∙ e))) is
   ];
 }
 
