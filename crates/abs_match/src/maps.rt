@@ -1,5 +1,5 @@
 //! Maps of ids to ids, as lists of ids with their images.
-ghost use Rattle.std.specs.Prelude.{◌≡◌, ◌<◌, ◌↔◌, ℕ, IsTrue, true, map, length, Some, None, IfSome, MatchOption, slice_get, slice_index_or};
+ghost use Rattle.std.specs.Prelude.{◌≡◌, ◌<◌, ◌↔◌, ℕ, IsTrue, true, map, Some, None};
 ghost use Rattle.abs_cells.specs.Cells.{cell_in, is_of_sort};
 ghost use Rattle.abs_cells.specs.Sound.{AreIdsRising};
 ghost use Rattle.abs_reach.specs.Instances.{image_in};
