@@ -41,8 +41,8 @@ behind_before : (front : List ℕ) (b : ℕ) (rest : Option (List ℕ)) → behi
 behind_before front b None = refl
 behind_before front b (Some bytes) = ap Some (sym (append_assoc front (b ∷ []) bytes))
 
-pub hex_step : (front : List ℕ) (first second high low : ℕ) (rest : List ℕ) → digit_of first ≡ Some high → digit_of second ≡ Some low → behind front (bytes_of (first ∷ second ∷ rest)) ≡ behind (front ++ (16 * high + low) ∷ []) (bytes_of rest)
-hex_step front first second high low rest h l =
-    ap (λ o. behind front (before (byte_of o (digit_of second)) (bytes_of rest))) h
-    ∙ ap (λ o. behind front (before (byte_of (Some high) o) (bytes_of rest))) l
-    ∙ behind_before front (16 * high + low) (bytes_of rest)
+pub hex_step : (front : List ℕ) (first second b : ℕ) (rest : List ℕ) → byte_of (digit_of first) (digit_of second) ≡ Some b → behind front (bytes_of (first ∷ second ∷ rest)) ≡ behind (front ++ b ∷ []) (bytes_of rest)
+hex_step front first second b rest h = ap (λ o. behind front (before o (bytes_of rest))) h ∙ behind_before front b (bytes_of rest)
+
+pub hex_stops : (front : List ℕ) (first second : ℕ) (rest : List ℕ) → byte_of (digit_of first) (digit_of second) ≡ None → behind front (bytes_of (first ∷ second ∷ rest)) ≡ None
+hex_stops front first second rest h = ap (λ o. behind front (before o (bytes_of rest))) h

@@ -49,11 +49,21 @@ plain_item names line labelled word words =
     if not labelled && bytes_eq word (codes "class") then Err (Syntax line)
     else (operation_of names line word words >>= λ operation. Ok (Insn operation))
 
--- Behind a label, or where none is. No label stands before `end`, `catch` and `attribute`.
+-- No label stands before `end`, `catch` and `attribute`.
+abbrev pub end_item : ℕ → Bool → Words → Said Item
+end_item line labelled words = is_new line labelled >>= λ _. no_more line words >>= λ _. Ok End
+
+abbrev pub catch_item : ℕ → Bool → Words → Said Item
+catch_item line labelled words = is_new line labelled >>= λ _. catch_line line words >>= λ entry. Ok (Catch entry)
+
+abbrev pub attribute_item : ℕ → Bool → Words → Said Item
+attribute_item line labelled words = is_new line labelled >>= λ _. attribute_line line words >>= λ attribute. Ok (Attribute attribute)
+
+-- Behind a label, or where none is.
 unfoldable pub item_of : Names → ℕ → Bool → Words → Said Item
 item_of names line labelled [] = Ok Nothing
 item_of names line labelled (word ∷ words) =
-    if bytes_eq word (codes "end") then (is_new line labelled >>= λ _. no_more line words >>= λ _. Ok End)
-    else (if bytes_eq word (codes "catch") then (is_new line labelled >>= λ _. catch_line line words >>= λ entry. Ok (Catch entry))
-    else (if bytes_eq word (codes "attribute") then (is_new line labelled >>= λ _. attribute_line line words >>= λ attribute. Ok (Attribute attribute))
+    if bytes_eq word (codes "end") then end_item line labelled words
+    else (if bytes_eq word (codes "catch") then catch_item line labelled words
+    else (if bytes_eq word (codes "attribute") then attribute_item line labelled words
     else plain_item names line labelled word words))

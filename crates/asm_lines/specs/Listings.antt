@@ -147,7 +147,9 @@ first_line line (text ∷ texts) =
 -- ---- a listing
 
 -- The line that begins it, its number, and all lines behind it.
+abbrev pub lines_said : Names → List (List ℕ) → Said (ℕ × ClassLine × Listing)
+lines_said names lines =
+    first_line 1 lines >>= λ begin. Ok (begin.0, begin.1, ended (with_lines names (begin.0 + 1) (drop begin.0 lines) no_lines) (length lines))
+
 unfoldable pub listing_of : List ℕ → Said (ℕ × ClassLine × Listing)
-listing_of text =
-    let lines = lines_of text in
-    first_line 1 lines >>= λ begin. Ok (begin.0, begin.1, ended (with_lines all_names (begin.0 + 1) (drop begin.0 lines) no_lines) (length lines))
+listing_of text = lines_said all_names (lines_of text)

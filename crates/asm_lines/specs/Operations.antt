@@ -135,16 +135,26 @@ array_operation line words = do
   kind ← one_word line words
   option_map_or (λ code. Ok (Newarray code)) (kind_code kind) (Err (Syntax line))
 
+-- the operands where those of the code are one number of one byte, of two, and a target
+abbrev pub byte_operands : ℕ → ℕ → Words → Said Operation
+byte_operands line op words = if op == 18 then load_operation line op words else (one_number line words >>= λ local. Ok (Local op local))
+
+abbrev pub pair_operands : ℕ → ℕ → Words → Said Operation
+pair_operands line op words =
+    if op == 19 then load_operation line op words
+    else (if nat_le op 184 then member_operation line op words else (one_word line words >>= λ class. Ok (Class op class)))
+
+abbrev pub jump_operands : ℕ → ℕ → Words → Said Operation
+jump_operands line op words = one_word line words >>= λ label. Ok (Jump op label)
+
 -- the operands that are written behind an instruction of the spelling
 unfoldable pub operands : ℕ → Spelling → Words → Said Operation
 operands line (spellings.Plain op) words = no_more line words >>= λ _. Ok (Plain op)
-operands line (spellings.Byte op n) words = if op == 18 then load_operation line op words else (one_number line words >>= λ local. Ok (Local op local))
-operands line (spellings.Pair op n) words =
-    if op == 19 then load_operation line op words
-    else (if nat_le op 184 then member_operation line op words else (one_word line words >>= λ class. Ok (Class op class)))
+operands line (spellings.Byte op n) words = byte_operands line op words
+operands line (spellings.Pair op n) words = pair_operands line op words
 operands line (spellings.SignedByte op v) words = one_number line words >>= λ n. Ok (Bipush n)
 operands line (spellings.SignedPair op v) words = one_number line words >>= λ n. Ok (Sipush n)
-operands line (spellings.Jump op target) words = one_word line words >>= λ label. Ok (Jump op label)
+operands line (spellings.Jump op target) words = jump_operands line op words
 operands line (spellings.FarJump op target) words = one_word line words >>= λ label. Ok (GotoW label)
 operands line (spellings.Increment op n v) words = increment_operation line words
 operands line (spellings.Table op default low targets) words = table_operation line words

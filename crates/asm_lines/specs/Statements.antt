@@ -107,6 +107,15 @@ flag_words line flags [] = Ok (flags, [])
 flag_words line flags (word ∷ words) =
     option_map_or (λ flag. if bit_and flags flag == 0 then flag_words line (bit_or flags flag) words else Err (Syntax line)) (flag_of word) (Ok (flags, word ∷ words))
 
+-- the two words and the two numbers
+unfoldable pub sizes_said : ℕ → List ℕ → List ℕ → List ℕ → List ℕ → Said (Number × Number)
+sizes_said line stack max_stack locals max_locals = do
+  _ ← is_new line (not (bytes_eq stack (codes "stack")))
+  _ ← is_new line (not (bytes_eq locals (codes "locals")))
+  most_stack ← number_word line max_stack
+  most_locals ← number_word line max_locals
+  Ok (most_stack, most_locals)
+
 unfoldable pub size_words : ℕ → Words → Said (Number × Number)
 size_words line words = do
   stack ← next_word line words
@@ -114,11 +123,7 @@ size_words line words = do
   locals ← next_word line max_stack.1
   max_locals ← next_word line locals.1
   _ ← no_more line max_locals.1
-  _ ← is_new line (not (bytes_eq stack.0 (codes "stack")))
-  _ ← is_new line (not (bytes_eq locals.0 (codes "locals")))
-  most_stack ← number_word line max_stack.0
-  most_locals ← number_word line max_locals.0
-  Ok (most_stack, most_locals)
+  sizes_said line stack.0 max_stack.0 locals.0 max_locals.0
 
 -- An abstract or native method has no sizes.
 unfoldable pub sizes_of : ℕ → ℕ → Words → Said (Option (Number × Number))

@@ -25,31 +25,25 @@ pub(crate) enum Expected {
 
 /// Takes in a word that stands for itself.
 #[tactic(auto, unfolding(crate::specs::ClassLines::any_word))]
-fn any_word(
-    line: usize,
-    class: ClassLine,
-    word: &Seq<u8>,
-) -> Result<(Expected, ClassLine), AsmFault>
-    ensures { Answers (λ x. x) result (any_word line class word.now) }
+fn any_word(line: usize, class: &mut ClassLine, word: &Seq<u8>) -> Result<Expected, AsmFault>
+    ensures { Answers (λ next. (next, class.new)) result (any_word line class.old word.now) }
 {
     if is(word, b"extends") {
         is_new(line, class.super_name.is_some())?;
-        Ok((Expected::SuperName, class))
+        Ok(Expected::SuperName)
     } else if is(word, b"implements") {
-        Ok((Expected::InterfaceName, class))
+        Ok(Expected::InterfaceName)
     } else if is(word, b"interface") {
         is_new(line, class.is_interface)?;
-        let mut class = class;
         class.is_interface = true;
-        Ok((Expected::Any, class))
+        Ok(Expected::Any)
     } else if is(word, b"abstract") {
         is_new(line, class.is_abstract)?;
-        let mut class = class;
         class.is_abstract = true;
-        Ok((Expected::Any, class))
+        Ok(Expected::Any)
     } else if is(word, b"major") {
         is_new(line, class.major.is_some())?;
-        Ok((Expected::Major, class))
+        Ok(Expected::Major)
     } else {
         Err(AsmFault::Syntax { line })
     }
@@ -61,57 +55,52 @@ fn class_word(
     alloc: Global,
     line: usize,
     expected: Expected,
-    class: ClassLine,
+    class: &mut ClassLine,
     word: &Seq<u8>,
-) -> Result<(Expected, ClassLine), AsmFault>
-    ensures { Gives (λ x. x) result (class_word line expected class word.now) }
+) -> Result<Expected, AsmFault>
+    ensures { Gives (λ next. (next, class.new)) result (class_word line expected class.old word.now) }
 {
     match expected {
         Expected::Any => any_word(line, class, word),
         Expected::SuperName => {
-            let mut class = class;
             class.super_name = Some(copy(alloc, word)?);
-            Ok((Expected::Any, class))
+            Ok(Expected::Any)
         }
         Expected::InterfaceName => {
-            let mut class = class;
             class.interfaces.push(copy(alloc, word)?)?;
-            Ok((Expected::Any, class))
+            Ok(Expected::Any)
         }
         Expected::Major => {
-            let mut class = class;
             class.major = Some(number_word(line, word)?);
-            Ok((Expected::Any, class))
+            Ok(Expected::Any)
         }
     }
 }
 
 /// That no word is missing.
-fn ends_class(line: usize, expected: Expected, class: ClassLine) -> Result<ClassLine, AsmFault>
-    ensures { Answers (λ x. x) result (ends_class line expected class) }
+fn ends_class(line: usize, expected: Expected, class: &ClassLine) -> Result<(), AsmFault>
+    ensures { Answers (λ _. class.now) result (ends_class line expected class.now) }
 {
+    let _class = class;
     match expected {
-        Expected::Any => Ok(class),
+        Expected::Any => Ok(()),
         _ => Err(AsmFault::Syntax { line }),
     }
 }
 
-/// The class with what the words behind its name say.
+/// Takes in what the words behind the class's name say.
 fn class_words(
     alloc: Global,
     line: usize,
-    class: ClassLine,
+    class: &mut ClassLine,
     words: &[Seq<u8>],
-) -> Result<ClassLine, AsmFault>
-    ensures { Gives (λ x. x) result (class_words line Expected.Any class words.now) }
+) -> Result<(), AsmFault>
+    ensures { Gives (λ _. class.new) result (class_words line Expected.Any class.old words.now) }
 {
     let mut expected = Expected::Any;
-    let mut class = class;
     let mut rest = words;
     while let Some((word, after)) = rest.split_first() {
-        let (next, changed) = class_word(alloc, line, expected, class, word)?;
-        expected = next;
-        class = changed;
+        expected = class_word(alloc, line, expected, class, word)?;
         rest = after;
     }
     ends_class(line, expected, class)
@@ -140,5 +129,7 @@ pub(crate) fn class_line(
     ensures { Gives (λ x. x) result (class_line line words.now) }
 {
     let (name, rest) = next_word(line, words)?;
-    class_words(alloc, line, plain_class(alloc, name)?, rest)
+    let mut class = plain_class(alloc, name)?;
+    class_words(alloc, line, &mut class, rest)?;
+    Ok(class)
 }

@@ -2,7 +2,7 @@
 
 ghost use Rattle.std.specs.Prelude.{◌≡◌, option_map, IfOk};
 ghost use Rattle.asm_lines.specs.Statements.{Gives};
-ghost use Rattle.asm_lines.specs.Items.{label_of, caught, catch_line, operation_of, plain_item, item_of};
+ghost use Rattle.asm_lines.specs.Items.{label_of, make_catch, caught, catch_line, operation_of, plain_item, end_item, catch_item, attribute_item, item_of};
 
 use crate::fault::AsmFault;
 use crate::operation::{Names, Operation, operands, template};
@@ -63,15 +63,16 @@ fn caught(alloc: Global, class: &Seq<u8>) -> Result<Option<Seq<u8>>, AllocError>
     }
 }
 
-#[tactic(auto, unfolding(crate::specs::Items::catch_line))]
-fn catch_line(alloc: Global, line: usize, words: &[Seq<u8>]) -> Result<CatchLine, AsmFault>
-    ensures { Gives (λ x. x) result (catch_line line words.now) }
+/// The entry of an exception table that the words say.
+fn copied_catch(
+    alloc: Global,
+    class: &Seq<u8>,
+    from: &Seq<u8>,
+    to: &Seq<u8>,
+    handler: &Seq<u8>,
+) -> Result<CatchLine, AllocError>
+    ensures { IfOk result (λ c. c ≡ make_catch (caught class.now) from.now to.now handler.now) }
 {
-    let (class, rest) = next_word(line, words)?;
-    let (from, rest) = next_word(line, rest)?;
-    let (to, rest) = next_word(line, rest)?;
-    let (handler, rest) = next_word(line, rest)?;
-    no_more(line, rest)?;
     let class = caught(alloc, class)?;
     let from = copy(alloc, from)?;
     let to = copy(alloc, to)?;
@@ -82,6 +83,18 @@ fn catch_line(alloc: Global, line: usize, words: &[Seq<u8>]) -> Result<CatchLine
         to,
         handler,
     })
+}
+
+#[tactic(auto, unfolding(crate::specs::Items::catch_line))]
+fn catch_line(alloc: Global, line: usize, words: &[Seq<u8>]) -> Result<CatchLine, AsmFault>
+    ensures { Gives (λ x. x) result (catch_line line words.now) }
+{
+    let (class, rest) = next_word(line, words)?;
+    let (from, rest) = next_word(line, rest)?;
+    let (to, rest) = next_word(line, rest)?;
+    let (handler, rest) = next_word(line, rest)?;
+    no_more(line, rest)?;
+    Ok(copied_catch(alloc, class, from, to, handler)?)
 }
 
 #[tactic(auto, unfolding(crate::specs::Items::operation_of))]
@@ -121,6 +134,41 @@ fn plain_item(
     Ok(Item::Insn(operation_of(alloc, names, line, word, words)?))
 }
 
+/// The end of a method, where nothing stands behind the word and no label before it.
+fn end_item(line: usize, labelled: bool, words: &[Seq<u8>]) -> Result<Item, AsmFault>
+    ensures { Gives (λ x. x) result (end_item line labelled words.now) }
+{
+    is_new(line, labelled)?;
+    no_more(line, words)?;
+    Ok(Item::End)
+}
+
+/// What the words behind `catch` say, where no label stands before it.
+fn catch_item(
+    alloc: Global,
+    line: usize,
+    labelled: bool,
+    words: &[Seq<u8>],
+) -> Result<Item, AsmFault>
+    ensures { Gives (λ x. x) result (catch_item line labelled words.now) }
+{
+    is_new(line, labelled)?;
+    Ok(Item::Catch(catch_line(alloc, line, words)?))
+}
+
+/// What the words behind `attribute` say, where no label stands before it.
+fn attribute_item(
+    alloc: Global,
+    line: usize,
+    labelled: bool,
+    words: &[Seq<u8>],
+) -> Result<Item, AsmFault>
+    ensures { Gives (λ x. x) result (attribute_item line labelled words.now) }
+{
+    is_new(line, labelled)?;
+    Ok(Item::Attribute(attribute_line(alloc, line, words)?))
+}
+
 /// What the words of a method's line say, behind a label or not.
 #[tactic(auto, unfolding(crate::specs::Items::item_of))]
 pub(crate) fn item_of(
@@ -136,15 +184,11 @@ pub(crate) fn item_of(
         return Ok(Item::Nothing);
     };
     if is(word, b"end") {
-        is_new(line, labelled)?;
-        no_more(line, rest)?;
-        Ok(Item::End)
+        end_item(line, labelled, rest)
     } else if is(word, b"catch") {
-        is_new(line, labelled)?;
-        Ok(Item::Catch(catch_line(alloc, line, rest)?))
+        catch_item(alloc, line, labelled, rest)
     } else if is(word, b"attribute") {
-        is_new(line, labelled)?;
-        Ok(Item::Attribute(attribute_line(alloc, line, rest)?))
+        attribute_item(alloc, line, labelled, rest)
     } else {
         plain_item(alloc, names, line, labelled, word, rest)
     }

@@ -1,8 +1,9 @@
 //! A listing's lines, sorted by what they are part of.
 
-ghost use Rattle.std.specs.Prelude.{◌≡◌, ◌+◌, ◌<◌, ◌^◌, length, map, drop, IfOk, option_map, ◌-◌, ◌==◌, if◌then◌else◌};
+ghost use Rattle.std.specs.Prelude.{◌≡◌, ◌+◌, ◌<◌, ◌^◌, [], length, map, drop, None, IfOk, OnOk, option_map, is_some, ◌-◌, ◌==◌, if◌then◌else◌};
+ghost use Rattle.std.specs.Option.{option_map_or};
 ghost use Rattle.asm_lines.specs.Statements.{Gives};
-ghost use Rattle.asm_lines.specs.Listings.{is_skipped, outside_of, with_outside, labelled, is_end, read_item, item_in, with_said, with_first, with_code, plain_outside, outside_line, method_of_line, with_line, with_lines, no_lines, ended, class_said, first_line, listing_of};
+ghost use Rattle.asm_lines.specs.Listings.{is_skipped, outside_of, make_method, with_method, with_outside, labelled, is_end, read_item, item_in, with_said, code_line, with_code, plain_outside, outside_line, method_of_line, with_line, with_lines, no_lines, ended, class_said, first_line, lines_said, listing_of};
 
 use crate::class_line::class_line;
 use crate::fault::AsmFault;
@@ -102,32 +103,41 @@ fn outside_of(alloc: Global, line: usize, words: &[Seq<u8>]) -> Result<Outside, 
     }
 }
 
-/// The listing with one more line outside methods.
+/// Takes in the line that begins a method.
+fn with_method(
+    alloc: Global,
+    listing: &mut Listing,
+    line: usize,
+    head: MethodLine,
+) -> Result<(), AllocError>
+    ensures { OnOk result (listing.new ≡ with_method listing.old (make_method line head [])) }
+{
+    let has_code = head.sizes.is_some();
+    let lines = Seq::new(alloc);
+    let method = MethodLines { line, head, lines };
+    if has_code {
+        listing.unended = Some(method);
+        Ok(())
+    } else {
+        Ok(listing.methods.push(method)?)
+    }
+}
+
+/// Takes in one more line outside methods.
 fn with_outside(
     alloc: Global,
-    listing: Listing,
+    listing: &mut Listing,
     line: usize,
     said: Outside,
-) -> Result<Listing, AllocError>
-    ensures { IfOk result (λ l. l ≡ with_outside listing line said) }
+) -> Result<(), AllocError>
+    ensures { OnOk result (listing.new ≡ with_outside listing.old line said) }
 {
-    let mut listing = listing;
     match said {
-        Outside::Constant(constant) => listing.constants.push((line, constant))?,
-        Outside::Field(field) => listing.fields.push((line, field))?,
-        Outside::Attribute(attribute) => listing.attributes.push((line, attribute))?,
-        Outside::Method(head) => {
-            let has_code = head.sizes.is_some();
-            let lines = Seq::new(alloc);
-            let method = MethodLines { line, head, lines };
-            if has_code {
-                listing.unended = Some(method);
-            } else {
-                listing.methods.push(method)?;
-            }
-        }
+        Outside::Constant(constant) => Ok(listing.constants.push((line, constant))?),
+        Outside::Field(field) => Ok(listing.fields.push((line, field))?),
+        Outside::Attribute(attribute) => Ok(listing.attributes.push((line, attribute))?),
+        Outside::Method(head) => with_method(alloc, listing, line, head),
     }
-    Ok(listing)
 }
 
 /// The label that stands first, and the words behind it.
@@ -169,33 +179,28 @@ fn read_item(
     }
 }
 
-/// The listing with one more fault.
-fn with_first(listing: Listing, fault: AsmFault) -> Listing
-    ensures { result ≡ with_first listing fault }
-{
-    let mut listing = listing;
-    listing.first.add(fault);
-    listing
-}
-
-/// The listing with a line outside methods, or with its fault.
+/// Takes in a line outside methods, or its fault.
 #[tactic(auto, using(crate::proofs::Outcomes::fails_is))]
 fn outside_line(
     alloc: Global,
-    listing: Listing,
+    listing: &mut Listing,
     line: usize,
     is_plain: bool,
     words: &[Seq<u8>],
-) -> Result<Listing, AllocError>
-    ensures { IfOk result (λ l. l ≡ outside_line listing line (plain_outside line is_plain words.now)) }
+) -> Result<(), AllocError>
+    ensures { OnOk result (listing.new ≡ outside_line listing.old line (plain_outside line is_plain words.now)) }
 {
     if !is_plain {
-        return Ok(with_first(listing, AsmFault::Syntax { line }));
+        listing.first.add(AsmFault::Syntax { line });
+        return Ok(());
     }
     match outside_of(alloc, line, words) {
         Ok(said) => with_outside(alloc, listing, line, said),
         Err(AsmFault::Memory) => Err(AllocError),
-        Err(fault) => Ok(with_first(listing, fault)),
+        Err(fault) => {
+            listing.first.add(fault);
+            Ok(())
+        }
     }
 }
 
@@ -208,117 +213,139 @@ fn copied(alloc: Global, label: Option<&[u8]>) -> Result<Option<Seq<u8>>, AllocE
     }
 }
 
-/// The listing with one more line of the open method.
-fn with_code(listing: Listing, method: MethodLines, code: CodeLine) -> Result<Listing, AllocError>
-    ensures { IfOk result (λ l. l ≡ with_code listing method code) }
+/// Takes in one more line of the method that isn't ended.
+fn with_code(listing: &mut Listing, method: MethodLines, code: CodeLine) -> Result<(), AllocError>
+    ensures { OnOk result (listing.new ≡ with_code listing.old method code) }
 {
-    let mut listing = listing;
     let mut method = method;
     let ends = code.ends;
     method.lines.push(code)?;
     if ends {
-        listing.methods.push(method)?;
         listing.unended = None;
+        Ok(listing.methods.push(method)?)
     } else {
         listing.unended = Some(method);
+        Ok(())
     }
-    Ok(listing)
 }
 
-/// The listing with one more line of the open method: of a faulty line the label, and whether it ends the method.
+/// What a line of a method says behind its label; a faulty line says nothing, and its fault is taken in.
 #[tactic(auto, using(crate::proofs::Outcomes::fails_is))]
 fn with_said(
     alloc: Global,
     names: &Names,
-    listing: Listing,
+    listing: &mut Listing,
     line: usize,
     is_plain: bool,
     has_label: bool,
     words: &[Seq<u8>],
-) -> Result<(Listing, Item), AllocError>
-    ensures { IfOk result (λ x. (x.0 ≡ with_said listing (read_item names.now line is_plain has_label words.now)) × (x.1 ≡ item_in (read_item names.now line is_plain has_label words.now))) }
+) -> Result<Item, AllocError>
+    ensures { IfOk result (λ item. (listing.new ≡ with_said listing.old (read_item names.now line is_plain has_label words.now)) × (item ≡ item_in (read_item names.now line is_plain has_label words.now))) }
 {
     match read_item(alloc, names, line, is_plain, has_label, words) {
-        Ok(item) => Ok((listing, item)),
+        Ok(item) => Ok(item),
         Err(AsmFault::Memory) => Err(AllocError),
-        Err(fault) => Ok((with_first(listing, fault), Item::Nothing)),
+        Err(fault) => {
+            listing.first.add(fault);
+            Ok(Item::Nothing)
+        }
     }
 }
 
-fn method_of_line(
+/// A line of a method: of a faulty one the label, and whether it ends the method.
+fn code_line(
     alloc: Global,
     names: &Names,
-    listing: Listing,
-    method: MethodLines,
+    listing: &mut Listing,
     line: usize,
     is_plain: bool,
     words: &[Seq<u8>],
-) -> Result<Listing, AllocError>
-    ensures { IfOk result (λ l. l ≡ method_of_line names.now listing method line is_plain (labelled words.now)) }
+) -> Result<CodeLine, AllocError>
+    ensures { IfOk result (λ code.
+        (listing.new ≡ with_said listing.old (read_item names.now line is_plain (is_some (labelled words.now).0) (labelled words.now).1))
+        × (code ≡ code_line line (labelled words.now) (read_item names.now line is_plain (is_some (labelled words.now).0) (labelled words.now).1))) }
 {
     let (label, rest) = labelled(words);
-    let label = copied(alloc, label)?;
     let ends = is_end(rest);
-    let (listing, item) = with_said(alloc, names, listing, line, is_plain, label.is_some(), rest)?;
-    let code = CodeLine {
+    let item = with_said(alloc, names, listing, line, is_plain, label.is_some(), rest)?;
+    let label = copied(alloc, label)?;
+    Ok(CodeLine {
         line,
         label,
         item,
         ends,
-    };
+    })
+}
+
+/// Takes in one more line, where a method isn't ended.
+fn method_of_line(
+    alloc: Global,
+    names: &Names,
+    listing: &mut Listing,
+    method: MethodLines,
+    line: usize,
+    is_plain: bool,
+    words: &[Seq<u8>],
+) -> Result<(), AllocError>
+    ensures { OnOk result (listing.new ≡ method_of_line names.now listing.old method line is_plain (labelled words.now)) }
+{
+    let code = code_line(alloc, names, listing, line, is_plain, words)?;
     with_code(listing, method, code)
 }
 
-/// The listing with one more line.
+/// Takes in the words of one more line that says something.
+fn with_words(
+    alloc: Global,
+    names: &Names,
+    line: usize,
+    is_plain: bool,
+    words: &[Seq<u8>],
+    listing: &mut Listing,
+) -> Result<(), AllocError>
+    ensures { OnOk result (listing.new ≡ option_map_or (λ method. method_of_line names.now (record listing.old { unended = None }) method line is_plain (labelled words.now)) listing.old.unended (outside_line listing.old line (plain_outside line is_plain words.now))) }
+{
+    match listing.unended.take() {
+        None => outside_line(alloc, listing, line, is_plain, words),
+        Some(method) => method_of_line(alloc, names, listing, method, line, is_plain, words),
+    }
+}
+
+/// Takes in one more line.
 fn with_line(
     alloc: Global,
     names: &Names,
     line: usize,
     text: &[u8],
-    listing: Listing,
-) -> Result<Listing, AllocError>
-    ensures { IfOk result (λ l. l ≡ with_line names.now line text.now listing) }
+    listing: &mut Listing,
+) -> Result<(), AllocError>
+    ensures { OnOk result (listing.new ≡ with_line names.now line text.now listing.old) }
 {
     let words = words(alloc, text)?;
     let is_plain = is_plain(text);
     if is_plain && is_skipped(words.as_slice()) {
-        return Ok(listing);
-    }
-    let mut listing = listing;
-    match listing.unended.take() {
-        None => outside_line(alloc, listing, line, is_plain, words.as_slice()),
-        Some(method) => {
-            method_of_line(
-                alloc,
-                names,
-                listing,
-                method,
-                line,
-                is_plain,
-                words.as_slice(),
-            )
-        }
+        Ok(())
+    } else {
+        with_words(alloc, names, line, is_plain, words.as_slice(), listing)
     }
 }
 
-/// The listing with more lines, the first of which has the number `line`.
+/// Takes in more lines, the first of which has the number `line`.
 fn with_lines(
     alloc: Global,
     names: &Names,
     line: usize,
     texts: &[&[u8]],
-    listing: Listing,
-) -> Result<Listing, AllocError>
+    listing: &mut Listing,
+) -> Result<(), AllocError>
     requires { line + length texts.now < 2 ^ 64 }
-    ensures { IfOk result (λ l. l ≡ with_lines names.now line (map (λ t. t.now) texts.now) listing) }
+    ensures { OnOk result (listing.new ≡ with_lines names.now line (map (λ t. t.now) texts.now) listing.old) }
 {
-    let mut listing = listing;
     let mut line = line;
     for text in texts {
-        listing = with_line(alloc, names, line, text, listing)?;
+        with_line(alloc, names, line, text, listing)?;
         line += 1;
     }
-    Ok(listing)
+    Ok(())
 }
 
 /// A listing's lines behind the first.
@@ -335,18 +362,49 @@ fn no_lines(alloc: Global) -> Listing
     }
 }
 
-/// The listing after the last line, whose number is `last`.
-fn ended(listing: Listing, last: usize) -> Result<Listing, AllocError>
-    ensures { IfOk result (λ l. l ≡ ended listing last) }
+/// Ends the listing behind the last line, whose number is `last`.
+fn ended(listing: &mut Listing, last: usize) -> Result<(), AllocError>
+    ensures { OnOk result (listing.new ≡ ended listing.old last) }
 {
-    let mut listing = listing;
     match listing.unended.take() {
-        None => Ok(listing),
+        None => Ok(()),
         Some(method) => {
-            listing.methods.push(method)?;
-            Ok(with_first(listing, AsmFault::NoEnd { line: last }))
+            listing.first.add(AsmFault::NoEnd { line: last });
+            Ok(listing.methods.push(method)?)
         }
     }
+}
+
+/// Takes in all lines, the first of which has the number `line` and the last the number `last`.
+fn with_all(
+    alloc: Global,
+    names: &Names,
+    line: usize,
+    texts: &[&[u8]],
+    last: usize,
+    listing: &mut Listing,
+) -> Result<(), AllocError>
+    requires { line + length texts.now < 2 ^ 64 }
+    ensures { OnOk result (listing.new ≡ ended (with_lines names.now line (map (λ t. t.now) texts.now) listing.old) last) }
+{
+    with_lines(alloc, names, line, texts, listing)?;
+    ended(listing, last)
+}
+
+/// The listing that lines say, of which the first has the number `line` and the last the number `last`.
+fn lines_listed(
+    alloc: Global,
+    names: &Names,
+    line: usize,
+    texts: &[&[u8]],
+    last: usize,
+) -> Result<Listing, AllocError>
+    requires { line + length texts.now < 2 ^ 64 }
+    ensures { IfOk result (λ l. l ≡ ended (with_lines names.now line (map (λ t. t.now) texts.now) no_lines) last) }
+{
+    let mut listing = no_lines(alloc);
+    with_all(alloc, names, line, texts, last, &mut listing)?;
+    Ok(listing)
 }
 
 /// The class that the first line with words says.
@@ -403,6 +461,27 @@ fn behind<'a>(lines: &'a [&'a [u8]], count: usize) -> &'a [&'a [u8]]
     rest
 }
 
+/// What lines say: the line that begins the listing, its number, and all lines behind it.
+fn lines_said(
+    alloc: Global,
+    names: &Names,
+    lines: &[&[u8]],
+) -> Result<(usize, ClassLine, Listing), AsmFault>
+    ensures { Gives (λ x. x) result (lines_said names.now (map (λ t. t.now) lines.now)) }
+{
+    let count = lines.len();
+    if count >= 0x4000_0000_0000_0000 {
+        return Err(AsmFault::Memory);
+    }
+    let (line, class) = first_line(alloc, lines)?;
+    if line >= 0x4000_0000_0000_0000 {
+        return Err(AsmFault::Memory);
+    }
+    let rest = behind(lines, line);
+    let listing = lines_listed(alloc, names, line + 1, rest, count)?;
+    Ok((line, class, listing))
+}
+
 /// The line that begins the listing, its number, and all lines behind it. A text of 2^62 lines and more, which no memory
 /// holds, is answered by want of memory.
 #[tactic(auto, unfolding(crate::specs::Listings::listing_of))]
@@ -411,16 +490,5 @@ pub fn read_listing(alloc: Global, text: &[u8]) -> Result<(usize, ClassLine, Lis
 {
     let names = Names::new(alloc)?;
     let lines = lines(alloc, text)?;
-    let count = lines.len();
-    if count >= 0x4000_0000_0000_0000 {
-        return Err(AsmFault::Memory);
-    }
-    let (line, class) = first_line(alloc, lines.as_slice())?;
-    if line >= 0x4000_0000_0000_0000 {
-        return Err(AsmFault::Memory);
-    }
-    let rest = behind(lines.as_slice(), line);
-    let listing = with_lines(alloc, &names, line + 1, rest, no_lines(alloc))?;
-    let listing = ended(listing, count)?;
-    Ok((line, class, listing))
+    lines_said(alloc, &names, lines.as_slice())
 }

@@ -3,7 +3,7 @@
 ghost use Rattle.std.specs.Prelude.{◌≡◌, ◌^◌, nat_lt, pos, if◌then◌else◌, IfOk, Some, None};
 ghost use Rattle.std.proofs.Common.{◌-ℤ◌};
 ghost use Rattle.std.specs.List.{list_all};
-ghost use Rattle.asm_lines.specs.Numbers.{is_digit, is_digits, decimal, capped, grown, number_of, unsigned_of, signed_of, pair_of, int_of, digit_of, bytes_of};
+ghost use Rattle.asm_lines.specs.Numbers.{is_digit, is_digits, decimal, capped, grown, number_of, unsigned_of, signed_of, pair_of, int_of, digit_of, byte_of, bytes_of};
 
 use list_views::Seq;
 use std::alloc::{AllocError, Global};
@@ -149,8 +149,17 @@ fn hex_digit(b: u8) -> Option<u8>
     }
 }
 
+/// The byte of two digits.
+fn hex_byte(first: u8, second: u8) -> Option<u8>
+    ensures { result ≡ byte_of (digit_of first) (digit_of second) }
+{
+    let high = hex_digit(first)?;
+    let low = hex_digit(second)?;
+    Some(16 * high + low)
+}
+
 /// The bytes that a hexadecimal text spells, two digits a byte.
-#[tactic(auto, using(crate::proofs::Digits::hex_step, crate::proofs::Digits::hex_begins))]
+#[tactic(auto, using(crate::proofs::Digits::hex_step, crate::proofs::Digits::hex_stops, crate::proofs::Digits::hex_begins))]
 pub(crate) fn hex_bytes(alloc: Global, word: &[u8]) -> Result<Option<Seq<u8>>, AllocError>
     ensures { IfOk result (λ o. o ≡ bytes_of word.now) }
 {
@@ -160,10 +169,10 @@ pub(crate) fn hex_bytes(alloc: Global, word: &[u8]) -> Result<Option<Seq<u8>>, A
         let Some((second, after)) = after.split_first() else {
             return Ok(None);
         };
-        let (Some(high), Some(low)) = (hex_digit(*first), hex_digit(*second)) else {
+        let Some(byte) = hex_byte(*first, *second) else {
             return Ok(None);
         };
-        bytes.push(16 * high + low)?;
+        bytes.push(byte)?;
         rest = after;
     }
     Ok(Some(bytes))

@@ -5,7 +5,7 @@ ghost use Rattle.code_decode.specs.Names.{name_of};
 ghost use Rattle.code_decode.specs.Spellings.{spelling};
 ghost use Rattle.list_views.specs.Results.{Answers};
 ghost use Rattle.asm_lines.specs.Statements.{Gives, one_word};
-ghost use Rattle.asm_lines.specs.Operations.{single, template, named, all_names, opcode_in, kind_code, one_number, load_value, load_operation, member_operation, increment_operation, some_labels, table_operation, cases_of, lookup_operation, array_operation, operands};
+ghost use Rattle.asm_lines.specs.Operations.{single, template, named, all_names, opcode_in, kind_code, one_number, load_value, load_operation, member_operation, increment_operation, some_labels, table_operation, cases_of, lookup_operation, array_operation, byte_operands, pair_operands, jump_operands, operands};
 
 use crate::fault::AsmFault;
 use crate::number::Number;
@@ -230,6 +230,21 @@ fn load_operation(
     load_value(alloc, line, op, kind, value)
 }
 
+fn copied_member(
+    alloc: Global,
+    op: u8,
+    class: &Seq<u8>,
+    name: &Seq<u8>,
+    desc: &Seq<u8>,
+) -> Result<Operation, AllocError>
+    ensures { IfOk result (λ o. o ≡ Operation.Member op class.now name.now desc.now) }
+{
+    let class = copy(alloc, class)?;
+    let name = copy(alloc, name)?;
+    let desc = copy(alloc, desc)?;
+    Ok(Operation::Member(op, class, name, desc))
+}
+
 #[tactic(auto, unfolding(crate::specs::Operations::member_operation))]
 fn member_operation(
     alloc: Global,
@@ -243,10 +258,7 @@ fn member_operation(
     let (name, rest) = next_word(line, rest)?;
     let (desc, rest) = next_word(line, rest)?;
     no_more(line, rest)?;
-    let class = copy(alloc, class)?;
-    let name = copy(alloc, name)?;
-    let desc = copy(alloc, desc)?;
-    Ok(Operation::Member(op, class, name, desc))
+    Ok(copied_member(alloc, op, class, name, desc)?)
 }
 
 #[tactic(auto, unfolding(crate::specs::Operations::increment_operation))]
@@ -333,6 +345,54 @@ fn array_operation(line: usize, words: &[Seq<u8>]) -> Result<Operation, AsmFault
     }
 }
 
+/// The operands where those of the code are one number of one byte.
+fn byte_operands(
+    alloc: Global,
+    line: usize,
+    op: u8,
+    words: &[Seq<u8>],
+) -> Result<Operation, AsmFault>
+    ensures { Gives (λ x. x) result (byte_operands line op words.now) }
+{
+    if op == 18 {
+        load_operation(alloc, line, op, words)
+    } else {
+        Ok(Operation::Local(op, one_number(line, words)?))
+    }
+}
+
+/// The operands where those of the code are one number of two bytes.
+fn pair_operands(
+    alloc: Global,
+    line: usize,
+    op: u8,
+    words: &[Seq<u8>],
+) -> Result<Operation, AsmFault>
+    ensures { Gives (λ x. x) result (pair_operands line op words.now) }
+{
+    if op == 19 {
+        load_operation(alloc, line, op, words)
+    } else if op <= 184 {
+        member_operation(alloc, line, op, words)
+    } else {
+        let class = one_word(line, words)?;
+        Ok(Operation::Class(op, copy(alloc, class)?))
+    }
+}
+
+/// The label of a jump.
+fn jump_operands(
+    alloc: Global,
+    line: usize,
+    op: u8,
+    words: &[Seq<u8>],
+) -> Result<Operation, AsmFault>
+    ensures { Gives (λ x. x) result (jump_operands line op words.now) }
+{
+    let label = one_word(line, words)?;
+    Ok(Operation::Jump(op, copy(alloc, label)?))
+}
+
 /// The instruction of the opcode with the operands that the words say.
 #[tactic(auto, unfolding(crate::specs::Operations::operands))]
 pub(crate) fn operands(
@@ -348,29 +408,11 @@ pub(crate) fn operands(
             no_more(line, words)?;
             Ok(Operation::Plain(op))
         }
-        SpellingView::Byte(op, _) => {
-            if op == 18 {
-                load_operation(alloc, line, op, words)
-            } else {
-                Ok(Operation::Local(op, one_number(line, words)?))
-            }
-        }
-        SpellingView::Pair(op, _) => {
-            if op == 19 {
-                load_operation(alloc, line, op, words)
-            } else if op <= 184 {
-                member_operation(alloc, line, op, words)
-            } else {
-                let class = one_word(line, words)?;
-                Ok(Operation::Class(op, copy(alloc, class)?))
-            }
-        }
+        SpellingView::Byte(op, _) => byte_operands(alloc, line, op, words),
+        SpellingView::Pair(op, _) => pair_operands(alloc, line, op, words),
         SpellingView::SignedByte(_, _) => Ok(Operation::Bipush(one_number(line, words)?)),
         SpellingView::SignedPair(_, _) => Ok(Operation::Sipush(one_number(line, words)?)),
-        SpellingView::Jump(op, _) => {
-            let label = one_word(line, words)?;
-            Ok(Operation::Jump(op, copy(alloc, label)?))
-        }
+        SpellingView::Jump(op, _) => jump_operands(alloc, line, op, words),
         SpellingView::FarJump(_, _) => {
             let label = one_word(line, words)?;
             Ok(Operation::GotoW(copy(alloc, label)?))

@@ -3,7 +3,7 @@
 ghost use Rattle.std.specs.Prelude.{◌≡◌, ◌==◌, IfOk};
 ghost use Rattle.std.specs.Str.{bytes_eq};
 ghost use Rattle.list_views.specs.Results.{Answers};
-ghost use Rattle.asm_lines.specs.Statements.{Gives, next_word, no_more, is_new, number_word, constant_of, constant_line, static_word, field_line, flag_of, flag_words, size_words, sizes_of, method_line, hex_word, attribute_line};
+ghost use Rattle.asm_lines.specs.Statements.{Gives, next_word, no_more, is_new, number_word, constant_of, constant_line, static_word, make_field, field_line, flag_of, flag_words, sizes_said, size_words, sizes_of, make_method, method_line, hex_word, attribute_line};
 
 use crate::fault::AsmFault;
 use crate::number::{Number, hex_bytes, read_number};
@@ -167,6 +167,23 @@ pub(crate) fn constant_line(
     constant_of(alloc, line, kind, value)
 }
 
+fn copied_field(
+    alloc: Global,
+    name: &Seq<u8>,
+    desc: &Seq<u8>,
+    is_static: bool,
+) -> Result<FieldLine, AllocError>
+    ensures { IfOk result (λ f. f ≡ make_field name.now desc.now is_static) }
+{
+    let name = copy(alloc, name)?;
+    let desc = copy(alloc, desc)?;
+    Ok(FieldLine {
+        name,
+        desc,
+        is_static,
+    })
+}
+
 /// The field that the words behind `field` say.
 #[tactic(auto, unfolding(crate::specs::Statements::field_line))]
 pub(crate) fn field_line(
@@ -179,11 +196,7 @@ pub(crate) fn field_line(
     let (name, rest) = next_word(line, words)?;
     let (desc, rest) = next_word(line, rest)?;
     let is_static = static_word(line, rest)?;
-    Ok(FieldLine {
-        name: copy(alloc, name)?,
-        desc: copy(alloc, desc)?,
-        is_static,
-    })
+    Ok(copied_field(alloc, name, desc, is_static)?)
 }
 
 #[tactic(auto, unfolding(crate::specs::Statements::static_word))]
@@ -240,6 +253,24 @@ fn flag_words(line: usize, words: &[Seq<u8>]) -> Result<(u16, &[Seq<u8>]), AsmFa
     Ok((flags, rest))
 }
 
+/// The numbers, where the two words before them are `stack` and `locals`.
+#[tactic(auto, unfolding(crate::specs::Statements::sizes_said))]
+fn sizes_said(
+    line: usize,
+    stack: &Seq<u8>,
+    max_stack: &Seq<u8>,
+    locals: &Seq<u8>,
+    max_locals: &Seq<u8>,
+) -> Result<(Number, Number), AsmFault>
+    ensures { Answers (λ x. x) result (sizes_said line stack.now max_stack.now locals.now max_locals.now) }
+{
+    is_new(line, !is(stack, b"stack"))?;
+    is_new(line, !is(locals, b"locals"))?;
+    let max_stack = number_word(line, max_stack)?;
+    let max_locals = number_word(line, max_locals)?;
+    Ok((max_stack, max_locals))
+}
+
 /// The words `stack N locals N`.
 #[tactic(auto, unfolding(crate::specs::Statements::size_words))]
 fn size_words(line: usize, words: &[Seq<u8>]) -> Result<(Number, Number), AsmFault>
@@ -250,11 +281,7 @@ fn size_words(line: usize, words: &[Seq<u8>]) -> Result<(Number, Number), AsmFau
     let (locals, rest) = next_word(line, rest)?;
     let (max_locals, rest) = next_word(line, rest)?;
     no_more(line, rest)?;
-    is_new(line, !is(stack, b"stack"))?;
-    is_new(line, !is(locals, b"locals"))?;
-    let max_stack = number_word(line, max_stack)?;
-    let max_locals = number_word(line, max_locals)?;
-    Ok((max_stack, max_locals))
+    sizes_said(line, stack, max_stack, locals, max_locals)
 }
 
 /// The sizes of a method's code; an abstract or native method has none.
@@ -274,6 +301,25 @@ fn sizes_of(
     }
 }
 
+fn copied_method(
+    alloc: Global,
+    name: &Seq<u8>,
+    desc: &Seq<u8>,
+    flags: u16,
+    sizes: Option<(Number, Number)>,
+) -> Result<MethodLine, AllocError>
+    ensures { IfOk result (λ m. m ≡ make_method name.now desc.now flags sizes) }
+{
+    let name = copy(alloc, name)?;
+    let desc = copy(alloc, desc)?;
+    Ok(MethodLine {
+        name,
+        desc,
+        flags,
+        sizes,
+    })
+}
+
 /// The method that the words behind `method` say.
 #[tactic(auto, unfolding(crate::specs::Statements::method_line))]
 pub(crate) fn method_line(
@@ -287,12 +333,7 @@ pub(crate) fn method_line(
     let (desc, rest) = next_word(line, rest)?;
     let (flags, rest) = flag_words(line, rest)?;
     let sizes = sizes_of(line, flags, rest)?;
-    Ok(MethodLine {
-        name: copy(alloc, name)?,
-        desc: copy(alloc, desc)?,
-        flags,
-        sizes,
-    })
+    Ok(copied_method(alloc, name, desc, flags, sizes)?)
 }
 
 fn hex_word(alloc: Global, line: usize, word: &Seq<u8>) -> Result<Seq<u8>, AsmFault>
@@ -317,8 +358,6 @@ pub(crate) fn attribute_line(
     let (hex, rest) = next_word(line, rest)?;
     no_more(line, rest)?;
     let content = hex_word(alloc, line, hex)?;
-    Ok(AttributeLine {
-        name: copy(alloc, name)?,
-        content,
-    })
+    let name = copy(alloc, name)?;
+    Ok(AttributeLine { name, content })
 }
