@@ -51,7 +51,7 @@ LAYER = {
         'program': 'input_steps run_call describe desc_steps prove_call check_call fill_call jterm',
     }.items() for crate in crates_of.split()
 }
-# What the thirteen crates of the first measurement have become, without the programs of tables.
+# What the thirteen crates of the first measurement have become, each with its share of the tests.
 THIRTEEN = ('list_views io_ports class_base json_view lin_core jvm_values class_pool code_decode class_read asm_lines asm_codes asm_pool '
             'class_asm class_world class_program jterm').split()
 
@@ -119,7 +119,7 @@ class Page:
                 return times[name][kind], is_old
         return None
 
-    def tests(self, name, rows):
+    def tests(self, name):
         """What tests of a crate take of its budget: their lines and their seconds, by its share; whether a time is old; those that lack one."""
         size, spent, is_old, lacking = 0, 0, False, []
         for test, crates_of in TESTS_OF.items():
@@ -134,9 +134,12 @@ class Page:
                         spent, is_old = spent + share * known[0], is_old or known[1]
         return size, spent, is_old, lacking
 
-    def row(self, name, rows):
+    def row(self, name):
         """Prints the row of a crate with its share of the tests; its numbers: lines, seconds for proof, tests and edits, all, budget."""
-        size, tested, tests_old, lacking = self.tests(name, rows)
+        size, tested, tests_old, lacking = self.tests(name)
+        for known in (self.time(name, kind) for kind in ('tests', 'builds')):
+            if known:
+                tested, tests_old = tested + known[0], tests_old or known[1]
         size += self.size[name]
         count = len(list((TOP / 'crates' / name / 'must-fail').glob('*.edit')))
         spent, texts = [], []
@@ -159,7 +162,7 @@ class Page:
         self.size = {name: lines(TOP / 'crates' / name) for name in rows}
         head = '| %s | Lines | Proof | Tests | Edits | All | Budget |\n|---|---|---|---|---|---|---|'
         print(head % 'Crate, with its share of the tests')
-        taken = {name: self.row(name, rows) for name in rows if name not in TESTS_OF}
+        taken = {name: self.row(name) for name in rows if name not in TESTS_OF}
         print('\n' + head % 'Layer')
         sums = {}
         for name, numbers in taken.items():
@@ -173,12 +176,13 @@ class Page:
 
 
 def be_complete(rows):
-    """Ends where TESTS_OF and LAYER don't name exactly the crates of crates.txt."""
+    """Ends where TESTS_OF and LAYER don't name exactly the crates of crates.txt, each once."""
     lacking = [name for name in rows if name not in TESTS_OF and name not in LAYER]
     tested = [name for crates_of in TESTS_OF.values() for name in crates_of.split()]
     gone = [name for name in [*TESTS_OF, *tested, *LAYER, *THIRTEEN] if name not in rows]
-    if lacking or gone:
-        sys.exit('gate.py: in neither table: %s; no more in crates.txt: %s' % (' '.join(lacking) or 'none', ' '.join(gone) or 'none'))
+    twice = [name for name in TESTS_OF if name in LAYER or name in tested]
+    if lacking or gone or twice:
+        sys.exit('gate.py: in neither table: %s; no more in crates.txt: %s; a test and tested: %s' % tuple(' '.join(them) or 'none' for them in (lacking, gone, twice)))
 
 
 def main():
