@@ -4,6 +4,7 @@ use code_decode::{
     targets, wide_local, with_byte, with_jump, with_pair,
 };
 use list_views::Seq;
+use std::alloc::AllocError;
 use std::test::Fail;
 
 /// The bytes of one instruction of each kind, by the opcodes of the JVM specification.
@@ -24,7 +25,7 @@ static CODE: [u8; 258] = [
 
 #[test]
 fn every_instruction_is_written_as_it_was_read(rt: HostRuntime) -> Result<(), Fail> {
-    let insns = decode(rt.alloc(), &CODE)?;
+    let insns = decode(rt.alloc(), &CODE).map_err(|_| AllocError)?;
     let code = encode(rt.alloc(), insns.as_slice())?;
     assert!(rt; code.as_slice() == CODE.as_slice());
     Ok(())

@@ -56,7 +56,7 @@ fn has_names(pool: &Pool<'_>) -> bool {
 
 #[test]
 fn entries_are_asked_by_number(rt: HostRuntime) -> Result<(), Fail> {
-    let (pool, next) = Pool::read(rt.alloc(), POOL, 0)?;
+    let (pool, next) = Pool::read(rt.alloc(), POOL, 0).map_err(|_| AllocError)?;
     let is_whole = next == POOL.len() && pool.count() == 11;
     assert!(rt; is_whole && has_tags(&pool) && has_values(&pool) && has_names(&pool));
     Ok(())
