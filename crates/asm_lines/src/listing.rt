@@ -267,8 +267,9 @@ fn code_line(
 {
     let (label, rest) = labelled(words);
     let ends = is_end(rest);
-    let item = with_said(alloc, names, listing, line, is_plain, label.is_some(), rest)?;
+    let has_label = label.is_some();
     let label = copied(alloc, label)?;
+    let item = with_said(alloc, names, listing, line, is_plain, has_label, rest)?;
     Ok(CodeLine {
         line,
         label,

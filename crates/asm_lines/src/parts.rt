@@ -1,7 +1,7 @@
 //! Lines and words.
 
-ghost use Rattle.std.specs.Prelude.{◌≡◌, ◌∷◌, ◌<◌, ◌==◌, length, map, position, IfOk};
-ghost use Rattle.asm_lines.specs.Parts.{parts, lines_of, words_of, is_plain};
+ghost use Rattle.std.specs.Prelude.{◌≡◌, ◌∷◌, ◌++◌, [], ◌<◌, ◌==◌, length, map, position, if◌then◌else◌, IfOk, OnOk};
+ghost use Rattle.asm_lines.specs.Parts.{parts, lines_of, is_word, words_of, is_plain};
 
 use list_views::Seq;
 use std::alloc::{AllocError, Global};
@@ -54,15 +54,24 @@ pub(crate) fn lines(alloc: Global, text: &[u8]) -> Result<Vec<&[u8]>, AllocError
     parts(alloc, b'\n', text)
 }
 
+/// Puts a part of a line behind the words, where it is one.
+fn push_word(alloc: Global, words: &mut Seq<Seq<u8>>, part: &[u8]) -> Result<(), AllocError>
+    ensures { OnOk result (words.new ≡ (if is_word part.now then words.old ++ part.now ∷ [] else words.old)) }
+{
+    if part.is_empty() {
+        return Ok(());
+    }
+    let word = Seq::from_slice(alloc, part)?;
+    Ok(words.push(word)?)
+}
+
 /// The words of a line.
 pub(crate) fn words(alloc: Global, line: &[u8]) -> Result<Seq<Seq<u8>>, AllocError>
     ensures { IfOk result (λ w. w ≡ words_of line.now) }
 {
     let mut words = Seq::new(alloc);
     for part in parts(alloc, b' ', line)? {
-        if !part.is_empty() {
-            words.push(Seq::from_slice(alloc, part)?)?;
-        }
+        push_word(alloc, &mut words, part)?;
     }
     Ok(words)
 }
