@@ -462,6 +462,23 @@ fn behind<'a>(lines: &'a [&'a [u8]], count: usize) -> &'a [&'a [u8]]
     rest
 }
 
+/// The listing that the lines behind the first `line` say.
+fn listing_behind(
+    alloc: Global,
+    names: &Names,
+    line: usize,
+    lines: &[&[u8]],
+) -> Result<Listing, AllocError>
+    requires { length lines.now < 2 ^ 62 }
+    ensures { IfOk result (λ l. l ≡ ended (with_lines names.now (line + 1) (drop line (map (λ t. t.now) lines.now)) no_lines) (length (map (λ t. t.now) lines.now))) }
+{
+    if line >= 0x4000_0000_0000_0000 {
+        return Err(AllocError);
+    }
+    let rest = behind(lines, line);
+    lines_listed(alloc, names, line + 1, rest, lines.len())
+}
+
 /// What lines say: the line that begins the listing, its number, and all lines behind it.
 fn lines_said(
     alloc: Global,
@@ -470,16 +487,11 @@ fn lines_said(
 ) -> Result<(usize, ClassLine, Listing), AsmFault>
     ensures { Gives (λ x. x) result (lines_said names.now (map (λ t. t.now) lines.now)) }
 {
-    let count = lines.len();
-    if count >= 0x4000_0000_0000_0000 {
+    if lines.len() >= 0x4000_0000_0000_0000 {
         return Err(AsmFault::Memory);
     }
     let (line, class) = first_line(alloc, lines)?;
-    if line >= 0x4000_0000_0000_0000 {
-        return Err(AsmFault::Memory);
-    }
-    let rest = behind(lines, line);
-    let listing = lines_listed(alloc, names, line + 1, rest, count)?;
+    let listing = listing_behind(alloc, names, line, lines)?;
     Ok((line, class, listing))
 }
 

@@ -283,14 +283,28 @@ pub(crate) fn copies(alloc: Global, words: &[Seq<u8>]) -> Result<Seq<Seq<u8>>, A
     Ok(all)
 }
 
-fn some_labels(alloc: Global, line: usize, words: &[Seq<u8>]) -> Result<Seq<Seq<u8>>, AsmFault>
-    ensures { Gives (λ x. x) result (some_labels line words.now) }
+/// That there is a label.
+fn some_labels(line: usize, words: &[Seq<u8>]) -> Result<(), AsmFault>
+    ensures { Answers (λ _. words.now) result (some_labels line words.now) }
 {
     if words.is_empty() {
-        return Err(AsmFault::Syntax { line });
+        Err(AsmFault::Syntax { line })
+    } else {
+        Ok(())
     }
-    let labels = copies(alloc, words)?;
-    Ok(labels)
+}
+
+fn copied_table(
+    alloc: Global,
+    low: Number,
+    default: &Seq<u8>,
+    labels: &[Seq<u8>],
+) -> Result<Operation, AllocError>
+    ensures { IfOk result (λ o. o ≡ Operation.Tableswitch low default.now labels.now) }
+{
+    let default = copy(alloc, default)?;
+    let labels = copies(alloc, labels)?;
+    Ok(Operation::Tableswitch(low, default, labels))
 }
 
 #[tactic(auto, unfolding(crate::specs::Operations::table_operation))]
@@ -299,10 +313,9 @@ fn table_operation(alloc: Global, line: usize, words: &[Seq<u8>]) -> Result<Oper
 {
     let (low, rest) = next_word(line, words)?;
     let (default, rest) = next_word(line, rest)?;
-    let labels = some_labels(alloc, line, rest)?;
+    some_labels(line, rest)?;
     let low = number_word(line, low)?;
-    let default = copy(alloc, default)?;
-    Ok(Operation::Tableswitch(low, default, labels))
+    Ok(copied_table(alloc, low, default, rest)?)
 }
 
 #[tactic(auto, using(crate::proofs::Cases::begins, crate::proofs::Cases::no_number, crate::proofs::Cases::no_label, crate::proofs::Cases::done))]
@@ -329,8 +342,8 @@ fn lookup_operation(alloc: Global, line: usize, words: &[Seq<u8>]) -> Result<Ope
     ensures { Gives (λ x. x) result (lookup_operation line words.now) }
 {
     let (default, rest) = next_word(line, words)?;
-    let cases = cases_of(alloc, line, rest)?;
     let default = copy(alloc, default)?;
+    let cases = cases_of(alloc, line, rest)?;
     Ok(Operation::Lookupswitch(default, cases))
 }
 
