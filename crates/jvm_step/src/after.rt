@@ -2,7 +2,7 @@
 use jvm_values::Value;
 
 /// What is left to do after an instruction has changed its frame, the heap and the static fields.
-#[derive(Clone, Copy, PartialEq, Eq)]
+#[derive(Clone, Copy)]
 pub enum After {
     /// The next instruction runs.
     Next,

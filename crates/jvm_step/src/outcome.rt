@@ -2,7 +2,7 @@
 use jvm_values::Value;
 
 /// What a step of the machine came to. Where a state is none that the rules speak of, nothing is said of it.
-#[derive(Clone, Copy, PartialEq, Eq)]
+#[derive(Clone, Copy)]
 pub enum Outcome {
     /// The run goes on from the state.
     Going,
