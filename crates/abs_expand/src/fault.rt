@@ -5,7 +5,7 @@ ghost use Rattle.abs_expand.specs.declared.fault.ExpandFault.TheVariants.{Memory
 use std::alloc::{AllocError, AllocFailed};
 
 /// Why an abstract state has no expansion.
-#[derive(Clone, Copy, PartialEq, Eq)]
+#[derive(Clone, Copy)]
 pub enum ExpandFault {
     /// The state is none that a run comes to.
     BadState {
