@@ -55,7 +55,7 @@ pub enum Found<P: Pairs> {
 }
 
 /// Why a search doesn't answer.
-#[derive(Clone, Copy, PartialEq, Eq)]
+#[derive(Clone, Copy)]
 pub enum SearchFault {
     /// Want of memory.
     Memory,
