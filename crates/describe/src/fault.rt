@@ -48,8 +48,7 @@ impl From<Refused> for DescribeFault {
 fn put_place(text: &mut Vec<u8>, alloc: Global, place: Place) -> Result<(), AllocError> {
     match place {
         Place::Class(number) => {
-            put(text, b"class ")?;
-            put_number(text, alloc, number as usize)?;
+            put_number(text, alloc, b"class ", number as usize)?;
             put(text, b": ")
         }
         _ => put(text, b"link: "),

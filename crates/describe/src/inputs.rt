@@ -28,12 +28,13 @@ fn letter(kind: Kind) -> u8 {
     }
 }
 
-/// Puts a class's name behind a text.
-fn put_name(text: &mut Vec<u8>, world: &World<'_>, class: u32) -> Result<(), AllocError> {
+/// The name of the class of a number, and nothing for a number that no class has.
+pub(crate) fn class_name<'a>(world: &World<'a>, class: u32) -> &'a [u8] {
     if class < world.classes() {
-        put_inside(text, world.name_of(class))?;
+        world.name_of(class)
+    } else {
+        b""
     }
-    Ok(())
 }
 
 /// Puts a reference type behind a text: the name of a class, or the descriptor of an array type.
@@ -43,10 +44,10 @@ fn put_type(text: &mut Vec<u8>, world: &World<'_>, t: Ty) -> Result<(), AllocErr
     }
     match t.base {
         Base::Num(kind) => put(text, &[letter(kind)]),
-        Base::Class(class) if t.dims == 0 => put_name(text, world, class),
+        Base::Class(class) if t.dims == 0 => put_inside(text, class_name(world, class)),
         Base::Class(class) => {
             put(text, b"L")?;
-            put_name(text, world, class)?;
+            put_inside(text, class_name(world, class))?;
             put(text, b";")
         }
     }
@@ -54,11 +55,18 @@ fn put_type(text: &mut Vec<u8>, world: &World<'_>, t: Ty) -> Result<(), AllocErr
 
 /// Puts what is said of a number behind a text: the whole range of its kind.
 fn put_range(text: &mut Vec<u8>, alloc: Global, kind: Kind) -> Result<(), AllocError> {
-    put(text, b"{\"lo\":")?;
-    put_int(text, alloc, &kind.least())?;
-    put(text, b",\"hi\":")?;
-    put_int(text, alloc, &kind.greatest())?;
+    put_int(text, alloc, b"{\"lo\":", &kind.least())?;
+    put_int(text, alloc, b",\"hi\":", &kind.greatest())?;
     put(text, b"}")
+}
+
+/// What stands behind the type of a reference: whether it may be null, and any shape.
+fn behind_type(null: bool) -> &'static [u8] {
+    if null {
+        b"\",\"null\":true,\"shape\":\"any\"}"
+    } else {
+        b"\",\"null\":false,\"shape\":\"any\"}"
+    }
 }
 
 /// Puts what is said of a reference behind a text: its declared type, whether it may be null, and any shape.
@@ -70,9 +78,7 @@ fn put_reference(
 ) -> Result<(), AllocError> {
     put(text, b"{\"type\":\"")?;
     put_type(text, world, t)?;
-    put(text, b"\",\"null\":")?;
-    put(text, if null { b"true" } else { b"false" })?;
-    put(text, b",\"shape\":\"any\"}")
+    put(text, behind_type(null))
 }
 
 /// Puts what is said of an input behind a text.
@@ -89,15 +95,17 @@ fn put_input(
     }
 }
 
-/// Puts what is said of inputs behind a text, each on a line of its own; a receiver is never null, and comes first.
+/// Puts a head, which ends with a bracket, behind a text, and behind it what is said of inputs, each on a line of its own; a receiver is
+/// never null, and comes first.
 pub(crate) fn put_inputs(
     text: &mut Vec<u8>,
     alloc: Global,
+    head: &[u8],
     world: &World<'_>,
     receiver: bool,
     inputs: &[Slot],
 ) -> Result<(), AllocError> {
-    put(text, b"[")?;
+    put(text, head)?;
     for (n, slot) in inputs.iter().enumerate() {
         put(text, if n == 0 { b"\n  " } else { b",\n  " })?;
         put_input(text, alloc, world, *slot, n > 0 || !receiver)?;
@@ -144,23 +152,22 @@ fn put_pair(
     i: usize,
     j: usize,
 ) -> Result<(), AllocError> {
-    put(text, if first { b"[" } else { b",[" })?;
-    put_number(text, alloc, i)?;
-    put(text, b",")?;
-    put_number(text, alloc, j)?;
+    put_number(text, alloc, if first { b"[" } else { b",[" }, i)?;
+    put_number(text, alloc, b",", j)?;
     put(text, b"]")
 }
 
-/// Puts the pairs of inputs that are listed behind a text, each pair once.
+/// Puts a head, which ends with a bracket, behind a text, and behind it the pairs of inputs that are listed, each pair once.
 pub(crate) fn put_pairs(
     text: &mut Vec<u8>,
     alloc: Global,
+    head: &[u8],
     world: &World<'_>,
     listed: Listed,
     inputs: &[Slot],
 ) -> Result<(), AllocError> {
     let mut first = true;
-    put(text, b"[")?;
+    put(text, head)?;
     for j in 0..inputs.len() {
         for i in 0..j {
             if is_wanted(world, listed, inputs[i], inputs[j]) {
