@@ -31,7 +31,8 @@ use Rattle.class_program.proofs.Got.{got, got_wanted, some_same}
 
 -- ---- types
 
-whole_dims : (text : List ℕ) (t : FieldType) → field_type text ≡ Some t → t.dims ≤ 255
+-- a field type that is a whole text has at most 255 dimensions
+pub whole_dims : (text : List ℕ) (t : FieldType) → field_type text ≡ Some t → t.dims ≤ 255
 unfolding field_type
 whole_dims text t e = go (type_at text) refl e
   where

@@ -17,7 +17,7 @@ use Rattle.class_program.specs.declared.program.StaticField.{StaticField}
 use Rattle.class_program.specs.declared.signature.Signature.{Signature}
 use Rattle.class_program.specs.Said.{Said, ◌>>=◌, unless, each}
 use Rattle.class_program.specs.Ops.{pool_of}
-use Rattle.class_program.specs.Methods.{method_name, static_init, code_of, synchronized, own_types, insns_of, ops_of, table_of, with_receiver, method_of}
+use Rattle.class_program.specs.Methods.{method_name, static_init, code_of, synchronized, own_types, insns_of, ops_of, table_of, made_of, coded_of, named_of, method_of}
 use Rattle.class_program.specs.Statics.{statics_named}
 use Rattle.class_program.specs.Reached.{reached, contents_of, methods_of, method_numbered, close_of}
 use Rattle.class_program.specs.Programs.{ref_of, refs_of}
@@ -39,24 +39,13 @@ pub record IsMade (world : World) (ref : MethodRef) (m : MethodContent) (r : Met
   pub ops_are : ops_of world ref.class (method_name world ref.class m) insns ≡ Ok ops
   pub table : List CatchRange
   pub table_is : table_of world (pool_of world ref.class) code.table ≡ Ok table
-  pub whole : ◌≡◌ {A = Method} (record {
-    class = ref.class;
-    index = ref.index;
-    name = m.name;
-    desc = m.desc;
-    params = with_receiver ref.class m.flags types.params;
-    result = types.result;
-    max_stack = code.max_stack;
-    max_locals = code.max_locals;
-    insns = ops;
-    table = table;
-  }) r
+  pub whole : made_of ref m code types ops table ≡ r
 
 ok_same : {A : Type 0} (x y : A) (s : Said A) → s ≡ Ok x → s ≡ Ok y → x ≡ y
 ok_same x y s e f = cc
 
 pub method_made : (world : World) (ref : MethodRef) (m : MethodContent) (r : Method) → method_of world ref m ≡ Ok r → IsMade world ref m r
-unfolding method_of
+unfolding method_of named_of coded_of
 method_made world ref m r e =
     let name : MethodName = method_name world ref.class m in
     let code = bind_ok (code_of name m) _ r (unless_ok (static_init world ref.class) _ r e) in

@@ -107,25 +107,38 @@ with_receiver class flags params = if is_static flags then params else class_slo
 
 -- ---- the method
 
+-- the method of what its declaration's parts say
+abbrev pub made_of : MethodRef → MethodContent → CodeContent → Signature → List (ℕ × Op) → List CatchRange → Method
+made_of ref m code types ops table = record {
+  class = ref.class;
+  index = ref.index;
+  name = m.name;
+  desc = m.desc;
+  params = with_receiver ref.class m.flags types.params;
+  result = types.result;
+  max_stack = code.max_stack;
+  max_locals = code.max_locals;
+  insns = ops;
+  table = table;
+}
+
+-- what the method is whose parameters and result are these: its instructions and its exception table
+unfoldable pub coded_of : World → MethodRef → MethodName → MethodContent → CodeContent → Signature → Said Method
+coded_of world ref name m code types = do
+  insns ← insns_of name code
+  ops ← ops_of world ref.class name insns
+  table ← table_of world (pool_of world ref.class) code.table
+  Ok (made_of ref m code types ops table)
+
+-- what the method of these names is, in a class that may be initialised
+unfoldable pub named_of : World → MethodRef → MethodName → MethodContent → Said Method
+named_of world ref name m = do
+  code ← code_of name m
+  types ← unless (synchronized name m) (own_types world name m.desc)
+  coded_of world ref name m code types
+
 -- what the method is, whose instructions name others as methods of the world
 unfoldable pub method_of : World → MethodRef → MethodContent → Said Method
 method_of world ref m =
     let name = method_name world ref.class m in
-    unless (static_init world ref.class) (do
-      code ← code_of name m
-      types ← unless (synchronized name m) (own_types world name m.desc)
-      insns ← insns_of name code
-      ops ← ops_of world ref.class name insns
-      table ← table_of world (pool_of world ref.class) code.table
-      Ok (record {
-        class = ref.class;
-        index = ref.index;
-        name = m.name;
-        desc = m.desc;
-        params = with_receiver ref.class m.flags types.params;
-        result = types.result;
-        max_stack = code.max_stack;
-        max_locals = code.max_locals;
-        insns = ops;
-        table = table;
-      }))
+    unless (static_init world ref.class) (named_of world ref name m)

@@ -1,13 +1,13 @@
 //! Closing: the methods that an entry reaches.
 ghost use Rattle.class_world.specs.Resolve.{has_body};
 ghost use Rattle.class_world.specs.Worlds.{classes_of};
-ghost use Rattle.std.specs.Prelude.{◌≡◌, ◌≤◌, map, length, IfOk, OnOk, IsTrue, flat_map};
+ghost use Rattle.std.specs.Prelude.{◌≡◌, ◌≤◌, [], map, length, IfOk, OnOk, IsTrue, flat_map};
 ghost use Rattle.std.specs.List.{list_all};
 ghost use Rattle.class_program.specs.Said.{Says};
 ghost use Rattle.class_program.specs.Rows.{AreRows};
 ghost use Rattle.class_program.specs.Runs.{runs};
 ghost use Rattle.class_program.specs.Programs.{refs_of};
-ghost use Rattle.class_program.specs.Statics.{fields_named, statics_of};
+ghost use Rattle.class_program.specs.Statics.{fields_named, statics_of, statics_named};
 ghost use Rattle.class_program.specs.Reached.{with_new, reached, methods_of, numbered, op_numbered, insns_numbered, method_numbered, close_of, is_closed};
 
 use crate::insns::Instructions;
@@ -52,33 +52,35 @@ fn add_runs(
     Ok(())
 }
 
-/// The reached methods by number, and what they are; the numbers of their calls' methods are still to be put in. What classes
-/// select for their calls is put into rows.
+/// Puts the methods that an entry reaches into `refs`, and what they are into `methods`, both empty before; the numbers of
+/// their calls' methods are still to be put in. What classes select for their calls is put into rows.
 fn reach<'a>(
     world: &World<'a>,
     alloc: Global,
+    shared: &mut SharedSlots<'a>,
     rows: &mut Selections,
+    refs: &mut MethodRefs,
+    methods: &mut Seq<Method<'a>>,
     entry: MethodRef,
-) -> Result<(MethodRefs, Seq<Method<'a>>), LinkFault>
+) -> Result<(), LinkFault>
     requires entry { IsTrue (has_body (classes_of world.now) entry) }
-    requires rows { AreRows (classes_of world.now) rows.now }
-    ensures methods { Says (λ r. r.1) result (methods_of (classes_of world.now) (reached (classes_of world.now) entry)) }
-    ensures refs { IfOk result (λ r. r.0 ≡ reached (classes_of world.now) entry) }
-    ensures numbers { IfOk result (λ r. refs_of r.1 ≡ r.0) }
-    ensures bodies { IfOk result (λ r. IsTrue (list_all (has_body (classes_of world.now)) r.0)) }
-    ensures closed { IfOk result (λ r. IsTrue (is_closed (classes_of world.now) r.0 r.1)) }
+    requires rows { AreRows (classes_of world.now) rows.old }
+    requires refs { refs.old ≡ [] }
+    requires methods { methods.old ≡ [] }
+    ensures methods { Says (λ _. methods.new) result (methods_of (classes_of world.now) (reached (classes_of world.now) entry)) }
+    ensures refs { IfOk result (λ _. refs.new ≡ reached (classes_of world.now) entry) }
+    ensures numbers { IfOk result (λ _. refs_of methods.new ≡ refs.new) }
+    ensures bodies { IfOk result (λ _. IsTrue (list_all (has_body (classes_of world.now)) refs.new)) }
+    ensures closed { IfOk result (λ _. IsTrue (is_closed (classes_of world.now) refs.new methods.new)) }
     ensures rows { IfOk result (λ _. AreRows (classes_of world.now) rows.new) }
 {
-    let mut refs = MethodRefs::new(alloc);
     refs.add(entry)?;
-    let mut shared = SharedSlots::new(alloc);
-    let mut methods = Seq::new(alloc);
     while let Some(next) = refs.get(methods.len()) {
-        let method = method_of(world, alloc, &mut shared, next)?;
-        add_runs(world, alloc, method.insns.as_slice(), rows, &mut refs)?;
+        let method = method_of(world, alloc, shared, next)?;
+        add_runs(world, alloc, method.insns.as_slice(), rows, refs)?;
         methods.push(method)?;
     }
-    Ok((refs, methods))
+    Ok(())
 }
 
 /// The call with its method's number.
@@ -180,6 +182,21 @@ fn methods_numbered<'a>(
     Ok(done)
 }
 
+/// The methods with the numbers and the places that their instructions say, and the static fields that these name.
+fn placed<'a>(
+    world: &World<'a>,
+    alloc: Global,
+    refs: &MethodRefs,
+    methods: Seq<Method<'a>>,
+) -> Result<(Seq<Method<'a>>, Seq<StaticField<'a>>), LinkFault>
+    ensures statics { Says (λ r. r.1) result (statics_named (classes_of world.now) methods.entry) }
+    ensures methods { IfOk result (λ r. r.0 ≡ map (method_numbered refs.now r.1) methods.entry) }
+{
+    let statics = statics_named(world, alloc, methods.as_slice())?;
+    let methods = methods_numbered(alloc, refs, statics.as_slice(), methods)?;
+    Ok((methods, statics))
+}
+
 impl<'a> Program<'a> {
     /// The world with the methods that an entry reaches, the entry first.
     ///
@@ -207,9 +224,19 @@ impl<'a> Program<'a> {
         ensures statics { IfOk result (λ program. program.statics ≡ statics_of (classes_of world.entry) (fields_named program.methods)) }
     {
         let mut selections = Selections::new(alloc);
-        let (refs, methods) = reach(&world, alloc, &mut selections, entry)?;
-        let statics = statics_named(&world, alloc, methods.as_slice())?;
-        let methods = methods_numbered(alloc, &refs, statics.as_slice(), methods)?;
+        let mut refs = MethodRefs::new(alloc);
+        let mut methods = Seq::new(alloc);
+        let mut shared = SharedSlots::new(alloc);
+        reach(
+            &world,
+            alloc,
+            &mut shared,
+            &mut selections,
+            &mut refs,
+            &mut methods,
+            entry,
+        )?;
+        let (methods, statics) = placed(&world, alloc, &refs, methods)?;
         Ok(Program {
             world,
             entry,

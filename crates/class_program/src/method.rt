@@ -12,7 +12,7 @@ ghost use Rattle.class_world.specs.Linking.{Refuses, has_short_code};
 ghost use Rattle.class_program.specs.Said.{Says};
 ghost use Rattle.class_program.specs.Ops.{pool_of};
 ghost use Rattle.class_world.specs.Resolve.{method_at, has_body};
-ghost use Rattle.class_program.specs.Methods.{method_name, static_init, code_of, synchronized, own_types, in_method, table_said, insns_of, op_said, ops_of, caught, catch_of, range_of, table_of, with_receiver, method_of};
+ghost use Rattle.class_program.specs.Methods.{method_name, static_init, code_of, synchronized, own_types, in_method, table_said, insns_of, op_said, ops_of, caught, catch_of, range_of, table_of, with_receiver, coded_of, named_of, method_of};
 
 use crate::insns::Instructions;
 use crate::op::Op;
@@ -281,6 +281,60 @@ fn pool<'w, 'a>(world: &'w World<'a>, class: u32) -> &'w Pool<'a>
     &view.pool
 }
 
+/// The method whose parameters and result are known, with its instructions and its exception table.
+#[tactic(auto, unfolding(crate::specs::Methods::coded_of))]
+fn coded<'a>(
+    world: &World<'a>,
+    alloc: Global,
+    shared: &mut SharedSlots<'a>,
+    method: MethodRef,
+    name: &MethodName,
+    view: &MethodView<'a>,
+    code: &CodeView<'a>,
+    types: &Signature,
+) -> Result<Method<'a>, LinkFault>
+    requires class { method.class < length (classes_of world.now) }
+    requires short { length code.now.code.now < 2 ^ 16 }
+    ensures { Says (λ m. m) result (coded_of (classes_of world.now) method name.now (method_content view.now) (code_content code.now) types.now) }
+{
+    let class = method.class;
+    let insns = insns_of(alloc, name, code)?;
+    let insns = ops_of(world, alloc, shared, class, name, insns)?;
+    let table = table_of(world, alloc, pool(world, class), code.table.as_slice())?;
+    Ok(Method {
+        class,
+        index: method.index,
+        name: Bytes::new(view.name),
+        desc: Bytes::new(view.desc),
+        params: with_receiver(alloc, class, view.flags, types.params.as_slice())?,
+        result: types.result,
+        max_stack: code.max_stack,
+        max_locals: code.max_locals,
+        insns: Instructions::new(insns),
+        table,
+    })
+}
+
+/// The method of these names, in a class that may be initialised.
+#[tactic(auto, unfolding(crate::specs::Methods::named_of))]
+fn named<'a>(
+    world: &World<'a>,
+    alloc: Global,
+    shared: &mut SharedSlots<'a>,
+    method: MethodRef,
+    name: &MethodName,
+    view: &MethodView<'a>,
+) -> Result<Method<'a>, LinkFault>
+    requires class { method.class < length (classes_of world.now) }
+    requires short { IsTrue (has_short_code (method_content view.now)) }
+    ensures { Says (λ m. m) result (named_of (classes_of world.now) method name.now (method_content view.now)) }
+{
+    let code = code_of(alloc, name, view)?;
+    not_synchronized(alloc, name, view)?;
+    let types = own_types(world, alloc, name, view.desc)?;
+    coded(world, alloc, shared, method, name, view, code, &types)
+}
+
 /// The method of that class and place, whose calls have no numbers yet, or the first rule that it breaks.
 #[tactic(auto, unfolding(crate::specs::Methods::method_of))]
 fn declared<'a>(
@@ -294,27 +348,9 @@ fn declared<'a>(
     requires short { IsTrue (has_short_code (method_content view.now)) }
     ensures { Says (λ m. m) result (method_of (classes_of world.now) method (method_content view.now)) }
 {
-    let class = method.class;
-    keeps_static_init(world, alloc, class)?;
-    let name = method_name(world, alloc, class, view)?;
-    let code = code_of(alloc, &name, view)?;
-    not_synchronized(alloc, &name, view)?;
-    let types = own_types(world, alloc, &name, view.desc)?;
-    let insns = insns_of(alloc, &name, code)?;
-    let insns = ops_of(world, alloc, shared, class, &name, insns)?;
-    let table = table_of(world, alloc, pool(world, class), code.table.as_slice())?;
-    Ok(Method {
-        class,
-        index: method.index,
-        name: Bytes::new(view.name),
-        desc: Bytes::new(view.desc),
-        params: with_receiver(alloc, class, view.flags, types.params)?,
-        result: types.result,
-        max_stack: code.max_stack,
-        max_locals: code.max_locals,
-        insns: Instructions::new(insns),
-        table,
-    })
+    keeps_static_init(world, alloc, method.class)?;
+    let name = method_name(world, alloc, method.class, view)?;
+    named(world, alloc, shared, method, &name, view)
 }
 
 /// A method of the world, whose calls have no numbers yet, or the first rule that it breaks.
@@ -348,18 +384,18 @@ fn with_receiver(
     alloc: Global,
     class: u32,
     flags: u16,
-    params: Seq<Slot>,
+    params: &[Slot],
 ) -> Result<Seq<Slot>, AllocError>
-    ensures { IfOk result (λ slots. slots ≡ with_receiver class flags params) }
+    ensures { IfOk result (λ slots. slots ≡ with_receiver class flags params.now) }
 {
     if has_flag(flags, STATIC) {
-        return Ok(params);
+        return Seq::from_slice(alloc, params);
     }
     let mut slots = Seq::with_capacity(alloc, params.len())?;
     slots.push(Slot::Ref(Ty {
         dims: 0,
         base: Base::Class(class),
     }))?;
-    slots.extend_from_slice(params.as_slice())?;
+    slots.extend_from_slice(params)?;
     Ok(slots)
 }

@@ -11,7 +11,7 @@ use Rattle.class_program.proofs.closing.reach.Goals as goal
 
 pub loop-next-init : goal.loop-next-init
 loop-next-init c = (
-  reach_start (classes_of c.args.world.now) c.args.entry _ _ c.requires.entry (c.in_ok-add.ensures ∙ ap (λ r. with_one r c.args.entry) c.new-refs.ensures) c.new-methods.ensures,
+  reach_start (classes_of c.args.world.now) c.args.entry _ _ c.requires.entry (c.in_ok-add.ensures ∙ ap (λ r. with_one r c.args.entry) c.requires.refs) c.requires.methods,
   c.requires.rows,
 )
 
