@@ -1,10 +1,10 @@
 //! The code of a method's lines.
 
-ghost use Rattle.std.specs.Prelude.{◌≡◌, ◌<◌, ◌^◌, ◌++◌, length, IfOk, OnOk};
+ghost use Rattle.std.specs.Prelude.{◌≡◌, ◌<◌, ◌^◌, ◌++◌, [], length, IfOk, OnOk};
 ghost use Rattle.std.specs.Option.{option_to_list};
 ghost use Rattle.code_decode.specs.Encoding.{code_of};
 ghost use Rattle.asm_lines.specs.Statements.{Gives};
-ghost use Rattle.asm_codes.specs.Places.{place_in, IsNear, placed, insns_from, catch_entry, entry_in, table_of};
+ghost use Rattle.asm_codes.specs.Places.{place_in, places_of, IsNear, placed, insns_from, catch_entry, entry_in, table_of};
 ghost use Rattle.asm_codes.specs.MethodCodes.{FitsAt, IsWritable, method_code, code_at, has_end, IsSized};
 
 use crate::instruction::target;
@@ -121,21 +121,36 @@ fn code_at(
     Ok(MethodCode { bytes, table })
 }
 
+/// The code of lines whose labels have these places, or their first fault. `nothing` has no labels.
+#[tactic(auto, unfolding(crate::specs::MethodCodes::method_code))]
+fn code_placed(
+    alloc: Global,
+    nothing: &Labels<'_>,
+    labels: &Labels<'_>,
+    lines: &[PooledLine<'_>],
+) -> Result<MethodCode, AsmFault>
+    requires none { nothing.now ≡ [] }
+    requires places { place_in labels.now ≡ places_of lines.now }
+    ensures exact { Gives (λ x. x) result (method_code lines.now) }
+    ensures sized { IfOk result (λ code. IsSized (has_end lines.now) code) }
+{
+    if let Some(fault) = first_fault(alloc, nothing, labels, lines)? {
+        return Err(fault);
+    }
+    Ok(code_at(alloc, labels, lines)?)
+}
+
 /// The code of a method's lines, or their first fault.
 ///
 /// # Errors
 ///
 /// [`AsmFault::UnknownLabel`], [`AsmFault::DuplicateLabel`] and [`AsmFault::OutOfRange`], the first line's first, and on
 /// one line the one that stands first here. Want of memory.
-#[tactic(auto, unfolding(crate::specs::MethodCodes::method_code))]
 pub fn method_code(alloc: Global, lines: &[PooledLine<'_>]) -> Result<MethodCode, AsmFault>
     ensures exact { Gives (λ x. x) result (method_code lines.now) }
     ensures sized { IfOk result (λ code. IsSized (has_end lines.now) code) }
 {
     let nothing = Labels::new(alloc);
     let labels = places_of(alloc, &nothing, lines)?;
-    if let Some(fault) = first_fault(alloc, &nothing, &labels, lines)? {
-        return Err(fault);
-    }
-    Ok(code_at(alloc, &labels, lines)?)
+    code_placed(alloc, &nothing, &labels, lines)
 }

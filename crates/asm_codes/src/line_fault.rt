@@ -245,6 +245,33 @@ fn with_item(entries: usize, item: &Item) -> usize
     }
 }
 
+/// The first fault of the lines. `nothing` has no labels, and `seen` none yet.
+fn first_fault_seen<'a>(
+    alloc: Global,
+    nothing: &Labels<'_>,
+    labels: &Labels<'_>,
+    lines: &[PooledLine<'a>],
+    seen: &mut SeenLabels<'a>,
+) -> Result<Option<AsmFault>, AllocError>
+    requires none { nothing.now ≡ [] }
+    requires fresh { seen.old ≡ [] }
+    ensures { IfOk result (λ o. o ≡ first_fault (place_in labels.now) lines.now) }
+{
+    let mut entries = 0;
+    let mut pc = 0;
+    for line in lines {
+        let (size, fits) = size_at(alloc, nothing, pc, line)?;
+        let code = line.code();
+        let repeated = is_repeated(seen, &code.label)?;
+        if let Some(fault) = fault_of(labels, repeated, entries, pc, fits, size, line) {
+            return Ok(Some(fault));
+        }
+        entries = with_item(entries, &code.item);
+        pc += size;
+    }
+    Ok(None)
+}
+
 /// The first fault of the lines. `nothing` has no labels.
 pub(crate) fn first_fault(
     alloc: Global,
@@ -256,17 +283,5 @@ pub(crate) fn first_fault(
     ensures { IfOk result (λ o. o ≡ first_fault (place_in labels.now) lines.now) }
 {
     let mut seen = SeenLabels::new(alloc);
-    let mut entries = 0;
-    let mut pc = 0;
-    for line in lines {
-        let (size, fits) = size_at(alloc, nothing, pc, line)?;
-        let code = line.code();
-        let repeated = is_repeated(&mut seen, &code.label)?;
-        if let Some(fault) = fault_of(labels, repeated, entries, pc, fits, size, line) {
-            return Ok(Some(fault));
-        }
-        entries = with_item(entries, &code.item);
-        pc += size;
-    }
-    Ok(None)
+    first_fault_seen(alloc, nothing, labels, lines, &mut seen)
 }

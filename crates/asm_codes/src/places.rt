@@ -67,8 +67,31 @@ fn mark<'a>(
     Ok(())
 }
 
-/// The places that the labels of the lines name. A code of 2^62 bytes and more, which no memory holds, is answered by want
-/// of memory.
+/// Puts the labels of the lines with their places into `labels`, which has none yet. A code of 2^62 bytes and more, which
+/// no memory holds, is answered by want of memory.
+fn put_places<'a>(
+    alloc: Global,
+    nothing: &Labels<'_>,
+    lines: &[PooledLine<'a>],
+    labels: &mut Labels<'a>,
+) -> Result<(), AllocError>
+    requires none { nothing.now ≡ [] }
+    requires fresh { labels.old ≡ [] }
+    ensures { OnOk result (place_in labels.new ≡ places_of lines.now) }
+{
+    let mut pc = 0;
+    for line in lines {
+        if pc >= 0x4000_0000_0000_0000 {
+            return Err(AllocError);
+        }
+        mark(labels, &line.code().label, pc)?;
+        let (size, _) = size_at(alloc, nothing, pc, line)?;
+        pc += size;
+    }
+    Ok(())
+}
+
+/// The places that the labels of the lines name.
 pub(crate) fn places_of<'a>(
     alloc: Global,
     nothing: &Labels<'_>,
@@ -78,14 +101,6 @@ pub(crate) fn places_of<'a>(
     ensures { IfOk result (λ x. place_in x ≡ places_of lines.now) }
 {
     let mut labels = Labels::new(alloc);
-    let mut pc = 0;
-    for line in lines {
-        if pc >= 0x4000_0000_0000_0000 {
-            return Err(AllocError);
-        }
-        mark(&mut labels, &line.code().label, pc)?;
-        let (size, _) = size_at(alloc, nothing, pc, line)?;
-        pc += size;
-    }
+    put_places(alloc, nothing, lines, &mut labels)?;
     Ok(labels)
 }

@@ -2,7 +2,7 @@ use Rattle.std.proofs.Common.{ap, ◌∙◌}
 use Rattle.asm_lines.specs.declared.listing.CodeLine.{CodeLine}
 use Rattle.asm_codes.specs.Places.{place_in, with_mark}
 use Rattle.asm_codes.proofs.Marks.{one_more, all_marked}
-use Rattle.asm_codes.proofs.places.places_of.Goals as goal
+use Rattle.asm_codes.proofs.places.put_places.Goals as goal
 
 pub loop-line-preserved : goal.loop-line-preserved
 loop-line-preserved c =

@@ -4,7 +4,7 @@ use Rattle.asm_lines.specs.declared.listing.CodeLine.{CodeLine}
 use Rattle.asm_codes.specs.Places.{place_in}
 use Rattle.asm_codes.specs.LineFaults.{is_among, with_seen, is_catch}
 use Rattle.asm_codes.proofs.FirstFaults.{one_more}
-use Rattle.asm_codes.proofs.line_fault.first_fault.Goals as goal
+use Rattle.asm_codes.proofs.line_fault.first_fault_seen.Goals as goal
 
 pub loop-line-preserved : goal.loop-line-preserved
 loop-line-preserved c =
