@@ -17,20 +17,21 @@ pub fn state<P: Pairs>(
     view: &View<'_, '_>,
 ) -> Result<AbsState<P>> {
     let throwing = Id::try_from(number(alloc, view, "throw")?).ok();
-    let frames = frames(alloc, &field(alloc, view, "frames")?)?;
-    let cells = cells(alloc, world, &field(alloc, view, "cells")?)?;
-    with_pairs(alloc, view, frames, throwing, cells)
+    let eq = pairs(alloc, view, "eq")?;
+    let share = pairs(alloc, view, "share")?;
+    with_pairs(alloc, world, view, throwing, eq, share)
 }
 
 fn with_pairs<P: Pairs>(
     alloc: Global,
+    world: &World<'_>,
     view: &View<'_, '_>,
-    frames: Seq<AbsFrame>,
     throwing: Option<Id>,
-    cells: Seq<(Id, Cell)>,
+    eq: P,
+    share: P,
 ) -> Result<AbsState<P>> {
-    let eq = pairs(alloc, &field(alloc, view, "eq")?)?;
-    let share = pairs(alloc, &field(alloc, view, "share")?)?;
+    let frames = frames(alloc, &field(alloc, view, "frames")?)?;
+    let cells = cells(alloc, world, &field(alloc, view, "cells")?)?;
     Ok(AbsState::new(frames, throwing, cells, eq, share))
 }
 
@@ -142,10 +143,15 @@ fn shape(word: &str) -> Result<Shape> {
     }
 }
 
-fn pairs<P: Pairs>(alloc: Global, list: &View<'_, '_>) -> Result<P> {
+/// The pairs in the field `name` of a state.
+fn pairs<P: Pairs>(alloc: Global, view: &View<'_, '_>, name: &str) -> Result<P> {
+    let listed = id_pairs(alloc, &field(alloc, view, name)?)?;
+    pairs_of(alloc, listed.as_slice())
+}
+
+fn pairs_of<P: Pairs>(alloc: Global, listed: &[(Id, Id)]) -> Result<P> {
     let mut pairs = P::empty(alloc);
-    let listed = id_pairs(alloc, list)?;
-    for (a, b) in listed.as_slice() {
+    for (a, b) in listed {
         put_pair(&mut pairs, *a, *b)?;
     }
     Ok(pairs)

@@ -90,7 +90,7 @@ fn put_side(
 
 fn put_term(line: &mut String, letter: char, id: Id, times: i64) -> Result<(), AllocError> {
     line.push(letter)?;
-    put_id(line, id)?;
+    put_number(line, i64::from(id))?;
     put_numbered(line, "*", times)
 }
 
@@ -125,97 +125,102 @@ pub fn put_state<P: Pairs>(
     world: &World<'_>,
     state: &AbsState<P>,
 ) -> Result<(), AllocError> {
-    line.push_str("{\"cells\":[")?;
-    put_cells(line, world, state.cells())?;
-    line.push_str("],\"eq\":[")?;
-    put_pairs(line, state.eq())?;
-    line.push_str("],\"frames\":[")?;
-    put_frames(line, state.frames())?;
-    line.push_str("],\"share\":[")?;
-    put_pairs(line, state.share())?;
-    line.push_str("],\"throw\":")?;
-    put_optional(line, state.throwing())?;
+    put_cells(line, "{\"cells\":[", world, state.cells())?;
+    put_pairs(line, ",\"eq\":[", state.eq())?;
+    put_frames(line, ",\"frames\":[", state.frames())?;
+    put_pairs(line, ",\"share\":[", state.share())?;
+    put_numbered(line, ",\"throw\":", number_of(state.throwing()))?;
     line.push('}')
 }
 
-fn put_id(line: &mut String, id: Id) -> Result<(), AllocError> {
-    put_number(line, i64::from(id))
-}
-
-/// An id, and -1 for none.
-fn put_optional(line: &mut String, id: Option<Id>) -> Result<(), AllocError> {
+/// An id as a number, and -1 for none.
+fn number_of(id: Option<Id>) -> i64 {
     match id {
-        Some(id) => put_id(line, id),
-        None => line.push_str("-1"),
+        Some(id) => i64::from(id),
+        None => -1,
     }
 }
 
-fn put_frames(line: &mut String, frames: &[AbsFrame]) -> Result<(), AllocError> {
+/// A comma in front of each item of a list but the first.
+fn comma_before(place: usize) -> &'static str {
+    if place > 0 { "," } else { "" }
+}
+
+/// The bracket that opens an item, behind a comma for each item but the first.
+fn bracket_before(place: usize) -> &'static str {
+    if place > 0 { ",[" } else { "[" }
+}
+
+fn put_frames(line: &mut String, head: &str, frames: &[AbsFrame]) -> Result<(), AllocError> {
+    line.push_str(head)?;
     for (place, frame) in frames.iter().enumerate() {
-        put_comma(line, place)?;
-        put_frame(line, frame)?;
+        put_frame(line, bracket_before(place), frame)?;
     }
-    Ok(())
+    line.push(']')
 }
 
-fn put_frame(line: &mut String, frame: &AbsFrame) -> Result<(), AllocError> {
-    put_numbered(line, "[", i64::from(frame.method()))?;
+fn put_frame(line: &mut String, head: &str, frame: &AbsFrame) -> Result<(), AllocError> {
+    put_numbered(line, head, i64::from(frame.method()))?;
     put_numbered(line, ",", i64::from(frame.pc()))?;
-    line.push_str(",[")?;
     put_locals(line, frame.locals())?;
-    line.push_str("],[")?;
     put_ids(line, frame.stack())?;
-    line.push_str("]]")
+    line.push(']')
 }
 
+/// A comma and the locals.
 fn put_locals(line: &mut String, locals: &[Option<Id>]) -> Result<(), AllocError> {
+    line.push_str(",[")?;
     for (place, local) in locals.iter().enumerate() {
-        put_comma(line, place)?;
-        put_optional(line, *local)?;
+        put_numbered(line, comma_before(place), number_of(*local))?;
     }
-    Ok(())
+    line.push(']')
 }
 
+/// A comma and the ids.
 fn put_ids(line: &mut String, ids: &[Id]) -> Result<(), AllocError> {
+    line.push_str(",[")?;
     for (place, id) in ids.iter().enumerate() {
-        put_comma(line, place)?;
-        put_id(line, *id)?;
+        put_numbered(line, comma_before(place), i64::from(*id))?;
     }
-    Ok(())
+    line.push(']')
 }
 
-fn put_pairs<P: Pairs>(line: &mut String, pairs: &P) -> Result<(), AllocError> {
+fn put_pairs<P: Pairs>(line: &mut String, head: &str, pairs: &P) -> Result<(), AllocError> {
+    line.push_str(head)?;
     for n in 0..usize::MAX {
         match pairs.nth(n) {
-            Some((a, b)) => put_pair(line, n, a, b)?,
+            Some((a, b)) => put_pair(line, bracket_before(n), a, b)?,
             None => break,
         }
     }
-    Ok(())
+    line.push(']')
 }
 
-fn put_pair(line: &mut String, place: usize, a: Id, b: Id) -> Result<(), AllocError> {
-    put_comma(line, place)?;
-    put_numbered(line, "[", i64::from(a))?;
+fn put_pair(line: &mut String, head: &str, a: Id, b: Id) -> Result<(), AllocError> {
+    put_numbered(line, head, i64::from(a))?;
     put_numbered(line, ",", i64::from(b))?;
     line.push(']')
 }
 
-fn put_cells(line: &mut String, world: &World<'_>, cells: &[(Id, Cell)]) -> Result<(), AllocError> {
+fn put_cells(
+    line: &mut String,
+    head: &str,
+    world: &World<'_>,
+    cells: &[(Id, Cell)],
+) -> Result<(), AllocError> {
+    line.push_str(head)?;
     for (place, (id, cell)) in cells.iter().enumerate() {
-        put_comma(line, place)?;
-        put_numbered(line, "[", i64::from(*id))?;
+        put_numbered(line, bracket_before(place), i64::from(*id))?;
         put_cell(line, world, cell)?;
-        line.push(']')?;
     }
-    Ok(())
+    line.push(']')
 }
 
-/// What follows the id of a cell.
+/// What follows the id of a cell, with the bracket behind it.
 fn put_cell(line: &mut String, world: &World<'_>, cell: &Cell) -> Result<(), AllocError> {
     match cell {
         Cell::Int(ints) => put_two(line, ",\"int\",", ints.lo(), ints.hi()),
-        Cell::Null => line.push_str(",\"null\""),
+        Cell::Null => line.push_str(",\"null\"]"),
         Cell::Obj(class, ids) => put_obj(line, *class, ids.as_slice()),
         Cell::Nums(kind, len) => {
             put_two(line, ",\"nums\",", i32::from(kind.code()), i32::from(*len))
@@ -227,12 +232,12 @@ fn put_cell(line: &mut String, world: &World<'_>, cell: &Cell) -> Result<(), All
 
 fn put_two(line: &mut String, word: &str, first: i32, second: i32) -> Result<(), AllocError> {
     put_numbered(line, word, i64::from(first))?;
-    put_numbered(line, ",", i64::from(second))
+    put_numbered(line, ",", i64::from(second))?;
+    line.push(']')
 }
 
 fn put_obj(line: &mut String, class: u32, ids: &[Id]) -> Result<(), AllocError> {
     put_numbered(line, ",\"obj\",", i64::from(class))?;
-    line.push_str(",[")?;
     put_ids(line, ids)?;
     line.push(']')
 }
@@ -263,12 +268,12 @@ fn put_unk(
     line.push_str(shape_word(shape))
 }
 
-/// A shape behind a comma.
+/// A shape behind a comma, with the bracket behind it.
 fn shape_word(shape: Shape) -> &'static str {
     match shape {
-        Shape::Tree => ",\"tree\"",
-        Shape::Dag => ",\"dag\"",
-        Shape::Any => ",\"any\"",
+        Shape::Tree => ",\"tree\"]",
+        Shape::Dag => ",\"dag\"]",
+        Shape::Any => ",\"any\"]",
     }
 }
 
