@@ -1,9 +1,9 @@
 -- What texts name is of the world.
-use Rattle.std.proofs.Common.{◌≡◌, ℕ, ◌≤◌, ◌<◌, Bool, true, false, cond, eqb, List, [], ◌∷◌, length, Option, Some, None, sym, refl, ap, subst, arith}
+use Rattle.std.proofs.Common.{◌≡◌, ℕ, ◌≤◌, ◌<◌, Bool, true, false, cond, eqb, List, length, Option, Some, None, refl, ap, subst, arith}
 use Rattle.std.specs.Prelude.{option_and_then, option_map}
 use Rattle.class_base.specs.declared.types.FieldType.{FieldType}
 use Rattle.class_base.specs.ClassNames.{is_class_name}
-use Rattle.class_base.specs.Types.{type_at, field_type}
+use Rattle.class_base.specs.Types.{field_type}
 use Rattle.jvm_values.specs.declared.types.Slot.TheVariants.{Num, Ref}
 use Rattle.jvm_values.specs.declared.types.Ty.{Ty}
 use Rattle.jvm_values.specs.Subtyping.{class_type, IsReference}
@@ -12,20 +12,9 @@ use Rattle.class_world.specs.declared.meaning.Meaning.{Meaning}
 use Rattle.class_world.specs.declared.meaning.Meaning.TheVariants.{Known, Unsupported, Missing}
 use Rattle.class_world.specs.Descriptors.{meaning_of, known_slot}
 use Rattle.class_world.specs.Linked.{class_of_within}
-use Rattle.class_world.specs.SlotLaws.{type_dims, meaning_is}
+use Rattle.class_world.specs.SlotLaws.{meaning_is}
+use Rattle.class_program.proofs.GoodTypes.{whole_dims}
 use Rattle.input_desc.specs.TypeNames.{reference_of, array_of_type, type_named}
-
-whole_dims : (text : List ℕ) (t : FieldType) → field_type text ≡ Some t → t.dims ≤ 255
-unfolding field_type
-whole_dims text t e = go (type_at text) refl e
-  where
-    go : (o : Option (FieldType × List ℕ)) → type_at text ≡ o → option_and_then (λ x. cond (eqb (length x.1) 0) (Some x.0) None) o ≡ Some t → t.dims ≤ 255
-    go None q f = cc
-    go (Some x) q f = by (eqb (length x.1) 0) f
-      where
-        by : (b : Bool) → cond b (Some x.0) None ≡ Some t → t.dims ≤ 255
-        by true g = let same : x.0 ≡ t = cc in subst (λ (u : FieldType). u.dims ≤ 255) same (type_dims text x.1 x.0 q)
-        by false g = cc
 
 array_is : (world : World) (ft : FieldType) (t : Ty) → ft.dims ≤ 255 → array_of_type world ft ≡ Some t → IsReference (length world) t
 unfolding array_of_type
