@@ -147,6 +147,28 @@ pub(crate) fn three_files(
     Ok(held)
 }
 
+// Puts a number, in front of it and behind it some bytes, behind a text.
+pub(crate) fn put_numbered(
+    alloc: Global,
+    text: &mut Vec<u8>,
+    front: &[u8],
+    number: usize,
+    behind: &[u8],
+) -> Result<(), AllocError> {
+    text.extend_from_slice(front)?;
+    let digits = format!(in alloc; "{number}")?;
+    text.extend_from_slice(digits.as_bytes())?;
+    text.extend_from_slice(behind)
+}
+
+// Puts a part so many times behind a text.
+pub(crate) fn put_times(text: &mut Vec<u8>, times: usize, part: &[u8]) -> Result<(), AllocError> {
+    for _ in 0..times {
+        text.extend_from_slice(part)?;
+    }
+    Ok(())
+}
+
 // The class file of a listing.
 pub(crate) fn assembled(alloc: Global, listing: &[u8]) -> Result<Outcome, AllocError> {
     let mut held = Vec::new(alloc);

@@ -1,7 +1,9 @@
 //! What `check` says.
 ghost use Rattle.std.specs.Prelude.{◌<◌};
 
-use crate::calls::{DESC, NODES, REST, call, checked, comes_to, errs, has_status, says};
+use crate::calls::{
+    DESC, NODES, Outcome, REST, call, checked, comes_to, errs, has_status, put_numbered, says,
+};
 use std::alloc::{AllocError, Global};
 use std::test::Fail;
 
@@ -12,32 +14,43 @@ fn ended(alloc: Global, rest: &[u8]) -> Result<Vec<u8>, AllocError> {
     Ok(text)
 }
 
+// What is said of the certificate of the method that `LISTING` has, where the reads with these numbers fail, and with so much room on the
+// two outputs.
+fn good(alloc: Global, failing: &[u64], room: usize, lines: usize) -> Result<Outcome, AllocError> {
+    let cert = ended(alloc, REST)?;
+    checked(alloc, &cert, DESC, failing, room, lines)
+}
+
 #[test]
 fn a_valid_certificate_is_accepted(rt: HostRuntime) -> Result<(), Fail> {
-    let cert = ended(rt.alloc(), REST)?;
-    let outcome = checked(rt.alloc(), &cert, DESC, &[], 100, 100);
+    let outcome = good(rt.alloc(), &[], 100, 100);
     assert!(rt; comes_to(outcome, 0, b"ACCEPTED\n", b"")?);
     Ok(())
+}
+
+// Whether a certificate with these cuts and this proof is refused with this line.
+fn is_refused(alloc: Global, rest: &[u8], line: &[u8]) -> Result<bool, AllocError> {
+    let cert = ended(alloc, rest)?;
+    says(alloc, &cert, 2, line)
 }
 
 #[test]
 fn the_first_item_that_fails_is_named(rt: HostRuntime) -> Result<(), Fail> {
     let alloc = rt.alloc();
-    let without = ended(alloc, b",\"proof\":[[\"empty\"]]}")?;
+    let without = b",\"proof\":[[\"empty\"]]}";
     assert!(rt;
-        says(
+        is_refused(
             alloc,
-            &without,
-            2,
+            without,
             b"REFUSED item 0: MissingField place=/cuts\n"
         )?
     );
-    let uncut = ended(alloc, b",\"cuts\":[],\"proof\":[]}")?;
-    assert!(rt; says(alloc, &uncut, 2, b"REFUSED item 4: Cuts\n")?);
-    let unproved = ended(alloc, b",\"cuts\":[0],\"proof\":[]}")?;
-    assert!(rt; says(alloc, &unproved, 2, b"REFUSED item 6: BadStep\n")?);
-    let itself = ended(alloc, b",\"cuts\":[0],\"proof\":[[\"dead\",0,[],0]]}")?;
-    assert!(rt; says(alloc, &itself, 2, b"REFUSED item 6: BadStep\n")?);
+    let uncut = b",\"cuts\":[],\"proof\":[]}";
+    assert!(rt; is_refused(alloc, uncut, b"REFUSED item 4: Cuts\n")?);
+    let unproved = b",\"cuts\":[0],\"proof\":[]}";
+    assert!(rt; is_refused(alloc, unproved, b"REFUSED item 6: BadStep\n")?);
+    let itself = b",\"cuts\":[0],\"proof\":[[\"dead\",0,[],0]]}";
+    assert!(rt; is_refused(alloc, itself, b"REFUSED item 6: BadStep\n")?);
     Ok(())
 }
 
@@ -51,16 +64,18 @@ fn brackets_within_brackets_are_no_certificate(rt: HostRuntime) -> Result<(), Fa
     Ok(())
 }
 
+// Puts steps, each of which but the last goes on with the next, behind a text.
+fn put_chain(alloc: Global, text: &mut Vec<u8>) -> Result<(), AllocError> {
+    for step in 1..10_001 {
+        put_numbered(alloc, text, b"[\"rank\",\"linear\",[],[],[],", step, b"],")?;
+    }
+    text.extend_from_slice(b"[\"empty\"]]}")
+}
+
 #[test]
 fn a_chain_of_many_steps_is_accepted(rt: HostRuntime) -> Result<(), Fail> {
     let mut cert = ended(rt.alloc(), b",\"cuts\":[0],\"proof\":[")?;
-    for step in 1..10_001 {
-        cert.extend_from_slice(b"[\"rank\",\"linear\",[],[],[],")?;
-        let next = format!(in rt.alloc(); "{step}")?;
-        cert.extend_from_slice(next.as_bytes())?;
-        cert.extend_from_slice(b"],")?;
-    }
-    cert.extend_from_slice(b"[\"empty\"]]}")?;
+    put_chain(rt.alloc(), &mut cert)?;
     assert!(rt; says(rt.alloc(), &cert, 0, b"ACCEPTED\n")?);
     Ok(())
 }
@@ -91,23 +106,20 @@ fn a_description_is_refused_before_the_certificate(rt: HostRuntime) -> Result<()
 
 #[test]
 fn a_read_that_fails_is_named_in_a_check(rt: HostRuntime) -> Result<(), Fail> {
-    let cert = ended(rt.alloc(), REST)?;
-    let first = checked(rt.alloc(), &cert, DESC, &[0], 100, 100);
-    assert!(rt; errs(first, 5, b"jterm: read c: Failed\n")?);
-    let second = checked(rt.alloc(), &cert, DESC, &[1], 100, 100);
-    assert!(rt; errs(second, 5, b"jterm: read d: Failed\n")?);
-    let third = checked(rt.alloc(), &cert, DESC, &[2], 100, 100);
+    let alloc = rt.alloc();
+    assert!(rt; errs(good(alloc, &[0], 100, 100), 5, b"jterm: read c: Failed\n")?);
+    assert!(rt; errs(good(alloc, &[1], 100, 100), 5, b"jterm: read d: Failed\n")?);
+    let third = good(alloc, &[2], 100, 100);
     assert!(rt; comes_to(third, 5, b"", b"jterm: read a: Failed\n")?);
     Ok(())
 }
 
 // Whether a check whose output has so much room, which is too little, puts as much of its line, and says that it failed.
-fn is_cut(alloc: Global, cert: &[u8], room: usize) -> Result<bool, AllocError>
+fn is_cut(alloc: Global, room: usize) -> Result<bool, AllocError>
     requires { room < 9 }
 {
-    let outcome = checked(alloc, cert, DESC, &[], room, 100);
     comes_to(
-        outcome,
+        good(alloc, &[], room, 100),
         6,
         &b"ACCEPTED\n"[..room],
         b"jterm: write: Failed\n",
@@ -116,22 +128,18 @@ fn is_cut(alloc: Global, cert: &[u8], room: usize) -> Result<bool, AllocError>
 
 #[test]
 fn each_room_below_the_line_of_a_check_takes_a_prefix(rt: HostRuntime) -> Result<(), Fail> {
-    let cert = ended(rt.alloc(), REST)?;
     for room in 0..9 {
-        assert!(rt; is_cut(rt.alloc(), &cert, room)?);
+        assert!(rt; is_cut(rt.alloc(), room)?);
     }
     Ok(())
 }
 
 #[test]
 fn errors_that_are_not_taken_change_no_status_of_a_check(rt: HostRuntime) -> Result<(), Fail> {
-    let refused = checked(rt.alloc(), b"{}", b"{", &[], 100, 0);
-    assert!(rt; has_status(refused, 3)?);
-    let cert = ended(rt.alloc(), REST)?;
-    let unread = checked(rt.alloc(), &cert, DESC, &[1], 100, 7);
-    assert!(rt; has_status(unread, 5)?);
-    let unwritten = checked(rt.alloc(), &cert, DESC, &[], 0, 0);
-    assert!(rt; errs(unwritten, 6, b"")?);
+    let alloc = rt.alloc();
+    assert!(rt; has_status(checked(alloc, b"{}", b"{", &[], 100, 0), 3)?);
+    assert!(rt; has_status(good(alloc, &[1], 100, 7), 5)?);
+    assert!(rt; errs(good(alloc, &[], 0, 0), 6, b"")?);
     Ok(())
 }
 

@@ -1,7 +1,7 @@
 //! What `prove` says.
 use crate::calls::{
     DESC, LISTING, Outcome, assembled, call, comes_to, described, errs, file, gives, has_status,
-    proved, three_files, two_files,
+    proved, put_numbered, put_times, three_files, two_files,
 };
 use std::alloc::{AllocError, Global};
 use std::test::Fail;
@@ -413,10 +413,7 @@ fn a_class_as_a_compiler_writes_it_is_proved(rt: HostRuntime) -> Result<(), Fail
 fn stores(alloc: Global, count: usize) -> Result<Vec<u8>, AllocError> {
     let mut listing = Vec::from_slice(alloc, b"class A\nmethod f ()V static stack 1 locals 513\n")?;
     for local in 0..count {
-        listing.extend_from_slice(b"iconst_0\nistore ")?;
-        let number = format!(in alloc; "{local}")?;
-        listing.extend_from_slice(number.as_bytes())?;
-        listing.extend_from_slice(b"\n")?;
+        put_numbered(alloc, &mut listing, b"iconst_0\nistore ", local, b"\n")?;
     }
     listing.extend_from_slice(b"return\nend\n")?;
     Ok(listing)
@@ -424,11 +421,15 @@ fn stores(alloc: Global, count: usize) -> Result<Vec<u8>, AllocError> {
 
 #[test]
 fn a_513th_int_is_too_many(rt: HostRuntime) -> Result<(), Fail> {
-    let alloc = rt.alloc();
-    let more = stores(alloc, 513)?;
-    assert!(rt; is_maybe(alloc, &more, NO_INT, "4000", b"MAYBE ids\n")?);
-    let most = stores(alloc, 512)?;
-    assert!(rt; is_accepted(alloc, &most, NO_INT)?);
+    let listing = stores(rt.alloc(), 513)?;
+    assert!(rt; is_maybe(rt.alloc(), &listing, NO_INT, "4000", b"MAYBE ids\n")?);
+    Ok(())
+}
+
+#[test]
+fn as_many_as_512_ints_are_not_too_many(rt: HostRuntime) -> Result<(), Fail> {
+    let listing = stores(rt.alloc(), 512)?;
+    assert!(rt; is_accepted(rt.alloc(), &listing, NO_INT)?);
     Ok(())
 }
 
@@ -438,13 +439,9 @@ fn switches(alloc: Global, keys: usize) -> Result<Vec<u8>, AllocError> {
         alloc,
         b"class A\nmethod f (II)V static stack 1 locals 2\nh: iload 0\ntableswitch 0 c",
     )?;
-    for _ in 0..keys {
-        listing.extend_from_slice(b" c")?;
-    }
+    put_times(&mut listing, keys, b" c")?;
     listing.extend_from_slice(b"\nc: iload 1\ntableswitch 0 d")?;
-    for _ in 0..keys {
-        listing.extend_from_slice(b" d")?;
-    }
+    put_times(&mut listing, keys, b" d")?;
     listing.extend_from_slice(b"\nd: goto h\nend\n")?;
     Ok(listing)
 }
@@ -458,45 +455,57 @@ fn more_than_4096_paths_are_too_many(rt: HostRuntime) -> Result<(), Fail> {
     Ok(())
 }
 
-#[test]
-fn each_of_4096_rules_is_left(rt: HostRuntime) -> Result<(), Fail> {
-    let alloc = rt.alloc();
-    let listing = switches(alloc, 62)?;
+// What is said of a component of 4096 rules.
+fn all_rules(alloc: Global) -> Result<Vec<u8>, AllocError> {
     let mut text = Vec::from_slice(alloc, b"MAYBE component\n")?;
     for rule in 0..4096 {
-        let line = format!(in alloc; "rule {rule} A.f(II)V@0 A.f(II)V@0\n")?;
-        text.extend_from_slice(line.as_bytes())?;
+        put_numbered(
+            alloc,
+            &mut text,
+            b"rule ",
+            rule,
+            b" A.f(II)V@0 A.f(II)V@0\n",
+        )?;
     }
-    assert!(rt; is_maybe(alloc, &listing, ANY_TWO, "20000", &text)?);
-    Ok(())
+    Ok(text)
 }
 
 #[test]
-fn states_that_are_left_out_take_no_room(rt: HostRuntime) -> Result<(), Fail> {
-    let alloc = rt.alloc();
+fn each_of_4096_rules_is_left(rt: HostRuntime) -> Result<(), Fail> {
+    let text = all_rules(rt.alloc())?;
+    let listing = switches(rt.alloc(), 62)?;
+    assert!(rt; is_maybe(rt.alloc(), &listing, ANY_TWO, "20000", &text)?);
+    Ok(())
+}
+
+// A method of 255 ints that does nothing 1,900 times.
+fn idle(alloc: Global) -> Result<Vec<u8>, AllocError> {
     let mut listing = Vec::from_slice(alloc, b"class A\nmethod f (")?;
+    put_times(&mut listing, 255, b"I")?;
+    listing.extend_from_slice(b")V static stack 0 locals 255\n")?;
+    put_times(&mut listing, 1900, b"nop\n")?;
+    listing.extend_from_slice(b"return\nend\n")?;
+    Ok(listing)
+}
+
+// A description of a method of 255 ints, each of which may be any.
+fn any_255(alloc: Global) -> Result<Vec<u8>, AllocError> {
     let mut desc = Vec::from_slice(
         alloc,
         b"{\"form\":1,\"class\":\"A\",\"method\":\"f\",\"same\":[],\"share\":[],\"desc\":\"(",
     )?;
-    for _ in 0..255 {
-        listing.push(b'I')?;
-        desc.push(b'I')?;
-    }
-    listing.extend_from_slice(b")V static stack 0 locals 255\n")?;
+    put_times(&mut desc, 255, b"I")?;
     desc.extend_from_slice(b")V\",\"params\":[")?;
-    for place in 0..255 {
-        if place > 0 {
-            desc.push(b',')?;
-        }
-        desc.extend_from_slice(b"{\"lo\":-2147483648,\"hi\":2147483647}")?;
-    }
-    desc.extend_from_slice(b"]}")?;
-    for _ in 0..1900 {
-        listing.extend_from_slice(b"nop\n")?;
-    }
-    listing.extend_from_slice(b"return\nend\n")?;
-    assert!(rt; is_accepted(alloc, &listing, &desc)?);
+    put_times(&mut desc, 254, b"{\"lo\":-2147483648,\"hi\":2147483647},")?;
+    desc.extend_from_slice(b"{\"lo\":-2147483648,\"hi\":2147483647}]}")?;
+    Ok(desc)
+}
+
+#[test]
+fn states_that_are_left_out_take_no_room(rt: HostRuntime) -> Result<(), Fail> {
+    let listing = idle(rt.alloc())?;
+    let desc = any_255(rt.alloc())?;
+    assert!(rt; is_accepted(rt.alloc(), &listing, &desc)?);
     Ok(())
 }
 
@@ -507,15 +516,13 @@ fn heads(alloc: Global, places: usize) -> Result<Vec<u8>, AllocError> {
         alloc,
         b"class A\nmethod f ()V static stack 1 locals 65535\niconst_0\nistore 0\n",
     )?;
-    let mut switch = Vec::from_slice(alloc, b"tableswitch 0 e")?;
     for place in 0..places {
-        let head = format!(in alloc; "h{place}: nop\n")?;
-        listing.extend_from_slice(head.as_bytes())?;
-        let label = format!(in alloc; " h{place}")?;
-        switch.extend_from_slice(label.as_bytes())?;
+        put_numbered(alloc, &mut listing, b"h", place, b": nop\n")?;
     }
-    listing.extend_from_slice(b"iinc 0 1\niload 0\nifge h0\niload 0\n")?;
-    listing.extend_from_slice(&switch)?;
+    listing.extend_from_slice(b"iinc 0 1\niload 0\nifge h0\niload 0\ntableswitch 0 e")?;
+    for place in 0..places {
+        put_numbered(alloc, &mut listing, b" h", place, b"")?;
+    }
     listing.extend_from_slice(b"\ne: return\nend\n")?;
     Ok(listing)
 }
