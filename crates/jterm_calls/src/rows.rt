@@ -1,5 +1,5 @@
 //! Words, files, listings and runs.
-use crate::calls::{LISTING, STATE, assembled, call, comes_to, errs, gives, has_status, ran};
+use crate::calls::{LISTING, STATE, assembled, comes_to, errs, gives, has_status, ran};
 use std::test::Fail;
 
 #[test]
@@ -11,10 +11,8 @@ fn a_faulty_line_of_a_listing_is_named(rt: HostRuntime) -> Result<(), Fail> {
 
 #[test]
 fn a_file_past_its_limit_is_named(rt: HostRuntime) -> Result<(), Fail> {
-    let mut held = Vec::new(rt.alloc());
     let listing = vec![in rt.alloc(); b' '; 1_048_577]?;
-    held.push((String::from_str(rt.alloc(), "a.listing")?, listing))?;
-    let outcome = call(rt.alloc(), &["asm", "a.listing"], held, &[], 100);
+    let outcome = assembled(rt.alloc(), &listing);
     assert!(rt; errs(outcome, 5, b"jterm: read a.listing: TooLong\n")?);
     Ok(())
 }
