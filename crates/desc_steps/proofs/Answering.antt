@@ -1,6 +1,6 @@
 -- From what each step says to the answer.
 use Rattle.std.proofs.Common.{◌≡◌, ◌∙◌, ◌⊎◌, ℕ, List, Result, Ok, Err, inl, inr, refl, sym, ap, subst}
-use Rattle.std.specs.Prelude.{IfOk, IsTrue}
+use Rattle.std.specs.Prelude.{IfOk, IfErr, IsTrue}
 use Rattle.std.specs.List.{list_all}
 use Rattle.class_base.specs.ClassNames.{is_class_name}
 use Rattle.class_read.specs.Content.{ClassContent}
@@ -13,6 +13,7 @@ use Rattle.frame_types.specs.Tables.{CodeTypes}
 use Rattle.code_verify.specs.Typings.{IsTypingOf, typing_at}
 use Rattle.input_text.specs.declared.texts.DescText.{DescText}
 use Rattle.input_desc.specs.declared.desc.Desc.{Desc}
+use Rattle.input_desc.specs.Descs.{IsOwnDesc, IsGoodDesc}
 use Rattle.input_desc.specs.Entries.{entry_of}
 use Rattle.input_steps.specs.declared.refused.Refused.{Refused}
 use Rattle.input_steps.specs.declared.refused.Refused.TheVariants.{At, Memory}
@@ -25,7 +26,7 @@ use Rattle.input_steps.proofs.Steps.{then_refused, then_goes}
 use Rattle.desc_steps.specs.declared.given.DescribedProgram.{DescribedProgram}
 use Rattle.desc_steps.specs.Answers.{OfInputs, OfProgram, OfEntry, OfClasses, OfFiles}
 use Rattle.desc_steps.specs.Descriptions.{IsDescText, RefusesText, RefusesEntry, IsDesc, RefusesDesc}
-use Rattle.desc_steps.specs.Given.{IsGiven}
+use Rattle.desc_steps.specs.Given.{IsGiven, IsIntDesc}
 use Rattle.desc_steps.specs.Headline.{NameProgram, AllFittingEnd, AllEnd}
 use Rattle.desc_steps.specs.Ints.{IsIntProgram, RefusesOthers, not_built}
 use Rattle.desc_steps.specs.Names.{names_of}
@@ -65,6 +66,16 @@ module _ (text : DescText) (p : Program) where
   others_refused typing desc a t d none =
       desc_good typing desc (Err not_built) a t d
       (then_refused {A = Unit {0}} (λ nothing. IsIntProgram p) (RefusesOthers p) (λ nothing. IsGiven p typing desc) not_built (record { cause = tt; place_is = refl; fault_is = refl; holds = none }))
+
+-- what is given where a program is tested for ints alone
+pub ints_given : (text : DescText) (p : Program) (desc : Desc) (result : Result Desc Refused) → IsDesc p text desc → IsOwnDesc p desc → IsGoodDesc p desc → IfOk result (λ given. (given ≡ desc) × IsIntProgram p) → IfOk result (IsIntDesc p text)
+ints_given text p desc (Ok given) d own good h = subst (IsIntDesc p text) (sym h.0) (record { described = d; own = own; good = good; ints = h.1 })
+ints_given text p desc (Err refused) d own good h = tt
+
+pub ints_refused : (text : DescText) (p : Program) (desc : Desc) (result : Result Desc Refused) → IsDesc p text desc → IfErr result (λ refused. (refused ≡ not_built) × (IsIntProgram p → ⊥))
+    → IfErr result (λ refused. (typing : ℕ → CodeTypes) → IsAcyclic p → IsTypingOf p typing → OfProgram IsGiven text p (Err refused))
+ints_refused text p desc (Ok given) d h = tt
+ints_refused text p desc (Err refused) d h = λ typing a t. subst (λ (r : Refused). OfProgram IsGiven text p (Err r)) (sym h.0) (others_refused text p typing desc a t d h.1)
 
 -- all steps give something
 pub program_given : (text : DescText) (given : DescribedProgram) → IsAcyclic (program_of given.program) → IsTypingOf (program_of given.program) (typing_at given.typing) → IsDesc (program_of given.program) text given.desc → IsIntProgram (program_of given.program)

@@ -4,12 +4,17 @@ use Rattle.class_program.specs.Programs.{Program}
 use Rattle.class_program.specs.Views.{program_of}
 use Rattle.frame_types.specs.Tables.{CodeTypes}
 use Rattle.code_verify.specs.Typings.{IsTypingOf, typing_at}
+use Rattle.input_text.specs.declared.texts.DescText.{DescText}
 use Rattle.input_desc.specs.declared.desc.Desc.{Desc}
 use Rattle.input_desc.specs.Descs.{IsOwnDesc, IsGoodDesc}
 use Rattle.input_steps.specs.declared.refused.Refused.{Refused}
 use Rattle.input_steps.specs.declared.refused.Refused.TheVariants.{At, Memory}
+use Rattle.input_steps.specs.Programs.{IsAcyclic}
 use Rattle.abs_expand.specs.IntForms.{HasIntForms}
 use Rattle.desc_steps.specs.declared.given.DescribedProgram.{DescribedProgram}
+use Rattle.desc_steps.specs.declared.given.TypedDesc.{TypedDesc}
+use Rattle.desc_steps.specs.Descriptions.{IsDesc}
+use Rattle.desc_steps.specs.Ints.{IsIntProgram}
 
 -- it is given, with its typing and what is described
 abbrev pub IsGiven : Program → (ℕ → CodeTypes) → Desc → Result DescribedProgram Refused → Type 0
@@ -23,3 +28,16 @@ pub record IsReady (given : DescribedProgram) : Type 0 where
   pub typing : IsTypingOf (program_of given.program) (typing_at given.typing)
   pub own : IsOwnDesc (program_of given.program) given.desc
   pub good : IsGoodDesc (program_of given.program) given.desc
+
+-- it is described of the inputs of a program about ints alone
+pub record IsIntDesc (p : Program) (text : DescText) (desc : Desc) : Type 0 where
+  pub described : IsDesc p text desc
+  pub own : IsOwnDesc p desc
+  pub good : IsGoodDesc p desc
+  pub ints : IsIntProgram p
+
+-- the program's calls have no cycle, its places have these types, and it is about ints alone, its inputs described so
+pub record IsTyped (p : Program) (text : DescText) (typed : TypedDesc) : Type 0 where
+  pub acyclic : IsAcyclic p
+  pub typing : IsTypingOf p (typing_at typed.typing)
+  pub desc : IsIntDesc p text typed.desc

@@ -1,14 +1,18 @@
 //! From bytes to a program about ints whose inputs are described.
-ghost use Rattle.std.specs.Prelude.{◌≡◌, ◌≤◌, length, map, IfOk, IsTrue};
+ghost use Rattle.std.specs.Prelude.{◌≡◌, ◌≤◌, ℕ, length, map, Err, IfOk, IfErr, IsTrue};
 ghost use Rattle.std.specs.List.{AllByRecursion, list_all};
 ghost use Rattle.class_base.specs.ClassNames.{is_class_name};
 ghost use Rattle.class_world.specs.Linking.{CanBeRead};
 ghost use Rattle.class_world.specs.Resolve.{has_body};
 ghost use Rattle.class_world.specs.Worlds.{classes_of};
 ghost use Rattle.class_program.specs.Views.{program_of};
+ghost use Rattle.code_verify.specs.Typings.{IsTypingOf, typing_at};
+ghost use Rattle.frame_types.specs.Tables.{CodeTypes};
+ghost use Rattle.input_steps.specs.Programs.{IsAcyclic};
 ghost use Rattle.desc_steps.specs.Answers.{OfProgram, OfEntry, OfClasses, OfFiles};
-ghost use Rattle.desc_steps.specs.Given.{IsGiven, IsReady};
+ghost use Rattle.desc_steps.specs.Given.{IsGiven, IsIntDesc, IsReady, IsTyped};
 ghost use Rattle.desc_steps.specs.Headline.{NameProgram};
+ghost use Rattle.desc_steps.specs.Ints.{IsIntProgram, not_built};
 ghost use Rattle.desc_steps.specs.Names.{names_of};
 
 use crate::description::{described, entry_of, read_desc};
@@ -33,7 +37,81 @@ pub struct DescribedProgram<'a> {
     pub desc: Desc,
 }
 
+/// The types of a program's places, and what is described of its inputs.
+#[derive(Drop)]
+pub(crate) struct TypedDesc {
+    pub(crate) typing: Typing,
+    pub(crate) desc: Desc,
+}
+
+/// What is described of a program's inputs, where the program is about ints alone.
+fn ints_alone(program: &Program<'_>, desc: Desc) -> Result<Desc, Refused>
+    ensures given { IfOk result (λ given. (given ≡ desc) × IsIntProgram (program_of program.now)) }
+    ensures refused { IfErr result (λ refused. (refused ≡ not_built) × (IsIntProgram (program_of program.now) → ⊥)) }
+{
+    if is_int_program(program) {
+        Ok(desc)
+    } else {
+        Err(not_built())
+    }
+}
+
+/// What a description says of the inputs of a program about ints alone.
+#[tactic(auto, using(crate::proofs::Answering::desc_is_refused, crate::proofs::Answering::ints_given))]
+fn int_desc(alloc: Global, text: DescText, program: &Program<'_>) -> Result<Desc, Refused>
+    ensures given { IfOk result (λ desc. IsIntDesc (program_of program.now) text desc) }
+    ensures refused { IfErr result (λ refused. (typing : ℕ → CodeTypes) → IsAcyclic (program_of program.now) → IsTypingOf (program_of program.now) typing → OfProgram IsGiven text (program_of program.now) (Err refused)) }
+{
+    match described(alloc, program, text) {
+        Ok(desc) => ints_alone(program, desc),
+        Err(refused) => Err(refused),
+    }
+}
+
+/// The types of the places of a program whose calls have no cycle.
+#[tactic(auto, using(crate::proofs::Answering::calls_refused, crate::proofs::Answering::types_refused))]
+fn typing_of(alloc: Global, program: &Program<'_>) -> Result<Typing, Refused>
+    ensures acyclic { IfOk result (λ _. IsAcyclic (program_of program.now)) }
+    ensures typing { IfOk result (λ typing. IsTypingOf (program_of program.now) (typing_at typing)) }
+    ensures refused { IfErr result (λ refused. (text : DescText) → OfProgram IsGiven text (program_of program.now) (Err refused)) }
+{
+    match test_calls(alloc, program) {
+        Ok(()) => typings(alloc, program),
+        Err(refused) => Err(refused),
+    }
+}
+
+/// A typing, with what is described of its program's inputs.
+fn with_typing(
+    alloc: Global,
+    text: DescText,
+    program: &Program<'_>,
+    typing: Typing,
+) -> Result<TypedDesc, Refused>
+    requires acyclic { IsAcyclic (program_of program.now) }
+    requires typing { IsTypingOf (program_of program.now) (typing_at typing) }
+    ensures given { IfOk result (λ typed. IsTyped (program_of program.now) text typed) }
+    ensures refused { IfErr result (λ refused. OfProgram IsGiven text (program_of program.now) (Err refused)) }
+{
+    match int_desc(alloc, text, program) {
+        Ok(desc) => Ok(TypedDesc { typing, desc }),
+        Err(refused) => Err(refused),
+    }
+}
+
+/// The types of a program's places, and what a description says of its inputs.
+fn typed_desc(alloc: Global, text: DescText, program: &Program<'_>) -> Result<TypedDesc, Refused>
+    ensures given { IfOk result (λ typed. IsTyped (program_of program.now) text typed) }
+    ensures refused { IfErr result (λ refused. OfProgram IsGiven text (program_of program.now) (Err refused)) }
+{
+    match typing_of(alloc, program) {
+        Ok(typing) => with_typing(alloc, text, program, typing),
+        Err(refused) => Err(refused),
+    }
+}
+
 /// A program that a description names, with what is described of its inputs.
+#[tactic(auto, using(crate::proofs::Answering::program_given, crate::proofs::IntForms::int_forms))]
 fn of_program(
     alloc: Global,
     text: DescText,
@@ -42,26 +120,14 @@ fn of_program(
     ensures answers { OfProgram IsGiven text (program_of program.entry) result }
     ensures ready { IfOk result IsReady }
 {
-    match test_calls(alloc, &program) {
-        Ok(()) => {}
-        Err(refused) => return Err(refused),
+    match typed_desc(alloc, text, &program) {
+        Ok(typed) => Ok(DescribedProgram {
+            program,
+            typing: typed.typing,
+            desc: typed.desc,
+        }),
+        Err(refused) => Err(refused),
     }
-    let typing = match typings(alloc, &program) {
-        Ok(typing) => typing,
-        Err(refused) => return Err(refused),
-    };
-    let desc = match described(alloc, &program, text) {
-        Ok(desc) => desc,
-        Err(refused) => return Err(refused),
-    };
-    if !is_int_program(&program) {
-        return Err(not_built());
-    }
-    Ok(DescribedProgram {
-        program,
-        typing,
-        desc,
-    })
 }
 
 /// The program of an entry.
