@@ -9,10 +9,12 @@ ghost use Rattle.frame_types.specs.Tables.{CodeTypes};
 ghost use Rattle.abs_expand.specs.IntForms.{HasIntForms};
 ghost use Rattle.input_desc.specs.Descs.{IsGoodDesc};
 ghost use Rattle.input_desc.specs.Initial.{initial_of};
+ghost use Rattle.graph_build.specs.Answers.{BuildsOr};
 ghost use Rattle.graph_check.specs.Conditions.{HasIntStates};
 ghost use Rattle.graph_check.specs.Good.{GraphOk};
 ghost use Rattle.rank_search.specs.Graphs.{ArePlainRules};
 ghost use Rattle.path_rules.specs.Answers.{Answers as PathAnswers};
+ghost use Rattle.prove_core.specs.Growth.{growth_of};
 ghost use Rattle.prove_core.specs.Reasons.{IsWhole};
 ghost use Rattle.prove_core.specs.Answers.{SearchesOr};
 ghost use Rattle.prove_core.specs.Words.{aim_of, IsGrownGraph};
@@ -30,7 +32,7 @@ use chain_proofs::{Proved, prove};
 use class_program::Program;
 use code_verify::Typing;
 use descent::PathRule;
-use graph_build::{Built, build};
+use graph_build::{BuildFault, Built, build};
 use graph_check::check_graph;
 use input_desc::{Desc, initial};
 use int_links::{has_short_increments, int_links_fit};
@@ -149,6 +151,50 @@ fn of_graph<P: Pairs>(
     }
 }
 
+/// What is found by a graph with no open node that grew from a description's initial state.
+fn of_closed<P: Pairs>(
+    alloc: Global,
+    program: &Program<'_>,
+    typing: &Typing,
+    desc: &Desc,
+    names: &ClassNames,
+    graph: Graph<P>,
+) -> Result<Found<P>, SearchFault>
+    requires forms { HasIntForms (program_of program.now) }
+    requires good { IsGoodDesc (program_of program.now) desc.now }
+    requires names { IsTrue (list_all is_class_name names.now) }
+    requires grown { IsGrownGraph (aim_of (program_of program.now) (typing_at typing.now) (initial_of (program_of program.now) desc.now)) graph }
+    requires few { length graph ≤ 20000 }
+    ensures { (limit : ℕ) → length graph ≤ limit → SearchesOr (aim_of (program_of program.now) (typing_at typing.now) (initial_of (program_of program.now) desc.now)) names.now limit result }
+{
+    let root = initial(alloc, desc, program)?;
+    of_graph(alloc, program, typing, &root, names, graph)
+}
+
+/// The graph that grows from a state, up to a limit of nodes.
+fn grown<P: Pairs>(
+    alloc: Global,
+    program: &Program<'_>,
+    typing: &Typing,
+    first: AbsState<P>,
+    limit: u32,
+) -> Result<Built<P>, BuildFault>
+    requires forms { HasIntForms (program_of program.now) }
+    requires positive { 1 ≤ limit }
+    requires small { limit ≤ 20000 }
+    ensures { BuildsOr (growth_of (program_of program.now) (typing_at typing.now)) first limit result }
+{
+    if !is_growing(program, typing, &first) {
+        return Err(BuildFault::Memory);
+    }
+    let mut grower = IntGrower {
+        program,
+        typing,
+        marks: Marks::new(alloc)?,
+    };
+    build(alloc, &mut grower, first, limit)
+}
+
 /// A certificate that every run of a program about ints ends which begins with a state that a description fits; or why none is given.
 /// The graph is grown up to a limit of nodes, from 1 to 20,000. The names are those of the world's classes, in the order of their numbers.
 ///
@@ -171,18 +217,9 @@ pub fn search<P: Pairs>(
     requires small { limit ≤ 20000 }
     ensures { SearchesOr (aim_of (program_of program.now) (typing_at typing.now) (initial_of (program_of program.now) desc.now)) names.now limit result }
 {
-    let root = initial(alloc, desc, program)?;
     let first = initial(alloc, desc, program)?;
-    if !is_growing(program, typing, &first) {
-        return Err(SearchFault::Memory);
-    }
-    let mut grower = IntGrower {
-        program,
-        typing,
-        marks: Marks::new(alloc)?,
-    };
-    match build(alloc, &mut grower, first, limit) {
-        Ok(Built::Closed(graph)) => of_graph(alloc, program, typing, &root, names, graph),
+    match grown(alloc, program, typing, first, limit) {
+        Ok(Built::Closed(graph)) => of_closed(alloc, program, typing, desc, names, graph),
         Ok(Built::Nodes(graph)) => Ok(Found::Maybe(Reason::Nodes(graph))),
         Ok(Built::Ids(graph)) => Ok(Found::Maybe(Reason::Ids(graph))),
         Err(_fault) => Err(SearchFault::Memory),
