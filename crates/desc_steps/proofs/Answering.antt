@@ -26,7 +26,7 @@ use Rattle.input_steps.proofs.Steps.{then_refused, then_goes}
 use Rattle.desc_steps.specs.declared.given.DescribedProgram.{DescribedProgram}
 use Rattle.desc_steps.specs.Answers.{OfInputs, OfProgram, OfEntry, OfClasses, OfFiles}
 use Rattle.desc_steps.specs.Descriptions.{IsDescText, RefusesText, RefusesEntry, IsDesc, RefusesDesc}
-use Rattle.desc_steps.specs.Given.{IsGiven, IsIntDesc}
+use Rattle.desc_steps.specs.Given.{IsGiven, IsIntDesc, OfWorld}
 use Rattle.desc_steps.specs.Headline.{NameProgram, AllFittingEnd, AllEnd}
 use Rattle.desc_steps.specs.Ints.{IsIntProgram, RefusesOthers, not_built}
 use Rattle.desc_steps.specs.Names.{names_of}
@@ -100,19 +100,17 @@ module _ (text : DescText) where
   abbrev IsNamed : World → MethodRef → Type 0
   IsNamed world entry = entry_of world text.entry ≡ Ok entry
 
-  abbrev WithEntry : World → Given → Type 0
-  WithEntry world = Then (IsNamed world) (RefusesEntry world text) (OfEntry IsGiven text world)
-
   pub world_refused : (classes : List ClassContent) (refused : Refused) → IsCaused (RefusesWorld classes) refused → OfClasses IsGiven text classes (Err refused)
-  world_refused classes refused h = then_refused (IsWorldOf classes) (RefusesWorld classes) WithEntry refused h
+  world_refused classes refused h = then_refused (IsWorldOf classes) (RefusesWorld classes) (OfWorld text) refused h
 
-  pub entry_is_refused : (classes : List ClassContent) (world : World) (refused : Refused) → IsWorldOf classes world → IsCaused (RefusesEntry world text) refused → OfClasses IsGiven text classes (Err refused)
-  entry_is_refused classes world refused w h =
-      then_goes (IsWorldOf classes) (RefusesWorld classes) WithEntry world (Err refused) w (then_refused (IsNamed world) (RefusesEntry world text) (OfEntry IsGiven text world) refused h)
+  pub entry_is_refused : (world : World) (refused : Refused) → IsCaused (RefusesEntry world text) refused → OfWorld text world (Err refused)
+  entry_is_refused world refused h = then_refused (IsNamed world) (RefusesEntry world text) (OfEntry IsGiven text world) refused h
 
-  pub named_goes : (classes : List ClassContent) (world : World) (entry : MethodRef) (result : Given) → IsWorldOf classes world → entry_of world text.entry ≡ Ok entry → OfEntry IsGiven text world entry result → OfClasses IsGiven text classes result
-  named_goes classes world entry result w e h =
-      then_goes (IsWorldOf classes) (RefusesWorld classes) WithEntry world result w (then_goes (IsNamed world) (RefusesEntry world text) (OfEntry IsGiven text world) entry result e h)
+  pub named_goes : (world : World) (entry : MethodRef) (result : Given) → entry_of world text.entry ≡ Ok entry → OfEntry IsGiven text world entry result → OfWorld text world result
+  named_goes world entry result e h = then_goes (IsNamed world) (RefusesEntry world text) (OfEntry IsGiven text world) entry result e h
+
+  pub world_goes : (classes : List ClassContent) (world : World) (result : Given) → IsWorldOf classes world → OfWorld text world result → OfClasses IsGiven text classes result
+  world_goes classes world result w h = then_goes (IsWorldOf classes) (RefusesWorld classes) (OfWorld text) world result w h
 
 -- ---- files
 

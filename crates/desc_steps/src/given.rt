@@ -10,7 +10,7 @@ ghost use Rattle.code_verify.specs.Typings.{IsTypingOf, typing_at};
 ghost use Rattle.frame_types.specs.Tables.{CodeTypes};
 ghost use Rattle.input_steps.specs.Programs.{IsAcyclic};
 ghost use Rattle.desc_steps.specs.Answers.{OfProgram, OfEntry, OfClasses, OfFiles};
-ghost use Rattle.desc_steps.specs.Given.{IsGiven, IsIntDesc, IsReady, IsTyped};
+ghost use Rattle.desc_steps.specs.Given.{IsGiven, IsIntDesc, IsReady, IsTyped, OfWorld};
 ghost use Rattle.desc_steps.specs.Headline.{NameProgram};
 ghost use Rattle.desc_steps.specs.Ints.{IsIntProgram, not_built};
 ghost use Rattle.desc_steps.specs.Names.{names_of};
@@ -147,6 +147,21 @@ fn of_entry(
     }
 }
 
+/// The program of the entry that a description names in a world.
+fn of_world(
+    alloc: Global,
+    text: DescText,
+    world: World<'_>,
+) -> Result<DescribedProgram<'_>, Refused>
+    ensures answers { OfWorld text (classes_of world.entry) result }
+    ensures ready { IfOk result IsReady }
+{
+    match entry_of(&world, &text) {
+        Ok(entry) => of_entry(alloc, text, world, entry),
+        Err(refused) => Err(refused),
+    }
+}
+
 /// The program of the entry that a description names among classes.
 fn of_classes(
     alloc: Global,
@@ -158,12 +173,8 @@ fn of_classes(
     ensures answers { OfClasses IsGiven text classes.entry.items result }
     ensures ready { IfOk result IsReady }
 {
-    let world = match link(alloc, classes) {
-        Ok(world) => world,
-        Err(refused) => return Err(refused),
-    };
-    match entry_of(&world, &text) {
-        Ok(entry) => of_entry(alloc, text, world, entry),
+    match link(alloc, classes) {
+        Ok(world) => of_world(alloc, text, world),
         Err(refused) => Err(refused),
     }
 }
