@@ -1,2 +1,11 @@
+pub mod Children
+pub mod Graphs
+pub mod Matching
+pub mod Nodes
+pub mod Numbers
 pub mod OneAnswer
+pub mod Paths
+pub mod Rules
 pub mod Saying
+pub mod Steady
+pub mod Verdicts

@@ -9,8 +9,10 @@ mod causes;
 mod certs;
 mod laws;
 mod outcome;
+mod verdicts;
 
 pub use call::check_line;
 pub use certs::refuse_text;
 pub use laws::answers_are_one;
 pub use outcome::Outcome;
+pub use verdicts::verdicts_are_one;

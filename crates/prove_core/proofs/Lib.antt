@@ -1,6 +1,16 @@
 mod Beginning
+mod Close
+mod Collected
+mod Counted
+mod Ends
 mod Giving
+mod Good
 mod Grown
+mod Plain
 mod Readying
+mod RuleRows
+mod ShortCases
+mod ShortLinks
+mod ShortTurns
 mod Standing
 mod Targets

@@ -21,7 +21,7 @@ use Rattle.descent.specs.Conditions.{AreRules}
 use Rattle.descent.specs.declared.proof.ProofStep.{ProofStep}
 use Rattle.descent.specs.declared.rules.PathRule.{PathRule}
 use Rattle.path_rules.specs.Answers.{Answers as PathAnswers}
-use Rattle.plain_rules.specs.Laws.{GoodGraphRulesArePlain}
+use Rattle.prove_core.specs.PlainRules.{GoodGraphRulesArePlain}
 use Rattle.rank_search.specs.Graphs.{ArePlainRules}
 use Rattle.path_rules.specs.declared.fault.PathFault.TheVariants.{TooManyPaths, TooManyRows}
 use Rattle.prove_core.specs.Cuts.{AreTargets}

@@ -9,9 +9,13 @@ mod finding;
 mod found;
 mod grower;
 mod heads;
+mod plain_rules;
 mod searching;
 mod states;
 
 pub use chain_proofs::LeftRule;
 pub use found::{Cert, Found, Reason, SearchFault};
+pub use plain_rules::{
+    good_graph_rules_are_plain, links_are_short, path_rules_are_plain, some_rules_are_plain,
+};
 pub use searching::search;

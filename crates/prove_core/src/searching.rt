@@ -23,6 +23,7 @@ use crate::cutting::cuts_of;
 use crate::finding::given;
 use crate::found::{Cert, Found, Reason, SearchFault};
 use crate::grower::IntGrower;
+use crate::plain_rules::good_graph_rules_are_plain;
 use crate::states::is_growing;
 use abs_cells::{AbsState, Pairs};
 use abs_expand::is_int_state;
@@ -38,7 +39,6 @@ use input_desc::{Desc, initial};
 use int_links::{has_short_increments, int_links_fit};
 use list_views::Seq;
 use path_rules::{PathFault, paths};
-use plain_rules::good_graph_rules_are_plain;
 use std::alloc::Global;
 use term_graph::{Graph, Links};
 

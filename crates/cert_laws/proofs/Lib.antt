@@ -1,9 +1,0 @@
-pub mod Children
-pub mod Graphs
-pub mod Matching
-pub mod Nodes
-pub mod Numbers
-pub mod Paths
-pub mod Rules
-pub mod Steady
-pub mod Verdicts

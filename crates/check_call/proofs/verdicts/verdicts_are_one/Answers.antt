@@ -1,0 +1,5 @@
+use Rattle.check_call.proofs.Verdicts.{verdicts_one}
+use Rattle.check_call.proofs.verdicts.verdicts_are_one.Goals as goal
+
+pub returns : goal.returns
+returns c = verdicts_one

@@ -1,0 +1,8 @@
+//! The law of verdicts. It is a call that does nothing when it runs.
+ghost use Rattle.check_call.specs.OneVerdict.{VerdictsAreOne};
+
+/// A certificate is valid, or it has one first item that fails, with one cause, and never both: for programs whose instructions are about
+/// ints alone, and graphs each of whose states that has an expansion is one of ints.
+pub fn verdicts_are_one()
+    ensures { VerdictsAreOne }
+{}

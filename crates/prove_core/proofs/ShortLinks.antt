@@ -1,0 +1,130 @@
+-- The links of expansions have short equations.
+use Rattle.std.proofs.Common.{◌≡◌, ℕ, List, [], ◌∷◌, Option, Some, None, sym, subst}
+use Rattle.std.specs.Prelude.{filter, slice_get}
+use Rattle.std.specs.List.{AllByRecursion, AllZip, find}
+use Rattle.std.specs.Option.{option_map_or}
+use Rattle.std.proofs.lemmas.List.Elements.{All-from_recursion}
+use Rattle.jvm_values.specs.declared.types.Ty.{Ty}
+use Rattle.jvm_values.specs.declared.typing.PlaceType.TheVariants as places
+use Rattle.jvm_values.specs.States.{PlaceTypes}
+use Rattle.jvm_values.specs.Subtyping.{class_type}
+use Rattle.jvm_values.specs.TypedHeaps.{WorldTypes}
+use Rattle.abs_cells.specs.declared.cells.Cell.{Cell}
+use Rattle.abs_cells.specs.declared.cells.Cell.TheVariants as cells
+use Rattle.abs_cells.specs.AbstractStates.{AbstractFrame, AbstractState}
+use Rattle.abs_cells.specs.Cells.{cell_at}
+use Rattle.class_world.specs.BuiltIns.{throwable}
+use Rattle.class_world.specs.WorldTypes.{types_of}
+use Rattle.class_program.specs.declared.program.CatchRange.{CatchRange}
+use Rattle.class_program.specs.declared.op.Op.{Op}
+use Rattle.class_program.specs.declared.program.Method.{Method}
+use Rattle.class_program.specs.Programs.{Program, insn_at}
+use Rattle.code_verify.specs.Flows.{covers}
+use Rattle.op_forms.specs.Forms.{Form, form_of}
+use Rattle.frame_types.specs.Tables.{CodeTypes}
+use Rattle.term_graph.specs.declared.links.Link.{Link}
+use Rattle.term_graph.specs.Graphs.{GraphChild}
+use Rattle.abs_heap.specs.Refining.{IsCase, cases_of}
+use Rattle.abs_expand.specs.Children.{IsTurnChild, IsLean}
+use Rattle.abs_expand.specs.Expansions.{plan_here, plan_in, plan_of, stays, IsSplitChild, AreNullChildren, AreClassChildren, AreChildren}
+use Rattle.abs_expand.specs.Needs.{Passing, passes, fails, splits, passing_id, split_below}
+use Rattle.abs_expand.specs.Plans.{Turn, Plan, ends, steps, by_null, by_class, by_equal}
+use Rattle.abs_expand.specs.Throwing.{takes, handled, is_open, caught_plan, if_passes, throwing_plan}
+use Rattle.prove_core.specs.ShortLinks.{IsShortRow, IsShortLink}
+use Rattle.prove_core.specs.PlainRules.{LinksAreShort}
+use Rattle.prove_core.proofs.ShortTurns.{IsShortTurn, IsShortPlan, either, form_short, split_short}
+
+-- ---- the plan of a state
+
+handled_short : (x : ℕ) (frame : AbstractFrame) (below : List AbstractFrame) (range : Option CatchRange) → IsShortPlan (handled x frame below range)
+handled_short x frame below (Some range) = (λ fresh. tt, tt)
+handled_short x frame [] None = tt
+handled_short x frame (caller ∷ below) None = (λ fresh. tt, tt)
+
+caught_short : (types : WorldTypes) (state : AbstractState) (x : ℕ) (frame : AbstractFrame) (below : List AbstractFrame) (ranges : List CatchRange) → IsShortPlan (caught_plan types state x frame below ranges)
+caught_short types state x frame below ranges =
+    either IsShortPlan (is_open types state x ranges) (split_below state x (places.Ref (class_type throwable))) (handled x frame below (find (takes types state x) ranges))
+    (split_short state x (places.Ref (class_type throwable))) (handled_short x frame below (find (takes types state x) ranges))
+
+passing_short : (passing : Passing) (plan : Plan) → IsShortPlan plan → IsShortPlan (if_passes passing plan)
+passing_short passes plan h = h
+passing_short fails plan h = tt
+passing_short splits plan h = tt
+
+throwing_short : (types : WorldTypes) (state : AbstractState) (x : ℕ) (frame : AbstractFrame) (below : List AbstractFrame) (table : List CatchRange) → IsShortPlan (throwing_plan types state x frame below table)
+throwing_short types state x frame below table =
+    passing_short (passing_id types state (places.Ref (class_type throwable)) x) (caught_plan types state x frame below (filter (covers frame.pc) table)) (caught_short types state x frame below (filter (covers frame.pc) table))
+
+here_short : (p : Program) (typing : ℕ → CodeTypes) (state : AbstractState) (frame : AbstractFrame) (below : List AbstractFrame) (form : Option Form) (next : Option ℕ) (there : Option PlaceTypes) → IsShortPlan (plan_here p typing state frame below form next there)
+here_short p typing state frame below None next there = tt
+here_short p typing state frame below (Some form) next None = tt
+here_short p typing state frame below (Some form) next (Some there) = form_short (record { program = p; state = state; frame = frame; below = below; places = there.stack; next = option_map_or (λ (place : ℕ). place) next frame.pc }) form
+
+in_short : (p : Program) (typing : ℕ → CodeTypes) (state : AbstractState) (thrown : Option ℕ) (frames : List AbstractFrame) → IsShortPlan (plan_in p typing state thrown frames)
+in_short p typing state None [] = tt
+in_short p typing state (Some x) [] = tt
+in_short p typing state (Some x) (frame ∷ below) = throwing_short (types_of p.world) state x frame below (option_map_or (λ (m : Method). m.table) (slice_get p.methods frame.method) [])
+in_short p typing state None (frame ∷ below) =
+    here_short p typing state frame below (option_map_or (λ (found : Op × Option ℕ). form_of found.0) (insn_at p.methods frame.method frame.pc) None) (option_map_or (λ (found : Op × Option ℕ). found.1) (insn_at p.methods frame.method frame.pc) None) (typing frame.method frame.pc)
+
+-- ---- children
+
+abbrev AreShort : List GraphChild → Type 0
+AreShort children = AllByRecursion (λ (child : GraphChild). IsShortLink child.link) children
+
+stays_short : (merged : Option (ℕ × ℕ)) (link : Link) → link ≡ stays merged → IsShortLink link
+stays_short merged link e = subst IsShortLink (sym e) (All-from_recursion IsShortRow [] tt)
+
+turns_short : (types : WorldTypes) (state : AbstractState) (turns : List Turn) (children : List GraphChild) → AllByRecursion IsShortTurn turns → AllZip (IsTurnChild types state) turns children → AreShort children
+turns_short types state [] [] short are = tt
+turns_short types state [] (child ∷ children) short are = absurd are
+turns_short types state (turn ∷ turns) [] short are = absurd are
+turns_short types state (turn ∷ turns) (child ∷ children) short are = (
+  subst IsShortLink (sym are.0.link) (All-from_recursion IsShortRow (turn.rows are.0.id) (short.0 are.0.id)),
+  turns_short types state turns children short.1 are.1,
+)
+
+null_short : (state : AbstractState) (x : ℕ) (cell : Option Cell) (children : List GraphChild) → AreNullChildren state x cell children → AreShort children
+null_short state x None children are = absurd are
+null_short state x (Some (cells.Int interval)) children are = absurd are
+null_short state x (Some cells.Null) children are = absurd are
+null_short state x (Some (cells.Obj class ids)) children are = absurd are
+null_short state x (Some (cells.Nums kind len)) children are = absurd are
+null_short state x (Some (cells.Refs element len shape)) children are = absurd are
+null_short state x (Some (cells.Unk bound nullable shape)) [] are = absurd are
+null_short state x (Some (cells.Unk bound nullable shape)) (first ∷ []) are = absurd are
+null_short state x (Some (cells.Unk bound nullable shape)) (first ∷ second ∷ []) are = (stays_short None first.link are.0.link, (stays_short None second.link are.1.link, tt))
+null_short state x (Some (cells.Unk bound nullable shape)) (first ∷ second ∷ third ∷ rest) are = absurd are
+
+zip_short : {A : Type 0} (R : A → GraphChild → Type 0) (xs : List A) (children : List GraphChild) → ((x : A) (child : GraphChild) → R x child → IsShortLink child.link) → AllZip R xs children → AreShort children
+zip_short R [] [] h are = tt
+zip_short R [] (child ∷ children) h are = absurd are
+zip_short R (x ∷ xs) [] h are = absurd are
+zip_short R (x ∷ xs) (child ∷ children) h are = (h x child are.0, zip_short R xs children h are.1)
+
+class_short : (types : WorldTypes) (state : AbstractState) (x : ℕ) (wanted : Ty) (cell : Option Cell) (children : List GraphChild) → AreClassChildren types state x wanted cell children → AreShort children
+class_short types state x wanted None children are = absurd are
+class_short types state x wanted (Some (cells.Int interval)) children are = absurd are
+class_short types state x wanted (Some cells.Null) children are = absurd are
+class_short types state x wanted (Some (cells.Obj class ids)) children are = absurd are
+class_short types state x wanted (Some (cells.Nums kind len)) children are = absurd are
+class_short types state x wanted (Some (cells.Refs element len shape)) children are = absurd are
+class_short types state x wanted (Some (cells.Unk bound nullable shape)) children are = zip_short (λ case (child : GraphChild). IsSplitChild (IsCase types state x shape case) None child) (cases_of types bound wanted) children (λ case child is. stays_short None child.link is.link) are
+
+whole_short : (types : WorldTypes) (state : AbstractState) (plan : Plan) (children : List GraphChild) → IsShortPlan plan → AreChildren types state plan children → AreShort children
+whole_short types state ends children short are = absurd are
+whole_short types state (steps turns) children short are = turns_short types state turns children short are
+whole_short types state (by_null x) children short are = null_short state x (cell_at state x) children are
+whole_short types state (by_class x wanted) children short are = class_short types state x wanted (cell_at state x) children are
+whole_short types state (by_equal x y) children short are = zip_short (λ (m : Option (ℕ × ℕ) × AbstractState) (child : GraphChild). (child.state ≡ m.1) × (child.link ≡ stays m.0)) are.merged children (λ m child is. stays_short m.0 child.link is.1) are.each
+
+lean_short : (wholes children : List GraphChild) → AreShort wholes → AllZip IsLean wholes children → AreShort children
+lean_short [] [] short lean = tt
+lean_short [] (child ∷ children) short lean = absurd lean
+lean_short (whole ∷ wholes) [] short lean = absurd lean
+lean_short (whole ∷ wholes) (child ∷ children) short lean = (subst IsShortLink (sym lean.0.link) short.0, lean_short wholes children short.1 lean.1)
+
+pub links_are_short : LinksAreShort
+links_are_short p typing state children expanded =
+    lean_short expanded.wholes children
+    (whole_short (types_of p.world) state (plan_of p typing state) expanded.wholes (in_short p typing state state.throwing state.frames) expanded.are) expanded.lean
