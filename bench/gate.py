@@ -34,7 +34,7 @@ TESTS_OF = {
     'line_cases': 'input_steps run_call prove_call check_call',
     'command_tables': 'input_steps run_call prove_call check_call',
     'describe_cli': 'describe',
-    'certs_cli': 'fill_call',
+    'certs_cli': 'check_call',
     'jterm_cli': 'jterm',
     'jterm_calls': 'jterm',
 }
@@ -48,7 +48,7 @@ LAYER = {
         'abstract states': 'abs_cells abs_reach abs_sound abs_equal abs_heap abs_match abs_widen term_graph abs_ints abs_expand',
         'certificates': 'input_root descent plain_steps expand_laws int_plans graph_check graph_fill int_links cert_check '
                         'cert_verdict cert_form cert_write path_rules graph_build rank_search chain_proofs prove_core',
-        'program': 'input_steps run_call describe desc_steps prove_call check_call fill_call jterm',
+        'program': 'input_steps run_call describe desc_steps prove_call check_call jterm',
     }.items() for crate in crates_of.split()
 }
 # What the thirteen crates of the first measurement have become, each with its share of the tests.

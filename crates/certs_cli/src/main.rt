@@ -5,8 +5,7 @@
 
 ghost use Rattle.std.specs.Prelude.{◌≤◌, ◌^◌, length, IfOk};
 
-use check_call::Outcome;
-use fill_call::fill_line;
+use check_call::{Outcome, fill_line};
 use input_steps::{Refused, refusal_text};
 use io_ports::{FileFault, Files, RealFiles, Sink, StdSink};
 use list_views::Seq;

@@ -1,4 +1,6 @@
 pub mod Children
+pub mod FillSaying
+pub mod Forms
 pub mod Graphs
 pub mod Matching
 pub mod Nodes
@@ -9,3 +11,4 @@ pub mod Rules
 pub mod Saying
 pub mod Steady
 pub mod Verdicts
+pub mod Wholes

@@ -1,5 +1,8 @@
 pub mod Answers
 pub mod Causes
+pub mod FillAnswers
+pub mod FillTexts
+pub mod FillWords
 pub mod Headline
 pub mod Laws
 pub mod Lines

@@ -1,6 +1,6 @@
 //! A whole graph as a source of nodes that all have their states.
 ghost use Rattle.std.specs.Prelude.{◌≡◌, ◌<◌, map, length, Some, slice_get, IfOk};
-ghost use Rattle.fill_call.specs.Texts.{part_of};
+ghost use Rattle.check_call.specs.FillTexts.{part_of};
 
 use abs_cells::{AbsState, Pairs};
 use std::alloc::{AllocError, Global};

@@ -3,7 +3,7 @@ use Rattle.std.proofs.Common.{◌≡◌, ◌∙◌, ℕ, List, map, Some, slice_
 use Rattle.std.specs.Option.{option_map}
 use Rattle.std.proofs.lemmas.Option.{slice_get-map}
 use Rattle.term_graph.specs.Graphs.{GraphNode, GraphPart, by_at, state_at}
-use Rattle.fill_call.specs.Texts.{part_of}
+use Rattle.check_call.specs.FillTexts.{part_of}
 
 pub way_there : (nodes : List GraphNode) (n : ℕ) (node : GraphNode) → slice_get nodes n ≡ Some node → by_at (map part_of nodes) n ≡ Some node.by
 way_there nodes n node is =

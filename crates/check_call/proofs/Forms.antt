@@ -10,8 +10,8 @@ use Rattle.term_graph.specs.Graphs.{GraphNode}
 use Rattle.descent.specs.declared.proof.ProofStep.{ProofStep}
 use Rattle.cert_write.specs.Data.{natural, naturals, list, step}
 use Rattle.cert_write.specs.Data as second
-use Rattle.fill_call.specs.Texts.{part_of, certificate_of, filled_text}
-use Rattle.fill_call.specs.Words.{before_f, in_form_1}
+use Rattle.check_call.specs.FillTexts.{part_of, certificate_of, filled_text}
+use Rattle.check_call.specs.FillWords.{before_f, in_form_1}
 
 -- ---- no byte is an `f`
 

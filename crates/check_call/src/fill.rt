@@ -1,9 +1,9 @@
 //! The command `fill`.
 ghost use Rattle.std.specs.Prelude.{◌≤◌, length, map};
-ghost use Rattle.fill_call.specs.Answers.{Answers};
+ghost use Rattle.check_call.specs.FillAnswers.{Answers};
 
-use crate::certs::fill_bytes;
-use check_call::Outcome;
+use crate::filled::fill_bytes;
+use crate::outcome::Outcome;
 use desc_steps::described_program;
 use input_steps::Refused;
 use std::alloc::Global;

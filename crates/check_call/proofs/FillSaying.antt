@@ -16,7 +16,7 @@ use Rattle.cert_form.specs.Certificates.{CertContent, cert_of, AnswersText}
 use Rattle.check_call.specs.declared.outcome.Outcome.{Outcome}
 use Rattle.check_call.specs.Answers.{RefusesStates, FillsInts, IsCertText}
 use Rattle.check_call.specs.Said.{IsSaidOfText}
-use Rattle.fill_call.specs.Answers.{filled, AnswersContent, AnswersCert}
+use Rattle.check_call.specs.FillAnswers.{filled, AnswersContent, AnswersCert}
 
 abbrev Answer : Type 0
 Answer = Result Outcome Refused

@@ -14,7 +14,7 @@ use Rattle.cert_form.specs.Faults.{fault_text}
 use Rattle.check_call.specs.declared.outcome.Outcome.{Outcome}
 use Rattle.check_call.specs.Answers.{RefusesStates, IsCertText, IsCertFault, FillsInts}
 use Rattle.check_call.specs.Lines.{refused_at}
-use Rattle.fill_call.specs.Texts.{filled_text}
+use Rattle.check_call.specs.FillTexts.{filled_text}
 
 -- the certificate with the states of all its nodes
 abbrev pub filled : Program → List GraphNode → CertContent → Outcome

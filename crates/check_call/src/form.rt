@@ -1,6 +1,6 @@
 //! The number of a certificate's form in its text.
 ghost use Rattle.std.specs.Prelude.{◌≡◌, ◌≤◌, length};
-ghost use Rattle.fill_call.specs.Words.{before_f, in_form_1};
+ghost use Rattle.check_call.specs.FillWords.{before_f, in_form_1};
 
 use list_views::Seq;
 

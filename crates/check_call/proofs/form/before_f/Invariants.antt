@@ -1,6 +1,6 @@
 use Rattle.std.proofs.Common.{◌≡◌, ◌+◌, drop}
-use Rattle.fill_call.specs.Words.{before_f}
-use Rattle.fill_call.proofs.form.before_f.Given as goal
+use Rattle.check_call.specs.FillWords.{before_f}
+use Rattle.check_call.proofs.form.before_f.Given as goal
 
 -- the bytes so far are no `f`
 abbrev pub invariant-loop-count : goal.invariant-loop-count

@@ -2,7 +2,7 @@
 ghost use Rattle.std.specs.Prelude.{◌≡◌, IfOk, IsTrue};
 ghost use Rattle.std.specs.List.{list_all};
 ghost use Rattle.class_base.specs.ClassNames.{is_class_name};
-ghost use Rattle.fill_call.specs.Texts.{filled_text};
+ghost use Rattle.check_call.specs.FillTexts.{filled_text};
 
 use crate::form::in_form_1;
 use crate::whole::Whole;

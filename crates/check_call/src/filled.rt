@@ -8,12 +8,13 @@ ghost use Rattle.code_verify.specs.Typings.{typing_at};
 ghost use Rattle.abs_expand.specs.IntForms.{HasIntForms};
 ghost use Rattle.cert_form.specs.Certificates.{LackingAreNamed};
 ghost use Rattle.desc_steps.specs.Names.{names_of};
-ghost use Rattle.fill_call.specs.Answers.{AnswersContent, AnswersCert};
+ghost use Rattle.check_call.specs.FillAnswers.{AnswersContent, AnswersCert};
 
+use crate::certs::refuse_text;
+use crate::outcome::Outcome;
 use crate::writing::filled_text;
 use abs_cells::PackedPairs;
 use cert_form::{CertText, ClassNames};
-use check_call::{Outcome, refuse_text};
 use class_program::Program;
 use code_verify::Typing;
 use desc_steps::{class_names, not_built};
@@ -23,7 +24,7 @@ use std::alloc::Global;
 use term_graph::Graph;
 
 /// What is said of what a certificate says.
-#[tactic(auto, using(crate::proofs::Saying::filled_goes, crate::proofs::Saying::states_refused))]
+#[tactic(auto, using(crate::proofs::FillSaying::filled_goes, crate::proofs::FillSaying::states_refused))]
 fn fill_content(
     alloc: Global,
     program: &Program<'_>,
@@ -50,7 +51,7 @@ fn fill_content(
 }
 
 /// What is said of the bytes of a certificate for a program about ints.
-#[tactic(auto, using(crate::proofs::Saying::text_goes, crate::proofs::Saying::text_refused))]
+#[tactic(auto, using(crate::proofs::FillSaying::text_goes, crate::proofs::FillSaying::text_refused))]
 pub(crate) fn fill_bytes(
     alloc: Global,
     program: &Program<'_>,
