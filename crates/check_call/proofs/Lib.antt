@@ -10,5 +10,5 @@ pub mod Paths
 pub mod Rules
 pub mod Saying
 pub mod Steady
-pub mod Verdicts
+pub mod VerdictLaw
 pub mod Wholes

@@ -1,4 +1,4 @@
-use Rattle.check_call.proofs.Verdicts.{verdicts_one}
+use Rattle.check_call.proofs.VerdictLaw.{verdicts_one}
 use Rattle.check_call.proofs.verdicts.verdicts_are_one.Goals as goal
 
 pub returns : goal.returns
