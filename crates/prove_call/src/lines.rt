@@ -1,6 +1,8 @@
-//! The texts of reasons.
-ghost use Rattle.std.specs.Prelude.{◌≡◌, IfOk};
+//! The texts of reasons. Functions that add to a text own nothing.
+ghost use Rattle.std.specs.Prelude.{◌≡◌, ◌∷◌, ◌++◌, [], codes, IfOk, OnOk};
+ghost use Rattle.std.specs.Fmt.{decimal};
 ghost use Rattle.std.specs.List.{flat_map};
+ghost use Rattle.list_views.specs.FaultWords.{joined};
 ghost use Rattle.class_world.specs.Worlds.{classes_of};
 ghost use Rattle.class_program.specs.Views.{program_of};
 ghost use Rattle.prove_call.specs.Lines.{class_text, method_text, frame_text, running_text, node_text, rule_line, reason_text};
@@ -9,7 +11,6 @@ use abs_cells::{AbsFrame, AbsState, Pairs};
 use class_program::{Method, Program};
 use class_world::World;
 use list_views::Seq;
-use list_views::fault_words::{joined, number};
 use prove_core::{LeftRule, Reason};
 use std::alloc::{AllocError, Global};
 use term_graph::Graph;
@@ -26,110 +27,142 @@ fn class_text<'w>(world: &'w World<'_>, class: u32) -> &'w [u8]
     }
 }
 
-/// A method as `CLASS.NAMEDESC`.
-fn method_text(alloc: Global, world: &World<'_>, method: &Method<'_>) -> Result<Seq<u8>, AllocError>
-    ensures { IfOk result (λ text. text ≡ method_text (classes_of world.now) method.now) }
+/// Adds what stands before a number, and its digits.
+fn put_number(
+    alloc: Global,
+    text: &mut Seq<u8>,
+    before: &[u8],
+    value: usize,
+) -> Result<(), AllocError>
+    ensures { OnOk result (text.new ≡ text.old ++ joined (before.now ∷ decimal value ∷ [])) }
 {
-    joined(
-        alloc,
-        &[
-            class_text(world, method.class),
-            b".",
-            method.name.as_slice(),
-            method.desc.as_slice(),
-        ],
-    )
+    text.extend_from_slice(before)?;
+    let digits = format!(in alloc; "{value}")?;
+    text.extend_from_slice(digits.as_bytes())
 }
 
-/// Where a frame is: `CLASS.NAMEDESC@PC`.
-fn frame_text(alloc: Global, program: &Program<'_>, frame: &AbsFrame) -> Result<Seq<u8>, AllocError>
-    ensures { IfOk result (λ text. text ≡ frame_text (program_of program.now) frame.now) }
+/// Adds a method as `CLASS.NAMEDESC`.
+fn put_method(text: &mut Seq<u8>, world: &World<'_>, method: &Method<'_>) -> Result<(), AllocError>
+    ensures { OnOk result (text.new ≡ text.old ++ method_text (classes_of world.now) method.now) }
+{
+    text.extend_from_slice(class_text(world, method.class))?;
+    text.extend_from_slice(b".")?;
+    text.extend_from_slice(method.name.as_slice())?;
+    text.extend_from_slice(method.desc.as_slice())
+}
+
+/// Adds where a frame is: `CLASS.NAMEDESC@PC`.
+fn put_frame(
+    alloc: Global,
+    text: &mut Seq<u8>,
+    program: &Program<'_>,
+    frame: &AbsFrame,
+) -> Result<(), AllocError>
+    ensures { OnOk result (text.new ≡ text.old ++ frame_text (program_of program.now) frame.now) }
 {
     match program.methods.get(frame.method() as usize) {
         Some(method) => {
-            let method = method_text(alloc, &program.world, method)?;
-            let pc = number(alloc, usize::from(frame.pc()))?;
-            joined(alloc, &[method.as_slice(), b"@", pc.as_slice()])
+            put_method(text, &program.world, method)?;
+            put_number(alloc, text, b"@", usize::from(frame.pc()))
         }
-        None => Ok(Seq::new(alloc)),
+        None => Ok(()),
     }
 }
 
-/// Where the running one of frames is, which is the last.
+/// Adds where the running one of frames is, which is the last.
 #[tactic(auto, using(crate::proofs::Texts::no_frames, crate::proofs::Texts::running))]
-fn running_text<P: Pairs>(
+fn put_running<P: Pairs>(
     alloc: Global,
+    text: &mut Seq<u8>,
     program: &Program<'_>,
     state: &AbsState<P>,
-) -> Result<Seq<u8>, AllocError>
-    ensures { IfOk result (λ text. text ≡ running_text (program_of program.now) state.now.frames) }
+) -> Result<(), AllocError>
+    ensures { OnOk result (text.new ≡ text.old ++ running_text (program_of program.now) state.now.frames) }
 {
     let frames = state.frames();
     let count = frames.len();
     if count == 0 {
-        return Ok(Seq::new(alloc));
+        return Ok(());
     }
     let last = count - 1;
-    frame_text(alloc, program, &frames[last])
+    put_frame(alloc, text, program, &frames[last])
 }
 
-/// Where the running frame of a node is.
+/// Adds where the running frame of a node is.
 #[tactic(auto, using(crate::proofs::Texts::no_node, crate::proofs::Texts::at_node))]
-fn node_text<P: Pairs>(
+fn put_node<P: Pairs>(
     alloc: Global,
+    text: &mut Seq<u8>,
     program: &Program<'_>,
     graph: &Graph<P>,
     n: u32,
-) -> Result<Seq<u8>, AllocError>
-    ensures { IfOk result (λ text. text ≡ node_text (program_of program.now) graph.now n) }
+) -> Result<(), AllocError>
+    ensures { OnOk result (text.new ≡ text.old ++ node_text (program_of program.now) graph.now n) }
 {
     if (n as usize) >= graph.len() {
-        return Ok(Seq::new(alloc));
+        return Ok(());
     }
-    running_text(alloc, program, graph.at(n).state())
+    put_running(alloc, text, program, graph.at(n).state())
 }
 
-/// A rule with the cuts at its ends, as `rule R FROM TO` and a newline.
-fn rule_line<P: Pairs>(
+/// Adds a blank, and where the running frame of a node is.
+fn put_cut<P: Pairs>(
     alloc: Global,
+    text: &mut Seq<u8>,
+    program: &Program<'_>,
+    graph: &Graph<P>,
+    n: u32,
+) -> Result<(), AllocError>
+    ensures { OnOk result (text.new ≡ text.old ++ joined (codes " " ∷ node_text (program_of program.now) graph.now n ∷ [])) }
+{
+    text.extend_from_slice(b" ")?;
+    put_node(alloc, text, program, graph, n)
+}
+
+/// Adds a rule with the cuts at its ends, as `rule R FROM TO` and a newline.
+fn put_rule<P: Pairs>(
+    alloc: Global,
+    text: &mut Seq<u8>,
     program: &Program<'_>,
     graph: &Graph<P>,
     left: &LeftRule,
-) -> Result<Seq<u8>, AllocError>
-    ensures { IfOk result (λ line. line ≡ rule_line (program_of program.now) graph.now left.now) }
+) -> Result<(), AllocError>
+    ensures { OnOk result (text.new ≡ text.old ++ rule_line (program_of program.now) graph.now left.now) }
 {
-    let rule = number(alloc, left.rule as usize)?;
-    let from = node_text(alloc, program, graph, left.from)?;
-    let to = node_text(alloc, program, graph, left.to)?;
-    joined(
-        alloc,
-        &[
-            b"rule ",
-            rule.as_slice(),
-            b" ",
-            from.as_slice(),
-            b" ",
-            to.as_slice(),
-            b"\n",
-        ],
-    )
+    put_number(alloc, text, b"rule ", left.rule as usize)?;
+    put_cut(alloc, text, program, graph, left.from)?;
+    put_cut(alloc, text, program, graph, left.to)?;
+    text.extend_from_slice(b"\n")
 }
 
-/// The lines of rules.
-fn rule_lines<P: Pairs>(
+/// Adds the lines of rules.
+fn put_rules<P: Pairs>(
+    alloc: Global,
+    text: &mut Seq<u8>,
+    program: &Program<'_>,
+    graph: &Graph<P>,
+    left: &[LeftRule],
+) -> Result<(), AllocError>
+    ensures { OnOk result (text.new ≡ text.old ++ flat_map (rule_line (program_of program.now) graph.now) left.now) }
+{
+    for rule in left {
+        put_rule(alloc, text, program, graph, rule)?;
+    }
+    Ok(())
+}
+
+/// The text where rules are left.
+fn component_text<P: Pairs>(
     alloc: Global,
     program: &Program<'_>,
     graph: &Graph<P>,
     left: &[LeftRule],
 ) -> Result<Seq<u8>, AllocError>
-    ensures { IfOk result (λ lines. lines ≡ flat_map (rule_line (program_of program.now) graph.now) left.now) }
+    ensures { IfOk result (λ text. text ≡ codes "MAYBE component\n" ++ flat_map (rule_line (program_of program.now) graph.now) left.now) }
 {
-    let mut lines = Seq::new(alloc);
-    for rule in left {
-        let line = rule_line(alloc, program, graph, rule)?;
-        lines.extend_from_slice(line.as_slice())?;
-    }
-    Ok(lines)
+    let mut text = Seq::from_slice(alloc, b"MAYBE component\n")?;
+    put_rules(alloc, &mut text, program, graph, left)?;
+    Ok(text)
 }
 
 /// The text of a reason.
@@ -146,8 +179,7 @@ pub(crate) fn reason_text<P: Pairs>(
         Reason::Paths(_) => Seq::from_slice(alloc, b"MAYBE paths\n"),
         Reason::Bytes { .. } => Seq::from_slice(alloc, b"MAYBE bytes\n"),
         Reason::Component { cert, left } => {
-            let lines = rule_lines(alloc, program, &cert.graph, left.as_slice())?;
-            joined(alloc, &[b"MAYBE component\n", lines.as_slice()])
+            component_text(alloc, program, &cert.graph, left.as_slice())
         }
     }
 }
