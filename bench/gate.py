@@ -32,7 +32,7 @@ TESTS_OF = {
     'proof_tables': 'descent rank_search',
     'cert_tables': 'cert_form cert_write cert_verdict path_rules',
     'line_cases': 'input_steps run_call prove_call check_call',
-    'command_tables': 'input_steps run_call prove_call check_call',
+    'command_tables': 'input_steps run_call desc_steps prove_core prove_call cert_verdict check_call',
     'describe_cli': 'describe',
     'certs_cli': 'check_call',
     'jterm_cli': 'jterm',
