@@ -25,7 +25,7 @@ TESTS_OF = {
     'entry_cases': 'class_world class_program',
     'program_tables': 'class_program code_verify input_text input_desc jvm_step',
     'value_tables': 'abs_ints json_view jvm_heaps',
-    'low_calls': 'class_pool class_read code_decode jvm_values jvm_heaps abs_cells lin_core list_views',
+    'low_calls': 'class_pool code_decode jvm_values jvm_heaps abs_cells lin_core list_views',
     'state_cases': 'abs_reach abs_heap abs_match abs_widen abs_expand',
     'state_tables': 'abs_reach abs_heap abs_match abs_widen abs_expand',
     'rule_cases': 'descent rank_search',

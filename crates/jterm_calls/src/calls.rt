@@ -39,16 +39,6 @@ pub(crate) fn has_status(
     Ok(outcome?.status == status)
 }
 
-// Whether a call came to this status, and put this on its output.
-pub(crate) fn gives(
-    outcome: Result<Outcome, AllocError>,
-    status: u8,
-    out: &[u8],
-) -> Result<bool, AllocError> {
-    let outcome = outcome?;
-    Ok(outcome.status == status && outcome.out.bytes() == out)
-}
-
 // Whether a call came to this status, and put this on its output for errors.
 pub(crate) fn errs(
     outcome: Result<Outcome, AllocError>,
@@ -111,6 +101,11 @@ pub(crate) fn heard(
     })
 }
 
+// Whether these words are no command.
+pub(crate) fn is_no_command(alloc: Global, words: &[&str]) -> Result<bool, AllocError> {
+    has_status(call(alloc, words, Vec::new(alloc), &[], 100), 4)
+}
+
 pub(crate) fn file(
     alloc: Global,
     name: &str,
@@ -147,28 +142,6 @@ pub(crate) fn three_files(
     Ok(held)
 }
 
-// Puts a number, in front of it and behind it some bytes, behind a text.
-pub(crate) fn put_numbered(
-    alloc: Global,
-    text: &mut Vec<u8>,
-    front: &[u8],
-    number: usize,
-    behind: &[u8],
-) -> Result<(), AllocError> {
-    text.extend_from_slice(front)?;
-    let digits = format!(in alloc; "{number}")?;
-    text.extend_from_slice(digits.as_bytes())?;
-    text.extend_from_slice(behind)
-}
-
-// Puts a part so many times behind a text.
-pub(crate) fn put_times(text: &mut Vec<u8>, times: usize, part: &[u8]) -> Result<(), AllocError> {
-    for _ in 0..times {
-        text.extend_from_slice(part)?;
-    }
-    Ok(())
-}
-
 // The class file of a listing.
 pub(crate) fn assembled(alloc: Global, listing: &[u8]) -> Result<Outcome, AllocError> {
     let mut held = Vec::new(alloc);
@@ -176,26 +149,10 @@ pub(crate) fn assembled(alloc: Global, listing: &[u8]) -> Result<Outcome, AllocE
     call(alloc, &["asm", "a.listing"], held, &[], 100_000)
 }
 
-// What is said of `A.f()I` in the class of a listing, where the reads with these numbers fail.
-pub(crate) fn proved(
-    alloc: Global,
-    listing: &[u8],
-    failing: &[u64],
-    room: usize,
-) -> Result<Outcome, AllocError> {
-    described(alloc, listing, DESC, failing, room)
-}
-
-// What is said of the class of a listing and this description, where the reads with these numbers fail.
-pub(crate) fn described(
-    alloc: Global,
-    listing: &[u8],
-    desc: &[u8],
-    failing: &[u64],
-    room: usize,
-) -> Result<Outcome, AllocError> {
-    let class = assembled(alloc, listing)?;
-    let held = two_files(alloc, "d", desc, class.out.bytes())?;
+// What is said of `A.f()I` in the class of `LISTING`, where the reads with these numbers fail.
+pub(crate) fn proved(alloc: Global, failing: &[u64], room: usize) -> Result<Outcome, AllocError> {
+    let class = assembled(alloc, LISTING)?;
+    let held = two_files(alloc, "d", DESC, class.out.bytes())?;
     call(alloc, &["prove", "d", "a"], held, failing, room)
 }
 
@@ -225,16 +182,9 @@ pub(crate) fn says(
     Ok(outcome.status == status && outcome.out.bytes() == line)
 }
 
-// How a run of so many steps from a state ends in the class of a listing, where the reads with these numbers fail.
-pub(crate) fn ran(
-    alloc: Global,
-    fuel: &str,
-    listing: &[u8],
-    state: &[u8],
-    failing: &[u64],
-    room: usize,
-) -> Result<Outcome, AllocError> {
-    let class = assembled(alloc, listing)?;
-    let held = two_files(alloc, "s", state, class.out.bytes())?;
-    call(alloc, &["run", fuel, "s", "a"], held, failing, room)
+// How a run of so many steps from `STATE` ends in the class of `LISTING`, where the reads with these numbers fail.
+pub(crate) fn ran(alloc: Global, fuel: &str, failing: &[u64]) -> Result<Outcome, AllocError> {
+    let class = assembled(alloc, LISTING)?;
+    let held = two_files(alloc, "s", STATE, class.out.bytes())?;
+    call(alloc, &["run", fuel, "s", "a"], held, failing, 100)
 }

@@ -1,9 +1,5 @@
 //! `code_decode`: what its tables don't show.
-use code_decode::{
-    Case, CodeFault, Insn, decode, encode, falls_through, is_rising, length, plain, put_insn,
-    targets, wide_local, with_byte, with_jump, with_pair,
-};
-use list_views::Seq;
+use code_decode::{Insn, decode, encode, falls_through};
 use std::alloc::AllocError;
 use std::test::Fail;
 
@@ -32,84 +28,6 @@ fn every_instruction_is_written_as_it_was_read(rt: HostRuntime) -> Result<(), Fa
 }
 
 #[test]
-fn a_fault_is_put_into_words(rt: HostRuntime) -> Result<(), Fail> {
-    let fault = CodeFault::UnknownOpcode { pc: 4, op: 202 };
-    let text = fault.text(rt.alloc())?;
-    assert!(rt; text.as_slice() == b"UnknownOpcode pc=4 op=202".as_slice());
+fn what_is_thrown_goes_on_nowhere(rt: HostRuntime) {
     assert!(rt; falls_through(&Insn::Nop) && !falls_through(&Insn::Athrow));
-    assert!(rt; length(0, &Insn::Goto(0)) == 3);
-    Ok(())
-}
-
-#[test]
-fn an_opcode_without_operands_is_its_instruction(rt: HostRuntime) {
-    assert!(rt; matches!(&plain(0), Some(Insn::Nop)));
-    assert!(rt; matches!(&plain(96), Some(Insn::Iadd)));
-    assert!(rt; matches!(&plain(191), Some(Insn::Athrow)));
-    assert!(rt; plain(16).is_none());
-}
-
-#[test]
-fn an_opcode_with_a_byte_keeps_it(rt: HostRuntime) {
-    assert!(rt; matches!(&with_byte(18, 7), Some(Insn::Ldc(7))));
-    assert!(rt; matches!(&with_byte(58, 255), Some(Insn::Astore(255))));
-    assert!(rt; with_byte(16, 7).is_none());
-}
-
-#[test]
-fn an_opcode_with_a_pool_entry_keeps_it(rt: HostRuntime) {
-    assert!(rt; matches!(&with_pair(187, 258), Some(Insn::New(258))));
-    assert!(rt; matches!(&with_pair(182, 3), Some(Insn::Invokevirtual(3))));
-    assert!(rt; with_pair(185, 3).is_none());
-}
-
-#[test]
-fn an_opcode_with_a_near_target_keeps_it(rt: HostRuntime) {
-    assert!(rt; matches!(&with_jump(167, 300), Some(Insn::Goto(300))));
-    assert!(rt; matches!(&with_jump(198, 9), Some(Insn::Ifnull(9))));
-    assert!(rt; with_jump(200, 9).is_none());
-}
-
-#[test]
-fn an_opcode_behind_wide_keeps_its_local(rt: HostRuntime) {
-    assert!(rt; matches!(&wide_local(21, 300), Some(Insn::WideIload(300))));
-    assert!(rt; matches!(&wide_local(58, 300), Some(Insn::WideAstore(300))));
-    assert!(rt; wide_local(132, 300).is_none());
-}
-
-#[test]
-fn the_default_comes_before_the_targets_of_the_keys(rt: HostRuntime) -> Result<(), Fail> {
-    let up = Case { key: -1, target: 4 };
-    let down = Case { key: 5, target: 28 };
-    let lookup = Insn::Lookupswitch {
-        default: 30,
-        cases: Seq::from_slice(rt.alloc(), &[up, down])?,
-    };
-    let found = targets(rt.alloc(), &lookup)?;
-    assert!(rt; found.as_slice() == [30, 4, 28].as_slice());
-    assert!(rt; targets(rt.alloc(), &Insn::Athrow)?.is_empty());
-    assert!(rt; is_rising(&[up, down]) && !is_rising(&[down, up]));
-    Ok(())
-}
-
-#[test]
-fn a_switch_is_padded_to_a_multiple_of_four(rt: HostRuntime) -> Result<(), Fail> {
-    let table = Insn::Tableswitch {
-        default: 1,
-        low: 7,
-        targets: Seq::from_slice(rt.alloc(), &[1])?,
-    };
-    let mut out = vec![in rt.alloc(); 0]?;
-    put_insn(&mut out, 1, &table)?;
-    let expected = [0, 170, 0, 0, 0, 0, 0, 0, 0, 0, 0, 7, 0, 0, 0, 7, 0, 0, 0, 0];
-    assert!(rt; out.as_slice() == expected.as_slice());
-    Ok(())
-}
-
-#[test]
-fn a_jump_back_is_written_as_a_negative_distance(rt: HostRuntime) -> Result<(), Fail> {
-    let mut out = Vec::new(rt.alloc());
-    put_insn(&mut out, 5, &Insn::Goto(2))?;
-    assert!(rt; out.as_slice() == [167, 255, 253].as_slice());
-    Ok(())
 }

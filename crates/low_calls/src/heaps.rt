@@ -1,5 +1,5 @@
-//! Regions and shapes of small heaps, and of a list.
-use jvm_heaps::{is_closed, is_in_heap, is_tree, region, shape};
+//! Shapes of small heaps.
+use jvm_heaps::{is_closed, is_in_heap, shape};
 use jvm_values::{Heap, Object, Shape, Value};
 use list_views::Seq;
 use std::alloc::{AllocError, Global};
@@ -26,24 +26,6 @@ fn shape_of(alloc: Global, heap: &Heap, value: Value) -> Result<Option<Shape>, A
     }
 }
 
-/// Whether a value's region is a tree; None where a reference leads past the heap's end.
-fn tree_of(alloc: Global, heap: &Heap, value: Value) -> Result<Option<bool>, AllocError> {
-    if is_closed(heap) && is_in_heap(heap, value) {
-        Ok(Some(is_tree(alloc, heap, value)?))
-    } else {
-        Ok(None)
-    }
-}
-
-/// The region of a value; None where a reference leads past the heap's end or the heap is too large.
-fn region_of(alloc: Global, heap: &Heap, value: Value) -> Result<Option<Seq<u32>>, AllocError> {
-    if is_closed(heap) && is_in_heap(heap, value) && heap.objects.len() < 1_000_000 {
-        Ok(Some(region(alloc, heap, value)?))
-    } else {
-        Ok(None)
-    }
-}
-
 /// Whether the values have these shapes.
 fn have_shapes(
     alloc: Global,
@@ -56,19 +38,6 @@ fn have_shapes(
         }
     }
     Ok(true)
-}
-
-/// Whether the value's region is these numbers.
-fn has_region(
-    alloc: Global,
-    heap: &Heap,
-    value: Value,
-    numbers: &[u32],
-) -> Result<bool, AllocError> {
-    match &region_of(alloc, heap, value)? {
-        Some(found) => Ok(found.as_slice() == numbers),
-        None => Ok(false),
-    }
 }
 
 /// Three instances, of which the first two name each other and the third names nothing.
@@ -96,28 +65,6 @@ static IN_RING: [(Value, Option<Shape>); 5] = [
 fn a_cycle_has_no_shape(rt: HostRuntime) -> Result<(), Fail> {
     let heap = ring(rt.alloc())?;
     assert!(rt; have_shapes(rt.alloc(), &heap, &IN_RING)?);
-    Ok(())
-}
-
-#[test]
-fn a_cycle_is_no_tree(rt: HostRuntime) -> Result<(), Fail> {
-    let heap = ring(rt.alloc())?;
-    assert!(rt; tree_of(rt.alloc(), &heap, Value::Ref(1))? == Some(false));
-    Ok(())
-}
-
-/// Whether the regions of a ring are what is reached in it.
-fn has_regions(alloc: Global, heap: &Heap) -> Result<bool, AllocError> {
-    if !has_region(alloc, heap, Value::Ref(0), &[0, 1])? {
-        return Ok(false);
-    }
-    has_region(alloc, heap, Value::Ref(2), &[2])
-}
-
-#[test]
-fn a_region_is_what_is_reached(rt: HostRuntime) -> Result<(), Fail> {
-    let heap = ring(rt.alloc())?;
-    assert!(rt; has_regions(rt.alloc(), &heap)?);
     Ok(())
 }
 

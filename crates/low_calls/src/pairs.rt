@@ -1,7 +1,5 @@
 //! Calls on pairs, in both forms.
-ghost use Rattle.std.specs.Prelude.{◌<◌};
-
-use abs_cells::{IdSet, ListPairs, PackedPairs, PairCall, Pairs, replay};
+use abs_cells::{ListPairs, PackedPairs, PairCall, Pairs, replay};
 use std::alloc::{AllocError, Global};
 use std::test::Fail;
 
@@ -61,45 +59,6 @@ fn both_forms_list_the_same_pairs(rt: HostRuntime) -> Result<(), Fail> {
     let packed = many::<PackedPairs>(rt.alloc())?;
     let have_left = has_what_was_left(&listed) && has_what_was_left(&packed);
     assert!(rt; have_left && list_alike(&listed, &packed));
-    Ok(())
-}
-
-/// The set of one number.
-fn only(a: u16) -> IdSet
-    requires { a < 2048 }
-{
-    let mut set = IdSet::new();
-    set.put(a);
-    set
-}
-
-/// Whether the pairs touch two sets just where one has a number and the other a number that it stands with.
-fn touch_what_they_hold<P: Pairs>(pairs: &P) -> bool {
-    for (a, b, touched) in [
-        (3, 24, true),
-        (24, 3, true),
-        (3, 23, false),
-        (89, 96, true),
-        (90, 149, false),
-        (0, 0, false),
-    ] {
-        if pairs.touches(&only(a), &only(b)) != touched {
-            return false;
-        }
-    }
-    true
-}
-
-/// Whether many pairs touch the sets that they should.
-fn many_touch<P: Pairs>(alloc: Global) -> Result<bool, AllocError> {
-    let pairs = many::<P>(alloc)?;
-    Ok(touch_what_they_hold(&pairs))
-}
-
-#[test]
-fn both_forms_touch_the_same_sets(rt: HostRuntime) -> Result<(), Fail> {
-    assert!(rt; many_touch::<ListPairs>(rt.alloc())?);
-    assert!(rt; many_touch::<PackedPairs>(rt.alloc())?);
     Ok(())
 }
 
