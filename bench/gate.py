@@ -21,11 +21,11 @@ BUDGET = 240  # processor seconds for 1,000 lines
 TESTS_OF = {
     'table_cases': 'code_decode class_asm class_program code_verify descent abs_expand cert_form run_call',
     'json_cases': 'descent abs_expand cert_form',
-    'class_tables': 'code_decode class_read asm_lines asm_codes asm_pool class_asm',
+    'class_tables': 'code_forms code_decode class_read asm_lines asm_codes asm_pool class_asm',
     'entry_cases': 'class_world class_program',
     'program_tables': 'class_program code_verify input_text input_desc jvm_step',
     'value_tables': 'abs_ints json_view jvm_heaps',
-    'low_calls': 'class_pool code_decode jvm_values jvm_heaps abs_cells lin_core list_views',
+    'low_calls': 'class_pool code_forms code_decode jvm_values jvm_heaps abs_cells lin_core list_views',
     'state_cases': 'abs_reach abs_heap abs_match abs_widen abs_expand',
     'state_tables': 'abs_reach abs_heap abs_match abs_widen abs_expand',
     'rule_cases': 'descent rank_search',
@@ -42,8 +42,8 @@ TESTS_OF = {
 LAYER = {
     crate: layer for layer, crates_of in {
         'base': 'list_views io_ports json_view input_text number_graphs lin_core',
-        'class files': 'class_base class_pool code_decode class_read class_world class_program input_desc call_graph op_forms asm_lines '
-                       'asm_codes asm_pool class_asm',
+        'class files': 'class_base class_pool code_forms code_decode class_read class_world class_program input_desc call_graph op_forms '
+                       'asm_lines asm_codes asm_pool class_asm',
         'machine': 'jvm_values jvm_heaps frame_types jvm_step code_verify jvm_run',
         'abstract states': 'abs_cells abs_reach abs_sound abs_equal abs_heap abs_match abs_widen term_graph abs_ints abs_expand',
         'certificates': 'input_root descent plain_steps expand_laws int_plans graph_check graph_fill int_links cert_check '
@@ -52,8 +52,8 @@ LAYER = {
     }.items() for crate in crates_of.split()
 }
 # What the thirteen crates of the first measurement have become, each with its share of the tests.
-THIRTEEN = ('list_views io_ports class_base json_view lin_core jvm_values class_pool code_decode class_read asm_lines asm_codes asm_pool '
-            'class_asm class_world class_program jterm').split()
+THIRTEEN = ('list_views io_ports class_base json_view lin_core jvm_values class_pool code_forms code_decode class_read asm_lines asm_codes '
+            'asm_pool class_asm class_world class_program jterm').split()
 
 
 def crates():

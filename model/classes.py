@@ -1,6 +1,6 @@
 """Class files, worlds of classes, and programs, read a second time.
 
-Reads again: crates/code_decode/specs, crates/class_world/specs (World, Types, Fields, Resolve, Select),
+Reads again: crates/code_forms/specs, crates/code_decode/specs, crates/class_world/specs (World, Types, Fields, Resolve, Select),
 crates/class_program/specs (Ops, Runs, Reached, Statics). JVM specification, SE 8, chapter 4 and section 5.4.3.
 
 Only input that breaks no rule of reading and linking is understood; of refusals nothing is known here. A type is a

@@ -5,7 +5,7 @@ use Rattle.std.specs.Option.{option_to_list}
 use Rattle.std.proofs.lemmas.Int.{ints}
 use Rattle.std.proofs.lemmas.List.{drop_more, drop_all}
 use Rattle.std.proofs.lemmas.List.Elements.{filter_map-append}
-use Rattle.code_decode.specs.declared.insn.Case.{Case}
+use Rattle.code_forms.specs.declared.insn.Case.{Case}
 use Rattle.lin_core.specs.Intervals.{Bounds, interval_of}
 use Rattle.abs_ints.specs.Parts.{all_ints, just}
 use Rattle.abs_expand.specs.Switches.{table_keys, lookup_keys, parts_from, parts_of}

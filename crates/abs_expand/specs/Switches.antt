@@ -1,7 +1,7 @@
 -- The numbers of a switch's operand: keys rising, with the gaps before, between and after them, which lead to the default.
 use Rattle.std.specs.Prelude.{ℕ, ℤ, pos, ◌+ℤ◌, ◌-ℤ◌, List, [], ◌∷◌, map, Option, Some}
 use Rattle.lin_core.specs.Intervals.{Bounds, interval_of}
-use Rattle.code_decode.specs.declared.insn.Case.{Case}
+use Rattle.code_forms.specs.declared.insn.Case.{Case}
 use Rattle.abs_ints.specs.Parts.{all_ints, just}
 
 -- a key and where it leads

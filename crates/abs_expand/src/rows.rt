@@ -16,7 +16,7 @@ use crate::spot::Spot;
 use crate::switches::{lookup_turns, table_turns};
 use crate::turns::{branches, goes_on, just, moves, pushes, put, turns_narrowing, turns_of};
 use abs_cells::{Cell, Id, Pairs};
-use code_decode::Case;
+use code_forms::Case;
 use jvm_values::{Cond, IntOp, Kind};
 use list_views::{Seq, Stack};
 use op_forms::{Form, Shuffle};

@@ -6,7 +6,7 @@ use Rattle.std.proofs.lemmas.List.{append-nil, length-append}
 use Rattle.std.proofs.lemmas.List.Concat.{flat_map-append}
 use Rattle.std.proofs.lemmas.List.Sums.{sum_by-append, sum_by-cons}
 use Rattle.std.specs.List.{cons_option}
-use Rattle.code_decode.specs.declared.insn.Insn.{Insn}
+use Rattle.code_forms.specs.declared.insn.Insn.{Insn}
 use Rattle.class_base.specs.declared.handler.Handler.{Handler}
 use Rattle.code_decode.specs.Encoding.{plain_text, code_of}
 use Rattle.asm_lines.specs.declared.item.Item.{Item}

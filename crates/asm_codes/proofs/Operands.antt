@@ -8,14 +8,15 @@ use Rattle.std.specs.Int.RustNames.{FitsSigned, int_le, int_lt}
 use Rattle.std.proofs.lemmas.Bool.{ltb-true, and_parts}
 use Rattle.std.proofs.lemmas.Bool.Decides.{nat_tests}
 use Rattle.std.proofs.lemmas.Int.{ints}
-use Rattle.code_decode.specs.declared.insn.Case.{Case}
-use Rattle.code_decode.specs.declared.insn.Insn.{Insn}
-use Rattle.code_decode.specs.declared.insn.Insn.TheVariants as insns
-use Rattle.code_decode.specs.Spellings as spellings
-use Rattle.code_decode.specs.Spellings.{Spelling, spelling}
-use Rattle.code_decode.specs.Texts.{padding_of, zeros, spelling_text, Reaches, rises_from, is_rising, IsTable, IsLookup, FitsSpelling, Fits}
+use Rattle.code_forms.specs.declared.insn.Case.{Case}
+use Rattle.code_forms.specs.declared.insn.Insn.{Insn}
+use Rattle.code_forms.specs.declared.insn.Insn.TheVariants as insns
+use Rattle.code_forms.specs.Spellings as spellings
+use Rattle.code_forms.specs.Spellings.{Spelling, spelling}
+use Rattle.code_forms.specs.Cases.{rises_from, is_rising}
+use Rattle.code_decode.specs.Texts.{padding_of, zeros, spelling_text, Reaches, IsTable, IsLookup, FitsSpelling, Fits}
 use Rattle.code_decode.specs.Encoding.{plain_text}
-use Rattle.code_decode.specs.Reading.{opcode_of, find, find_by, plain_low, plain_high, plain, with_byte, with_pair, with_jump, wide_local, first_of}
+use Rattle.code_forms.specs.Opcodes.{opcode_of, find, find_by, plain_low, plain_high, plain, with_byte, with_pair, with_jump, wide_local, first_of}
 use Rattle.code_decode.proofs.Takes.{chosen, some_is, found_by}
 use Rattle.code_decode.proofs.Lengths.{table_len, lookup_len}
 use Rattle.asm_lines.specs.declared.number.Number.{Number}

@@ -7,8 +7,8 @@ use Rattle.std.proofs.lemmas.Bool.{not-false, or_parts}
 use Rattle.code_decode.specs.Codes.{Spells}
 use Rattle.code_decode.specs.Encoding.{plain_text, code_of}
 use Rattle.code_decode.specs.Texts.{padding_of, zeros, Fits}
-use Rattle.code_decode.specs.Spellings.{spelling}
-use Rattle.code_decode.specs.declared.insn.Insn.{Insn}
+use Rattle.code_forms.specs.Spellings.{spelling}
+use Rattle.code_forms.specs.declared.insn.Insn.{Insn}
 use Rattle.class_base.specs.declared.handler.Handler.{Handler}
 use Rattle.code_decode.proofs.Takes.{length-zeros}
 use Rattle.asm_lines.specs.declared.item.CatchLine.{CatchLine}

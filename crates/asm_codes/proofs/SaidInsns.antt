@@ -4,13 +4,13 @@ use Rattle.std.proofs.lemmas.Bool.{and_parts}
 use Rattle.std.specs.Prelude.{option_map, nat_lt, nat_le}
 use Rattle.std.specs.Option.{option_and_then, option_map_or}
 use Rattle.std.specs.List.{list_all}
-use Rattle.code_decode.specs.declared.insn.Case.{Case}
-use Rattle.code_decode.specs.declared.insn.Insn.{Insn}
-use Rattle.code_decode.specs.declared.insn.Insn.TheVariants as insns
-use Rattle.code_decode.specs.Spellings as spellings
-use Rattle.code_decode.specs.Spellings.{Spelling, spelling}
-use Rattle.code_decode.specs.Texts.{is_rising}
-use Rattle.code_decode.specs.Reading.{opcode_of, find, plain_low, plain_high, plain, with_byte, with_pair, with_jump, wide_local, first_of}
+use Rattle.code_forms.specs.declared.insn.Case.{Case}
+use Rattle.code_forms.specs.declared.insn.Insn.{Insn}
+use Rattle.code_forms.specs.declared.insn.Insn.TheVariants as insns
+use Rattle.code_forms.specs.Spellings as spellings
+use Rattle.code_forms.specs.Spellings.{Spelling, spelling}
+use Rattle.code_forms.specs.Cases.{is_rising}
+use Rattle.code_forms.specs.Opcodes.{opcode_of, find, plain_low, plain_high, plain, with_byte, with_pair, with_jump, wide_local, first_of}
 use Rattle.code_decode.proofs.Takes.{chosen, some_is}
 use Rattle.asm_lines.specs.declared.number.Number.{Number}
 use Rattle.asm_lines.specs.declared.operation.Operation.{Operation}

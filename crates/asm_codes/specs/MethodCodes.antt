@@ -3,7 +3,7 @@
 use Rattle.std.specs.Prelude.{ℕ, ◌+◌, ◌≡◌, ◌<◌, ◌^◌, Bool, true, List, [], ◌∷◌, length, Option, Some, None, Ok, Err}
 use Rattle.class_base.specs.declared.handler.Handler.{Handler}
 use Rattle.std.specs.List.{list_any}
-use Rattle.code_decode.specs.declared.insn.Insn.{Insn}
+use Rattle.code_forms.specs.declared.insn.Insn.{Insn}
 use Rattle.code_decode.specs.Encoding.{code_of}
 use Rattle.code_decode.specs.Texts.{Fits}
 use Rattle.asm_lines.specs.declared.fault.AsmFault.{AsmFault}

@@ -5,7 +5,7 @@ use Rattle.std.specs.Option.{option_map_or, option_or}
 use Rattle.std.specs.List.{filter_map}
 use Rattle.std.specs.Map.{lookup}
 use Rattle.std.specs.Str.{bytes_eq}
-use Rattle.code_decode.specs.declared.insn.Insn.{Insn}
+use Rattle.code_forms.specs.declared.insn.Insn.{Insn}
 use Rattle.class_base.specs.declared.handler.Handler.{Handler}
 use Rattle.code_decode.specs.Encoding.{plain_text}
 use Rattle.code_decode.specs.Texts.{Fits}

@@ -4,11 +4,11 @@ use Rattle.std.specs.Prelude.{◌≡◌, Bool, ℕ, ℤ, pos, negsuc, ◌&&◌, 
 use Rattle.std.specs.Option.{option_map_or}
 use Rattle.std.specs.Str.{bytes_eq}
 use Rattle.code_decode.specs.Codes.{Spells}
-use Rattle.code_decode.specs.declared.insn.Case.{Case}
-use Rattle.code_decode.specs.declared.insn.Insn.{Insn}
+use Rattle.code_forms.specs.declared.insn.Case.{Case}
+use Rattle.code_forms.specs.declared.insn.Insn.{Insn}
 use Rattle.class_base.specs.declared.handler.Handler.{Handler}
-use Rattle.code_decode.specs.Spellings as spellings
-use Rattle.code_decode.specs.Spellings.{Spelling, spelling}
+use Rattle.code_forms.specs.Spellings as spellings
+use Rattle.code_forms.specs.Spellings.{Spelling, spelling}
 use Rattle.asm_lines.specs.Numbers.{signed_of, pair_of, int_of}
 use Rattle.asm_lines.specs.declared.item.CatchLine.{CatchLine}
 use Rattle.asm_lines.specs.declared.item.Item.{Item}

@@ -14,7 +14,8 @@ use crate::places::{insn_in, places_of};
 use crate::pooled::{PoolOperand, PooledLine};
 use asm_lines::{AsmFault, CatchLine, Item};
 use class_base::Handler;
-use code_decode::{Insn, put_insn};
+use code_decode::put_insn;
+use code_forms::Insn;
 use list_views::Seq;
 use std::alloc::{AllocError, Global};
 

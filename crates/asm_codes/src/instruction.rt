@@ -7,7 +7,7 @@ ghost use Rattle.asm_codes.specs.Instructions.{target, byte_value, pair_value, l
 use crate::labels::Labels;
 use crate::pooled::PoolOperand;
 use asm_lines::{Number, Operation};
-use code_decode::{Case, Insn, is_rising, plain, wide_local, with_byte, with_jump, with_pair};
+use code_forms::{Case, Insn, is_rising, plain, wide_local, with_byte, with_jump, with_pair};
 use list_views::Seq;
 use std::alloc::{AllocError, Global};
 

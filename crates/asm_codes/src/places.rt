@@ -8,7 +8,8 @@ use crate::instruction::insn_of;
 use crate::labels::Labels;
 use crate::pooled::PooledLine;
 use asm_lines::Item;
-use code_decode::{Insn, length};
+use code_decode::length;
+use code_forms::Insn;
 use list_views::Seq;
 use std::alloc::{AllocError, Global};
 

@@ -3,12 +3,12 @@
 use Rattle.std.specs.Prelude.{ℕ, pos, zero, suc, ◌==◌, nat_le, List, [], ◌∷◌, ◌++◌, Option, Some, None, option_map, Ok, Err, codes, if◌then◌else◌}
 use Rattle.std.specs.Option.{option_map_or, option_or}
 use Rattle.std.specs.Str.{bytes_eq}
-use Rattle.code_decode.specs.declared.insn.Insn.{Insn}
-use Rattle.code_decode.specs.declared.insn.Insn.TheVariants as insns
+use Rattle.code_forms.specs.declared.insn.Insn.{Insn}
+use Rattle.code_forms.specs.declared.insn.Insn.TheVariants as insns
 use Rattle.code_decode.specs.Names.{name_of}
-use Rattle.code_decode.specs.Spellings as spellings
-use Rattle.code_decode.specs.Spellings.{Spelling, spelling}
-use Rattle.code_decode.specs.Reading.{find_by, plain, with_byte, with_pair, with_jump}
+use Rattle.code_forms.specs.Spellings as spellings
+use Rattle.code_forms.specs.Spellings.{Spelling, spelling}
+use Rattle.code_forms.specs.Opcodes.{find_by, plain, with_byte, with_pair, with_jump}
 use Rattle.asm_lines.specs.declared.fault.AsmFault.TheVariants.{Syntax, UnknownOpcode}
 use Rattle.asm_lines.specs.declared.number.Number.{Number}
 use Rattle.asm_lines.specs.declared.operation.Operation.{Operation}

@@ -2,7 +2,7 @@
 
 ghost use Rattle.std.specs.Prelude.{◌≡◌, ℕ, List, ◌∷◌, [], ◌++◌, IfOk, OnOk, map};
 ghost use Rattle.code_decode.specs.Names.{name_of};
-ghost use Rattle.code_decode.specs.Spellings.{spelling};
+ghost use Rattle.code_forms.specs.Spellings.{spelling};
 ghost use Rattle.list_views.specs.Results.{Answers};
 ghost use Rattle.asm_lines.specs.Statements.{Gives, one_word};
 ghost use Rattle.asm_lines.specs.Operations.{single, template, named, all_names, opcode_in, kind_code, one_number, load_value, load_operation, member_operation, increment_operation, some_labels, table_operation, cases_of, lookup_operation, array_operation, byte_operands, pair_operands, jump_operands, operands};
@@ -10,7 +10,8 @@ ghost use Rattle.asm_lines.specs.Operations.{single, template, named, all_names,
 use crate::fault::AsmFault;
 use crate::number::Number;
 use crate::statement::{copy, is, next_word, no_more, number_word};
-use code_decode::{Insn, SpellingView, name, plain, spelling_of, with_byte, with_jump, with_pair};
+use code_decode::{SpellingView, name, spelling_of};
+use code_forms::{Insn, plain, with_byte, with_jump, with_pair};
 use list_views::Seq;
 use std::alloc::{AllocError, Global};
 use std::marker::Model;

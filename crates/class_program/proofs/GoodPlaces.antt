@@ -8,11 +8,12 @@ use Rattle.class_pool.specs.declared.entry.PoolEntry.{PoolEntry}
 use Rattle.class_base.specs.declared.handler.Handler.{Handler}
 use Rattle.class_read.specs.Content.{CodeContent}
 use Rattle.class_read.specs.Rules.{name_of}
-use Rattle.code_decode.specs.declared.fault.CodeFault.{CodeFault}
-use Rattle.code_decode.specs.declared.insn.Insn.{Insn}
-use Rattle.code_decode.specs.Codes.{targets, starts, stands, first_stray, insns_from, decode_of}
+use Rattle.code_forms.specs.declared.fault.CodeFault.{CodeFault}
+use Rattle.code_forms.specs.declared.insn.Insn.{Insn}
+use Rattle.code_forms.specs.Marks.{starts, stands}
+use Rattle.code_decode.specs.Codes.{targets, first_stray, insns_from, decode_of}
 use Rattle.code_decode.specs.Reading.{◌>>=◌, insn_at}
-use Rattle.code_decode.specs.Tables.{may_end, bad_boundary, earlier, first_bad_boundary, boundary_fault}
+use Rattle.code_forms.specs.Tables.{may_end, bad_boundary, earlier, first_bad_boundary, boundary_fault}
 use Rattle.class_world.specs.declared.fault.MethodName.{MethodName}
 use Rattle.class_world.specs.declared.fault.LinkFault.TheVariants.{MissingClass}
 use Rattle.class_world.specs.declared.world.MethodRef.{MethodRef}

@@ -7,8 +7,9 @@ use Rattle.std.proofs.lemmas.Bool.{and_parts}
 use Rattle.class_base.specs.declared.handler.Handler.{Handler}
 use Rattle.class_pool.specs.declared.entry.PoolEntry.{PoolEntry}
 use Rattle.class_read.specs.Content.{MethodContent, CodeContent}
-use Rattle.code_decode.specs.declared.insn.Insn.{Insn}
-use Rattle.code_decode.specs.Codes.{targets, starts, stands}
+use Rattle.code_forms.specs.declared.insn.Insn.{Insn}
+use Rattle.code_forms.specs.Marks.{starts, stands}
+use Rattle.code_decode.specs.Codes.{targets}
 use Rattle.jvm_values.specs.declared.types.Slot.{Slot}
 use Rattle.jvm_values.specs.Subtyping.{IsSlot}
 use Rattle.class_world.specs.declared.fault.MethodName.{MethodName}

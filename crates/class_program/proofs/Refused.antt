@@ -9,7 +9,7 @@ use Rattle.class_world.specs.declared.fault.LinkFault.TheVariants as faults
 use Rattle.class_world.specs.declared.fault.MethodName.{MethodName}
 use Rattle.class_program.specs.declared.refusal.Refusal.{Refusal}
 use Rattle.class_program.specs.declared.refusal.Refusal.TheVariants.{MissingClass, StaticInit, UnsupportedType, Unresolved, PrivateVirtual, Memory}
-use Rattle.code_decode.specs.declared.insn.Insn.{Insn}
+use Rattle.code_forms.specs.declared.insn.Insn.{Insn}
 use Rattle.class_program.specs.declared.op.Op.{Op}
 use Rattle.class_world.specs.World.{World}
 use Rattle.class_program.specs.Operands.{operand_of}

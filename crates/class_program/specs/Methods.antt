@@ -7,10 +7,11 @@ use Rattle.std.specs.Option.{option_map_or}
 use Rattle.class_pool.specs.declared.entry.PoolEntry.{PoolEntry}
 use Rattle.class_read.specs.Content.{MethodContent, CodeContent, Handler}
 use Rattle.class_read.specs.Rules.{name_of}
-use Rattle.code_decode.specs.declared.fault.CodeFault.{CodeFault}
-use Rattle.code_decode.specs.declared.insn.Insn.{Insn}
-use Rattle.code_decode.specs.Codes.{decode_of, starts, stands}
-use Rattle.code_decode.specs.Tables.{first_bad_boundary, boundary_fault}
+use Rattle.code_forms.specs.declared.fault.CodeFault.{CodeFault}
+use Rattle.code_forms.specs.declared.insn.Insn.{Insn}
+use Rattle.code_forms.specs.Marks.{starts, stands}
+use Rattle.code_decode.specs.Codes.{decode_of}
+use Rattle.code_forms.specs.Tables.{first_bad_boundary, boundary_fault}
 use Rattle.jvm_values.specs.declared.types.Slot.{Slot}
 use Rattle.class_world.specs.declared.fault.LinkFault.{LinkFault}
 use Rattle.class_world.specs.declared.fault.LinkFault.TheVariants.{MissingClass, StaticInit, Native, Synchronized, Code}

@@ -13,7 +13,7 @@ use Rattle.class_read.specs.Content.{MethodContent}
 use Rattle.class_base.specs.declared.types.FieldType.{FieldType}
 use Rattle.class_base.specs.ClassNames.{is_class_name}
 use Rattle.class_base.specs.Types.{field_type}
-use Rattle.code_decode.specs.declared.insn.Insn.{Insn}
+use Rattle.code_forms.specs.declared.insn.Insn.{Insn}
 use Rattle.jvm_values.specs.Kinds.{kind_of_code}
 use Rattle.jvm_values.specs.declared.types.Base.{Base}
 use Rattle.jvm_values.specs.declared.types.Base.TheVariants as bases

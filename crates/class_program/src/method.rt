@@ -2,7 +2,7 @@
 ghost use Rattle.class_world.specs.Worlds.{classes_of};
 ghost use Rattle.std.specs.Prelude.{◌≡◌, ◌≢◌, ◌⊎◌, ◌<◌, ◌^◌, length, map, Some, IfOk, IsTrue};
 ghost use Rattle.class_world.specs.declared.fault.LinkFault.TheVariants.{Code, Memory};
-ghost use Rattle.code_decode.specs.declared.fault.CodeFault.TheVariants as faults;
+ghost use Rattle.code_forms.specs.declared.fault.CodeFault.TheVariants as faults;
 ghost use Rattle.std.specs.Option.{option_map_or};
 ghost use Rattle.code_decode.specs.Codes.{decode_of};
 ghost use Rattle.class_read.specs.Rules.{name_of};
@@ -24,7 +24,8 @@ use class_base::{Handler, NATIVE, STATIC, SYNCHRONIZED, has_flag};
 use class_pool::Pool;
 use class_read::{CodeView, MethodView};
 use class_world::{LinkFault, MethodName, MethodRef, World};
-use code_decode::{CodeFault, Insn, check_table, decode};
+use code_decode::decode;
+use code_forms::{CodeFault, Insn, check_table};
 use jvm_values::{Base, Slot, Ty};
 use list_views::{Bytes, Seq};
 use std::alloc::{AllocError, Global};

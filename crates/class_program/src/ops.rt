@@ -16,7 +16,7 @@ use crate::refusal::Refusal;
 use crate::static_operand::{static_of, static_op};
 use class_pool::Pool;
 use class_world::{LinkFault, MethodName, World};
-use code_decode::Insn;
+use code_forms::Insn;
 use jvm_values::Kind;
 use std::alloc::{AllocError, Global};
 

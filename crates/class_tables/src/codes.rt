@@ -2,10 +2,8 @@
 ghost use Rattle.std.specs.Prelude.{◌<◌, ◌^◌, IfOk, vec_len};
 
 use anyhow::{Context, Result, bail};
-use code_decode::{
-    Case as SwitchCase, CodeFault, Handler, Insn, SpellingView, check_table, decode, name,
-    spelling_of,
-};
+use code_decode::{SpellingView, decode, name, spelling_of};
+use code_forms::{Case as SwitchCase, CodeFault, Handler, Insn, check_table};
 use std::alloc::{AllocError, Global};
 use table_cases::{Case, ascii, put_count, put_numbered, said, short};
 

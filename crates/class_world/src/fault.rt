@@ -2,7 +2,7 @@
 ghost use Rattle.std.specs.Prelude.{◌≡◌, IfOk};
 ghost use Rattle.class_world.specs.declared.fault.LinkFault.TheVariants.{Memory};
 
-use code_decode::CodeFault;
+use code_forms::CodeFault;
 use list_views::Seq;
 use std::alloc::{AllocError, AllocFailed, Global};
 

@@ -1,6 +1,6 @@
 //! The faults of linking and closing in words.
 ghost use Rattle.std.specs.Prelude.{◌≡◌, IfOk};
-ghost use Rattle.code_decode.specs.Faults.{pc_field};
+ghost use Rattle.code_forms.specs.Faults.{pc_field};
 ghost use Rattle.class_world.specs.Faults.{fault_name, name_field, method_fields, fault_fields, fault_text};
 
 use crate::fault::{LinkFault, MethodName};

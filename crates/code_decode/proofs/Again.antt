@@ -7,15 +7,16 @@ use Rattle.std.proofs.lemmas.Bool.{le-ltb, lt-ltb}
 use Rattle.std.proofs.lemmas.Int.{ints, to_z-of_z}
 use Rattle.std.proofs.lemmas.List.{drop_at, length-append}
 use Rattle.std.proofs.lemmas.List.Concat.{flat_map-cons}
-use Rattle.code_decode.specs.declared.fault.CodeFault.{CodeFault}
-use Rattle.code_decode.specs.declared.fault.CodeFault.TheVariants.{BadSwitch}
-use Rattle.code_decode.specs.declared.insn.Case.{Case}
-use Rattle.code_decode.specs.declared.insn.Insn.{Insn}
-use Rattle.code_decode.specs.declared.insn.Insn.TheVariants.{Aaload, Aastore, AconstNull, Aload, Aload0, Aload1, Aload2, Aload3, Anewarray, Areturn, Arraylength, Astore, Astore0, Astore1, Astore2, Astore3, Athrow, Baload, Bastore, Bipush, Caload, Castore, Checkcast, Dup, Dup2, Dup2X1, Dup2X2, DupX1, DupX2, Getfield, Getstatic, Goto, GotoW, I2b, I2c, I2s, Iadd, Iaload, Iand, Iastore, Iconst0, Iconst1, Iconst2, Iconst3, Iconst4, Iconst5, IconstM1, Idiv, IfAcmpeq, IfAcmpne, IfIcmpeq, IfIcmpge, IfIcmpgt, IfIcmple, IfIcmplt, IfIcmpne, Ifeq, Ifge, Ifgt, Ifle, Iflt, Ifne, Ifnonnull, Ifnull, Iinc, Iload, Iload0, Iload1, Iload2, Iload3, Imul, Ineg, Instanceof, Invokeinterface, Invokespecial, Invokestatic, Invokevirtual, Ior, Irem, Ireturn, Ishl, Ishr, Istore, Istore0, Istore1, Istore2, Istore3, Isub, Iushr, Ixor, Ldc, LdcW, Lookupswitch, New, Newarray, Nop, Pop, Pop2, Putfield, Putstatic, Return, Saload, Sastore, Sipush, Swap, Tableswitch, WideAload, WideAstore, WideIinc, WideIload, WideIstore}
-use Rattle.code_decode.specs.Spellings as spellings
-use Rattle.code_decode.specs.Spellings.{Spelling, spelling}
+use Rattle.code_forms.specs.declared.fault.CodeFault.{CodeFault}
+use Rattle.code_forms.specs.declared.fault.CodeFault.TheVariants.{BadSwitch}
+use Rattle.code_forms.specs.declared.insn.Case.{Case}
+use Rattle.code_forms.specs.declared.insn.Insn.{Insn}
+use Rattle.code_forms.specs.declared.insn.Insn.TheVariants.{Aaload, Aastore, AconstNull, Aload, Aload0, Aload1, Aload2, Aload3, Anewarray, Areturn, Arraylength, Astore, Astore0, Astore1, Astore2, Astore3, Athrow, Baload, Bastore, Bipush, Caload, Castore, Checkcast, Dup, Dup2, Dup2X1, Dup2X2, DupX1, DupX2, Getfield, Getstatic, Goto, GotoW, I2b, I2c, I2s, Iadd, Iaload, Iand, Iastore, Iconst0, Iconst1, Iconst2, Iconst3, Iconst4, Iconst5, IconstM1, Idiv, IfAcmpeq, IfAcmpne, IfIcmpeq, IfIcmpge, IfIcmpgt, IfIcmple, IfIcmplt, IfIcmpne, Ifeq, Ifge, Ifgt, Ifle, Iflt, Ifne, Ifnonnull, Ifnull, Iinc, Iload, Iload0, Iload1, Iload2, Iload3, Imul, Ineg, Instanceof, Invokeinterface, Invokespecial, Invokestatic, Invokevirtual, Ior, Irem, Ireturn, Ishl, Ishr, Istore, Istore0, Istore1, Istore2, Istore3, Isub, Iushr, Ixor, Ldc, LdcW, Lookupswitch, New, Newarray, Nop, Pop, Pop2, Putfield, Putstatic, Return, Saload, Sastore, Sipush, Swap, Tableswitch, WideAload, WideAstore, WideIinc, WideIload, WideIstore}
+use Rattle.code_forms.specs.Spellings as spellings
+use Rattle.code_forms.specs.Spellings.{Spelling, spelling}
 use Rattle.code_decode.specs.Texts.{signed, distance, padding_of, case_text, spelling_text, Reaches, IsTable, IsLookup, FitsSpelling}
-use Rattle.code_decode.specs.Reading.{target_at, skip_at, find_by, wide_local, repeat_at, case_at, table_targets_at, table_at, counted_cases_at, lookup_at, interface_at, array_at, wide_increment_at, wide_operand_at, wide_at, increment_at, signed_byte_at, sipush_at, far_jump_at, byte_operand_at, pair_operand_at, jump_operand_at, insn_at}
+use Rattle.code_forms.specs.Opcodes.{find_by, wide_local}
+use Rattle.code_decode.specs.Reading.{target_at, skip_at, repeat_at, case_at, table_targets_at, table_at, counted_cases_at, lookup_at, interface_at, array_at, wide_increment_at, wide_operand_at, wide_at, increment_at, signed_byte_at, sipush_at, far_jump_at, byte_operand_at, pair_operand_at, jump_operand_at, insn_at}
 use Rattle.code_decode.proofs.Fields.{wide16, wide32, number_again, signed_again, target_again}
 
 -- the first byte of a spelling, and the others

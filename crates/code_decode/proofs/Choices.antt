@@ -1,8 +1,9 @@
 -- The form of an opcode, test by test.
 use Rattle.std.proofs.Common.{◌≡◌, true, false, Option, Some, None, refl, ◌∙◌}
 use Rattle.std.specs.Prelude.{ℕ, option_map, is_some}
-use Rattle.code_decode.specs.declared.insn.Insn.{Insn}
-use Rattle.code_decode.specs.Reading.{OperandLayout, Byte, Pair, Jump, first_of, find_by, with_byte, with_pair, with_jump, single_layout, operand_layout}
+use Rattle.code_forms.specs.declared.insn.Insn.{Insn}
+use Rattle.code_forms.specs.Opcodes.{first_of, find_by, with_byte, with_pair, with_jump}
+use Rattle.code_decode.specs.Reading.{OperandLayout, Byte, Pair, Jump, single_layout, operand_layout}
 
 skips : (make : (ℕ → Insn) → OperandLayout) (a : Option (ℕ → Insn)) (rest : Option OperandLayout) → is_some a ≡ false → first_of (option_map make a) rest ≡ rest
 skips make None rest e = refl

@@ -9,7 +9,7 @@ use Rattle.std.proofs.lemmas.Nat.{be_bytes_2, be_bytes_4, from_be_bytes-to_be_by
 pub use Rattle.list_views.specs.ByteLists.{IsBytes}
 pub use Rattle.list_views.proofs.ByteLists.{IsBytes-drop, IsBytes-take, IsBytes-rest}
 pub use Rattle.list_views.proofs.Steps.{bind_ok, ok_is, guard_ok, guarded}
-use Rattle.code_decode.specs.declared.fault.CodeFault.TheVariants.{Truncated}
+use Rattle.code_forms.specs.declared.fault.CodeFault.TheVariants.{Truncated}
 use Rattle.code_decode.specs.Texts.{signed, distance, Reaches}
 use Rattle.code_decode.specs.Reading.{byte_at, number_at, signed_at, target_at, place_of, place_of_sum}
 

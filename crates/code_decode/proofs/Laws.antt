@@ -5,12 +5,14 @@ use Rattle.std.specs.Global.{Vec}
 use Rattle.std.specs.List.{list_all, AllByRecursion}
 use Rattle.std.proofs.lemmas.Bool.{eqb-true, and_parts}
 use Rattle.std.proofs.lemmas.List.{length-append}
-use Rattle.code_decode.specs.declared.fault.CodeFault.{CodeFault}
-use Rattle.code_decode.specs.declared.insn.Insn.{Insn}
-use Rattle.code_decode.specs.Spellings.{spelling}
+use Rattle.code_forms.specs.declared.fault.CodeFault.{CodeFault}
+use Rattle.code_forms.specs.declared.insn.Insn.{Insn}
+use Rattle.code_forms.specs.Spellings.{spelling}
 use Rattle.code_decode.specs.Texts.{text}
-use Rattle.code_decode.specs.Reading.{◌>>=◌, Gives, insn_at}
-use Rattle.code_decode.specs.Codes.{targets, starts, stands, first_stray, Spells, IsReading, insns_from, with_targets, decode_of}
+use Rattle.code_forms.specs.Faults.{Gives}
+use Rattle.code_decode.specs.Reading.{◌>>=◌, insn_at}
+use Rattle.code_forms.specs.Marks.{starts, stands}
+use Rattle.code_decode.specs.Codes.{targets, first_stray, Spells, IsReading, insns_from, with_targets, decode_of}
 use Rattle.code_decode.proofs.Fields.{IsBytes, IsBytes-rest, bind_ok, ok_is}
 use Rattle.code_decode.proofs.Takes.{AreNear}
 use Rattle.code_decode.proofs.Readings.{insn_takes}

@@ -5,7 +5,7 @@ use Rattle.std.specs.List.{flat_map}
 use Rattle.std.proofs.lemmas.Int.{ints}
 use Rattle.std.proofs.lemmas.List.{length-append}
 use Rattle.std.proofs.lemmas.List.Concat.{flat_map-cons}
-use Rattle.code_decode.specs.declared.insn.Case.{Case}
+use Rattle.code_forms.specs.declared.insn.Case.{Case}
 use Rattle.code_decode.specs.Texts.{signed, distance, padding_of, zeros, case_text, table_text, lookup_text, IsTable}
 use Rattle.code_decode.proofs.Takes.{length-zeros}
 

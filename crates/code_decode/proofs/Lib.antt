@@ -1,5 +1,4 @@
 pub mod Again
-pub mod Boundaries
 pub mod Choices
 pub mod Encodable
 pub mod Fields

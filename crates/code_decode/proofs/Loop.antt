@@ -1,10 +1,11 @@
 -- Reading the instructions of a code, as a loop does.
 use Rattle.std.proofs.Common.{◌≡◌, ℕ, suc, ◌-◌, ◌+◌, ◌≤◌, ◌<◌, List, [], ◌∷◌, ◌++◌, length, Result, Ok, Err, refl, sym, ap, ◌∙◌, subst, append_assoc, arith}
 use Rattle.std.proofs.lemmas.List.{append-nil, length-append, nil_from_length}
-use Rattle.code_decode.specs.declared.fault.CodeFault.{CodeFault}
-use Rattle.code_decode.specs.declared.insn.Insn.{Insn}
+use Rattle.code_forms.specs.declared.fault.CodeFault.{CodeFault}
+use Rattle.code_forms.specs.declared.insn.Insn.{Insn}
 use Rattle.list_views.proofs.Steps.{handed_on}
-use Rattle.code_decode.specs.Reading.{◌>>=◌, is_memory, Fails, insn_at}
+use Rattle.code_forms.specs.Faults.{is_memory, Fails}
+use Rattle.code_decode.specs.Reading.{◌>>=◌, insn_at}
 use Rattle.code_decode.specs.Codes.{insns_from}
 use Rattle.code_decode.proofs.Fields.{IsBytes, IsBytes-rest}
 use Rattle.code_decode.proofs.Readings.{insn_takes}

@@ -1,9 +1,10 @@
 -- Reading values one after the other, as a loop does.
 use Rattle.std.proofs.Common.{◌≡◌, ℕ, suc, ◌-◌, ◌+◌, ◌≤◌, ◌<◌, List, [], ◌∷◌, ◌++◌, Result, Ok, Err, refl, sym, ap, ◌∙◌, append_assoc, arith}
 use Rattle.std.proofs.lemmas.List.{append-nil}
-use Rattle.code_decode.specs.declared.fault.CodeFault.{CodeFault}
+use Rattle.code_forms.specs.declared.fault.CodeFault.{CodeFault}
 use Rattle.list_views.proofs.Steps.{handed_on}
-use Rattle.code_decode.specs.Reading.{◌>>=◌, is_memory, Fails, repeat_at}
+use Rattle.code_forms.specs.Faults.{is_memory, Fails}
+use Rattle.code_decode.specs.Reading.{◌>>=◌, repeat_at}
 
 -- what was read before, and what is still read
 abbrev pub with_front : {A : Type 0} → List A → Result (List A × List ℕ) CodeFault → Result (List A × List ℕ) CodeFault

@@ -9,7 +9,7 @@ use Rattle.std.proofs.lemmas.Int.{to_z-of_z}
 use Rattle.std.specs.List.{AllByRecursion}
 use Rattle.std.proofs.lemmas.List.Concat.{flat_map-cons}
 use Rattle.std.proofs.lemmas.List.Elements.{All-from_recursion}
-use Rattle.code_decode.specs.declared.insn.Insn.{Insn}
+use Rattle.code_forms.specs.declared.insn.Insn.{Insn}
 use Rattle.code_decode.specs.Texts.{padding_of, zeros, Fits}
 use Rattle.code_decode.specs.Codes.{Spells, IsReading, decode_of}
 use Rattle.code_decode.specs.Encoding.{plain_text, code_of, ArePlaced, IsCode}

@@ -1,11 +1,12 @@
 -- A code and its instructions.
 -- JVM specification, section 4.7.3 (the code array) and section 4.9.1 (targets stand at instructions).
-use Rattle.std.specs.Prelude.{ℕ, zero, suc, ◌+◌, ◌-◌, ◌≡◌, List, [], ◌∷◌, ◌++◌, length, map, Option, Some, None, Result, Ok, Err, Bool, ◌==◌, if◌then◌else◌}
-use Rattle.std.specs.List.{list_all, list_any}
-use Rattle.code_decode.specs.declared.fault.CodeFault.{CodeFault}
-use Rattle.code_decode.specs.declared.fault.CodeFault.TheVariants.{BadTarget}
-use Rattle.code_decode.specs.declared.insn.Insn.{Insn}
-use Rattle.code_decode.specs.Spellings.{Spelling, Plain, Byte, Pair, SignedByte, SignedPair, Jump, FarJump, Increment, Table, Lookup, Interface, Array, WideLocal, WideIncrement, spelling}
+use Rattle.std.specs.Prelude.{ℕ, zero, suc, ◌+◌, ◌-◌, ◌≡◌, List, [], ◌∷◌, ◌++◌, length, map, Option, Some, None, Result, Ok, Err, Bool, if◌then◌else◌}
+use Rattle.std.specs.List.{list_all}
+use Rattle.code_forms.specs.declared.fault.CodeFault.{CodeFault}
+use Rattle.code_forms.specs.declared.fault.CodeFault.TheVariants.{BadTarget}
+use Rattle.code_forms.specs.declared.insn.Insn.{Insn}
+use Rattle.code_forms.specs.Spellings.{Spelling, Plain, Byte, Pair, SignedByte, SignedPair, Jump, FarJump, Increment, Table, Lookup, Interface, Array, WideLocal, WideIncrement, spelling}
+use Rattle.code_forms.specs.Marks.{starts, stands}
 use Rattle.code_decode.specs.Texts.{padding_of, text, Fits}
 use Rattle.code_decode.specs.Reading.{◌>>=◌, insn_at}
 
@@ -30,13 +31,6 @@ spelling_targets (WideIncrement op n v) = []
 -- where an instruction may jump to
 abbrev pub targets : Insn → List ℕ
 targets insn = spelling_targets (spelling insn)
-
--- where the instructions begin
-abbrev pub starts : List (ℕ × Insn) → List ℕ
-starts insns = map (λ x. x.0) insns
-
-abbrev pub stands : List ℕ → ℕ → Bool
-stands places place = list_any (λ start. start == place) places
 
 -- the place of the first instruction that has a target which isn't good
 abbrev pub first_stray : (ℕ → Bool) → List (ℕ × Insn) → Option ℕ

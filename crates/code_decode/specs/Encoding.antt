@@ -2,9 +2,10 @@
 -- JVM specification, section 4.7.3 (the code array) and section 4.9.1 (which instructions may stand in it).
 use Rattle.std.specs.Prelude.{ℕ, ◌+◌, ◌<◌, ◌^◌, ◌≡◌, List, [], ◌∷◌, length, None}
 use Rattle.std.specs.List.{flat_map, AllByRecursion}
-use Rattle.code_decode.specs.declared.insn.Insn.{Insn}
+use Rattle.code_forms.specs.declared.insn.Insn.{Insn}
 use Rattle.code_decode.specs.Texts.{padding_of, zeros, text, Fits}
-use Rattle.code_decode.specs.Codes.{starts, stands, first_stray}
+use Rattle.code_forms.specs.Marks.{starts, stands}
+use Rattle.code_decode.specs.Codes.{first_stray}
 
 -- the bytes of an instruction at a place, with zero bytes as padding
 abbrev pub plain_text : ℕ → Insn → List ℕ

@@ -2,8 +2,8 @@
 -- JVM specification, section 6.5: after a jump without a condition, a switch, a return or a throw the next instruction
 -- doesn't run.
 use Rattle.std.specs.Prelude.{Bool, true, false}
-use Rattle.code_decode.specs.declared.insn.Insn.{Insn}
-use Rattle.code_decode.specs.declared.insn.Insn.TheVariants.{Goto, GotoW, Tableswitch, Lookupswitch, Ireturn, Areturn, Return, Athrow}
+use Rattle.code_forms.specs.declared.insn.Insn.{Insn}
+use Rattle.code_forms.specs.declared.insn.Insn.TheVariants.{Goto, GotoW, Tableswitch, Lookupswitch, Ireturn, Areturn, Return, Athrow}
 
 -- whether the instruction behind this one may run after it
 abbrev pub falls_through : Insn → Bool

@@ -1,4 +1,3 @@
-pub mod Spellings
 pub mod SpellingViews
 pub mod Names
 pub mod Texts
@@ -6,6 +5,3 @@ pub mod Reading
 pub mod Codes
 pub mod Encoding
 pub mod Flow
-pub mod Tables
-pub mod Marks
-pub mod Faults

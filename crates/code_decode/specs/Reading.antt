@@ -1,31 +1,17 @@
 -- Reading instructions from left to right, with the first fault that is met.
-use Rattle.std.specs.Prelude.{Bool, true, false, ℕ, zero, suc, ◌+◌, ℤ, pos, negsuc, ◌+ℤ◌, List, [], ◌∷◌, length, take, drop, Option, Some, None, option_map, Result, Ok, Err, nat_lt, ◌==◌, ◌&&◌, if◌then◌else◌}
+use Rattle.std.specs.Prelude.{ℕ, zero, suc, ◌+◌, ℤ, pos, negsuc, ◌+ℤ◌, List, [], ◌∷◌, length, take, drop, Option, Some, None, option_map, Result, Ok, Err, nat_lt, ◌==◌, ◌&&◌, if◌then◌else◌}
 use Rattle.std.specs.Int.{Width, w8, w16, w32, byte_len, from_be_bytes, cast_signed}
 use Rattle.std.specs.Int.RustNames.{int_lt, unsigned_abs}
 use Rattle.std.proofs.Common.{◌-ℤ◌}
 pub use Rattle.list_views.specs.Results.{◌>>=◌}
-use Rattle.list_views.specs.Results as results
-use Rattle.list_views.specs.Results.{IsDue}
-use Rattle.code_decode.specs.declared.fault.CodeFault.{CodeFault}
-use Rattle.code_decode.specs.declared.fault.CodeFault.TheVariants.{Truncated, UnsupportedOpcode, UnknownOpcode, BadSwitch, BadOperand, Memory}
-use Rattle.code_decode.specs.declared.insn.Case.{Case}
-use Rattle.code_decode.specs.declared.insn.Insn.{Insn}
-use Rattle.code_decode.specs.declared.insn.Insn.TheVariants.{Aaload, Aastore, AconstNull, Aload, Aload0, Aload1, Aload2, Aload3, Anewarray, Areturn, Arraylength, Astore, Astore0, Astore1, Astore2, Astore3, Athrow, Baload, Bastore, Bipush, Caload, Castore, Checkcast, Dup, Dup2, Dup2X1, Dup2X2, DupX1, DupX2, Getfield, Getstatic, Goto, GotoW, I2b, I2c, I2s, Iadd, Iaload, Iand, Iastore, Iconst0, Iconst1, Iconst2, Iconst3, Iconst4, Iconst5, IconstM1, Idiv, IfAcmpeq, IfAcmpne, IfIcmpeq, IfIcmpge, IfIcmpgt, IfIcmple, IfIcmplt, IfIcmpne, Ifeq, Ifge, Ifgt, Ifle, Iflt, Ifne, Ifnonnull, Ifnull, Iinc, Iload, Iload0, Iload1, Iload2, Iload3, Imul, Ineg, Instanceof, Invokeinterface, Invokespecial, Invokestatic, Invokevirtual, Ior, Irem, Ireturn, Ishl, Ishr, Istore, Istore0, Istore1, Istore2, Istore3, Isub, Iushr, Ixor, Ldc, LdcW, Lookupswitch, New, Newarray, Nop, Pop, Pop2, Putfield, Putstatic, Return, Saload, Sastore, Sipush, Swap, Tableswitch, WideAload, WideAstore, WideIinc, WideIload, WideIstore}
-use Rattle.code_decode.specs.Spellings as spellings
-use Rattle.code_decode.specs.Spellings.{Spelling, spelling}
-use Rattle.code_decode.specs.Texts.{padding_of, is_rising}
-
--- want of memory
-abbrev pub is_memory : CodeFault → Bool
-is_memory Memory = true
-is_memory fault = false
-
-abbrev pub Fails : {Y : Type 0} → CodeFault → Result Y CodeFault → Type 0
-Fails fault read = IsDue is_memory fault read
-
--- What a function returned, seen by view, is what reading gives, unless memory ran out.
-abbrev pub Gives : {X Y : Type 0} → (X → Y) → Result X CodeFault → Result Y CodeFault → Type 0
-Gives view answer read = results.Gives is_memory view answer read
+use Rattle.code_forms.specs.declared.fault.CodeFault.{CodeFault}
+use Rattle.code_forms.specs.declared.fault.CodeFault.TheVariants.{Truncated, UnsupportedOpcode, UnknownOpcode, BadSwitch, BadOperand}
+use Rattle.code_forms.specs.declared.insn.Case.{Case}
+use Rattle.code_forms.specs.declared.insn.Insn.{Insn}
+use Rattle.code_forms.specs.declared.insn.Insn.TheVariants.{Bipush, GotoW, Iinc, Invokeinterface, Lookupswitch, Newarray, Sipush, Tableswitch, WideIinc}
+use Rattle.code_forms.specs.Opcodes.{find_by, with_byte, with_pair, with_jump, wide_local, first_of, plain}
+use Rattle.code_forms.specs.Cases.{is_rising}
+use Rattle.code_decode.specs.Texts.{padding_of}
 
 -- ---- fields: a value and the bytes after it
 
@@ -57,71 +43,6 @@ target_at w pc bytes = do
 unfoldable pub skip_at : ℕ → ℕ → List ℕ → Result (List ℕ) CodeFault
 skip_at n pc bytes = if nat_lt (length bytes) n then Err (Truncated pc) else Ok (drop n bytes)
 
--- ---- which instructions there are, by their operands; the opcodes are those of the table
-
-abbrev pub opcode_of : Spelling → ℕ
-opcode_of (spellings.Plain op) = op
-opcode_of (spellings.Byte op n) = op
-opcode_of (spellings.Pair op n) = op
-opcode_of (spellings.SignedByte op v) = op
-opcode_of (spellings.SignedPair op v) = op
-opcode_of (spellings.Jump op target) = op
-opcode_of (spellings.FarJump op target) = op
-opcode_of (spellings.Increment op n v) = op
-opcode_of (spellings.Table op default low targets) = op
-opcode_of (spellings.Lookup op default cases) = op
-opcode_of (spellings.Interface op n count) = op
-opcode_of (spellings.Array op code) = op
-opcode_of (spellings.WideLocal op n) = op
-opcode_of (spellings.WideIncrement op n v) = op
-
--- the first instruction of the opcode
-abbrev pub find : List Insn → ℕ → Option Insn
-find [] op = None
-find (i ∷ is) op = if op == opcode_of (spelling i) then Some i else find is op
-
-abbrev pub find_by : List (ℕ → Insn) → ℕ → Option (ℕ → Insn)
-find_by [] op = None
-find_by (i ∷ is) op = if op == opcode_of (spelling (i 0)) then Some i else find_by is op
-
--- no operands: constants, loads, stores
-abbrev pub plain_low : List Insn
-plain_low =
-    Nop ∷ AconstNull ∷ IconstM1 ∷ Iconst0 ∷ Iconst1 ∷ Iconst2 ∷ Iconst3 ∷ Iconst4 ∷
-    Iconst5 ∷ Iload0 ∷ Iload1 ∷ Iload2 ∷ Iload3 ∷ Aload0 ∷ Aload1 ∷ Aload2 ∷
-    Aload3 ∷ Iaload ∷ Aaload ∷ Baload ∷ Caload ∷ Saload ∷ Istore0 ∷ Istore1 ∷
-    Istore2 ∷ Istore3 ∷ Astore0 ∷ Astore1 ∷ Astore2 ∷ Astore3 ∷ Iastore ∷ Aastore ∷
-    Bastore ∷ Castore ∷ Sastore ∷ []
-
--- no operands: the stack, numbers, returns
-abbrev pub plain_high : List Insn
-plain_high =
-    Pop ∷ Pop2 ∷ Dup ∷ DupX1 ∷ DupX2 ∷ Dup2 ∷ Dup2X1 ∷ Dup2X2 ∷
-    Swap ∷ Iadd ∷ Isub ∷ Imul ∷ Idiv ∷ Irem ∷ Ineg ∷ Ishl ∷
-    Ishr ∷ Iushr ∷ Iand ∷ Ior ∷ Ixor ∷ I2b ∷ I2c ∷ I2s ∷
-    Ireturn ∷ Areturn ∷ Return ∷ Arraylength ∷ Athrow ∷ []
-
--- a number of one byte
-abbrev pub with_byte : List (ℕ → Insn)
-with_byte = Ldc ∷ Iload ∷ Aload ∷ Istore ∷ Astore ∷ []
-
--- a number of two bytes
-abbrev pub with_pair : List (ℕ → Insn)
-with_pair =
-    LdcW ∷ Getstatic ∷ Putstatic ∷ Getfield ∷ Putfield ∷ Invokevirtual ∷ Invokespecial ∷ Invokestatic ∷
-    New ∷ Anewarray ∷ Checkcast ∷ Instanceof ∷ []
-
--- a target, as a distance of two bytes
-abbrev pub with_jump : List (ℕ → Insn)
-with_jump =
-    Ifeq ∷ Ifne ∷ Iflt ∷ Ifge ∷ Ifgt ∷ Ifle ∷ IfIcmpeq ∷ IfIcmpne ∷
-    IfIcmplt ∷ IfIcmpge ∷ IfIcmpgt ∷ IfIcmple ∷ IfAcmpeq ∷ IfAcmpne ∷ Goto ∷ Ifnull ∷
-    Ifnonnull ∷ []
-
--- a local of two bytes, behind `wide`
-abbrev pub wide_local : List (ℕ → Insn)
-wide_local = WideIload ∷ WideAload ∷ WideIstore ∷ WideAstore ∷ []
-
 -- What stands behind an opcode.
 pub data OperandLayout : Type 0 where
   Plain : Insn → OperandLayout
@@ -137,10 +58,6 @@ pub data OperandLayout : Type 0 where
   Array : OperandLayout
   Wide : OperandLayout
   FarJump : OperandLayout
-
-abbrev pub first_of : {A : Type 0} → Option A → Option A → Option A
-first_of (Some f) other = Some f
-first_of None other = other
 
 -- the forms of a single opcode each
 abbrev pub single_layout : ℕ → Option OperandLayout
@@ -162,10 +79,6 @@ operand_layout op =
     first_of (option_map Pair (find_by with_pair op)) (
     first_of (option_map Jump (find_by with_jump op)) (
     single_layout op)))
-
--- the instruction of an opcode without operands
-abbrev pub plain : ℕ → Option Insn
-plain op = first_of (find plain_low op) (find plain_high op)
 
 abbrev pub layout : ℕ → Option OperandLayout
 layout op = first_of (option_map Plain (plain op)) (operand_layout op)

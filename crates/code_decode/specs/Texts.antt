@@ -1,13 +1,14 @@
 -- The bytes of an instruction, and what has bytes.
 -- JVM specification, section 6.5 (each instruction's format) and section 4.9 (switches, `invokeinterface`, `newarray`).
-use Rattle.std.specs.Prelude.{ℕ, zero, suc, ◌-◌, ◌%◌, ◌^◌, ◌<◌, ◌≤◌, ℤ, pos, ◌+ℤ◌, List, [], ◌∷◌, ◌++◌, length, Bool, true, ◌&&◌, IsTrue}
+use Rattle.std.specs.Prelude.{ℕ, zero, suc, ◌-◌, ◌%◌, ◌^◌, ◌<◌, ◌≤◌, ℤ, pos, ◌+ℤ◌, List, [], ◌∷◌, ◌++◌, length, IsTrue}
 use Rattle.std.specs.Int.{Width, w8, w16, w32, to_be_bytes, cast_unsigned}
-use Rattle.std.specs.Int.RustNames.{FitsSigned, int_lt}
+use Rattle.std.specs.Int.RustNames.{FitsSigned}
 use Rattle.std.specs.List.{flat_map, AllByRecursion}
 use Rattle.std.proofs.Common.{◌-ℤ◌}
-use Rattle.code_decode.specs.declared.insn.Case.{Case}
-use Rattle.code_decode.specs.declared.insn.Insn.{Insn}
-use Rattle.code_decode.specs.Spellings.{Spelling, Plain, Byte, Pair, SignedByte, SignedPair, Jump, FarJump, Increment, Table, Lookup, Interface, Array, WideLocal, WideIncrement, spelling}
+use Rattle.code_forms.specs.declared.insn.Case.{Case}
+use Rattle.code_forms.specs.declared.insn.Insn.{Insn}
+use Rattle.code_forms.specs.Cases.{is_rising}
+use Rattle.code_forms.specs.Spellings.{Spelling, Plain, Byte, Pair, SignedByte, SignedPair, Jump, FarJump, Increment, Table, Lookup, Interface, Array, WideLocal, WideIncrement, spelling}
 
 -- the bytes of a signed number, in two's complement and big-endian
 abbrev pub signed : Width → ℤ → List ℕ
@@ -59,15 +60,6 @@ text pc padding insn = spelling_text pc padding (spelling insn)
 pub record Reaches (w : Width) (pc target : ℕ) : Type 0 where
   pub place : target < 2 ^ 16
   pub fits : FitsSigned w (distance pc target)
-
-abbrev pub rises_from : ℤ → List Case → Bool
-rises_from key [] = true
-rises_from key (c ∷ cs) = int_lt key c.key && rises_from c.key cs
-
--- each key is above the one before it
-abbrev pub is_rising : List Case → Bool
-is_rising [] = true
-is_rising (c ∷ cs) = rises_from c.key cs
 
 -- A table has at least one key, and the highest fits.
 pub record IsTable (pc default : ℕ) (low : ℤ) (targets : List ℕ) : Type 0 where

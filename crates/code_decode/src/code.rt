@@ -1,17 +1,15 @@
 //! Reading a whole code.
 ghost use Rattle.std.specs.Prelude.{◌≡◌, ◌^◌, ◌<◌, ℕ, List, length, IfOk, Ok, None};
-ghost use Rattle.code_decode.specs.declared.insn.Insn.{Insn};
+ghost use Rattle.code_forms.specs.declared.insn.Insn.{Insn};
 ghost use Rattle.code_decode.specs.Codes.{targets, first_stray, insns_from, decode_of, IsReading};
 ghost use Rattle.code_decode.specs.Encoding.{IsCode};
 ghost use Rattle.std.specs.List.{list_all};
-ghost use Rattle.code_decode.specs.Marks.{marked};
-ghost use Rattle.code_decode.specs.Reading.{Gives};
+ghost use Rattle.code_forms.specs.Marks.{marked};
+ghost use Rattle.code_forms.specs.Faults.{Gives};
 
-use crate::fault::CodeFault;
-use crate::insn::{Case, Insn};
 use crate::reading::insn_at;
 use crate::spelling::{SpellingView, spelling_of};
-use crate::starts::Starts;
+use code_forms::{Case, CodeFault, Insn, Starts};
 use std::alloc::Global;
 
 /// The instructions of a code, one behind the other. Their targets are not looked at.

@@ -6,8 +6,8 @@ ghost use Rattle.code_decode.specs.Flow.{falls_through};
 ghost use Rattle.code_decode.specs.SpellingViews.{shown};
 ghost use Rattle.code_decode.specs.Texts.{padding_of, zeros, table_text, lookup_text, spelling_text, IsTable, IsLookup, FitsSpelling, Fits};
 
-use crate::insn::{Case, Insn};
 use crate::spelling::{SpellingView, padding_of, spelling_of};
+use code_forms::{Case, Insn};
 use list_views::Seq;
 use std::alloc::{AllocError, Global};
 

@@ -2,7 +2,7 @@
 ghost use Rattle.std.specs.Prelude.{◌≡◌};
 ghost use Rattle.code_decode.specs.Names.{name_of};
 
-use crate::insn::Insn;
+use code_forms::Insn;
 
 /// The name of an instruction as the JVM specification has it; one behind `wide` has `wide_` before its name.
 pub fn name(insn: &Insn) -> &'static str

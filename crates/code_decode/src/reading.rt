@@ -1,14 +1,15 @@
 //! Reading one instruction. A reader gives a value and the bytes after it.
 ghost use Rattle.std.specs.Prelude.{◌≡◌, IsTrue, is_some, option_map};
 ghost use Rattle.std.specs.Int.{w16, w32, cast_signed};
-ghost use Rattle.code_decode.specs.Reading.{Gives, Byte, Pair, Jump, byte_at, number_at, signed_at, place_of, target_at, skip_at, find_by, with_byte, with_pair, with_jump, operands_at, repeat_at, case_at, table_at, lookup_at, interface_at, array_at, wide_at, increment_at, signed_byte_at, sipush_at, far_jump_at, table_targets_at, counted_cases_at, wide_increment_at, wide_local, wide_operand_at, single_layout, operand_layout, insn_at};
+ghost use Rattle.code_forms.specs.Faults.{Gives};
+ghost use Rattle.code_forms.specs.Opcodes.{find_by, with_byte, with_pair, with_jump, wide_local};
+ghost use Rattle.code_decode.specs.Reading.{Byte, Pair, Jump, byte_at, number_at, signed_at, place_of, target_at, skip_at, operands_at, repeat_at, case_at, table_at, lookup_at, interface_at, array_at, wide_at, increment_at, signed_byte_at, sipush_at, far_jump_at, table_targets_at, counted_cases_at, wide_increment_at, wide_operand_at, single_layout, operand_layout, insn_at};
 ghost use Rattle.code_decode.specs.Texts.{padding_of};
 
-use crate::cases::is_rising;
-use crate::fault::CodeFault;
-use crate::forms::{plain, wide_local, with_byte, with_jump, with_pair};
-use crate::insn::{Case, Insn};
 use crate::spelling::padding_of;
+use code_forms::{
+    Case, CodeFault, Insn, is_rising, plain, wide_local, with_byte, with_jump, with_pair,
+};
 use list_views::Seq;
 use std::alloc::Global;
 

@@ -1,10 +1,10 @@
 //! What an instruction is in a code: its opcode and its operands.
 ghost use Rattle.std.specs.Prelude.{◌≡◌};
-ghost use Rattle.code_decode.specs.Spellings.{spelling};
+ghost use Rattle.code_forms.specs.Spellings.{spelling};
 ghost use Rattle.code_decode.specs.Texts.{padding_of};
 ghost use Rattle.code_decode.specs.SpellingViews.{shown};
 
-use crate::insn::{Case, Insn};
+use code_forms::{Case, Insn};
 use list_views::Seq;
 
 /// The opcode of an instruction and its operands. The first number of each form is the opcode.

@@ -8,8 +8,8 @@ ghost use Rattle.code_decode.specs.Encoding.{plain_text, code_of, IsCode};
 ghost use Rattle.code_decode.specs.SpellingViews.{shown};
 ghost use Rattle.code_decode.specs.Texts.{signed, distance, padding_of, zeros, case_text, table_text, lookup_text, spelling_text, Reaches, IsTable, IsLookup, FitsSpelling, Fits};
 
-use crate::insn::{Case, Insn};
 use crate::spelling::{SpellingView, padding_of, spelling_of};
+use code_forms::{Case, Insn};
 use std::alloc::{AllocError, Global};
 
 /// The opcode before wider operands.

@@ -9,7 +9,7 @@ use Rattle.jvm_values.specs.States.{PlaceTypes}
 use Rattle.jvm_values.specs.TypedHeaps.{WorldTypes}
 use Rattle.class_world.specs.World.{World}
 use Rattle.class_program.specs.declared.program.CatchRange.{CatchRange}
-use Rattle.code_decode.specs.declared.insn.Case.{Case}
+use Rattle.code_forms.specs.declared.insn.Case.{Case}
 use Rattle.frame_types.specs.declared.table.Table.{Table}
 use Rattle.frame_types.specs.Tables.{Flow, Takes}
 use Rattle.frame_types.specs.Growth.{IsTable, IsGrown, AreRefused}

@@ -13,7 +13,7 @@ ghost use Rattle.code_verify.specs.Flows.{CanCatch, falls, jump, table_targets, 
 use crate::rows::{THROWABLE, class_type};
 use class_program::CatchRange;
 use class_world::World;
-use code_decode::Case;
+use code_forms::Case;
 use frame_types::Table;
 use jvm_values::{FrameType, PlaceType, Ty, Types};
 use op_forms::Form;

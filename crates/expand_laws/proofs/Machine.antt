@@ -4,7 +4,7 @@ use Rattle.std.specs.Prelude.{slice_set, nat_lt, unwrap_or}
 use Rattle.std.specs.Int.{int_wrap, w32}
 use Rattle.std.specs.Option.{option_map, option_and_then}
 use Rattle.std.proofs.lemmas.Bool.{lt-ltb}
-use Rattle.code_decode.specs.declared.insn.Case.{Case}
+use Rattle.code_forms.specs.declared.insn.Case.{Case}
 use Rattle.jvm_values.specs.declared.heap.Value.{Value}
 use Rattle.jvm_values.specs.declared.heap.Value.TheVariants as values
 use Rattle.jvm_values.specs.declared.state.Mode.{Mode}

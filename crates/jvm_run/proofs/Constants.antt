@@ -8,8 +8,8 @@ use Rattle.std.proofs.lemmas.List.Elements.{All-more}
 use Rattle.jvm_values.specs.declared.types.Kind.{Kind}
 use Rattle.jvm_values.specs.declared.types.Kind.TheVariants as kinds
 use Rattle.jvm_values.specs.Kinds.{IsOfKind, kind_of_code}
-use Rattle.code_decode.specs.declared.insn.Insn.{Insn}
-use Rattle.code_decode.specs.declared.insn.Insn.TheVariants as insns
+use Rattle.code_forms.specs.declared.insn.Insn.{Insn}
+use Rattle.code_forms.specs.declared.insn.Insn.TheVariants as insns
 use Rattle.class_program.specs.declared.op.Op.{Op}
 use Rattle.class_program.specs.declared.op.Op.TheVariants as ops
 use Rattle.op_forms.specs.Forms.{Form, form_of, form_of_insn}

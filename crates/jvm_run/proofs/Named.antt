@@ -6,8 +6,8 @@ use Rattle.jvm_values.specs.declared.types.Kind.{Kind}
 use Rattle.jvm_values.specs.Kinds.{kind_of_code}
 use Rattle.jvm_values.specs.Subtyping.{IsReference}
 use Rattle.jvm_values.proofs.Options.{some_is}
-use Rattle.code_decode.specs.declared.insn.Insn.{Insn}
-use Rattle.code_decode.specs.declared.insn.Insn.TheVariants as insns
+use Rattle.code_forms.specs.declared.insn.Insn.{Insn}
+use Rattle.code_forms.specs.declared.insn.Insn.TheVariants as insns
 use Rattle.class_program.specs.declared.op.Op.{Op}
 use Rattle.class_program.specs.declared.op.Op.TheVariants as ops
 use Rattle.class_program.specs.Programs.{Program}

@@ -6,7 +6,7 @@ ghost use Rattle.jvm_run.specs.Laws.{HasInts, IsIntForm};
 ghost use Rattle.jvm_run.specs.Constants.{number_of_insn, number_of_op};
 
 use class_program::{Method, Op, Program};
-use code_decode::Insn;
+use code_forms::Insn;
 
 /// The number that an instruction holds to push it, where it names no pool entry.
 fn number_of_insn(insn: &Insn) -> Option<i32>

@@ -11,7 +11,7 @@ use Rattle.std.specs.Ordering.{int_eq}
 use Rattle.std.specs.Int.{w32, int_wrap}
 use Rattle.std.specs.Str.{bytes_eq}
 use Rattle.list_views.specs.Options.{◌>>=◌, asked}
-use Rattle.code_decode.specs.declared.insn.Case.{Case}
+use Rattle.code_forms.specs.declared.insn.Case.{Case}
 use Rattle.jvm_values.specs.declared.heap.Value.{Value}
 use Rattle.jvm_values.specs.declared.heap.Value.TheVariants as values
 use Rattle.jvm_values.specs.declared.heap.Object.{Object}

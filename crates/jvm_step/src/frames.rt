@@ -10,7 +10,7 @@ ghost use Rattle.jvm_step.specs.Effects.{is_wanted, target_at, int_of_local, ref
 use crate::after::After;
 use crate::built_ins::ARITHMETIC_EXCEPTION;
 use crate::operands::{int_at, int_of, reference_at, reference_of, replace, take};
-use code_decode::Case;
+use code_forms::Case;
 use jvm_values::{Cond, Frame, IntOp, Kind, Value};
 use list_views::Seq;
 use std::alloc::{AllocError, AllocFailed};

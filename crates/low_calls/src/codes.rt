@@ -1,5 +1,6 @@
-//! `code_decode`: what its tables don't show.
-use code_decode::{Insn, decode, encode, falls_through};
+//! `code_forms` and `code_decode`: what their tables don't show.
+use code_decode::{decode, encode, falls_through};
+use code_forms::Insn;
 use std::alloc::AllocError;
 use std::test::Fail;
 

@@ -4,7 +4,7 @@ ghost use Rattle.std.specs.Option.{option_map};
 ghost use Rattle.op_forms.specs.Forms.{form_of, form_of_insn, form_seen, number_array};
 
 use class_program::{Call, FieldUse, Op};
-use code_decode::{Case, Insn};
+use code_forms::{Case, Insn};
 use jvm_values::{Cond, IntOp, Kind, Ty};
 
 /// A reordering of the top of the operand stack (JVM specification, section 6.5). Every value has one word.

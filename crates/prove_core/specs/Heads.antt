@@ -8,7 +8,7 @@ use Rattle.class_program.specs.declared.op.Op.{Op}
 use Rattle.class_program.specs.declared.program.CatchRange.{CatchRange}
 use Rattle.class_program.specs.declared.program.Method.{Method}
 use Rattle.class_program.specs.Programs.{Program}
-use Rattle.code_decode.specs.declared.insn.Case.{Case}
+use Rattle.code_forms.specs.declared.insn.Case.{Case}
 use Rattle.code_verify.specs.Flows.{jump, table_targets, lookup_cases}
 use Rattle.op_forms.specs.Forms.{Form, form_of}
 

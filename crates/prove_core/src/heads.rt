@@ -7,7 +7,7 @@ ghost use Rattle.prove_core.specs.Heads.{jumps_to, op_jumps_to, jumps_back, hand
 
 use abs_cells::{AbsState, Pairs};
 use class_program::{CatchRange, Method, Op, Program};
-use code_decode::Case;
+use code_forms::Case;
 use op_forms::{Form, form_of};
 
 /// Whether a place is among targets.

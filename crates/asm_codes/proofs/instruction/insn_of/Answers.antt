@@ -1,6 +1,6 @@
 use Rattle.std.proofs.Common.{ℕ, ◌∙◌, ap}
 use Rattle.std.specs.Prelude.{option_map}
-use Rattle.code_decode.specs.Reading.{find_by, with_jump}
+use Rattle.code_forms.specs.Opcodes.{find_by, with_jump}
 use Rattle.asm_codes.proofs.instruction.insn_of.Goals as goal
 
 pub returns-in-Jump : goal.returns-in-Jump

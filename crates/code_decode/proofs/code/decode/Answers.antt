@@ -1,7 +1,7 @@
 use Rattle.std.proofs.Common.{ℕ, List, Result, subst, arith}
-use Rattle.code_decode.specs.declared.fault.CodeFault.{CodeFault}
-use Rattle.code_decode.specs.declared.insn.Insn.{Insn}
-use Rattle.code_decode.specs.Reading.{Gives}
+use Rattle.code_forms.specs.declared.fault.CodeFault.{CodeFault}
+use Rattle.code_forms.specs.declared.insn.Insn.{Insn}
+use Rattle.code_forms.specs.Faults.{Gives}
 use Rattle.code_decode.proofs.Encodable.{can_be_written}
 use Rattle.code_decode.proofs.Laws.{is_found, reads_again}
 use Rattle.code_decode.proofs.code.decode.Goals as goal

@@ -1,5 +1,5 @@
 use Rattle.std.proofs.Common.{◌≡◌, drop}
-use Rattle.code_decode.specs.Marks.{marked}
+use Rattle.code_forms.specs.Marks.{marked}
 use Rattle.code_decode.specs.Codes.{first_stray}
 use Rattle.code_decode.proofs.code.first_stray.Given as goal
 

@@ -1,5 +1,5 @@
 use Rattle.std.proofs.Common.{None, Some}
-use Rattle.code_decode.specs.Marks.{marked}
+use Rattle.code_forms.specs.Marks.{marked}
 use Rattle.code_decode.proofs.Laws.{decided}
 use Rattle.code_decode.proofs.code.whole.Goals as goal
 

@@ -1,5 +1,6 @@
 use Rattle.std.proofs.Common.{Option, sym, ◌∙◌, subst}
-use Rattle.code_decode.specs.Reading.{Gives, OperandLayout, operands_at}
+use Rattle.code_forms.specs.Faults.{Gives}
+use Rattle.code_decode.specs.Reading.{OperandLayout, operands_at}
 use Rattle.code_decode.proofs.Choices.{byte_layout, pair_layout, jump_layout, other_layout}
 use Rattle.code_decode.proofs.reading.operand_insn_at.Goals as goal
 

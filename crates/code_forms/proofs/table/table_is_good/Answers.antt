@@ -1,5 +1,5 @@
-use Rattle.code_decode.proofs.Boundaries.{without_fault, passes_good}
-use Rattle.code_decode.proofs.one_way.table_is_good.Goals as goal
+use Rattle.code_forms.proofs.Boundaries.{without_fault, passes_good}
+use Rattle.code_forms.proofs.table.table_is_good.Goals as goal
 
 pub returns-clause-found : goal.returns-clause-found
 returns-clause-found c = λ begins length table none. without_fault begins length table none

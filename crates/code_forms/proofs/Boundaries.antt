@@ -2,10 +2,10 @@
 use Rattle.std.proofs.Common.{◌≡◌, ℕ, Bool, true, false, not, cond, List, [], ◌∷◌, Option, Some, None, Result, Ok, Err, refl, ap}
 use Rattle.std.specs.Prelude.{OnOk}
 use Rattle.std.specs.List.{AllByRecursion}
-use Rattle.code_decode.specs.declared.fault.CodeFault.{CodeFault}
+use Rattle.code_forms.specs.declared.fault.CodeFault.{CodeFault}
 use Rattle.class_base.specs.declared.handler.Handler.{Handler}
-use Rattle.code_decode.specs.Reading.{Gives}
-use Rattle.code_decode.specs.Tables.{may_end, bad_boundary, earlier, first_bad_boundary, boundary_fault, IsEntry}
+use Rattle.code_forms.specs.Faults.{Gives}
+use Rattle.code_forms.specs.Tables.{may_end, bad_boundary, earlier, first_bad_boundary, boundary_fault, IsEntry}
 
 passed : (b : Bool) (place : ℕ) (rest : Option ℕ) → cond (not b) (Some place) rest ≡ None → (b ≡ true) × (rest ≡ None)
 passed true place rest e = (refl, e)

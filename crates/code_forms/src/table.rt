@@ -1,10 +1,10 @@
 //! Exception tables.
-ghost use Rattle.std.specs.Prelude.{◌≡◌, List, Ok, OnOk};
+ghost use Rattle.std.specs.Prelude.{◌≡◌, ℕ, Bool, List, Ok, OnOk};
 ghost use Rattle.std.specs.List.{AllByRecursion};
-ghost use Rattle.code_decode.specs.Codes.{starts, stands};
-ghost use Rattle.code_decode.specs.Marks.{marked};
-ghost use Rattle.code_decode.specs.Reading.{Gives};
-ghost use Rattle.code_decode.specs.Tables.{may_end, bad_boundary, first_bad_boundary, boundary_fault, IsEntry};
+ghost use Rattle.class_base.specs.declared.handler.Handler.{Handler};
+ghost use Rattle.code_forms.specs.Marks.{marked, starts, stands};
+ghost use Rattle.code_forms.specs.Faults.{Gives};
+ghost use Rattle.code_forms.specs.Tables.{may_end, bad_boundary, first_bad_boundary, boundary_fault, IsEntry};
 
 use crate::fault::CodeFault;
 use crate::insn::Insn;
@@ -83,3 +83,9 @@ pub fn check_table(
 {
     table_fault(alloc, insns, length, table)
 }
+
+/// A table has no bad boundary exactly where each entry is one of the code: a law, a function without a body.
+pub fn table_is_good()
+    ensures found { (begins : ℕ → Bool) (length : ℕ) (table : List Handler) → boundary_fault (first_bad_boundary begins length table) ≡ Ok tt → AllByRecursion (IsEntry begins length) table }
+    ensures only { (begins : ℕ → Bool) (length : ℕ) (table : List Handler) → AllByRecursion (IsEntry begins length) table → boundary_fault (first_bad_boundary begins length table) ≡ Ok tt }
+{}

@@ -1,6 +1,6 @@
 //! The cases of `lookupswitch`.
 ghost use Rattle.std.specs.Prelude.{◌≡◌};
-ghost use Rattle.code_decode.specs.Texts.{is_rising};
+ghost use Rattle.code_forms.specs.Cases.{is_rising};
 
 use crate::insn::Case;
 

@@ -1,8 +1,10 @@
--- The faults of codes in words.
-use Rattle.std.specs.Prelude.{ℕ, List, [], ◌∷◌, codes}
+-- The faults of codes, in words and as answers.
+use Rattle.std.specs.Prelude.{ℕ, List, [], ◌∷◌, codes, Bool, true, false, Result}
 use Rattle.list_views.specs.FaultWords.{joined, number_field}
-use Rattle.code_decode.specs.declared.fault.CodeFault.{CodeFault}
-use Rattle.code_decode.specs.declared.fault.CodeFault.TheVariants.{Truncated, UnsupportedOpcode, UnknownOpcode, BadSwitch, BadTarget, BadOperand, Memory}
+use Rattle.list_views.specs.Results as results
+use Rattle.list_views.specs.Results.{IsDue}
+use Rattle.code_forms.specs.declared.fault.CodeFault.{CodeFault}
+use Rattle.code_forms.specs.declared.fault.CodeFault.TheVariants.{Truncated, UnsupportedOpcode, UnknownOpcode, BadSwitch, BadTarget, BadOperand, Memory}
 
 abbrev pub fault_name : CodeFault → List ℕ
 fault_name (Truncated pc) = codes "Truncated"
@@ -33,3 +35,15 @@ fault_fields Memory = []
 -- the name, and then the fields
 abbrev pub fault_text : CodeFault → List ℕ
 fault_text fault = joined (fault_name fault ∷ fault_fields fault ∷ [])
+
+-- want of memory
+abbrev pub is_memory : CodeFault → Bool
+is_memory Memory = true
+is_memory fault = false
+
+abbrev pub Fails : {Y : Type 0} → CodeFault → Result Y CodeFault → Type 0
+Fails fault read = IsDue is_memory fault read
+
+-- What a function returned, seen by view, is what reading gives, unless memory ran out.
+abbrev pub Gives : {X Y : Type 0} → (X → Y) → Result X CodeFault → Result Y CodeFault → Type 0
+Gives view answer read = results.Gives is_memory view answer read

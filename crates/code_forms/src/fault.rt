@@ -1,7 +1,7 @@
 //! Why a code is none.
 ghost use Rattle.std.specs.Prelude.{◌≡◌, IfOk};
-ghost use Rattle.code_decode.specs.declared.fault.CodeFault.TheVariants.{Memory};
-ghost use Rattle.code_decode.specs.Faults.{fault_name, pc_field, op_fields, fault_fields, fault_text};
+ghost use Rattle.code_forms.specs.declared.fault.CodeFault.TheVariants.{Memory};
+ghost use Rattle.code_forms.specs.Faults.{fault_name, pc_field, op_fields, fault_fields, fault_text};
 
 use list_views::Seq;
 use list_views::fault_words::{joined, number_field};

@@ -1,5 +1,5 @@
 use Rattle.std.proofs.Common.{◌≡◌, ℕ, ◌+◌, ◌-◌, false, get_or, vec_len}
-use Rattle.code_decode.proofs.starts.Starts.mark.Given as goal
+use Rattle.code_forms.proofs.starts.Starts.mark.Given as goal
 
 abbrev pub invariant-loop-self : goal.invariant-loop-self
 invariant-loop-self l = (q : ℕ) → get_or l.self.marks.items q false ≡ get_or l.initial.self.marks.items q false

@@ -1,6 +1,6 @@
 //! Which instruction an opcode stands for, by what follows it.
 ghost use Rattle.std.specs.Prelude.{◌≡◌, option_map};
-ghost use Rattle.code_decode.specs.Reading.{find, find_by, plain, plain_low, plain_high, with_byte, with_pair, with_jump, wide_local};
+ghost use Rattle.code_forms.specs.Opcodes.{find, find_by, plain, plain_low, plain_high, with_byte, with_pair, with_jump, wide_local};
 
 use crate::insn::Insn;
 

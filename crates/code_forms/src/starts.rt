@@ -10,10 +10,13 @@ pub struct Starts {
 
 impl Starts {
     ghost use Rattle.std.specs.Prelude.{◌≡◌, ◌==◌, ◌||◌, ℕ, IfOk, OnOk};
-    ghost use Rattle.code_decode.specs.Marks.{marked};
-    ghost use Rattle.code_decode.specs.Codes.{starts, stands};
+    ghost use Rattle.code_forms.specs.Marks.{marked, starts, stands};
 
     /// The places of the instructions.
+    ///
+    /// # Errors
+    ///
+    /// Want of memory.
     pub fn of(alloc: Global, insns: &[(u16, Insn)]) -> Result<Starts, AllocError>
         ensures { IfOk result (λ s. (place : ℕ) → marked s place ≡ stands (starts insns.now) place) }
     {

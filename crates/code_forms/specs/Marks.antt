@@ -1,0 +1,16 @@
+-- Where the instructions of a code begin, and marked places.
+use Rattle.std.specs.Prelude.{ℕ, List, map, Bool, false, ◌==◌, slice_index_or}
+use Rattle.std.specs.List.{list_any}
+use Rattle.code_forms.specs.declared.insn.Insn.{Insn}
+use Rattle.code_forms.specs.declared.starts.Starts.{Starts}
+
+-- where the instructions begin
+abbrev pub starts : List (ℕ × Insn) → List ℕ
+starts insns = map (λ x. x.0) insns
+
+abbrev pub stands : List ℕ → ℕ → Bool
+stands places place = list_any (λ start. start == place) places
+
+-- whether the place is marked
+abbrev pub marked : Starts → ℕ → Bool
+marked s place = slice_index_or s.marks.items place false
