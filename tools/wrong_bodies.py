@@ -9,8 +9,9 @@ of its crate, or a large part of one, so it tries those that tell most. Without 
 that are named: it checks the crate as it stands in a copy of this checkout (which takes from what checks on this machine have
 kept), and then with each edit over that; each must be refused. It ends with status 1 where one is not.
 
-With `--fit` it proves nothing, and takes a second: each old text of each edit stands exactly once in its file, each edit is listed in
-docs/EDITS.md under its crate, and each that is listed is there. The gate ends with this.
+With `--fit` it proves nothing, and takes a second: each edit can be applied (each old text stands exactly once in its file, and the new
+one is another), docs/EDITS.md lists it under its crate as one that the gate tries or that is asked for, as it is, and each that is
+listed is there. Where all fit it says nothing. The gate ends with this.
 """
 import pathlib
 import re
@@ -20,75 +21,89 @@ import sys
 import tempfile
 
 TOP = pathlib.Path(__file__).resolve().parent.parent
-OTHERS = 'wrong-bodies'
+OTHERS = TOP / 'wrong-bodies'
 
 
 def edits():
-    """All edits, each with its crate."""
-    tried = [(f.parent.parent.name, f) for f in sorted(TOP.glob('crates/*/must-fail/*.edit'))]
-    return tried + [(f.parent.name, f) for f in sorted(TOP.glob(OTHERS + '/*/*.edit'))]
+    """All edits, each with its crate and who tries it."""
+    tried = [(f.parent.parent.name, f, 'gate') for f in sorted(TOP.glob('crates/*/must-fail/*.edit'))]
+    return tried + [(f.parent.name, f, 'asked') for f in sorted(OTHERS.glob('*/*.edit'))]
 
 
-def misfits(crate, edit):
-    """What an edit names that doesn't stand once in its crate."""
-    place = None
-    for line in edit.read_text().splitlines():
+def misfit(crate, edit):
+    """Why an edit can't be applied to its crate, or None."""
+    texts, place, old, pairs = {}, '', None, 0
+    for line in edit.read_text().split('\n'):
         if line.startswith('file: '):
-            place = TOP / 'crates' / crate / line[len('file: '):].strip()
+            place = line[len('file: '):].strip()
         elif line.startswith('old: '):
             old = line[len('old: '):]
-            count = place.read_text().count(old) if place and place.is_file() else 0
-            if count != 1:
-                yield '%s/%s: its old text stands %d times: %s' % (crate, edit.stem, count, old)
+        elif line.startswith('new:'):
+            file = TOP / 'crates' / crate / place
+            if not old or not place.startswith(('src/', 'specs/', 'proofs/')) or not file.is_file():
+                return 'a new text has no old one, or no file below src/, specs/ or proofs/'
+            text = texts.get(place, file.read_text())
+            if text.count(old) != 1:
+                return 'its old text stands %d times: %s' % (text.count(old), old)
+            texts[place], old, pairs = text.replace(old, line[len('new:'):].removeprefix(' ')), None, pairs + 1
+    if not pairs or all(text == (TOP / 'crates' / crate / place).read_text() for place, text in texts.items()):
+        return 'it changes nothing'
+    return None
 
 
 def listed():
-    """The crate and the name of each edit that docs/EDITS.md lists."""
+    """The crate, the name and who tries it, of each edit that docs/EDITS.md lists."""
     crate = None
     for line in (TOP / 'docs/EDITS.md').read_text().splitlines():
-        head, row = re.match(r'## `(\w+)`', line), re.match(r'\| `(\w+)` \|', line)
+        head, row = re.match(r'## `(\w+)`', line), re.match(r'\| `(\w+)` \|.*\| (gate|asked) \|$', line)
         if head:
             crate = head[1]
         elif row:
-            yield crate, row[1]
+            yield crate, row[1], row[2]
 
 
 def fit():
-    """Says each edit that doesn't fit, is not listed, or is listed and not there; whether there is none."""
+    """Says each edit that doesn't fit, is not listed as it is, or is listed and not there; whether there is none."""
     found, rows = edits(), list(listed())
-    names = [(crate, edit.stem) for crate, edit in found]
-    wrong = [text for crate, edit in found for text in misfits(crate, edit)]
-    wrong += ['%s/%s: not listed in docs/EDITS.md' % one for one in names if one not in rows]
-    wrong += ['%s/%s: listed in docs/EDITS.md, and not there' % one for one in rows if one not in names]
-    wrong += ['%s/%s: there twice' % one for one in sorted(set(names)) if names.count(one) > 1]
-    print('\n'.join(wrong + ['wrong bodies: %d, of which the gate tries %d; %s' % (
-        len(found), sum(edit.parent.name == 'must-fail' for _, edit in found), '%d do not fit' % len(wrong) if wrong else 'all fit')]))
+    names = [(crate, edit.stem) for crate, edit, _ in found]
+    kinds = [(crate, edit.stem, kind) for crate, edit, kind in found]
+    wrong = ['%s/%s: %s' % (crate, edit.stem, why) for crate, edit, _ in found for why in [misfit(crate, edit)] if why]
+    wrong += ['%s/%s: docs/EDITS.md does not list it as one of kind %s' % one for one in kinds if rows.count(one) != 1]
+    wrong += ['%s/%s: docs/EDITS.md lists it as one of kind %s, and it is not there' % one for one in rows if one not in kinds]
+    wrong += ['%s/%s: it is there twice' % one for one in sorted(set(names)) if names.count(one) > 1]
+    print('\n'.join(wrong), end='\n' if wrong else '')
     return not wrong
 
 
 def attempt(crates):
-    """Tries the other edits of these crates; whether each was refused."""
+    """Tries the other edits of these crates, and says of which crates all were refused."""
     with tempfile.TemporaryDirectory(prefix='wrong-bodies') as place:
         copy = pathlib.Path(place)
         shutil.copytree(TOP / 'crates', copy / 'crates', ignore=shutil.ignore_patterns('out', 'must-fail'))
         for name in ('crates.txt', 'HANDLES'):
             shutil.copy(TOP / name, copy / name)
         subprocess.run(['git', 'init', '-q'], cwd=copy, check=True)
-        are_refused = True
+        failed = []
         for crate in crates:
-            shutil.copytree(TOP / OTHERS / crate, copy / 'crates' / crate / 'must-fail')
-            is_proved = not subprocess.run(['rt', 'check'], cwd=copy / 'crates' / crate).returncode
-            are_refused &= is_proved and not subprocess.run(['rt', 'must-fail', crate], cwd=copy).returncode
-    return are_refused
+            folder = copy / 'crates' / crate
+            shutil.copytree(OTHERS / crate, folder / 'must-fail')
+            is_proved = not subprocess.run(['rt', 'check'], cwd=folder).returncode
+            if not is_proved or subprocess.run(['rt', 'must-fail', crate], cwd=copy).returncode:
+                failed.append(crate)
+            shutil.rmtree(folder / 'out' / 'incremental', ignore_errors=True)
+    print('wrong bodies: not refused, or not proved: ' + ' '.join(failed) if failed else 'wrong bodies: refused, in %d crates' % len(crates))
+    return not failed
 
 
 def main():
     if sys.argv[1:] == ['--fit']:
         sys.exit(not fit())
-    crates = sys.argv[1:] or sorted({edit.parent.name for _, edit in edits() if edit.parent.parent.name == OTHERS})
-    lacking = [crate for crate in crates if not (TOP / OTHERS / crate).is_dir()]
-    if lacking or '--fit' in crates:
-        sys.exit(__doc__ if '--fit' in crates else 'wrong_bodies.py: no folder %s' % ', '.join('%s/%s' % (OTHERS, one) for one in lacking))
+    if any(word.startswith('-') for word in sys.argv[1:]):
+        sys.exit(__doc__)
+    crates = sorted(set(sys.argv[1:]) or {crate for crate, _, kind in edits() if kind == 'asked'})
+    lacking = [crate for crate in crates if not list((OTHERS / crate).glob('*.edit'))]
+    if lacking or not crates:
+        sys.exit('wrong_bodies.py: no edit in %s' % (', '.join('wrong-bodies/' + crate for crate in lacking) or 'wrong-bodies'))
     sys.exit(not attempt(crates))
 
 

@@ -1,6 +1,7 @@
 //! `code_forms` and `code_decode`: what their tables don't show.
-use code_decode::{decode, encode, falls_through};
-use code_forms::Insn;
+use code_decode::{decode, encode, falls_through, targets};
+use code_forms::{Case, Insn};
+use list_views::Seq;
 use std::alloc::AllocError;
 use std::test::Fail;
 
@@ -31,4 +32,17 @@ fn every_instruction_is_written_as_it_was_read(rt: HostRuntime) -> Result<(), Fa
 #[test]
 fn what_is_thrown_goes_on_nowhere(rt: HostRuntime) {
     assert!(rt; falls_through(&Insn::Nop) && !falls_through(&Insn::Athrow));
+}
+
+#[test]
+fn the_default_comes_before_the_targets_of_the_keys(rt: HostRuntime) -> Result<(), Fail> {
+    let up = Case { key: -1, target: 4 };
+    let down = Case { key: 5, target: 28 };
+    let lookup = Insn::Lookupswitch {
+        default: 30,
+        cases: Seq::from_slice(rt.alloc(), &[up, down])?,
+    };
+    let found = targets(rt.alloc(), &lookup)?;
+    assert!(rt; found.as_slice() == [30, 4, 28].as_slice());
+    Ok(())
 }
