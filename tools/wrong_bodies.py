@@ -6,8 +6,9 @@ usage: python3 tools/wrong_bodies.py [CRATE..]
 
 Wrong bodies (edits) that the gate tries stand in crates/CRATE/must-fail, the others in wrong-bodies/CRATE: an edit takes the gate a check
 of its crate, or a large part of one, so it tries those that tell most. Without `--fit` it tries the others, of all crates or of those
-that are named: it checks the crate as it stands in a copy of this checkout (which takes from what checks on this machine have
-kept), and then with each edit over that; each must be refused. It ends with status 1 where one is not.
+that are named, by `rt ci CRATE..` in a copy of this checkout where they stand in the place of the gate's own: that proves the crates and those
+below them, but for what the gate has passed on this machine, and tries each edit, which must be refused. It ends with status 1 where one is not, or one
+of the crates isn't proved.
 
 With `--fit` it proves nothing, and takes a second: each edit can be applied (each old text stands exactly once in its file, and the new
 one is another), docs/EDITS.md lists it under its crate as one that the gate tries or that is asked for, as it is, and each that is
@@ -76,23 +77,16 @@ def fit():
 
 
 def attempt(crates):
-    """Tries the other edits of these crates, and says of which crates all were refused."""
+    """Tries the other edits of these crates, by the gate itself in a copy where they stand in the place of its own; whether each was refused."""
     with tempfile.TemporaryDirectory(prefix='wrong-bodies') as place:
         copy = pathlib.Path(place)
         shutil.copytree(TOP / 'crates', copy / 'crates', ignore=shutil.ignore_patterns('out', 'must-fail'))
         for name in ('crates.txt', 'HANDLES'):
             shutil.copy(TOP / name, copy / name)
-        subprocess.run(['git', 'init', '-q'], cwd=copy, check=True)
-        failed = []
         for crate in crates:
-            folder = copy / 'crates' / crate
-            shutil.copytree(OTHERS / crate, folder / 'must-fail')
-            is_proved = not subprocess.run(['rt', 'check'], cwd=folder).returncode
-            if not is_proved or subprocess.run(['rt', 'must-fail', crate], cwd=copy).returncode:
-                failed.append(crate)
-            shutil.rmtree(folder / 'out' / 'incremental', ignore_errors=True)
-    print('wrong bodies: not refused, or not proved: ' + ' '.join(failed) if failed else 'wrong bodies: refused, in %d crates' % len(crates))
-    return not failed
+            shutil.copytree(OTHERS / crate, copy / 'crates' / crate / 'must-fail')
+        subprocess.run(['git', 'init', '-q'], cwd=copy, check=True)
+        return not subprocess.run(['rt', 'ci', *crates], cwd=copy).returncode
 
 
 def main():
