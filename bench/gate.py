@@ -30,9 +30,9 @@ TESTS_OF = {
     'state_tables': 'abs_reach abs_heap abs_match abs_widen abs_expand',
     'rule_cases': 'descent rank_search',
     'proof_tables': 'descent rank_search',
-    'cert_tables': 'cert_form cert_write cert_verdict path_rules',
+    'cert_tables': 'cert_form cert_write cert_check path_rules',
     'line_cases': 'input_steps run_call prove_call check_call',
-    'command_tables': 'input_steps run_call desc_steps prove_core prove_call cert_verdict check_call',
+    'command_tables': 'input_steps run_call desc_steps prove_core prove_call cert_check check_call',
     'describe_cli': 'describe',
     'certs_cli': 'check_call',
     'jterm_cli': 'jterm',
@@ -47,7 +47,7 @@ LAYER = {
         'machine': 'jvm_values jvm_heaps frame_types jvm_step code_verify jvm_run',
         'abstract states': 'abs_cells abs_reach abs_sound abs_equal abs_heap abs_match abs_widen term_graph abs_ints abs_expand',
         'certificates': 'input_root descent plain_steps expand_laws int_plans graph_check graph_fill int_links cert_check '
-                        'cert_verdict cert_form cert_write path_rules graph_build rank_search chain_proofs prove_core',
+                        'cert_form cert_write path_rules graph_build rank_search chain_proofs prove_core',
         'program': 'input_steps run_call describe desc_steps prove_call check_call jterm',
     }.items() for crate in crates_of.split()
 }

@@ -3,3 +3,5 @@ pub mod IntRuns
 pub mod Running
 pub mod Showing
 pub mod Terms
+pub mod Preparing
+pub mod Telling

@@ -1,5 +1,6 @@
 pub mod Certified
-pub mod Laws
-pub mod Ready
-pub mod Valid
 pub mod Walks
+pub mod Laws
+pub mod Valid
+pub mod Ready
+pub mod Parts

@@ -1,9 +1,13 @@
-//! Certificates: which are valid, why others are refused, and that walks and runs end where a certificate shows it.
+//! Certificates: which are valid, why others are refused, the check of one, and that walks and runs end where a certificate shows it.
 #![tactic(auto)]
 
+mod checking;
+mod cuts;
 mod laws;
+mod part_faults;
 mod refusal;
 
+pub use checking::{check_cert, good_links, rules_between};
 pub use laws::{
     certified_int_runs_end, certified_runs_end, certified_walks_end, int_expansions_hold,
     valid_int_certificates_end, valid_is_certified,

@@ -12,7 +12,7 @@ use crate::ready::is_int_graph;
 use abs_cells::{AbsState, ListPairs};
 use abs_expand::has_int_forms;
 use anyhow::{Context, Result, bail};
-use cert_verdict::{Cause, Refusal, good_links, rules_between};
+use cert_check::{Cause, Refusal, good_links, rules_between};
 use class_program::Program;
 use code_verify::{Typing, verify};
 use descent::PathRule;

@@ -28,7 +28,7 @@ use Rattle.cert_check.specs.declared.refusal.Refusal.TheVariants as refusals
 use Rattle.cert_check.specs.Certified.{IsCertified}
 use Rattle.cert_check.specs.Laws.{CertifiedIntRunsEnd}
 use Rattle.cert_check.specs.Valid.{Case, Tells}
-use Rattle.cert_verdict.specs.Parts.{case_of}
+use Rattle.cert_check.specs.Parts.{case_of}
 use Rattle.check_call.specs.declared.outcome.Outcome.{Outcome}
 use Rattle.check_call.specs.Answers.{RefusesStates, FillsInts, IsCertText, AnswersChecked, AnswersContent, AnswersCert}
 use Rattle.check_call.specs.Headline.{Accepts, EndsIfAccepted}

@@ -23,7 +23,7 @@ use Rattle.cert_form.specs.Certificates.{CertContent, cert_of, SaysOf, AnswersTe
 use Rattle.cert_form.specs.Faults.{fault_text}
 use Rattle.cert_check.specs.declared.refusal.Cause.{Cause}
 use Rattle.cert_check.specs.Valid.{Case, IsValid, IsFirstFault}
-use Rattle.cert_verdict.specs.Parts.{case_of}
+use Rattle.cert_check.specs.Parts.{case_of}
 use Rattle.check_call.specs.declared.outcome.Outcome.{Outcome}
 use Rattle.check_call.specs.Causes.{cause_text}
 use Rattle.check_call.specs.Lines.{accepted, refused_at}

@@ -7,7 +7,7 @@ use Rattle.frame_types.specs.Tables.{CodeTypes}
 use Rattle.cert_check.specs.Certified.{IsCertified}
 use Rattle.cert_check.specs.Valid.{IsValid}
 use Rattle.cert_form.specs.Certificates.{CertContent, cert_of, SaysOf}
-use Rattle.cert_verdict.specs.Parts.{case_of}
+use Rattle.cert_check.specs.Parts.{case_of}
 use Rattle.cert_write.specs.Data.{certificate, content_of}
 use Rattle.descent.specs.Conditions.{AreSteps}
 use Rattle.descent.specs.declared.proof.ProofStep.{ProofStep}

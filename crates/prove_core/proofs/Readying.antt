@@ -14,7 +14,7 @@ use Rattle.graph_check.specs.Good.{GraphOk}
 use Rattle.int_links.specs.Laws.{IntLinksFit}
 use Rattle.path_rules.specs.Conditions.{CutsRise, IsReady}
 use Rattle.path_rules.specs.Paths.{is_cut}
-use Rattle.cert_verdict.proofs.Preparing.{prepared}
+use Rattle.cert_check.proofs.Preparing.{prepared}
 use Rattle.chain_proofs.specs.declared.proving.LeftRule.{LeftRule}
 use Rattle.chain_proofs.specs.Answers.{LeavesStuck}
 use Rattle.descent.specs.Conditions.{AreRules}

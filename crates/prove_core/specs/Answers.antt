@@ -5,7 +5,7 @@ use Rattle.cert_form.specs.Certificates.{CertContent, cert_of, SaysOf}
 use Rattle.cert_write.specs.Data.{certificate}
 use Rattle.cert_check.specs.Certified.{IsCertified}
 use Rattle.cert_check.specs.Valid.{IsValid}
-use Rattle.cert_verdict.specs.Parts.{case_of}
+use Rattle.cert_check.specs.Parts.{case_of}
 use Rattle.graph_check.specs.Conditions.{HasIntStates}
 use Rattle.graph_check.specs.Filling.{IsFilled}
 use Rattle.term_graph.specs.Graphs.{GraphNode}

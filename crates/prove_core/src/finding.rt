@@ -8,7 +8,7 @@ ghost use Rattle.descent.specs.Conditions.{AreSteps};
 ghost use Rattle.abs_expand.specs.IntForms.{HasIntForms};
 ghost use Rattle.cert_check.specs.Certified.{IsCertified};
 ghost use Rattle.cert_check.specs.Valid.{IsValid};
-ghost use Rattle.cert_verdict.specs.Parts.{case_of};
+ghost use Rattle.cert_check.specs.Parts.{case_of};
 ghost use Rattle.graph_check.specs.Conditions.{HasIntStates};
 ghost use Rattle.prove_core.specs.Reasons.{IsWholeWithSome};
 ghost use Rattle.prove_core.specs.Answers.{SaysValid, SearchesOr};
@@ -16,8 +16,8 @@ ghost use Rattle.prove_core.specs.Words.{aim_of};
 
 use crate::found::{Cert, Found, Reason, SearchFault};
 use abs_cells::{AbsState, Pairs};
+use cert_check::check_cert;
 use cert_form::{CertText, ClassNames};
-use cert_verdict::check_cert;
 use cert_write::encode;
 use class_program::Program;
 use code_verify::Typing;

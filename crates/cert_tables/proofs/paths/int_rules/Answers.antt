@@ -3,8 +3,8 @@ use Rattle.class_program.specs.Views.{program_of}
 use Rattle.code_verify.specs.Typings.{typing_at}
 use Rattle.term_graph.specs.Graphs.{GraphNode}
 use Rattle.graph_check.specs.Good.{GraphOk}
-use Rattle.cert_verdict.specs.Parts.{IsPrepared}
-use Rattle.cert_verdict.proofs.Preparing.{prepared}
+use Rattle.cert_check.specs.Parts.{IsPrepared}
+use Rattle.cert_check.proofs.Preparing.{prepared}
 use Rattle.cert_tables.proofs.Testing.{all}
 use Rattle.cert_tables.proofs.paths.int_rules.Goals as goal
 

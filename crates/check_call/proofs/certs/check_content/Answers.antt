@@ -4,7 +4,7 @@ use Rattle.code_verify.specs.Typings.{typing_at}
 use Rattle.input_desc.specs.Initial.{initial_of}
 use Rattle.descent.specs.declared.proof.ProofStep.{ProofStep}
 use Rattle.graph_fill.proofs.Lacking.{can_be_filled, few_filled}
-use Rattle.cert_verdict.specs.Parts.{case_of}
+use Rattle.cert_check.specs.Parts.{case_of}
 use Rattle.check_call.specs.Answers.{AnswersChecked}
 use Rattle.check_call.proofs.Saying.{filled_goes}
 use Rattle.check_call.proofs.certs.check_content.Goals as goal

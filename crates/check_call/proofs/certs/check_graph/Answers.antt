@@ -6,7 +6,7 @@ use Rattle.code_verify.specs.Typings.{typing_at}
 use Rattle.input_desc.specs.Initial.{initial_of}
 use Rattle.cert_check.specs.Certified.{IsCertified}
 use Rattle.cert_check.specs.Valid.{Tells}
-use Rattle.cert_verdict.specs.Parts.{case_of}
+use Rattle.cert_check.specs.Parts.{case_of}
 use Rattle.check_call.proofs.Saying.{said_tells, said_ends}
 use Rattle.check_call.proofs.certs.check_graph.Goals as goal
 

@@ -22,6 +22,7 @@ use Rattle.cert_check.specs.declared.refusal.Refusal.{Refusal}
 use Rattle.cert_check.specs.declared.refusal.Refusal.TheVariants.{Item, Memory}
 use Rattle.cert_check.specs.Valid.{Case, HasGoodGraph, AreCuts, HasPathRules, Tells, graph_item}
 
+-- the case of a certificate whose graph has these nodes, in a program with these typings
 abbrev pub case_of : Program → (ℕ → CodeTypes) → AbstractState → List GraphNode → List ℕ → List ProofStep → Case
 case_of p typing root nodes cuts steps = record { program = p; typing = typing; root = root; nodes = nodes; cuts = cuts; steps = steps }
 

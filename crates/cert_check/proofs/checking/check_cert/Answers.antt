@@ -8,10 +8,10 @@ use Rattle.descent.specs.Steps.{proof_fault, Answers as ProofAnswers}
 use Rattle.term_graph.specs.Graphs.{GraphNode}
 use Rattle.graph_check.specs.Good.{GraphOk}
 use Rattle.cert_check.specs.Valid.{Tells}
-use Rattle.cert_verdict.specs.Parts.{case_of, IsPrepared, RulesOr}
-use Rattle.cert_verdict.proofs.Preparing.{prepared}
-use Rattle.cert_verdict.proofs.Telling.{proof_refused, valid, certified}
-use Rattle.cert_verdict.proofs.checking.check_cert.Goals as goal
+use Rattle.cert_check.specs.Parts.{case_of, IsPrepared, RulesOr}
+use Rattle.cert_check.proofs.Preparing.{prepared}
+use Rattle.cert_check.proofs.Telling.{proof_refused, valid, certified}
+use Rattle.cert_check.proofs.checking.check_cert.Goals as goal
 
 pub returns-in-Err-clause-tells : goal.returns-in-Err-clause-tells
 returns-in-Err-clause-tells g c = c.in-Err.ensures.graph c.args.cuts.now c.args.proof.now.steps

@@ -1,7 +1,7 @@
 use Rattle.class_program.specs.Views.{program_of}
 use Rattle.code_verify.specs.Typings.{typing_at}
-use Rattle.cert_verdict.proofs.Telling.{ready_for, paths_refused, rules_given}
-use Rattle.cert_verdict.proofs.checking.rules_between.Goals as goal
+use Rattle.cert_check.proofs.Telling.{ready_for, paths_refused, rules_given}
+use Rattle.cert_check.proofs.checking.rules_between.Goals as goal
 
 pub paths-requires-clause-ready : goal.paths-requires-clause-ready
 paths-requires-clause-ready g c =

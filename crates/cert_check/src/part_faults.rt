@@ -1,9 +1,9 @@
 //! What is said of the fault of a part.
 ghost use Rattle.std.specs.Prelude.{◌≡◌};
 ghost use Rattle.cert_check.specs.Valid.{graph_item};
-ghost use Rattle.cert_verdict.specs.Parts.{graph_refusal, path_refusal, proof_refusal};
+ghost use Rattle.cert_check.specs.Parts.{graph_refusal, path_refusal, proof_refusal};
 
-use cert_check::{Cause, Refusal};
+use crate::refusal::{Cause, Refusal};
 use descent::StepFault;
 use graph_check::{CheckFault, What};
 use path_rules::PathFault;

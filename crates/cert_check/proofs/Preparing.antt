@@ -26,7 +26,7 @@ use Rattle.int_links.specs.Laws.{FitsRules, IntLinksFit}
 use Rattle.cert_check.specs.Ready.{AreLinked}
 use Rattle.cert_check.specs.Valid.{Case, AreCuts}
 use Rattle.cert_check.proofs.Showing.{well_formed, all_good}
-use Rattle.cert_verdict.specs.Parts.{AreCutsFrom, AreCutsOf, IsPrepared}
+use Rattle.cert_check.specs.Parts.{AreCutsFrom, AreCutsOf, IsPrepared}
 
 -- ---- states of ints
 

@@ -9,12 +9,12 @@ ghost use Rattle.graph_check.specs.Conditions.{HasIntStates};
 ghost use Rattle.graph_check.specs.Good.{GraphOk};
 ghost use Rattle.cert_check.specs.Certified.{IsCertified};
 ghost use Rattle.cert_check.specs.Valid.{Tells};
-ghost use Rattle.cert_verdict.specs.Parts.{case_of, GraphOr, RulesOr, IsPrepared};
+ghost use Rattle.cert_check.specs.Parts.{case_of, GraphOr, RulesOr, IsPrepared};
 
 use crate::cuts::are_cuts;
-use crate::refusals::{graph_refusal, path_refusal, proof_refusal};
+use crate::part_faults::{graph_refusal, path_refusal, proof_refusal};
+use crate::refusal::{Cause, Refusal};
 use abs_cells::{AbsState, Pairs};
-use cert_check::{Cause, Refusal};
 use class_program::Program;
 use code_verify::Typing;
 use descent::{PathRule, Proof, check_proof};

@@ -1,6 +1,6 @@
 use Rattle.std.proofs.Common.{◌↔◌, drop}
-use Rattle.cert_verdict.specs.Parts.{AreCutsFrom}
-use Rattle.cert_verdict.proofs.cuts.rise_below.Given as goal
+use Rattle.cert_check.specs.Parts.{AreCutsFrom}
+use Rattle.cert_check.proofs.cuts.rise_below.Given as goal
 
 abbrev pub invariant-loop-cut : goal.invariant-loop-cut
 invariant-loop-cut l = AreCutsFrom l.nodes l.low (drop l.cut-index l.cuts) ↔ AreCutsFrom l.nodes 0 l.cuts
