@@ -7,3 +7,4 @@ pub mod Answering
 pub mod OneAnswer
 pub mod Deciding
 pub mod Endings
+pub mod WaysOut

@@ -3,4 +3,5 @@ pub mod Laws
 pub mod Words
 pub mod Lines
 pub mod Outside
+pub mod CallEnds
 pub mod Stop
