@@ -106,6 +106,16 @@ pub(crate) fn is_no_command(alloc: Global, words: &[&str]) -> Result<bool, Alloc
     has_status(call(alloc, words, Vec::new(alloc), &[], 100), 4)
 }
 
+// Whether none of these rows of words is a command.
+pub(crate) fn are_no_commands(alloc: Global, rows: &[&[&str]]) -> Result<bool, AllocError> {
+    for words in rows {
+        if !is_no_command(alloc, words)? {
+            return Ok(false);
+        }
+    }
+    Ok(true)
+}
+
 pub(crate) fn file(
     alloc: Global,
     name: &str,

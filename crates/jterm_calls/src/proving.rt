@@ -1,6 +1,7 @@
 //! What `prove` says.
 use crate::calls::{
-    DESC, LISTING, Outcome, assembled, call, comes_to, errs, file, is_no_command, proved, two_files,
+    DESC, LISTING, Outcome, are_no_commands, assembled, call, comes_to, errs, file, is_no_command,
+    proved, two_files,
 };
 use std::alloc::{AllocError, Global};
 use std::test::Fail;
@@ -36,9 +37,14 @@ fn is_proved(outcome: Result<Outcome, AllocError>, text: &[u8]) -> Result<bool, 
     Ok(outcome.status == 0 && is_alone && outcome.out.bytes() == text)
 }
 
-// Whether this is no limit of nodes.
-fn is_no_limit(alloc: Global, number: &str) -> Result<bool, AllocError> {
-    is_no_command(alloc, &["prove", "--nodes", number, "d", "a"])
+// Whether none of these is a limit of nodes.
+fn are_no_limits(alloc: Global, numbers: &[&str]) -> Result<bool, AllocError> {
+    for number in numbers {
+        if !is_no_command(alloc, &["prove", "--nodes", *number, "d", "a"])? {
+            return Ok(false);
+        }
+    }
+    Ok(true)
 }
 
 #[test]
@@ -76,29 +82,24 @@ fn a_limit_of_no_nodes_is_no_command(rt: HostRuntime) -> Result<(), Fail> {
 
 #[test]
 fn a_limit_that_is_no_such_number_is_no_command(rt: HostRuntime) -> Result<(), Fail> {
-    let alloc = rt.alloc();
-    assert!(rt; is_no_limit(alloc, "")?);
-    assert!(rt; is_no_limit(alloc, "04000")?);
-    assert!(rt; is_no_limit(alloc, "+5")?);
-    assert!(rt; is_no_limit(alloc, "-5")?);
-    assert!(rt; is_no_limit(alloc, "5 ")?);
-    assert!(rt; is_no_limit(alloc, "five")?);
-    assert!(rt; is_no_limit(alloc, "20001")?);
-    assert!(rt; is_no_limit(alloc, "4294967297")?);
+    let numbers = ["", "04000", "+5", "-5", "5 ", "five", "20001", "4294967297"];
+    assert!(rt; are_no_limits(rt.alloc(), &numbers)?);
     Ok(())
 }
 
 #[test]
 fn nothing_else_of_a_limit_is_read(rt: HostRuntime) -> Result<(), Fail> {
-    let alloc = rt.alloc();
-    assert!(rt; is_no_command(alloc, &["prove", "--nodes"])?);
-    assert!(rt; is_no_command(alloc, &["prove", "--nodes", "5", "d"])?);
-    assert!(rt; is_no_command(alloc, &["prove", "--nodes=5", "d", "a"])?);
-    assert!(rt; is_no_command(alloc, &["prove", "-nodes", "5", "d", "a"])?);
-    assert!(rt; is_no_command(alloc, &["prove", "d", "--nodes", "5", "a"])?);
-    assert!(rt; is_no_command(alloc, &["prove", "--nodes", "5", "--nodes", "5", "d", "a"])?);
-    assert!(rt; is_no_command(alloc, &["--nodes", "5", "prove", "d", "a"])?);
-    assert!(rt; is_no_command(alloc, &["check", "--nodes", "5", "c", "d", "a"])?);
+    let rows: [&[&str]; 8] = [
+        &["prove", "--nodes"],
+        &["prove", "--nodes", "5", "d"],
+        &["prove", "--nodes=5", "d", "a"],
+        &["prove", "-nodes", "5", "d", "a"],
+        &["prove", "d", "--nodes", "5", "a"],
+        &["prove", "--nodes", "5", "--nodes", "5", "d", "a"],
+        &["--nodes", "5", "prove", "d", "a"],
+        &["check", "--nodes", "5", "c", "d", "a"],
+    ];
+    assert!(rt; are_no_commands(rt.alloc(), &rows)?);
     Ok(())
 }
 

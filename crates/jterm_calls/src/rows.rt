@@ -1,5 +1,5 @@
 //! Words, files, listings and runs.
-use crate::calls::{assembled, comes_to, errs, is_no_command, ran};
+use crate::calls::{are_no_commands, assembled, comes_to, errs, ran};
 use std::test::Fail;
 
 #[test]
@@ -26,10 +26,12 @@ fn a_run_returns_an_int(rt: HostRuntime) -> Result<(), Fail> {
 
 #[test]
 fn words_that_break_a_rule_are_no_command(rt: HostRuntime) -> Result<(), Fail> {
-    let alloc = rt.alloc();
-    assert!(rt; is_no_command(alloc, &["run", "01", "s", "a"])?);
-    assert!(rt; is_no_command(alloc, &["run", "1000000001", "s", "a"])?);
-    assert!(rt; is_no_command(alloc, &["check", "c", "d"])?);
+    let rows: [&[&str]; 3] = [
+        &["run", "01", "s", "a"],
+        &["run", "1000000001", "s", "a"],
+        &["check", "c", "d"],
+    ];
+    assert!(rt; are_no_commands(rt.alloc(), &rows)?);
     Ok(())
 }
 
