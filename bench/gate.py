@@ -10,8 +10,8 @@ Some hours of one core for all crates; other jobs on the machine hardly change p
 
 With --page it runs nothing: TIMES has lines of a crate, 'proof', 'tests', 'builds' or 'edits', and processor seconds, divided by
 tabs, and what may stand behind them, as gate_watch.py notes them while a gate runs. It writes the table of gate.md, in Markdown, a row a crate, the tests, tables and readers of
-cases shared by the crates that they test, in proportion to their lines (TESTS_OF), the builds of programs among the tests. A time that OLDER alone has, from an earlier run, has a star; one that
-neither has is a dash. Below it stand the layers of docs/MAP.md with their sums.
+cases shared by the crates that they test, in proportion to their lines (TESTS_OF). Among the tests are the builds of their programs, each shared by all crates below the program, in
+proportion to their lines, since it compiles them all. A time that OLDER alone has, from an earlier run, has a star; one that neither has is a dash. Below it stand the layers of docs/MAP.md with their sums.
 """
 import collections, pathlib, resource, shutil, subprocess, sys, tempfile
 
@@ -64,6 +64,15 @@ def crates():
             name, below = line.split(':')
             rows[name.split()[0]] = below.split()
     return rows
+
+
+def below(rows, name):
+    """The names of the crates that one stands on, over one or more steps, each once."""
+    found = []
+    for low in rows[name]:
+        if low in rows:
+            found += [one for one in [*below(rows, low), low] if one not in found]
+    return found
 
 
 def seconds(command, folder):
@@ -128,10 +137,14 @@ class Page:
                 size += share * self.size[test]
                 if not self.time(test, 'proof') and not self.time(test, 'tests'):
                     lacking.append(test)
-                for kind in ('proof', 'tests', 'builds', 'edits'):
+                for kind in ('proof', 'tests', 'edits'):
                     known = self.time(test, kind)
                     if known:
                         spent, is_old = spent + share * known[0], is_old or known[1]
+            known = self.time(test, 'builds')
+            if known and name in self.below[test]:
+                share = self.size[name] / sum(self.size[one] for one in self.below[test])
+                spent, is_old = spent + share * known[0], is_old or known[1]
         return size, spent, is_old, lacking
 
     def row(self, name):
@@ -160,6 +173,7 @@ class Page:
 
     def write(self, rows):
         self.size = {name: lines(TOP / 'crates' / name) for name in rows}
+        self.below = {test: [name for name in below(rows, test) if name not in TESTS_OF] for test in TESTS_OF}
         head = '| %s | Lines | Proof | Tests | Edits | All | Budget |\n|---|---|---|---|---|---|---|'
         print(head % 'Crate, with its share of the tests')
         taken = {name: self.row(name) for name in rows if name not in TESTS_OF}

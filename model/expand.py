@@ -4,6 +4,7 @@ Reads again: crates/abs_cells/specs (Sound, Cells: fresh ids), crates/abs_ints/s
 crates/abs_heap/specs, crates/abs_expand/specs. Otto et al. 2010.
 """
 from intervals import compare, meet, operate, relation
+from shuffles import shuffled, taken
 from states import *
 
 SHAPES = ['tree', 'dag', 'any']
@@ -485,8 +486,7 @@ def children(program, typing, s):
     elif o in ('nstore', 'aastore'):
         k = 3
     elif o == 'shuffle':
-        k = {'pop': 1, 'pop2': 2, 'dup': 1, 'dup_x1': 2, 'dup_x2': 3, 'dup2': 2, 'dup2_x1': 3, 'dup2_x2': 4,
-                'swap': 2}[x[1]]
+        k = taken(x[1])
     elif o.startswith('invoke'):
         k = len(x[1]['params']) + (o != 'invokestatic')
     else:
@@ -615,13 +615,7 @@ def children(program, typing, s):
             go(c, stack, nxt, L2)
         return intop('iadd', locals_[x[1]], None, place, 0, x[2])
     if o == 'shuffle':
-        t = list(reversed(args))
-        kx = x[1]
-        r = {'pop': lambda a: [], 'pop2': lambda a, b: [], 'dup': lambda a: [a, a], 'dup_x1': lambda a, b: [a, b, a],
-                'dup_x2': lambda a, b, c: [a, b, c, a], 'dup2': lambda a, b: [a, b, a, b], 'dup2_x1': lambda a, b, c:
-                [a, b, c, a, b], 'dup2_x2': lambda a, b, c, d: [a, b, c, d, a, b], 'swap': lambda a, b:
-                [b, a]}[kx](*t)
-        return [step(go(copied(s), below + list(reversed(r))))]
+        return [step(go(copied(s), below + shuffled(x[1], list(args).pop)))]
     if o == 'arith':
         return intop(x[1], args[0], args[1], lambda c, i: go(c, below + [i]))
     if o == 'ineg':

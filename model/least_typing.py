@@ -5,6 +5,7 @@ Reads again: crates/code_verify/specs (Operands, Rows, Flows, Typings). JVM spec
 The type of a place is '-' (unset), 'I', 'null' or a reference type. Stacks are lists from the bottom up.
 """
 from classes import World, Program
+from shuffles import shuffled
 
 
 class NoTyping(Exception):
@@ -114,31 +115,7 @@ def types_after(program, method, pc, op, locals_, stack):
         need(local(op[1]) == 'I')
         return nxt()
     if o == 'shuffle':
-        k = op[1]
-        a = pop()
-        if k == 'pop':
-            pass
-        elif k == 'pop2':
-            pop()
-        elif k == 'dup':
-            stack += [a, a]
-        else:
-            b = pop()
-            if k == 'dup_x1':
-                stack += [a, b, a]
-            elif k == 'dup2':
-                stack += [b, a, b, a]
-            elif k == 'swap':
-                stack += [a, b]
-            else:
-                c = pop()
-                if k == 'dup_x2':
-                    stack += [a, c, b, a]
-                elif k == 'dup2_x1':
-                    stack += [b, a, c, b, a]
-                else:
-                    d = pop()
-                    stack += [b, a, d, c, b, a]
+        stack += shuffled(op[1], pop)
         return nxt()
     if o == 'arith':
         popi()

@@ -8,6 +8,7 @@ A value is an int, None for null, or ('r', number). An object is ('o', class, fi
 """
 from classes import *
 from least_typing import *
+from shuffles import shuffled
 
 
 class Stuck(Exception):
@@ -219,31 +220,7 @@ def step(program, state):
         locals_[op[1]] = wrap(locals_[op[1]] + op[2])
         next_()
     elif o == 'shuffle':
-        k = op[1]
-        a = pop()
-        if k == 'pop':
-            pass
-        elif k == 'pop2':
-            pop()
-        elif k == 'dup':
-            stack += [a, a]
-        else:
-            b = pop()
-            if k == 'dup_x1':
-                stack += [a, b, a]
-            elif k == 'dup2':
-                stack += [b, a, b, a]
-            elif k == 'swap':
-                stack += [a, b]
-            else:
-                c = pop()
-                if k == 'dup_x2':
-                    stack += [a, c, b, a]
-                elif k == 'dup2_x1':
-                    stack += [b, a, c, b, a]
-                else:
-                    d = pop()
-                    stack += [b, a, d, c, b, a]
+        stack += shuffled(op[1], pop)
         next_()
     elif o == 'arith':
         b = popi()

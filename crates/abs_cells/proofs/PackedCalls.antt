@@ -138,28 +138,11 @@ left_no_hit slots words a b e = ap (λ (s : Option ℕ). hit_slots words s (slot
 
 -- ---- an id gets a slot
 
-pub slot_more : (slots : List (Option ℕ)) (more a : ℕ) → slot_of (slots ++ replicate more None) a ≡ slot_of slots a
-slot_more [] zero a = refl
-slot_more [] (suc more) zero = refl
-slot_more [] (suc more) (suc a) = slot_more [] more a
-slot_more (s ∷ slots) more zero = refl
-slot_more (s ∷ slots) more (suc a) = slot_more slots more a
-
 pub count_more : (slots : List (Option ℕ)) (more : ℕ) → slots_in (slots ++ replicate more None) ≡ slots_in slots
 count_more [] zero = refl
 count_more [] (suc more) = count_more [] more
 count_more (None ∷ slots) more = count_more slots more
 count_more (Some s ∷ slots) more = ap suc (count_more slots more)
-
-word_more : (words : List ℕ) (more i : ℕ) → get_or (words ++ replicate more 0) i 0 ≡ get_or words i 0
-word_more [] zero i = refl
-word_more [] (suc more) zero = refl
-word_more [] (suc more) (suc i) = word_more [] more i
-word_more (w ∷ words) more zero = refl
-word_more (w ∷ words) more (suc i) = word_more words more i
-
-pub bit_more : (words : List ℕ) (more n : ℕ) → has_bit (words ++ replicate more 0) n ≡ has_bit words n
-bit_more words more n = ap (λ (w : ℕ). eqb (bit_at w (n % 64)) 1) (word_more words more (n / 64))
 
 slot_set : (slots : List (Option ℕ)) (i : ℕ) (slot : Option ℕ) → i < length slots → slot_of (set slots i slot) i ≡ slot
 slot_set [] i slot l = absurd (omega (arith, l))
@@ -311,6 +294,22 @@ module _ (slots : List (Option ℕ)) (count : ℕ) (words : List ℕ) (slots_now
 
     pub new_slot : slot_of now id ≡ Some count
     new_slot = at_new
+
+-- a slot that was looked for and not found
+pub unlisted : (slots seen : List (Option ℕ)) (id : ℕ) (found : Option ℕ) → seen ≡ slots → found ≡ slot_of seen id → found ≡ None → slot_of slots id ≡ None
+unlisted slots seen id found same is none = ap (λ (xs : List (Option ℕ)). slot_of xs id) (sym same) ∙ sym is ∙ none
+
+-- an id that has no slot: there are fewer slots than ids, and the next slot is its own
+module _ (slots : List (Option ℕ)) (count : ℕ) (words : List ℕ) (slots_now : List (Option ℕ)) (id : ℕ) (h : ArePacked slots count words) (same : (a : ℕ) → slot_of slots_now a ≡ slot_of slots a) (counted : slots_in slots_now ≡ slots_in slots) (few : length slots_now ≤ 2048) (l : id < length slots_now) (none : slot_of slots id ≡ None) where
+  pub next_low : count < 2048
+  next_low = omega (arith, is_room slots_now id l (same id ∙ none), h.counted, counted, few)
+
+  pub listed : (words_now : List ℕ) (now : List (Option ℕ)) → ((n : ℕ) → has_bit words_now n ≡ has_bit words n) → length words ≤ length words_now → row_start (count + 1) ≤ length words_now → now ≡ set slots_now id (Some count) → IsGrown slots words now (count + 1) words_now × (slot_of now id ≡ Some count)
+  listed words_now now bits longer long is =
+      let room : HasRoom slots words slots_now words_now = record { slots_same = same; counted = counted; few = few; bits_same = bits; longer = longer } in (
+        id_grown slots count words slots_now words_now h room id now l none long is,
+        new_slot slots count words slots_now words_now h room id now l none long is,
+      )
 
 pub grown_pairs : (slots now : List (Option ℕ)) (words words_now : List ℕ) (count count_now : ℕ) → ArePacked slots count words → IsGrown slots words now count_now words_now → pairs_in now words_now ≡ pairs_in slots words
 grown_pairs slots now words words_now count count_now h g = same_pairs slots now words words_now h.few g.packed.few g.same

@@ -303,12 +303,6 @@ later_row s (suc t) l = elim (cases_eq s t) [
   | inr d ↦ omega (arith, later_row s t (omega (arith, l, d)))
 ]
 
-pub no_later : (s t : ℕ) → s ≤ t → row_start s ≤ row_start t
-no_later s t l = elim (cases_eq s t) [
-  | inl e ↦ subst (λ (x : ℕ). row_start s ≤ row_start x) e (omega arith)
-  | inr d ↦ omega (arith, later_row s t (omega (arith, l, d)))
-]
-
 pub rows_apart : (s t a b : ℕ) → a < 64 * suc (s / 64) → b < 64 * suc (t / 64) → 64 * row_start s + a ≡ 64 * row_start t + b → (s ≡ t) × (a ≡ b)
 rows_apart s t a b l m e = elim (cases_lt s t) [
   | inl k ↦ absurd (omega (arith, later_row s t k, l, e))

@@ -29,9 +29,6 @@ pub record IsInRow (whole : List (ℕ × ℕ)) (n : ℕ) (test : ℕ → Bool) (
   pub at : slice_get whole n ≡ slice_get (row_from test a b (end - b)) left
   pub len : n + length (row_from test a b (end - b)) ≡ left + length whole
 
-pub row_starts : (test : ℕ → Bool) (a end n : ℕ) → IsInRow (row_from test a (suc a) (end - suc a)) n test a (a + 1) end n
-row_starts test a end n = rw (add-one a) (record { at = refl; len = refl })
-
 module _ (whole : List (ℕ × ℕ)) (n : ℕ) (test : ℕ → Bool) (a b end left : ℕ) (l : b < end) (h : IsInRow whole n test a b end left) where
   pub row_found : test b ≡ true → left ≡ 0 → slice_get whole n ≡ Some (a, b)
   row_found t z = h.at ∙ ap (slice_get (row_from test a b (end - b))) z ∙ ap (λ (xs : List (ℕ × ℕ)). slice_get xs 0) (row_hit test a b end l t)
@@ -62,11 +59,6 @@ row_goes_on whole n test a b end left rest l h e = elim (bool_cases (test b)) [
       subst (λ (k : ℕ). IsInRow whole n test a (b + 1) end k) same (row_skipped whole n test a b end left l h t)
 ]
 
-pub row_ends : (whole : List (ℕ × ℕ)) (n : ℕ) (test : ℕ → Bool) (a b end left : ℕ) → end ≤ b → IsInRow whole n test a b end left → n ≡ left + length whole
-row_ends whole n test a b end left l h =
-    let e : end - b ≡ 0 = omega (arith, l) in
-    omega (arith, h.len, ap (λ (k : ℕ). length (row_from test a b k)) e)
-
 get_front : (xs ys : List (ℕ × ℕ)) (n : ℕ) (p : ℕ × ℕ) → slice_get xs n ≡ Some p → slice_get (xs ++ ys) n ≡ Some p
 get_front [] ys n p e = absurd (none_is_not_some p e)
 get_front (x ∷ xs) ys zero p e = e
@@ -88,11 +80,6 @@ pub nth_later : (holds : ℕ → ℕ → Bool) (whole : List (ℕ × ℕ)) (n a 
 nth_later holds whole n a end left rest l h f =
     h ∙ ap (λ (xs : List (ℕ × ℕ)). slice_get xs left) (rows_next holds a end l) ∙ get_back (row_from (holds a) a (suc a) (end - suc a)) (pairs_from holds (suc a) (end - suc a)) left rest f
     ∙ ap (λ (k : ℕ). slice_get (pairs_from holds k (end - k)) rest) (sym (add-one a))
-
-pub nth_ends : (holds : ℕ → ℕ → Bool) (whole : List (ℕ × ℕ)) (n a end left : ℕ) → end ≤ a → slice_get whole n ≡ slice_get (pairs_from holds a (end - a)) left → None ≡ slice_get whole n
-nth_ends holds whole n a end left l h =
-    let e : end - a ≡ 0 = omega (arith, l) in
-    sym (h ∙ ap (λ (k : ℕ). slice_get (pairs_from holds a k) left) e)
 
 -- ---- the list of all pairs
 
@@ -157,18 +144,6 @@ words_meet words mask start n h =
   where
     bits : (row : List ℕ) (k q r : ℕ) → k / 64 ≡ q → k % 64 ≡ r → bit_at (get_or row q 0) r ≡ 1 → has_bit row k ≡ true
     bits row k q r eq er e = ap (λ (x : ℕ). eqb (bit_at (get_or row x 0) (k % 64)) 1) eq ∙ ap (λ (x : ℕ). eqb (bit_at (get_or row q 0) x) 1) er ∙ ap (λ (x : ℕ). eqb x 1) e
-
-pub words_met : (words mask : List ℕ) (start n t : ℕ) → 64 * n ≤ t → t < 64 * suc n → has_bit words (64 * start + t) ≡ true → has_id mask t ≡ true → AreBothSet (get_or words (start + n) 0) (get_or mask n 0)
-words_met words mask start n t l m e f =
-    let wq : (64 * start + t) / 64 ≡ start + n = omega (arith, l, m) in
-    let wr : (64 * start + t) % 64 ≡ t % 64 = omega (arith, l, m) in
-    let mq : t / 64 ≡ n = omega (arith, l, m) in
-    record {
-      bit = t % 64;
-      low = omega arith;
-      left = one_is (bit_at (get_or words (start + n) 0) (t % 64)) (ap (λ (x : ℕ). eqb (bit_at (get_or words x 0) (t % 64)) 1) (sym wq) ∙ ap (λ (x : ℕ). eqb (bit_at (get_or words ((64 * start + t) / 64) 0) x) 1) (sym wr) ∙ e);
-      right = one_is (bit_at (get_or mask n 0) (t % 64)) (ap (λ (x : ℕ). eqb (bit_at (get_or mask x 0) (t % 64)) 1) (sym mq) ∙ f);
-    }
 
 -- ---- sets that are touched
 

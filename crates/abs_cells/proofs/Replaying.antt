@@ -56,6 +56,3 @@ all_answered calls first now i answers l h = sym (append-nil answers) ∙ (rw (d
 
 pub stopped : (calls : List PairCall) (first now after : List (ℕ × ℕ)) (i : ℕ) (answers : List Bool) → IsReplaying calls first now i answers → after ≡ now → IsStopped calls first after
 stopped calls first now after i answers h e = record { count = i; is = e ∙ h.done }
-
-pub stopped_after : (calls : List PairCall) (first now after : List (ℕ × ℕ)) (i : ℕ) (answers : List Bool) (d : PairCall) → i < length calls → IsReplaying calls first now i answers → after ≡ pairs_after_one (get_or calls i d) now → IsStopped calls first after
-stopped_after calls first now after i answers d l h made = record { count = suc i; is = done_more calls first now after i answers d l h made }

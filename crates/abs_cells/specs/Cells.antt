@@ -41,6 +41,24 @@ is_int (Nums kind len) = false
 is_int (Refs element len shape) = false
 is_int (Unk bound nullable shape) = false
 
+-- the cell `Null`
+abbrev pub is_null : Cell → Bool
+is_null (Int interval) = false
+is_null Null = true
+is_null (Obj class ids) = false
+is_null (Nums kind len) = false
+is_null (Refs element len shape) = false
+is_null (Unk bound nullable shape) = false
+
+-- a cell that may describe null
+abbrev pub can_be_null : Cell → Bool
+can_be_null (Int interval) = false
+can_be_null Null = true
+can_be_null (Obj class ids) = false
+can_be_null (Nums kind len) = false
+can_be_null (Refs element len shape) = false
+can_be_null (Unk bound nullable shape) = nullable
+
 -- the ids that a known cell names: an instance's fields, an array's length
 abbrev pub ids_of : Cell → List ℕ
 ids_of (Int interval) = []

@@ -95,7 +95,3 @@ pub record Fits (types : WorldTypes) (state : AbstractState) (machine : MachineS
   pub inside : (k b o : ℕ) → HasCell is_known state k → HasCell is_hazy state b → target (meaning k) ≡ Some o → Region machine.heap (meaning b) o → Share state k b
   -- each hazy id's shape holds of its region
   pub shapes : (id : ℕ) (cell : Cell) (shape : Shape) → cell_at state id ≡ Some cell → shape_of cell ≡ Some shape → HasShape shape machine.heap (meaning id)
-
--- some map fits
-abbrev pub IsDescribedBy : WorldTypes → MachineState → AbstractState → Type 0
-IsDescribedBy types machine state = (meaning : Meaning) × Fits types state machine meaning

@@ -1,6 +1,6 @@
 //! Cells: what an abstract state knows of the value of an id.
 ghost use Rattle.std.specs.Prelude.{◌≡◌};
-ghost use Rattle.abs_cells.specs.Cells.{is_known, is_hazy, is_reference, is_int, shape_of, sort_test};
+ghost use Rattle.abs_cells.specs.Cells.{is_known, is_hazy, is_reference, is_int, is_null, can_be_null, shape_of, sort_test};
 
 use crate::ids::{Id, Ids};
 use jvm_values::{Kind, Shape, Ty};
@@ -82,6 +82,24 @@ impl Cell {
         ensures { result ≡ is_int self.now }
     {
         matches!(self, Cell::Int(_))
+    }
+
+    /// Whether the cell is `Null`.
+    pub fn is_null(&self) -> bool
+        ensures { result ≡ is_null self.now }
+    {
+        matches!(self, Cell::Null)
+    }
+
+    /// Whether the cell may describe null.
+    pub fn can_be_null(&self) -> bool
+        ensures { result ≡ can_be_null self.now }
+    {
+        match self {
+            Cell::Null => true,
+            Cell::Unk(_, nullable, _) => *nullable,
+            Cell::Int(_) | Cell::Obj(_, _) | Cell::Nums(_, _) | Cell::Refs(_, _, _) => false,
+        }
     }
 
     /// Whether the cell is of a sort.

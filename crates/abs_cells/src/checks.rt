@@ -14,7 +14,7 @@ use crate::sets::IdSet;
 use crate::states::{AbsFrame, AbsState};
 
 /// Whether the ids of cells rise, and are below 2,048.
-fn ids_rise(cells: &[(Id, Cell)]) -> bool
+pub fn ids_rise(cells: &[(Id, Cell)]) -> bool
     ensures { IsTrue result ↔ AreIdsRising 0 cells.now }
 {
     let mut low = 0u32;
@@ -28,7 +28,7 @@ fn ids_rise(cells: &[(Id, Cell)]) -> bool
 }
 
 /// The ids whose cells are of a sort. It takes no memory.
-pub fn ids_of_sort(cells: &[(Id, Cell)], sort: CellSort) -> IdSet
+fn ids_of_sort(cells: &[(Id, Cell)], sort: CellSort) -> IdSet
     requires { AreIdsRising 0 cells.now }
     ensures { (n : ℕ) → has_id result n ≡ is_of_sort (sort_test sort) (cell_in cells.now n) }
 {

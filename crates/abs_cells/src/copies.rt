@@ -1,8 +1,9 @@
-//! Copies of cells.
+//! Copies of cells and of frames.
 ghost use Rattle.std.specs.Prelude.{◌≡◌, IfOk};
 
 use crate::cells::Cell;
 use crate::ids::{Id, Ids};
+use crate::states::AbsFrame;
 use list_views::Seq;
 use std::alloc::{AllocError, AllocFailed, Global};
 
@@ -35,6 +36,30 @@ pub fn copied_cells(alloc: Global, cells: &[(Id, Cell)]) -> Result<Seq<(Id, Cell
     let mut copy = Seq::with_capacity(alloc, cells.len())?;
     for (id, cell) in cells {
         copy.push((*id, copied_cell(alloc, cell)?))?;
+    }
+    Ok(copy)
+}
+
+/// The same frame once more.
+fn copied_frame(alloc: Global, frame: &AbsFrame) -> Result<AbsFrame, AllocError>
+    ensures { IfOk result (λ copy. copy ≡ frame.now) }
+{
+    let locals = Seq::from_slice(alloc, frame.locals())?;
+    let stack = Seq::from_slice(alloc, frame.stack())?;
+    Ok(AbsFrame::new(frame.method(), frame.pc(), locals, stack))
+}
+
+/// The same frames once more.
+///
+/// # Errors
+///
+/// Want of memory.
+pub fn copied_frames(alloc: Global, frames: &[AbsFrame]) -> Result<Seq<AbsFrame>, AllocError>
+    ensures { IfOk result (λ copy. copy ≡ frames.now) }
+{
+    let mut copy = Seq::with_capacity(alloc, frames.len())?;
+    for frame in frames {
+        copy.push(copied_frame(alloc, frame)?)?;
     }
     Ok(copy)
 }

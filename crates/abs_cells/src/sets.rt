@@ -45,6 +45,16 @@ impl IdSet {
         IdSet { words: [0; 32] }
     }
 
+    /// The set of one number.
+    pub fn only(a: Id) -> IdSet
+        requires { a < 2048 }
+        ensures { (n : ℕ) → has_id result n ≡ (n == a) }
+    {
+        let mut ids = IdSet::new();
+        ids.put(a);
+        ids
+    }
+
     /// Puts a number in.
     pub fn put(&mut self, a: Id)
         requires { a < 2048 }

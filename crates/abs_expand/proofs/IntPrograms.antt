@@ -1,18 +1,18 @@
 -- Programs and states that are about ints alone, by the tests of their instructions and of their cells.
-use Rattle.std.proofs.Common.{◌≡◌, ◌∙◌, ◌==◌, ℕ, zero, suc, Bool, true, false, if◌then◌else◌, List, [], ◌∷◌, Option, Some, None, slice_get, refl, sym, ap, subst}
-use Rattle.std.specs.Prelude.{is_some}
+use Rattle.std.proofs.Common.{◌≡◌, ◌≤◌, ◌∙◌, ◌==◌, ℕ, zero, suc, Bool, true, false, cond, eqb, if◌then◌else◌, List, [], ◌∷◌, Option, Some, None, slice_get, refl, sym, ap, subst, arith, eq-eqb}
 use Rattle.std.specs.List.{list_all}
 use Rattle.std.specs.Option.{option_map, is_none}
-use Rattle.std.proofs.lemmas.Bool.{false≢true, and_parts}
+use Rattle.std.proofs.lemmas.Bool.{false≢true, and_parts, and_from, ne_eqb, eqb-true}
 use Rattle.jvm_values.proofs.Options.{given, some_is, none_is_not_some}
 use Rattle.abs_cells.specs.declared.cells.Cell.{Cell}
 use Rattle.abs_cells.specs.AbstractStates.{AbstractState}
 use Rattle.abs_cells.specs.Cells.{is_int, cell_in}
+use Rattle.abs_cells.specs.Sound.{AreIdsRising}
 use Rattle.class_program.specs.declared.op.Op.{Op}
 use Rattle.class_program.specs.declared.program.Method.{Method}
 use Rattle.class_program.specs.Instructions.{first_place, instruction_at}
 use Rattle.class_program.specs.Programs.{Program, insn_at}
-use Rattle.abs_expand.specs.IntForms.{has_int_form, are_int_insns, are_int_methods, HasIntForms, IsIntState}
+use Rattle.abs_expand.specs.IntForms.{has_int_form, are_int_insns, are_int_methods, has_ints, HasIntForms, IsIntState}
 
 insn_int : (insns : List (ℕ × Op)) (pc : ℕ) (x : Op × Option ℕ) → are_int_insns insns ≡ true → instruction_at insns pc ≡ Some x → has_int_form x.0 ≡ true
 insn_int [] pc x h e = absurd (none_is_not_some x e)
@@ -55,19 +55,53 @@ none_first : {X : Type 0} (xs : List X) → slice_get xs 0 ≡ None → xs ≡ [
 none_first [] e = refl
 none_first (x ∷ xs) e = absurd (none_is_not_some x (sym e))
 
-pub state_int : (state : AbstractState) (cells : List (ℕ × Cell)) (test : Bool) → slice_get state.eq 0 ≡ None → slice_get state.share 0 ≡ None → state.throwing ≡ None → cells ≡ state.cells → test ≡ list_all (λ (c : ℕ × Cell). is_int c.1) cells → test ≡ true → IsIntState state
-state_int state cells test e s t c r h = record {
-  cells = λ id cell f. cell_int state.cells id cell (ap (list_all (λ (x : ℕ × Cell). is_int x.1)) (sym c) ∙ sym r ∙ h) f;
-  no_eq = none_first state.eq e;
-  no_share = none_first state.share s;
-  unthrown = t;
-}
-
 -- an option that isn't there
-pub nothing_there : {A : Type 0} (found : Option A) → is_none found ≡ true → found ≡ None
+nothing_there : {A : Type 0} (found : Option A) → is_none found ≡ true → found ≡ None
 nothing_there None e = refl
 nothing_there (Some x) e = absurd (false≢true e)
 
-pub not_some : {A : Type 0} (found : Option A) → is_some found ≡ false → found ≡ None
-not_some None e = refl
-not_some (Some x) e = absurd (false≢true (sym e))
+here : (c : ℕ × Cell) (cells : List (ℕ × Cell)) → cell_in (c ∷ cells) c.0 ≡ Some c.1
+here c cells = ap (λ b. cond b (Some c.1) (cell_in cells c.0)) (eq-eqb c.0 c.0 refl)
+
+past : (c : ℕ × Cell) (cells : List (ℕ × Cell)) (id : ℕ) → eqb c.0 id ≡ false → cell_in (c ∷ cells) id ≡ cell_in cells id
+past c cells id f = ap (λ b. cond b (Some c.1) (cell_in cells id)) f
+
+-- a cell behind a number is of an id from that number on
+from_low : (low id : ℕ) (cells : List (ℕ × Cell)) (cell : Cell) → AreIdsRising low cells → cell_in cells id ≡ Some cell → low ≤ id
+from_low low id [] cell rise at = absurd (none_is_not_some cell at)
+from_low low id (c ∷ cells) cell rise at = go (eqb c.0 id) refl (λ f. from_low (suc c.0) id cells cell rise.1.1 (sym (past c cells id f) ∙ at))
+  where
+    go : (b : Bool) → eqb c.0 id ≡ b → (eqb c.0 id ≡ false → suc c.0 ≤ id) → low ≤ id
+    go true t later = let same = eqb-true c.0 id t in omega (arith, rise.0, same)
+    go false f later = let next = later f in omega (arith, rise.0, next)
+
+each_int : (low : ℕ) (cells : List (ℕ × Cell)) → AreIdsRising low cells → ((id : ℕ) (cell : Cell) → cell_in cells id ≡ Some cell → is_int cell ≡ true) → list_all (λ (c : ℕ × Cell). is_int c.1) cells ≡ true
+each_int low [] rise ints = refl
+each_int low (c ∷ cells) rise ints =
+    and_from (is_int c.1) (list_all (λ (x : ℕ × Cell). is_int x.1) cells) (ints c.0 c.1 (here c cells))
+    (each_int (suc c.0) cells rise.1.1 (λ id cell at.
+    let later = from_low (suc c.0) id cells cell rise.1.1 at in
+    ints id cell (past c cells id (ne_eqb c.0 id (omega (arith, later))) ∙ at)))
+
+no_first : {A : Type 0} (xs : List A) → xs ≡ [] → is_none (slice_get xs 0) ≡ true
+no_first xs e = ap (λ ys. is_none (slice_get ys 0)) e
+
+-- the test says so, exactly where the ids rise
+pub ints_pass : (state : AbstractState) → AreIdsRising 0 state.cells → IsIntState state → has_ints state ≡ true
+ints_pass state rise ints =
+    and_from (is_none (slice_get state.eq 0)) _ (no_first state.eq ints.no_eq)
+    (and_from (is_none (slice_get state.share 0)) _ (no_first state.share ints.no_share)
+    (and_from (is_none state.throwing) _ (ap is_none ints.unthrown)
+    (each_int 0 state.cells rise ints.cells)))
+
+pub passes_ints : (state : AbstractState) → has_ints state ≡ true → IsIntState state
+passes_ints state h =
+    let a = and_parts (is_none (slice_get state.eq 0)) _ h in
+    let b = and_parts (is_none (slice_get state.share 0)) _ a.1 in
+    let c = and_parts (is_none state.throwing) _ b.1 in
+    record {
+      cells = λ id cell f. cell_int state.cells id cell c.1 f;
+      no_eq = none_first state.eq (nothing_there (slice_get state.eq 0) a.0);
+      no_share = none_first state.share (nothing_there (slice_get state.share 0) b.0);
+      unthrown = nothing_there state.throwing c.0;
+    }

@@ -127,10 +127,6 @@ pub plan_found : (p : Program) (typing : ℕ → CodeTypes) (state : AbstractSta
 plan_found p typing state frame op next plan thrown alone insn e =
     e ∙ sym (plan_alone p typing state frame thrown alone ∙ ap (λ (found : Option (Op × Option ℕ)). plan_here p typing state frame [] (option_map_or (λ (x : Op × Option ℕ). form_of x.0) found None) (option_map_or (λ (x : Op × Option ℕ). x.1) found None) (typing frame.method frame.pc)) insn)
 
-pub plan_nowhere : (p : Program) (typing : ℕ → CodeTypes) (state : AbstractState) (frame : AbstractFrame) (plan : Plan) → state.throwing ≡ None → state.frames ≡ frame ∷ [] → insn_at p.methods frame.method frame.pc ≡ None → plan ≡ no_child → plan ≡ plan_of p typing state
-plan_nowhere p typing state frame plan thrown alone insn e =
-    e ∙ sym (plan_alone p typing state frame thrown alone ∙ ap (λ (found : Option (Op × Option ℕ)). plan_here p typing state frame [] (option_map_or (λ (x : Op × Option ℕ). form_of x.0) found None) (option_map_or (λ (x : Op × Option ℕ). x.1) found None) (typing frame.method frame.pc)) insn)
-
 -- an instruction that stands in the program is about ints
 pub op_int : (p : Program) (number pc : ℕ) (op : Op) (next : Option ℕ) → HasIntForms p → insn_at p.methods number pc ≡ Some (op, next) → has_int_form op ≡ true
 op_int p number pc op next forms e = forms number pc op (ap (option_map (λ (x : Op × Option ℕ). x.0)) e)

@@ -15,7 +15,7 @@ use Rattle.abs_cells.specs.declared.cells.Cell.TheVariants as cells
 use Rattle.abs_cells.specs.AbstractStates.{AbstractFrame}
 use Rattle.abs_cells.specs.Cells.{HasCell}
 use Rattle.abs_cells.specs.Sound.{given_ids}
-use Rattle.abs_ints.specs.Parts.{just, meet_of}
+use Rattle.abs_ints.specs.IntIntervals.{just, meet_of}
 use Rattle.abs_ints.specs.Comparing.{compared}
 use Rattle.abs_ints.specs.Operating.{operated}
 use Rattle.abs_ints.specs.declared.cases.IntCase.{IntCase}

@@ -141,9 +141,6 @@ none_left : {A B : Type 0} (test : A → B → Bool) (ys : List B) → all_zip t
 none_left test [] = refl
 none_left test (y ∷ ys) = sym (ne_eqb (length (y ∷ ys)) 0 (λ e. omega (arith, e)))
 
-pub stack_past : {A B : Type 0} (test : A → B → Bool) (types : List A) (stack : List B) (count : ℕ) → length types ≤ count → all_zip test (drop count types) (reverse stack) ≡ (length stack == 0)
-stack_past test types stack count l = ap (λ zs. all_zip test zs (reverse stack)) (drop_all count types l) ∙ zip_turned_any test [] stack ∙ none_left test stack
-
 -- ---- frames
 
 if_some : {A : Type 0} (b : Bool) (x y : A) → (if b then Some x else None) ≡ Some y → (b ≡ true) × (x ≡ y)

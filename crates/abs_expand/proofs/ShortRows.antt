@@ -8,7 +8,7 @@ use Rattle.jvm_values.specs.declared.ints.IntOp.{IntOp}
 use Rattle.jvm_values.specs.declared.ints.IntOp.TheVariants.{Add, Sub, Mul, Div, Rem, Shl, Shr, Ushr, And, Or, Xor, Narrow}
 use Rattle.abs_ints.specs.Cases.{case_with}
 use Rattle.abs_ints.specs.Operating.{operated}
-use Rattle.abs_ints.specs.Parts.{all_ints, meet_of, sum_of, difference_of}
+use Rattle.abs_ints.specs.IntIntervals.{all_ints, meet_of, sum_of, difference_of}
 use Rattle.abs_ints.specs.Sums.{reached_by, wrapped_by, sum_row, difference_row, sum_case, difference_case, sum_cases, difference_cases}
 use Rattle.abs_ints.specs.declared.cases.IntCase.{IntCase}
 use Rattle.abs_ints.specs.declared.cases.ShortRow.{ShortRow}
@@ -26,13 +26,6 @@ ids_short x y (row ∷ rows) = ids_short x y rows
 cases_of_ids : (x y : ℕ) (cases : List IntCase) → have_short_rows (id x) (id y) cases ≡ true
 cases_of_ids x y [] = refl
 cases_of_ids x y (case ∷ cases) = ap (λ (b : Bool). b && have_short_rows (id x) (id y) cases) (ids_short x y case.rows) ∙ cases_of_ids x y cases
-
-pub wanted_short : (with_rows : Bool) (left right : Operand) (rows : List ShortRow) → are_ids_if with_rows left right ≡ true → with_rows ≡ true → are_short left right rows ≡ true
-wanted_short true (id x) (id y) rows e w = ids_short x y rows
-wanted_short true (id x) (known n) rows e w = absurd (false≢true e)
-wanted_short true (known m) (id y) rows e w = absurd (false≢true e)
-wanted_short true (known m) (known n) rows e w = absurd (false≢true e)
-wanted_short false left right rows e w = absurd (false≢true w)
 
 -- ---- sums and differences
 

@@ -7,7 +7,7 @@ use Rattle.std.proofs.lemmas.List.{drop_more, drop_all}
 use Rattle.std.proofs.lemmas.List.Elements.{filter_map-append}
 use Rattle.code_forms.specs.declared.insn.Case.{Case}
 use Rattle.lin_core.specs.Intervals.{Bounds, interval_of}
-use Rattle.abs_ints.specs.Parts.{all_ints, just}
+use Rattle.abs_ints.specs.IntIntervals.{all_ints, just}
 use Rattle.abs_expand.specs.Switches.{table_keys, lookup_keys, parts_from, parts_of}
 
 put_end : {X : Type 0} (o : Option X) (rest : List X) → option_to_list o ++ rest ≡ cons_option o rest

@@ -10,6 +10,7 @@ use Rattle.abs_cells.specs.declared.cells.Cell.{Cell}
 use Rattle.abs_cells.specs.declared.cells.Cell.TheVariants as cells
 use Rattle.abs_cells.specs.AbstractStates.{AbstractFrame, AbstractState}
 use Rattle.abs_cells.specs.Cells.{cell_at, are_compatible}
+use Rattle.abs_cells.specs.Limits.{most_ids}
 use Rattle.term_graph.specs.declared.links.Link.{Link}
 use Rattle.term_graph.specs.Graphs.{GraphChild}
 use Rattle.abs_heap.specs.Refining.{IsCase, cases_of, IsWithCell, AreEqualChildren}
@@ -89,13 +90,13 @@ counts_of types state (by_class x wanted) = class_counts types state wanted (cel
 counts_of types state (by_equal x y) = equal_counts types state (cell_at state x) (cell_at state y)
 
 abbrev pub AreFew : List ℕ → Type 0
-AreFew counts = All (λ count. count ≤ 512) counts
+AreFew counts = All (λ count. count ≤ most_ids) counts
 
--- the first child that has more than 512 ids
+-- the first child that has too many ids
 pub record IsFirstTooMany (counts : List ℕ) (n : ℕ) : Type 0 where
   pub count : ℕ
   pub is : slice_get counts n ≡ Some count
-  pub many : 512 < count
+  pub many : most_ids < count
   pub before : AreFew (take n counts)
 
 -- ---- the expansion

@@ -1,7 +1,7 @@
 -- Programs whose instructions are about ints alone, and the states that they meet: what the expansion is built for so far.
-use Rattle.std.specs.Prelude.{◌≡◌, ℕ, Bool, true, false, List, [], Some, None}
+use Rattle.std.specs.Prelude.{◌≡◌, ℕ, ◌&&◌, Bool, true, false, List, [], Some, None, slice_get}
 use Rattle.std.specs.List.{list_all}
-use Rattle.std.specs.Option.{option_map_or}
+use Rattle.std.specs.Option.{option_map_or, is_none}
 use Rattle.jvm_values.specs.declared.ints.IntOp.{IntOp}
 use Rattle.jvm_values.specs.declared.ints.IntOp.TheVariants.{Div, Rem}
 use Rattle.abs_cells.specs.declared.cells.Cell.{Cell}
@@ -59,3 +59,7 @@ pub record IsIntState (state : AbstractState) : Type 0 where
   pub no_eq : state.eq ≡ []
   pub no_share : state.share ≡ []
   pub unthrown : state.throwing ≡ None
+
+-- the test of it
+abbrev pub has_ints : AbstractState → Bool
+has_ints state = is_none (slice_get state.eq 0) && (is_none (slice_get state.share 0) && (is_none state.throwing && list_all (λ (c : ℕ × Cell). is_int c.1) state.cells))

@@ -2,7 +2,7 @@
 use Rattle.std.specs.Prelude.{ℕ, ℤ, pos, ◌+ℤ◌, ◌-ℤ◌, List, [], ◌∷◌, map, Option, Some}
 use Rattle.lin_core.specs.Intervals.{Bounds, interval_of}
 use Rattle.code_forms.specs.declared.insn.Case.{Case}
-use Rattle.abs_ints.specs.Parts.{all_ints, just}
+use Rattle.abs_ints.specs.IntIntervals.{all_ints, just}
 
 -- a key and where it leads
 abbrev pub table_keys : ℤ → List ℕ → List (ℤ × ℕ)

@@ -20,7 +20,7 @@ use Rattle.abs_cells.specs.declared.cells.Cell.TheVariants as cells
 use Rattle.abs_cells.specs.AbstractStates.{AbstractFrame}
 use Rattle.abs_cells.specs.Cells.{is_known, is_comparable, type_of_cell, cell_at}
 use Rattle.abs_cells.specs.PairLists.{has}
-use Rattle.abs_ints.specs.Parts.{just, all_ints, meet_of}
+use Rattle.abs_ints.specs.IntIntervals.{just, all_ints, meet_of}
 use Rattle.abs_ints.specs.Comparing.{related}
 use Rattle.abs_ints.specs.declared.cases.IntCase.{IntCase}
 use Rattle.abs_ints.specs.declared.cases.Way.TheVariants.{Taken}

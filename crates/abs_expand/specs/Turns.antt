@@ -13,7 +13,7 @@ use Rattle.abs_cells.specs.declared.cells.Cell.{Cell}
 use Rattle.abs_cells.specs.declared.cells.Cell.TheVariants as cells
 use Rattle.abs_cells.specs.AbstractStates.{AbstractFrame, AbstractState}
 use Rattle.abs_cells.specs.Cells.{cell_at}
-use Rattle.abs_ints.specs.Parts.{all_ints, just, meet_of}
+use Rattle.abs_ints.specs.IntIntervals.{all_ints, just, meet_of}
 use Rattle.abs_ints.specs.Operating.{operated}
 use Rattle.abs_ints.specs.Comparing.{compared}
 use Rattle.abs_ints.specs.declared.cases.IntCase.{IntCase}

@@ -7,6 +7,7 @@ ghost use Rattle.code_verify.specs.Typings.{typing_at};
 ghost use Rattle.abs_expand.specs.Answers.{Answers};
 ghost use Rattle.abs_expand.specs.BadStates.{IsGoodState};
 ghost use Rattle.abs_cells.specs.Sound.{IsWellFormed};
+ghost use Rattle.abs_cells.specs.Limits.{most_ids};
 ghost use Rattle.abs_expand.specs.Plans.{ids_made};
 ghost use Rattle.abs_expand.specs.Expansions.{AreFew, IsFirstTooMany};
 ghost use Rattle.abs_expand.specs.Building.{IsIntTurn, IsChildOf, turn_counts};
@@ -19,7 +20,7 @@ use crate::clauses::bad_clause;
 use crate::fault::ExpandFault;
 use crate::planning::plan;
 use crate::plans::{Act, Plan, Turn};
-use abs_cells::{AbsState, Pairs};
+use abs_cells::{AbsState, MOST_IDS, Pairs};
 use abs_reach::Marks;
 use class_program::Program;
 use code_verify::Typing;
@@ -44,7 +45,7 @@ fn first_too_many(count: usize, turns: &[Turn]) -> Option<usize>
     ensures { (types : WorldTypes) → MatchOption result (AreFew (turn_counts types count (map turn_seen turns.now))) (λ n. IsFirstTooMany (turn_counts types count (map turn_seen turns.now)) n) }
 {
     for n in 0..turns.len() {
-        if count + made(&turns[n]) > 512 {
+        if count + made(&turns[n]) > MOST_IDS {
             return Some(n);
         }
     }
@@ -60,7 +61,7 @@ fn children_of<P: Pairs>(
 ) -> Result<Seq<Child<P>>, AllocError>
     requires ints { IsIntState state.now }
     requires good { IsWellFormed state.now }
-    requires few { length state.now.cells ≤ 512 }
+    requires few { length state.now.cells ≤ most_ids }
     requires turns { AllByRecursion (λ turn. IsIntTurn state.now (turn_seen turn)) turns }
     ensures { (types : WorldTypes) → IfOk result (λ children. AllZip (λ turn child. IsChildOf types state.now (turn_seen turn) child) turns children) }
 {

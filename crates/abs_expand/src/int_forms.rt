@@ -3,9 +3,10 @@ ghost use Rattle.std.specs.Prelude.{◌≡◌, IsTrue, slice_get};
 ghost use Rattle.std.specs.Option.{is_none};
 ghost use Rattle.std.specs.List.{list_all};
 ghost use Rattle.abs_cells.specs.Cells.{is_int};
+ghost use Rattle.abs_cells.specs.Sound.{AreIdsRising};
 ghost use Rattle.class_program.specs.Views.{program_of};
 ghost use Rattle.op_forms.specs.Forms.{form_seen};
-ghost use Rattle.abs_expand.specs.IntForms.{is_total, is_int_form, has_int_form, are_int_insns, are_int_methods, HasIntForms, IsIntState};
+ghost use Rattle.abs_expand.specs.IntForms.{is_total, is_int_form, has_int_form, are_int_insns, are_int_methods, has_ints, HasIntForms, IsIntState};
 
 use abs_cells::{AbsState, Cell, Id, Pairs};
 use class_program::{Method, Op, Program};
@@ -110,18 +111,20 @@ fn are_none<P: Pairs>(pairs: &P) -> bool
     pairs.nth(0).is_none()
 }
 
-/// Whether a state has cells of ints alone, no pairs and no thrown id.
-pub fn is_int_state<P: Pairs>(state: &AbsState<P>) -> bool
-    ensures { IsTrue result → IsIntState state.now }
+/// The tests of a state, one after another.
+fn has_ints<P: Pairs>(state: &AbsState<P>) -> bool
+    ensures { result ≡ has_ints state.now }
 {
-    if !are_none(state.eq()) {
-        return false;
-    }
-    if !are_none(state.share()) {
-        return false;
-    }
-    if state.throwing().is_some() {
-        return false;
-    }
-    are_ints(state.cells())
+    are_none(state.eq())
+        && are_none(state.share())
+        && state.throwing().is_none()
+        && are_ints(state.cells())
+}
+
+/// Whether a state has cells of ints alone, no pairs and no thrown id. Of a state whose ids don't rise it may say no where that holds.
+pub fn is_int_state<P: Pairs>(state: &AbsState<P>) -> bool
+    ensures ints { IsTrue result → IsIntState state.now }
+    ensures exact { AreIdsRising 0 state.now.cells → IsIntState state.now → IsTrue result }
+{
+    has_ints(state)
 }

@@ -4,12 +4,12 @@ ghost use Rattle.std.specs.Option.{option_and_then};
 ghost use Rattle.jvm_values.specs.States.{types_of};
 ghost use Rattle.abs_cells.specs.Cells.{cell_in};
 ghost use Rattle.abs_cells.specs.Sound.{AreIdsRising};
-ghost use Rattle.abs_ints.specs.Parts.{all_ints};
+ghost use Rattle.abs_ints.specs.IntIntervals.{all_ints};
 ghost use Rattle.class_program.specs.Views.{program_of};
 ghost use Rattle.abs_expand.specs.Turns.{frames_at, with_stack, interval_in, interval_of_id};
 ghost use Rattle.abs_expand.specs.Table.{local_here};
 
-use abs_cells::{AbsFrame, AbsState, Cell, Id, Pairs};
+use abs_cells::{AbsFrame, AbsState, Cell, Id, Pairs, copied_frames};
 use abs_reach::cell_of;
 use class_program::Program;
 use jvm_values::FrameType;
@@ -52,26 +52,6 @@ fn all_ints() -> Interval
         Some(interval) => interval,
         None => unreachable!(),
     }
-}
-
-/// The same frame once more.
-fn copied_frame(alloc: Global, frame: &AbsFrame) -> Result<AbsFrame, AllocError>
-    ensures { IfOk result (λ copy. copy ≡ frame.now) }
-{
-    let locals = Seq::from_slice(alloc, frame.locals())?;
-    let stack = Seq::from_slice(alloc, frame.stack())?;
-    Ok(AbsFrame::new(frame.method(), frame.pc(), locals, stack))
-}
-
-/// The same frames once more.
-pub(crate) fn copied_frames(alloc: Global, frames: &[AbsFrame]) -> Result<Seq<AbsFrame>, AllocError>
-    ensures { IfOk result (λ copy. copy ≡ frames.now) }
-{
-    let mut copy = Seq::with_capacity(alloc, frames.len())?;
-    for frame in frames {
-        copy.push(copied_frame(alloc, frame)?)?;
-    }
-    Ok(copy)
 }
 
 /// The ids of a list as a stack, the last one on the top.

@@ -4,7 +4,7 @@ ghost use Rattle.std.specs.Option.{option_map, option_and_then, option_to_list};
 ghost use Rattle.std.specs.List.{filter_map};
 ghost use Rattle.lin_core.specs.Intervals.{interval_of};
 ghost use Rattle.abs_cells.specs.declared.cells.Cell.TheVariants as cells;
-ghost use Rattle.abs_ints.specs.Parts.{just, meet_of};
+ghost use Rattle.abs_ints.specs.IntIntervals.{just, meet_of};
 ghost use Rattle.abs_expand.specs.Plans.{no_rows};
 ghost use Rattle.abs_expand.specs.Turns.{with_stack, narrows, switch_turn};
 ghost use Rattle.abs_expand.specs.Switches.{table_keys, lookup_keys, parts_of};

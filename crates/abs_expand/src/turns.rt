@@ -2,7 +2,7 @@
 ghost use Rattle.std.specs.Prelude.{◌≡◌, ◌++◌, ◌∷◌, [], map, reverse, IfOk, IsTrue, Some, None};
 ghost use Rattle.std.specs.Option.{option_map, option_to_list};
 ghost use Rattle.abs_cells.specs.declared.cells.Cell.TheVariants as cells;
-ghost use Rattle.abs_ints.specs.Parts.{just};
+ghost use Rattle.abs_ints.specs.IntIntervals.{just};
 ghost use Rattle.abs_ints.specs.Operating.{operated};
 ghost use Rattle.abs_expand.specs.Plans.{on_stack};
 ghost use Rattle.abs_expand.specs.Turns.{id, with_stack, moves, goes_on, pushes, throws_after, are_one, interval_at, narrowings, rows_over, turn_of_result, turn_of_case, turns_of, turn_narrowing, turns_narrowing, is_taken, rows_if, narrows, branch_of_case, branches};

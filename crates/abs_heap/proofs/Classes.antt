@@ -24,7 +24,7 @@ use Rattle.jvm_values.specs.States.{MachineState}
 use Rattle.jvm_values.specs.Joins.{item_of, item_under}
 use Rattle.jvm_values.specs.Heaps.{target, values_of, Region, HasShape}
 use Rattle.jvm_values.specs.Subtyping.{class_type, object_type, array_of, array_of_numbers, IsReference, IsReferenceBase, IsSlot}
-use Rattle.jvm_values.specs.TypedHeaps.{WorldTypes, HasType, Holds, IsTypedHeap, IsTypedObject, type_of}
+use Rattle.jvm_values.specs.TypedHeaps.{WorldTypes, AreLawful, HasType, Holds, IsTypedHeap, IsTypedObject, type_of}
 use Rattle.jvm_values.proofs.Options.{some_is, none_is_not_some}
 use Rattle.jvm_values.proofs.Lists.{same_or_not}
 use Rattle.jvm_values.proofs.Ranges.{kind_ints}
@@ -39,8 +39,9 @@ use Rattle.abs_cells.proofs.PairLaws.{has_swapped, cond_true, cond_false}
 use Rattle.abs_reach.proofs.Walks.{some_cell}
 use Rattle.term_graph.specs.Edges.{HoldsBetween}
 use Rattle.abs_heap.specs.Given.{first_cell, with_cells, IsGiven, AreFresh, MayBeOne}
-use Rattle.abs_heap.specs.Refining.{Case, instance, numbers, references, lower_of, cell_of_slot, length_cell, IsReferenceField, JoinsFields, IsInstanceChild, IsCase, numbers_from, instances_below, numbers_below, element_below, listed, cases_below, cases_of}
-use Rattle.abs_heap.specs.Laws.{plain_link, AreLawful, Goes, GoesToCase, ClassesSplit}
+use Rattle.list_views.specs.Lists.{numbers_from}
+use Rattle.abs_heap.specs.Refining.{Case, instance, numbers, references, lower_of, cell_of_slot, length_cell, IsReferenceField, JoinsFields, IsInstanceChild, IsCase, instances_below, numbers_below, element_below, listed, cases_below, cases_of}
+use Rattle.abs_heap.specs.Laws.{plain_link, Goes, GoesToCase, ClassesSplit}
 use Rattle.abs_heap.proofs.Placing.{cell_here, cell_later}
 use Rattle.abs_heap.proofs.Fitted.{FitsBy, fits_given, names_reference, hazy_not_known}
 use Rattle.abs_heap.proofs.SameTerms.{same_size}

@@ -22,7 +22,8 @@ use Rattle.abs_heap.specs.Given.{IsGiven, MayBeOne, with_cells}
 use Rattle.abs_heap.specs.Names.{name_in, frame_named, IsImage}
 use Rattle.abs_heap.specs.Refining.{cell_of_slot, IsReferenceField, JoinsFields}
 use Rattle.abs_heap.specs.Building.{Gains, IsOver}
-use Rattle.abs_heap.specs.Splitting.{is_reference_slot, IsFieldBefore, IsGivenInstance, WantsOne}
+use Rattle.jvm_values.specs.Slots.{is_reference_slot}
+use Rattle.abs_heap.specs.Splitting.{IsFieldBefore, IsGivenInstance, WantsOne}
 use Rattle.abs_heap.proofs.PairGains.{gain_both, gain_as, gains_on}
 use Rattle.abs_heap.proofs.Placing.{over_more, over_cell, same_or_not}
 use Rattle.abs_heap.proofs.Giving.{image_unnamed, pairs_given, over_state, state_of, frames_unnamed, given_unnamed}
@@ -100,29 +101,6 @@ references_are fields ids start new none was n = (
 
 abbrev JoinsId : List Slot → List ℕ → AbstractState → ℕ → Shape → ℕ → Type 0
 JoinsId fields ids state x shape n = Share state x n ⊎ (((shape ≢ Tree) × IsReferenceField fields ids n) ⊎ ((shape ≡ Any) × (n ≡ x)))
-
-pub partners_more : (fields : List Slot) (ids : List ℕ) (state : AbstractState) (x : ℕ) (shape : Shape) (n : ℕ) (old new : Bool) → shape ≢ Tree → (old ≡ true) ↔ (Share state x n ⊎ ((shape ≡ Any) × (n ≡ x))) → IsMember new old (IsReferenceField fields ids n)
-    → (new ≡ true) ↔ JoinsId fields ids state x shape n
-partners_more fields ids state x shape n old new other was more = (
-  λ h. elim (more.0 h) [
-    | inl k ↦ elim (was.0 k) [ inl s ↦ inl s | inr a ↦ inr (inr a) ]
-    | inr r ↦ inr (inl (other, r))
-  ],
-  λ h. elim h [
-    | inl s ↦ more.1 (inl (was.1 (inl s)))
-    | inr k ↦ elim k [ inl r ↦ more.1 (inr r.1) | inr a ↦ more.1 (inl (was.1 (inr a))) ]
-  ],
-)
-
-pub partners_same : (fields : List Slot) (ids : List ℕ) (state : AbstractState) (x : ℕ) (shape : Shape) (n : ℕ) (old : Bool) → shape ≡ Tree → (old ≡ true) ↔ (Share state x n ⊎ ((shape ≡ Any) × (n ≡ x)))
-    → (old ≡ true) ↔ JoinsId fields ids state x shape n
-partners_same fields ids state x shape n old tree was = (
-  λ h. elim (was.0 h) [ inl s ↦ inl s | inr a ↦ inr (inr a) ],
-  λ h. elim h [
-    | inl s ↦ was.1 (inl s)
-    | inr k ↦ elim k [ inl r ↦ absurd (r.0 tree) | inr a ↦ was.1 (inr a) ]
-  ],
-)
 
 -- ---- the child
 

@@ -116,17 +116,10 @@ found_here state ids passed next f = record {
 pub found_all : (state : AbstractState) (cells : List (ℕ × Cell)) (ids : List ℕ) (passed next : ℕ) → cells ≡ state.cells → AreFound cells ids passed next → AreFresh state ids
 found_all state cells ids passed next e f = found_here state ids passed next (subst (λ (cs : List (ℕ × Cell)). AreFound cs ids passed next) e f)
 
-pub found_low : (cells : List (ℕ × Cell)) (ids : List ℕ) (passed next count : ℕ) → AreFound cells ids passed next → length ids ≤ count → length cells + count ≤ 2048 → All (λ id. id < 2048) ids
-found_low cells ids passed next count f l m = All-weaker (λ id. id < next) (λ id. id < 2048) (λ id h. omega (arith, h, f.sum, f.within, l, m)) ids f.low
-
 pub only_one : (state : AbstractState) (ids : List ℕ) (id : ℕ) → AreFresh state ids → length ids ≡ 1 → id ≡ get_or ids 0 id → AreFresh state (id ∷ [])
 only_one state [] id f l e = absurd (omega (arith, l))
 only_one state (x ∷ []) id f l e = subst (λ (n : ℕ). AreFresh state (n ∷ [])) (sym e) f
 only_one state (x ∷ y ∷ rest) id f l e = absurd (omega (arith, l))
-
-pub first_and_rest : (ids : List ℕ) (id : ℕ) → 0 < length ids → id ≡ get_or ids 0 id → ids ≡ id ∷ drop 1 ids
-first_and_rest [] id l e = absurd (omega (arith, l))
-first_and_rest (x ∷ rest) id l e = ap (λ (n : ℕ). n ∷ rest) (sym e)
 
 pub found_free_too : (cells : List (ℕ × Cell)) (ids : List ℕ) (passed next count : ℕ) → AreFound cells ids passed next → (IsIdAt cells passed next → ⊥) → length ids < count → AreFound cells (ids ++ next ∷ []) passed (next + 1) × (length (ids ++ next ∷ []) ≤ count)
 found_free_too cells ids passed next count f h l = (found_free cells ids passed next f h, let e = length-append ids (next ∷ []) in omega (arith, e, l))

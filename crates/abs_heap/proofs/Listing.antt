@@ -22,7 +22,8 @@ use Rattle.abs_heap.specs.Answers.{AreClassChildren, HasTooManyChildren}
 use Rattle.abs_heap.specs.Counts.{HasTooMany, HasTooManyIn, new_ids}
 use Rattle.abs_heap.specs.declared.fault.HeapFault.{HeapFault}
 use Rattle.abs_heap.specs.declared.fault.HeapFault.TheVariants.{TooManyIds}
-use Rattle.abs_heap.specs.Refining.{Case, instance, numbers, references, IsCase, IsArrayChild, numbers_from, lower_of, listed, cases_below, cases_of}
+use Rattle.list_views.specs.Lists.{numbers_from}
+use Rattle.abs_heap.specs.Refining.{Case, instance, numbers, references, IsCase, IsArrayChild, lower_of, listed, cases_below, cases_of}
 use Rattle.abs_heap.specs.Splitting.{instances_among, numbers_among, crowds, plain_child, AddsCases, IsCaseAnswer, IsArrayAnswer}
 
 -- ---- some of a list

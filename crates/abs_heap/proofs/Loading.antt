@@ -15,7 +15,7 @@ use Rattle.jvm_values.specs.declared.shape.Shape.TheVariants.{Tree, Dag, Any}
 use Rattle.jvm_values.specs.Paths.{follow}
 use Rattle.jvm_values.specs.States.{MachineState}
 use Rattle.jvm_values.specs.Heaps.{target, values_of, heap_steps, Region, HasShape}
-use Rattle.jvm_values.specs.TypedHeaps.{WorldTypes, HasType, IsTypedHeap, type_of}
+use Rattle.jvm_values.specs.TypedHeaps.{WorldTypes, AreLawful, HasType, IsTypedHeap, type_of}
 use Rattle.jvm_values.proofs.Options.{some_is, none_is_not_some}
 use Rattle.jvm_values.proofs.Lists.{same_or_not}
 use Rattle.abs_cells.specs.declared.cells.Cell.{Cell}
@@ -30,7 +30,7 @@ use Rattle.abs_reach.proofs.Walks.{some_cell}
 use Rattle.term_graph.specs.Edges.{HoldsBetween}
 use Rattle.abs_heap.specs.Given.{first_cell, with_cells, MayBeOne}
 use Rattle.abs_heap.specs.Writing.{JoinsItem, IsItemChild}
-use Rattle.abs_heap.specs.Laws.{AreLawful, IsClosedState, GoesWith, ItemsGoOn}
+use Rattle.abs_heap.specs.Laws.{IsClosedState, GoesWith, ItemsGoOn}
 use Rattle.abs_heap.proofs.Placing.{cell_here, cell_later}
 use Rattle.abs_heap.proofs.Fitted.{FitsBy, fits_given, names_reference}
 use Rattle.abs_heap.proofs.SameTerms.{same_size}

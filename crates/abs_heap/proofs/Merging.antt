@@ -236,18 +236,6 @@ apart_given state child x y start whole list all old_eq old_share eq0 eq1 share 
 pub apart_answer : (state apart : AbstractState) (x y : ℕ) (link : Link) (child : GraphChild) → child ≡ record { state = apart; link = link } → link ≡ plain_link false None → IsApartChild state x y apart → IsApartAnswer state x y child
 apart_answer state apart x y link child e l is = subst (λ (c : GraphChild). IsApartAnswer state x y c) (sym e) (record { is = is; link = l })
 
--- two cells are compatible in either order
-pub compatible_turned : (sub : Ty → Ty → Bool) (c d : Cell) → are_compatible sub c d ≡ true → are_compatible sub d c ≡ true
-compatible_turned sub c d e = turned (is_known c) (is_known d) (type_of_cell c) (type_of_cell d) e
-  where
-    turned : (k l : Bool) (a b : Option Ty) → are_compatible_types sub k l a b ≡ true → are_compatible_types sub l k b a ≡ true
-    turned k l None b f = absurd (false≢true f)
-    turned k l (Some a) None f = absurd (false≢true f)
-    turned k l (Some a) (Some b) f =
-        let p = and_parts (sub a b || sub b a) ((not k || sub a b) && (not l || sub b a)) f in
-        let q = and_parts (not k || sub a b) (not l || sub b a) p.1 in
-        and_from (sub b a || sub a b) ((not l || sub b a) && (not k || sub a b)) (elim (or_cases (sub a b) (sub b a) p.0) [ inl s ↦ or_right (sub b a) (sub a b) s | inr s ↦ or_left (sub b a) (sub a b) s ]) (and_from (not l || sub b a) (not k || sub a b) q.1 q.0)
-
 -- of two ids one stays
 pub other_stays : (r x s y : ℕ) → x ≢ y → stays_before r x s y ≡ false → stays_before s y r x ≡ true
 other_stays r x s y differ e = elim (cases_order r s) [

@@ -17,6 +17,7 @@ use Rattle.jvm_values.specs.Paths.{follow}
 use Rattle.jvm_values.specs.States.{MachineState}
 use Rattle.jvm_values.specs.Heaps.{target, values_of, value_at, heap_steps, Region, HasShape, IsInHeap}
 use Rattle.jvm_values.specs.TypedHeaps.{WorldTypes}
+use Rattle.jvm_values.specs.Slots.{initial_value}
 use Rattle.jvm_values.proofs.Options.{given, some_is, none_is_not_some}
 use Rattle.jvm_values.proofs.Lists.{same_or_not}
 use Rattle.abs_cells.specs.declared.cells.Cell.{Cell}
@@ -31,7 +32,7 @@ use Rattle.abs_reach.proofs.Walks.{some_cell}
 use Rattle.term_graph.specs.Edges.{HoldsBetween}
 use Rattle.abs_heap.specs.Given.{first_cell, with_cells, IsGiven, AreFresh, AreRising}
 use Rattle.abs_heap.specs.Writing.{zero_cell, IsObjectChild}
-use Rattle.abs_heap.specs.Laws.{heap_with, with_heap, zero_of, IsClosedState, GoesWith, ObjectsGoOn, ArraysGoOn}
+use Rattle.abs_heap.specs.Laws.{heap_with, with_heap, IsClosedState, GoesWith, ObjectsGoOn, ArraysGoOn}
 use Rattle.abs_heap.proofs.Placing.{cell_here, cell_later}
 use Rattle.abs_heap.proofs.Fitted.{FitsBy, fits_given, hazy_not_known}
 use Rattle.abs_heap.proofs.SameTerms.{size_kept}
@@ -74,7 +75,7 @@ values_are m (x ∷ ids) (v ∷ vs) r l =
 
 -- ---- zeros
 
-zero_described : (types : WorldTypes) (heap : Heap) (n : Meaning) (s : Slot) → Describes types heap n (zero_cell s) (zero_of s)
+zero_described : (types : WorldTypes) (heap : Heap) (n : Meaning) (s : Slot) → Describes types heap n (zero_cell s) (initial_value s)
 zero_described types heap n (slots.Num kind) = (pos 0, (refl, (omega (arith, ints), omega (arith, ints))))
 zero_described types heap n (slots.Ref t) = refl
 
@@ -86,29 +87,21 @@ record IsZero (types : WorldTypes) (heap : Heap) (n : Meaning) (c : Cell) (v : V
   shapeless : shape_of c ≡ None
   nothing : target v ≡ None
 
-zero_is : (types : WorldTypes) (heap : Heap) (n : Meaning) (s : Slot) → IsZero types heap n (zero_cell s) (zero_of s)
+zero_is : (types : WorldTypes) (heap : Heap) (n : Meaning) (s : Slot) → IsZero types heap n (zero_cell s) (initial_value s)
 zero_is types heap n (slots.Num kind) = record { described = zero_described types heap n (slots.Num kind); unknown = refl; clear = refl; shapeless = refl; nothing = refl }
 zero_is types heap n (slots.Ref t) = record { described = zero_described types heap n (slots.Ref t); unknown = refl; clear = refl; shapeless = refl; nothing = refl }
 
-zero_of_id : (types : WorldTypes) (heap : Heap) (n m : Meaning) (ids : List ℕ) (ss : List Slot) (i : ℕ) (c : Cell) → cell_in (zip ids (map zero_cell ss)) i ≡ Some c → IsZero types heap n c (with_values (zip ids (map zero_of ss)) m i)
+zero_of_id : (types : WorldTypes) (heap : Heap) (n m : Meaning) (ids : List ℕ) (ss : List Slot) (i : ℕ) (c : Cell) → cell_in (zip ids (map zero_cell ss)) i ≡ Some c → IsZero types heap n c (with_values (zip ids (map initial_value ss)) m i)
 zero_of_id types heap n m [] ss i c e = absurd (none_is_not_some c e)
 zero_of_id types heap n m (x ∷ ids) [] i c e = absurd (none_is_not_some c e)
 zero_of_id types heap n m (x ∷ ids) (s ∷ ss) i c e = elim (same_or_not x i) [
   | inl f ↦
       let is : zero_cell s ≡ c = some_is (sym (cell_here (x, zero_cell s) (zip ids (map zero_cell ss)) i f) ∙ e) in
-      subst (λ (v : Value). IsZero types heap n c v) (sym (valued_here (x, zero_of s) (zip ids (map zero_of ss)) m i f))
-      (subst (λ (d : Cell). IsZero types heap n d (zero_of s)) is (zero_is types heap n s))
+      subst (λ (v : Value). IsZero types heap n c v) (sym (valued_here (x, initial_value s) (zip ids (map initial_value ss)) m i f))
+      (subst (λ (d : Cell). IsZero types heap n d (initial_value s)) is (zero_is types heap n s))
   | inr f ↦
-      subst (λ (v : Value). IsZero types heap n c v) (sym (valued_later (x, zero_of s) (zip ids (map zero_of ss)) m i f))
+      subst (λ (v : Value). IsZero types heap n c v) (sym (valued_later (x, initial_value s) (zip ids (map initial_value ss)) m i f))
       (zero_of_id types heap n m ids ss i c (sym (cell_later (x, zero_cell s) (zip ids (map zero_cell ss)) i f) ∙ e))
-]
-
-absent_value : (m : Meaning) (ids : List ℕ) (ss : List Slot) (i : ℕ) → length ids ≡ length ss → cell_in (zip ids (map zero_cell ss)) i ≡ None → with_values (zip ids (map zero_of ss)) m i ≡ m i
-absent_value m [] ss i l e = refl
-absent_value m (x ∷ ids) [] i l e = refl
-absent_value m (x ∷ ids) (s ∷ ss) i l e = elim (same_or_not x i) [
-  | inl f ↦ absurd (none_is_not_some (zero_cell s) (sym e ∙ cell_here (x, zero_cell s) (zip ids (map zero_cell ss)) i f))
-  | inr f ↦ valued_later (x, zero_of s) (zip ids (map zero_of ss)) m i f ∙ absent_value m ids ss i (omega (arith, l)) (sym (cell_later (x, zero_cell s) (zip ids (map zero_cell ss)) i f) ∙ e)
 ]
 
 -- ---- a new thing
@@ -123,13 +116,13 @@ module _ (types : WorldTypes) (state : AbstractState) (machine : MachineState) (
   after = heap_with machine.heap object
 
   abbrev pub now : Meaning
-  now = with_values ((id, values.Ref (length machine.heap.objects)) ∷ zip ids (map zero_of ss)) m
+  now = with_values ((id, values.Ref (length machine.heap.objects)) ∷ zip ids (map initial_value ss)) m
 
   abbrev cell : ℕ → Option Cell
   cell = with_cells ((id, thing) ∷ zip ids (map zero_cell ss)) state
 
   pub now_agrees : Agrees state m now
-  now_agrees = λ i k. kept_others state m (id ∷ ids) (values.Ref place ∷ map zero_of ss) fresh.free i k
+  now_agrees = λ i k. kept_others state m (id ∷ ids) (values.Ref place ∷ map initial_value ss) fresh.free i k
 
   -- the three sorts of ids
   data Sort (i : ℕ) (c : Cell) : Type 0 where
@@ -139,7 +132,7 @@ module _ (types : WorldTypes) (state : AbstractState) (machine : MachineState) (
 
   sort_of : (i : ℕ) (c : Cell) → cell i ≡ Some c → Sort i c
   sort_of i c e = elim (same_or_not id i) [
-    | inl f ↦ new f (some_is (sym (ap (λ (o : Option Cell). first_cell o (cell_at state i)) (cell_here (id, thing) (zip ids (map zero_cell ss)) i f)) ∙ e)) (valued_here (id, values.Ref place) (zip ids (map zero_of ss)) m i f)
+    | inl f ↦ new f (some_is (sym (ap (λ (o : Option Cell). first_cell o (cell_at state i)) (cell_here (id, thing) (zip ids (map zero_cell ss)) i f)) ∙ e)) (valued_here (id, values.Ref place) (zip ids (map initial_value ss)) m i f)
     | inr f ↦ later f (cell_in (zip ids (map zero_cell ss)) i) refl (sym (ap (λ (o : Option Cell). first_cell o (cell_at state i)) (cell_later (id, thing) (zip ids (map zero_cell ss)) i f)) ∙ e)
   ]
     where
@@ -149,7 +142,7 @@ module _ (types : WorldTypes) (state : AbstractState) (machine : MachineState) (
           old at (now_agrees i (record { cell = c; is = at; sort_is = refl }))
       later f (Some d) g k =
           let is : d ≡ c = some_is (ap (λ (o : Option Cell). first_cell o (cell_at state i)) (sym g) ∙ k) in
-          none (subst (λ (v : Value). IsZero types after now c v) (sym (valued_later (id, values.Ref place) (zip ids (map zero_of ss)) m i f)) (zero_of_id types after now m ids ss i c (g ∙ ap Some is)))
+          none (subst (λ (v : Value). IsZero types after now c v) (sym (valued_later (id, values.Ref place) (zip ids (map initial_value ss)) m i f)) (zero_of_id types after now m ids ss i c (g ∙ ap Some is)))
 
   -- ids of the state name objects of the old heap; the new one's region is the new object
   low_target : (i o : ℕ) (c : Cell) → cell_at state i ≡ Some c → now i ≡ m i → target (now i) ≡ Some o → (o < place) × (target (m i) ≡ Some o)
@@ -252,7 +245,7 @@ module _ (types : WorldTypes) (state : AbstractState) (machine : MachineState) (
     goes_now child g = record {
       meaning_after = now;
       fits = fits_given types state.frames state.throwing (with_cells ((id, thing) ∷ zip ids (map zero_cell ss)) state) (AreEqual state) (Share state) (with_heap machine (heap_with machine.heap object)) now fits_now child g;
-      value_is = valued_here (id, values.Ref place) (zip ids (map zero_of ss)) m id refl;
+      value_is = valued_here (id, values.Ref place) (zip ids (map initial_value ss)) m id refl;
       others = λ i k. now_agrees i k;
       edge = record {
         ints = λ i k l. now_agrees i (some_cell state i k);
@@ -263,7 +256,7 @@ module _ (types : WorldTypes) (state : AbstractState) (machine : MachineState) (
 
 -- ---- objects
 
-zeros_empty : (ss : List Slot) (j : ℕ) (y : Value) → slice_get (map zero_of ss) j ≡ Some y → target y ≡ None
+zeros_empty : (ss : List Slot) (j : ℕ) (y : Value) → slice_get (map initial_value ss) j ≡ Some y → target y ≡ None
 zeros_empty [] j y e = absurd (none_is_not_some y e)
 zeros_empty (slots.Num kind ∷ ss) zero y e = ap target (sym (some_is e))
 zeros_empty (slots.Ref t ∷ ss) zero y e = ap target (sym (some_is e))
@@ -276,7 +269,7 @@ mapped_length f (x ∷ xs) = ap suc (mapped_length f xs)
 pub objects_go_on : ObjectsGoOn
 objects_go_on types state child machine m class id sound closed h low made is =
     let ss = types.fields class in
-    let object = objects.Instance class (map zero_of ss) in
+    let object = objects.Instance class (map initial_value ss) in
     let thing = cells.Obj class is.ids in
     goes_now types state machine m sound.well_formed closed h id thing object is.ids ss is.fresh is.count (zeros_empty ss)
     (record {
@@ -289,11 +282,11 @@ objects_go_on types state child machine m class id sound closed h low made is =
     (λ s e. absurd (none_is_not_some s e))
     child is.is
   where
-    fields_are : (is : IsObjectChild types state class id child) → map (with_values ((id, values.Ref (length machine.heap.objects)) ∷ zip is.ids (map zero_of (types.fields class))) m) is.ids ≡ map zero_of (types.fields class)
+    fields_are : (is : IsObjectChild types state class id child) → map (with_values ((id, values.Ref (length machine.heap.objects)) ∷ zip is.ids (map initial_value (types.fields class))) m) is.ids ≡ map initial_value (types.fields class)
     fields_are is =
-        sym (maps_agree (with_values (zip is.ids (map zero_of (types.fields class))) m) (with_values ((id, values.Ref (length machine.heap.objects)) ∷ zip is.ids (map zero_of (types.fields class))) m) is.ids
-        (λ k y e. valued_later (id, values.Ref (length machine.heap.objects)) (zip is.ids (map zero_of (types.fields class))) m y (λ s. let l = rising_rest id is.ids is.fresh.rise k y e in omega (arith, l, s))))
-        ∙ values_are m is.ids (map zero_of (types.fields class)) (rest_rises id is.ids is.fresh.rise) (is.count ∙ sym (mapped_length zero_of (types.fields class)))
+        sym (maps_agree (with_values (zip is.ids (map initial_value (types.fields class))) m) (with_values ((id, values.Ref (length machine.heap.objects)) ∷ zip is.ids (map initial_value (types.fields class))) m) is.ids
+        (λ k y e. valued_later (id, values.Ref (length machine.heap.objects)) (zip is.ids (map initial_value (types.fields class))) m y (λ s. let l = rising_rest id is.ids is.fresh.rise k y e in omega (arith, l, s))))
+        ∙ values_are m is.ids (map initial_value (types.fields class)) (rest_rises id is.ids is.fresh.rise) (is.count ∙ sym (mapped_length initial_value (types.fields class)))
       where
         rest_rises : (x : ℕ) (xs : List ℕ) → AreRising (x ∷ xs) → AreRising xs
         rest_rises x xs r = r.1

@@ -18,7 +18,7 @@ use Rattle.jvm_values.specs.declared.shape.Shape.TheVariants.{Tree, Dag, Any}
 use Rattle.jvm_values.specs.States.{MachineFrame, MachineState}
 use Rattle.jvm_values.specs.Subtyping.{array_of, object_type, IsReference}
 use Rattle.jvm_values.specs.Heaps.{target, HasShape}
-use Rattle.jvm_values.specs.TypedHeaps.{WorldTypes, IsTypedHeap, type_of}
+use Rattle.jvm_values.specs.TypedHeaps.{WorldTypes, AreLawful, IsTypedHeap, type_of}
 use Rattle.jvm_values.proofs.Joining.{array_of_item, same_type}
 use Rattle.jvm_values.proofs.Options.{some_is, none_is_not_some}
 use Rattle.jvm_values.proofs.Lists.{same_or_not}
@@ -34,7 +34,7 @@ use Rattle.term_graph.specs.Edges.{HoldsBetween, id_after}
 use Rattle.abs_heap.specs.Given.{IsGiven}
 use Rattle.abs_heap.specs.Names.{one_name, frame_named, cell_named, IsImage, IsPairOf}
 use Rattle.abs_heap.specs.Refining.{better, better_of, element_told, lower_element, lower_bound, merged_cell, IsApartChild, IsEqualChild, both, alone, AreEqualChildren}
-use Rattle.abs_heap.specs.Laws.{plain_link, AreLawful, Goes, GoesToMerged, EqualSplits}
+use Rattle.abs_heap.specs.Laws.{plain_link, Goes, GoesToMerged, EqualSplits}
 use Rattle.abs_heap.proofs.Placing.{cell_here, cell_later}
 use Rattle.abs_heap.proofs.Fitted.{FitsBy, fits_given}
 use Rattle.abs_heap.proofs.SameTerms.{same_size}

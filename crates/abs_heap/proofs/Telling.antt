@@ -13,7 +13,7 @@ use Rattle.jvm_values.specs.declared.types.Base.{Base}
 use Rattle.jvm_values.specs.declared.types.Base.TheVariants as bases
 use Rattle.jvm_values.specs.Heaps.{target}
 use Rattle.jvm_values.specs.Subtyping.{class_type, array_of, array_of_numbers, IsErased, IsReference, IsReferenceBase}
-use Rattle.jvm_values.specs.TypedHeaps.{WorldTypes, type_of, IsTypedHeap, IsTypedObject}
+use Rattle.jvm_values.specs.TypedHeaps.{WorldTypes, AreLawful, type_of, IsTypedHeap, IsTypedObject}
 use Rattle.jvm_values.proofs.Options.{some_is, none_is_not_some}
 use Rattle.abs_cells.specs.declared.cells.Cell.{Cell}
 use Rattle.abs_cells.specs.declared.cells.Cell.TheVariants as cells
@@ -21,7 +21,6 @@ use Rattle.abs_cells.specs.AbstractStates.{AbstractState}
 use Rattle.abs_cells.specs.Cells.{is_known, type_of_cell, are_compatible, are_compatible_types, is_comparable, cell_in, cell_at}
 use Rattle.abs_cells.specs.Sound.{IsSound, IsSoundCell}
 use Rattle.abs_cells.specs.Fits.{Meaning, Describes}
-use Rattle.abs_heap.specs.Laws.{AreLawful}
 use Rattle.abs_heap.proofs.Placing.{cell_here, cell_later, same_or_not}
 use Rattle.abs_heap.proofs.Growing.{all_got}
 

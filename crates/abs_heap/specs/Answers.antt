@@ -70,7 +70,7 @@ pub record AreClassChildren (types : WorldTypes) (state : AbstractState) (x : �
   pub are : AllZip (IsCase types state x shape) (cases_of types bound wanted) states
   pub is : children ≡ map (λ s. record { state = s; link = plain_link false None }) states
 
--- one of them has more than 512 ids
+-- one of them has too many ids
 pub record HasTooManyChildren (types : WorldTypes) (state : AbstractState) (x : ℕ) (wanted : Ty) : Type 0 where
   pub bound : Ty
   pub shape : Shape

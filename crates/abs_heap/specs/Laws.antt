@@ -9,11 +9,12 @@ use Rattle.jvm_values.specs.declared.heap.Object.{Object}
 use Rattle.jvm_values.specs.declared.heap.Object.TheVariants as objects
 use Rattle.jvm_values.specs.declared.heap.Heap.{Heap}
 use Rattle.jvm_values.specs.declared.shape.Shape.{Shape}
-use Rattle.jvm_values.specs.Subtyping.{SubtypeLaws, IsReference}
+use Rattle.jvm_values.specs.Subtyping.{IsReference}
 use Rattle.jvm_values.specs.States.{MachineState}
 use Rattle.jvm_values.specs.Heaps.{target, IsInHeap, IsClosed}
-use Rattle.jvm_values.specs.TypedHeaps.{WorldTypes, HasType, IsTypedHeap}
+use Rattle.jvm_values.specs.TypedHeaps.{WorldTypes, AreLawful, HasType, IsTypedHeap}
 use Rattle.jvm_values.specs.Writes.{IsWritten}
+use Rattle.jvm_values.specs.Slots.{initial_value}
 use Rattle.std.specs.List.{AllZip}
 use Rattle.abs_cells.specs.declared.cells.Cell.{Cell}
 use Rattle.abs_cells.specs.declared.cells.Cell.TheVariants as cells
@@ -25,10 +26,6 @@ use Rattle.term_graph.specs.declared.links.Link.{Link}
 use Rattle.term_graph.specs.Edges.{Edge}
 use Rattle.abs_heap.specs.Refining.{IsCase, cases_of, IsWithCell, AreEqualChildren}
 use Rattle.abs_heap.specs.Writing.{Write, IsWriteChild, IsItemChild, IsObjectChild, IsNewArrayChild}
-
--- what a world's types obey
-abbrev pub AreLawful : WorldTypes → Type 0
-AreLawful types = SubtypeLaws types.sub types.erase types.classes types.fields types.can_be_made
 
 -- an edge without rows, of no step or one, with a merged pair or none
 abbrev pub plain_link : Bool → Option (ℕ × ℕ) → Link
@@ -121,10 +118,6 @@ ItemsGoOn =
     → GoesWith types state machine meaning child machine item value
 
 -- a new object at the heap's end
-abbrev pub zero_of : Slot → Value
-zero_of (slots.Num kind) = values.Int (pos 0)
-zero_of (slots.Ref t) = values.Null
-
 abbrev pub heap_with : Heap → Object → Heap
 heap_with heap object = record { objects = heap.objects ++ (object ∷ []) }
 
@@ -134,7 +127,7 @@ ObjectsGoOn =
     → IsSound types state → IsClosedState machine state meaning → Fits types state machine meaning
     → class < types.classes → IsTrue (types.can_be_made class)
     → IsObjectChild types state class id child
-    → GoesWith types state machine meaning child (with_heap machine (heap_with machine.heap (objects.Instance class (map zero_of (types.fields class))))) id (values.Ref (length machine.heap.objects))
+    → GoesWith types state machine meaning child (with_heap machine (heap_with machine.heap (objects.Instance class (map initial_value (types.fields class))))) id (values.Ref (length machine.heap.objects))
 
 -- a new array of so many items, whose length is an id's int
 abbrev pub zeros_of : Slot → ℕ → Object

@@ -1,10 +1,10 @@
-pub mod Answers
-pub mod Building
-pub mod Counts
 pub mod Given
-pub mod Laws
 pub mod Names
 pub mod Refining
+pub mod Writing
+pub mod Laws
+pub mod Counts
+pub mod Answers
+pub mod Building
 pub mod Splitting
 pub mod Renaming
-pub mod Writing

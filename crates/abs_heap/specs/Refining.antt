@@ -1,8 +1,9 @@
 -- Splits of a state into cases, by what an object is: each case is a child of zero steps. For heaps of trees these are the
 -- refinements of Otto, Brockschmidt, von Essen, Giesl 2010, "Automated Termination Analysis of Java Bytecode by Term
 -- Rewriting"; shapes and the pairs of ids are this project's own.
-use Rattle.std.specs.Prelude.{◌≡◌, ◌≢◌, ◌⊎◌, ℕ, zero, suc, ◌==◌, nat_lt, Bool, true, false, ◌&&◌, ◌||◌, if◌then◌else◌, List, [], ◌∷◌, ◌++◌, map, filter, zip, length, Option, Some, None, slice_get, pos}
+use Rattle.std.specs.Prelude.{◌≡◌, ◌≢◌, ◌⊎◌, ℕ, ◌==◌, nat_lt, Bool, true, false, ◌&&◌, ◌||◌, if◌then◌else◌, List, [], ◌∷◌, ◌++◌, map, filter, zip, length, Option, Some, None, slice_get, pos}
 use Rattle.std.specs.Option.{option_map}
+use Rattle.list_views.specs.Lists.{numbers_from}
 use Rattle.jvm_values.specs.declared.types.Ty.{Ty}
 use Rattle.jvm_values.specs.declared.types.Kind.{Kind}
 use Rattle.jvm_values.specs.declared.types.Kind.TheVariants as kinds
@@ -82,11 +83,6 @@ abbrev pub IsCase : WorldTypes → AbstractState → ℕ → Shape → Case → 
 IsCase types state x shape (instance class) child = IsInstanceChild types state x shape class child
 IsCase types state x shape (numbers kind) child = IsArrayChild state x (λ len. cells.Nums kind len) child
 IsCase types state x shape (references element) child = IsArrayChild state x (λ len. cells.Refs element len shape) child
-
--- the numbers from `from` on, `count` of them
-abbrev pub numbers_from : ℕ → ℕ → List ℕ
-numbers_from from zero = []
-numbers_from from (suc count) = from ∷ numbers_from (suc from) count
 
 -- the classes below a type of which there are instances, by number
 abbrev pub instances_below : WorldTypes → Ty → List Case

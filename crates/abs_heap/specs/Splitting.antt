@@ -13,6 +13,7 @@ use Rattle.abs_cells.specs.declared.cells.Cell.TheVariants as cells
 use Rattle.abs_cells.specs.AbstractStates.{AbstractState}
 use Rattle.abs_cells.specs.Cells.{cell_in, AreEqual, Share}
 use Rattle.abs_cells.specs.IdSets.{has_id}
+use Rattle.abs_cells.specs.Limits.{most_ids}
 use Rattle.term_graph.specs.Graphs.{GraphChild}
 use Rattle.abs_heap.specs.Building.{may_be_one}
 use Rattle.abs_heap.specs.Counts.{new_ids}
@@ -27,9 +28,9 @@ instances_among types bound classes = map instance (filter (λ class. types.can_
 abbrev pub numbers_among : WorldTypes → Ty → List Kind → List Case
 numbers_among types bound kinds = map numbers (filter (λ kind. types.sub (array_of_numbers kind) bound) kinds)
 
--- the child of a case has more than 512 ids
+-- the child of a case has too many ids
 abbrev pub crowds : WorldTypes → AbstractState → Case → Bool
-crowds types state case = nat_lt 512 (length state.cells + new_ids types case)
+crowds types state case = nat_lt most_ids (length state.cells + new_ids types case)
 
 -- the children of some cases, behind others
 abbrev pub plain_child : AbstractState → GraphChild
@@ -56,11 +57,6 @@ IsGivenInstance types state x shape class ids child = IsGiven state.frames state
     (λ a b. AreEqual state a b ⊎ MayBeOne types.sub (JoinsFields (types.fields class) ids state x shape) child.cells a b)
     (λ a b. Share state a b ⊎ JoinsFields (types.fields class) ids state x shape a b)
     child
-
--- a slot holds references
-abbrev pub is_reference_slot : Slot → Bool
-is_reference_slot (slots.Num kind) = false
-is_reference_slot (slots.Ref t) = true
 
 -- an id stands for a reference field before a place
 pub record IsFieldBefore (fields : List Slot) (ids : List ℕ) (end f : ℕ) : Type 0 where

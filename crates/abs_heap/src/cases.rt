@@ -6,19 +6,18 @@ ghost use Rattle.jvm_values.specs.TypedHeaps.{world_types};
 ghost use Rattle.abs_cells.specs.Cells.{is_comparable, cell_at};
 ghost use Rattle.abs_cells.specs.declared.cells.Cell.TheVariants as cells;
 ghost use Rattle.abs_cells.specs.Sound.{IsWellFormed};
+ghost use Rattle.abs_cells.specs.Limits.{most_ids};
 ghost use Rattle.abs_heap.specs.Answers.{IsObjectBelow, AreClassChildren, HasTooManyChildren};
-ghost use Rattle.abs_heap.specs.Refining.{lower_of, element_below, numbers_from, instances_below, numbers_below, listed, cases_below};
+ghost use Rattle.abs_heap.specs.Refining.{lower_of, element_below, instances_below, numbers_below, listed, cases_below};
 ghost use Rattle.abs_heap.specs.Splitting.{instances_among, numbers_among, crowds, AddsCases};
 ghost use Rattle.abs_heap.specs.declared.fault.HeapFault.TheVariants.{TooManyIds};
 
 use crate::children::has_room;
-use crate::compatible::{array_of_numbers, class_type};
-use crate::equals::item_of;
 use crate::fault::HeapFault;
 use crate::instances::{instance_child, numbers_child, references_child};
 use abs_cells::{AbsState, Cell, Id, Pairs};
 use abs_reach::cell_of;
-use jvm_values::{Kind, Shape, Ty, Types};
+use jvm_values::{Kind, Shape, Ty, Types, array_of_numbers, class_type, item_of};
 use list_views::Seq;
 use std::alloc::{AllocError, AllocFailed, Global};
 use term_graph::Child;
@@ -49,9 +48,9 @@ fn element_below<T: Types>(types: &T, bound: Ty) -> Option<Ty>
     }
 }
 
-/// Whether a state with so many more ids has more than 512.
+/// Whether a state with so many more ids has more than `MOST_IDS`.
 fn crowds<P: Pairs>(state: &AbsState<P>, more: usize) -> bool
-    ensures { result ≡ nat_lt 512 (length state.now.cells + more) }
+    ensures { result ≡ nat_lt most_ids (length state.now.cells + more) }
 {
     !has_room(state, more)
 }

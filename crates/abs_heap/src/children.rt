@@ -4,6 +4,7 @@ ghost use Rattle.std.specs.Option.{option_map};
 ghost use Rattle.abs_cells.specs.Cells.{cell_in, AreEqual, Share};
 ghost use Rattle.abs_cells.specs.PairLists.{has};
 ghost use Rattle.abs_cells.specs.Sound.{AreIdsRising, IsWellFormed};
+ghost use Rattle.abs_cells.specs.Limits.{most_ids};
 ghost use Rattle.abs_heap.specs.Building.{Gains, IsOver};
 ghost use Rattle.abs_heap.specs.Given.{IsGiven};
 ghost use Rattle.abs_heap.specs.Laws.{plain_link};
@@ -13,17 +14,17 @@ ghost use Rattle.abs_heap.specs.Refining.{IsWithCell};
 use crate::gaining::put_named;
 use crate::naming::{name_of_given, named_frames};
 use crate::putting::{put_cell, put_cells};
-use abs_cells::{AbsState, Cell, Id, Pairs};
+use abs_cells::{AbsState, Cell, Id, MOST_IDS, Pairs};
 use list_views::Seq;
 use std::alloc::{AllocError, AllocFailed, Global};
 use term_graph::Link;
 
-/// Whether a state with so many more ids has at most 512.
+/// Whether a state with so many more ids has at most `MOST_IDS`.
 pub(crate) fn has_room<P: Pairs>(state: &AbsState<P>, more: usize) -> bool
-    ensures { IsTrue result ↔ (length state.now.cells + more ≤ 512) }
+    ensures { IsTrue result ↔ (length state.now.cells + more ≤ most_ids) }
 {
     let count = state.cells().len();
-    count <= 512 && more <= 512 - count
+    count <= MOST_IDS && more <= MOST_IDS - count
 }
 
 /// The link of an edge without rows.

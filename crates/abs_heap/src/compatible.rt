@@ -1,6 +1,6 @@
 //! Which cells may describe one object.
 ghost use Rattle.std.specs.Prelude.{◌≡◌, ◌≢◌, ◌↔◌, ◌&&◌, ◌||◌, ◌==◌, ◌<◌, ℕ, true, IsTrue, OnOk, Some, MatchOption};
-ghost use Rattle.jvm_values.specs.Subtyping.{class_type, array_of_numbers, array_of};
+ghost use Rattle.jvm_values.specs.Subtyping.{array_of};
 ghost use Rattle.abs_cells.specs.Cells.{type_of_cell, are_compatible, are_compatible_types, is_of_sort, cell_in};
 ghost use Rattle.abs_cells.specs.IdSets.{has_id};
 ghost use Rattle.abs_cells.specs.Sound.{AreIdsRising};
@@ -10,28 +10,8 @@ ghost use Rattle.abs_heap.specs.Splitting.{WantsOne};
 use crate::gaining::put_with;
 use abs_cells::{Cell, Id, IdSet, Pairs};
 use abs_reach::cell_of;
-use jvm_values::{Base, Kind, Ty, Types};
+use jvm_values::{Ty, Types, array_of_numbers, class_type};
 use std::alloc::AllocError;
-
-/// The type of a class.
-pub(crate) fn class_type(class: u32) -> Ty
-    ensures { result ≡ class_type class }
-{
-    Ty {
-        dims: 0,
-        base: Base::Class(class),
-    }
-}
-
-/// The type of the arrays of numbers of a kind.
-pub(crate) fn array_of_numbers(kind: Kind) -> Ty
-    ensures { result ≡ array_of_numbers kind }
-{
-    Ty {
-        dims: 1,
-        base: Base::Num(kind),
-    }
-}
 
 /// The type of the arrays of a type, where it has at most 255 dimensions.
 fn array_of(element: Ty) -> Option<Ty>

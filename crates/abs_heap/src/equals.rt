@@ -1,6 +1,5 @@
 //! Two ids that may stand for one object: one, or two.
 ghost use Rattle.std.specs.Prelude.{◌≡◌, ◌≢◌, ◌↔◌, ◌<◌, ◌-◌, ℕ, IfOk, Some, true};
-ghost use Rattle.jvm_values.specs.Joins.{item_of};
 ghost use Rattle.abs_cells.specs.Cells.{type_of_cell, are_compatible, cell_at, AreEqual};
 ghost use Rattle.abs_cells.specs.PairLists.{has};
 ghost use Rattle.abs_cells.specs.Sound.{IsWellFormed};
@@ -15,7 +14,7 @@ use crate::putting::{put_cell, put_cells};
 use crate::shapes::better;
 use abs_cells::{AbsState, Cell, Id, Ids, Pairs};
 use abs_reach::cell_of;
-use jvm_values::{Base, Shape, Ty, Types};
+use jvm_values::{Shape, Ty, Types, item_of};
 use list_views::Seq;
 use std::alloc::{AllocError, AllocFailed, Global};
 use term_graph::Child;
@@ -46,28 +45,6 @@ fn better_of(shape: Shape, other: Option<Shape>) -> Shape
     match other {
         Some(other) => better(shape, other),
         None => shape,
-    }
-}
-
-/// The type with one dimension less.
-fn under_one(t: Ty) -> Ty
-    requires { 0 < t.dims }
-    ensures { result ≡ record { dims = t.dims - 1; base = t.base } }
-{
-    Ty {
-        dims: t.dims - 1,
-        base: t.base,
-    }
-}
-
-/// The type of the items of an array of references, or None where the type is no such array.
-pub(crate) fn item_of(t: Ty) -> Option<Ty>
-    ensures { result ≡ item_of t }
-{
-    match t.base {
-        Base::Class(_) if t.dims > 0 => Some(under_one(t)),
-        Base::Num(_) if t.dims > 1 => Some(under_one(t)),
-        _ => None,
     }
 }
 

@@ -1,6 +1,7 @@
 //! The least numbers that are no ids.
 ghost use Rattle.std.specs.Prelude.{◌≡◌, ◌+◌, ◌<◌, ◌≤◌, [], ◌∷◌, All, length, IfOk};
 ghost use Rattle.abs_cells.specs.Sound.{AreIdsRising};
+ghost use Rattle.abs_cells.specs.Limits.{most_ids};
 ghost use Rattle.abs_heap.specs.Given.{AreFresh};
 
 use crate::putting::stands_at;
@@ -39,7 +40,7 @@ pub(crate) fn fresh_ids<P: Pairs>(
 /// The least number that has no cell.
 pub(crate) fn fresh_id<P: Pairs>(alloc: Global, state: &AbsState<P>) -> Result<Id, AllocError>
     requires rising { AreIdsRising 0 state.now.cells }
-    requires room { length state.now.cells + 1 ≤ 512 }
+    requires room { length state.now.cells + 1 ≤ most_ids }
     ensures fresh { IfOk result (λ id. AreFresh state.now (id ∷ [])) }
     ensures low { IfOk result (λ id. id < 2048) }
 {

@@ -1,6 +1,6 @@
 //! Pairs put among others: of the wanted ones those that may stand.
 ghost use Rattle.std.specs.Prelude.{◌≡◌, ◌≢◌, ◌<◌, ◌==◌, ◌||◌, ◌&&◌, ◌↔◌, ℕ, true, IsTrue, OnOk};
-ghost use Rattle.abs_cells.specs.Cells.{is_known, is_reference, is_of_sort, cell_in};
+ghost use Rattle.abs_cells.specs.Cells.{is_known, is_of_sort, cell_in};
 ghost use Rattle.abs_cells.specs.IdSets.{has_id};
 ghost use Rattle.abs_cells.specs.PairLists.{has, pair_of, is_same};
 ghost use Rattle.abs_cells.specs.Sound.{AreIdsRising, may_join};
@@ -9,19 +9,8 @@ ghost use Rattle.abs_heap.specs.Names.{name_in, IsImage};
 
 use crate::naming::name_of;
 use abs_cells::{Cell, Id, IdSet, Pairs};
-use abs_reach::cell_of;
+use abs_reach::{cell_of, is_reference_in};
 use std::alloc::AllocError;
-
-/// Whether an id has the cell of a reference that is not null.
-fn is_reference_in(cells: &[(Id, Cell)], id: Id) -> bool
-    requires { AreIdsRising 0 cells.now }
-    ensures { result ≡ is_of_sort is_reference (cell_in cells.now id) }
-{
-    match cell_of(cells, id) {
-        Some(cell) => cell.is_reference(),
-        None => false,
-    }
-}
 
 /// Whether an id has a known cell.
 fn is_known_in(cells: &[(Id, Cell)], id: Id) -> bool

@@ -6,10 +6,11 @@ ghost use Rattle.abs_cells.specs.declared.cells.Cell.TheVariants.{Nums, Refs};
 ghost use Rattle.abs_cells.specs.Cells.{AreEqual, Share};
 ghost use Rattle.abs_cells.specs.IdSets.{has_id};
 ghost use Rattle.abs_cells.specs.Sound.{IsWellFormed, AreIdsRising};
+ghost use Rattle.abs_cells.specs.Limits.{most_ids};
 ghost use Rattle.abs_heap.specs.Building.{IsOver};
 ghost use Rattle.abs_heap.specs.Given.{IsGiven, with_cells};
 ghost use Rattle.abs_heap.specs.Refining.{instance, cell_of_slot, length_cell, IsReferenceField};
-ghost use Rattle.abs_heap.specs.Splitting.{is_reference_slot, IsGivenInstance, IsCaseAnswer, IsArrayAnswer};
+ghost use Rattle.abs_heap.specs.Splitting.{IsGivenInstance, IsCaseAnswer, IsArrayAnswer};
 
 use crate::children::{child_of, named_pairs, plain_link, put_state, whole};
 use crate::compatible::{put_compatible_between, put_if};
@@ -23,16 +24,6 @@ use jvm_values::{Kind, Shape, Slot, Ty, Types};
 use list_views::Seq;
 use std::alloc::{AllocError, AllocFailed, Global};
 use term_graph::Child;
-
-/// Whether a slot holds references.
-fn is_reference_slot(slot: Slot) -> bool
-    ensures { result ≡ is_reference_slot slot }
-{
-    match slot {
-        Slot::Num(_) => false,
-        Slot::Ref(_) => true,
-    }
-}
 
 /// What is known of what a field of an object of a hazy region holds: an int of its kind, or an object of its type, or null, whose
 /// region has the object's shape.
@@ -71,7 +62,7 @@ fn put_references(set: &mut IdSet, slots: &[Slot], ids: &[Id])
     ensures { (n : ℕ) → (has_id set.new n ≡ true) ↔ ((has_id set.old n ≡ true) ⊎ IsReferenceField slots.now ids.now n) }
 {
     for (place, slot) in slots.iter().enumerate() {
-        put_if(set, is_reference_slot(*slot), ids[place]);
+        put_if(set, slot.is_reference(), ids[place]);
     }
 }
 
@@ -156,7 +147,7 @@ pub(crate) fn instance_child<T: Types, P: Pairs>(
     requires good { IsWellFormed state.now }
     requires x { x < 2048 }
     requires class { class < T.classes types.now }
-    requires room { length state.now.cells + length (T.fields types.now class) ≤ 512 }
+    requires room { length state.now.cells + length (T.fields types.now class) ≤ most_ids }
     ensures { IfOk result (λ child. IsCaseAnswer (world_types (T.sub types.now) (T.erase types.now) (T.classes types.now) (T.fields types.now) (T.can_be_made types.now)) state.now x shape (instance class) child) }
 {
     let ids = fresh_ids(alloc, state, types.fields(class).len())?;
@@ -192,7 +183,7 @@ pub(crate) fn numbers_child<P: Pairs>(
 ) -> Result<Child<P>, AllocError>
     requires good { IsWellFormed state.now }
     requires x { x < 2048 }
-    requires room { length state.now.cells + 1 ≤ 512 }
+    requires room { length state.now.cells + 1 ≤ most_ids }
     ensures { IfOk result (λ child. IsArrayAnswer state.now x (λ len. Nums kind len) child) }
 {
     let len = fresh_id(alloc, state)?;
@@ -210,7 +201,7 @@ pub(crate) fn references_child<P: Pairs>(
 ) -> Result<Child<P>, AllocError>
     requires good { IsWellFormed state.now }
     requires x { x < 2048 }
-    requires room { length state.now.cells + 1 ≤ 512 }
+    requires room { length state.now.cells + 1 ≤ most_ids }
     ensures { IfOk result (λ child. IsArrayAnswer state.now x (λ len. Refs element len shape) child) }
 {
     let len = fresh_id(alloc, state)?;

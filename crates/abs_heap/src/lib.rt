@@ -30,5 +30,4 @@ pub use laws::{
 };
 pub use nulls::refine_null;
 pub use objects::{new_array, new_object};
-pub use shapes::{better, shape_after};
 pub use writes::{put_field, store_ref};

@@ -3,6 +3,7 @@ ghost use Rattle.std.specs.Prelude.{◌≡◌, ◌↔◌, ◌<◌, ◌≤◌, �
 ghost use Rattle.abs_cells.specs.Cells.{is_hazy, is_of_sort, cell_in, HasCell};
 ghost use Rattle.abs_cells.specs.IdSets.{has_id};
 ghost use Rattle.abs_cells.specs.Sound.{AreIdsRising, IsWellFormed};
+ghost use Rattle.abs_cells.specs.Limits.{most_ids};
 ghost use Rattle.abs_heap.specs.Names.{name_in};
 ghost use Rattle.abs_heap.specs.Renaming.{ids_among, if_in, AreNamesOf};
 ghost use Rattle.abs_heap.specs.Writing.{is_array_of_references, IsAffected};
@@ -100,7 +101,7 @@ pub(crate) fn names_for<P: Pairs>(
     set: &IdSet,
 ) -> Result<Seq<(Id, Id)>, AllocError>
     requires rising { AreIdsRising 0 state.now.cells }
-    requires few { length state.now.cells ≤ 512 }
+    requires few { length state.now.cells ≤ most_ids }
     requires there { (x : ℕ) → has_id set.now x ≡ true → HasCell (λ _. true) state.now x }
     ensures names { IfOk result (λ names. AreNamesOf state.now set.now names) }
     ensures low { IfOk result (λ names. All (λ c. name_in names c.0 < 2048) state.now.cells) }

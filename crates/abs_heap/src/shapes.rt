@@ -6,7 +6,7 @@ ghost use Rattle.abs_heap.specs.Writing.{shape_after};
 use jvm_values::Shape;
 
 /// The better of two shapes that both hold of a region: a tree before one without cycles before any.
-pub fn better(one: Shape, other: Shape) -> Shape
+pub(crate) fn better(one: Shape, other: Shape) -> Shape
     ensures { result ≡ better one other }
 {
     match (one, other) {
@@ -18,7 +18,7 @@ pub fn better(one: Shape, other: Shape) -> Shape
 
 /// The shape of a region that has the written object, after a write of null, or of a reference that makes no cycle, or of
 /// another one.
-pub fn shape_after(null: bool, no_cycle: bool, before: Shape) -> Shape
+pub(crate) fn shape_after(null: bool, no_cycle: bool, before: Shape) -> Shape
     ensures { result ≡ shape_after null no_cycle before }
 {
     match before {

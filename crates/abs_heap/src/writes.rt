@@ -3,6 +3,7 @@ ghost use Rattle.std.specs.Prelude.{◌≡◌, ◌↔◌, ◌<◌, ◌≤◌, �
 ghost use Rattle.abs_cells.specs.Cells.{HasCell};
 ghost use Rattle.abs_cells.specs.IdSets.{has_id};
 ghost use Rattle.abs_cells.specs.Sound.{IsWellFormed};
+ghost use Rattle.abs_cells.specs.Limits.{most_ids};
 ghost use Rattle.abs_heap.specs.Counts.{HasTooMany};
 ghost use Rattle.abs_heap.specs.Laws.{plain_link};
 ghost use Rattle.abs_heap.specs.Names.{name_in};
@@ -85,7 +86,7 @@ fn written<P: Pairs>(
     write: &Write,
 ) -> Result<AbsState<P>, AllocError>
     requires good { IsWellFormed state.now }
-    requires few { length state.now.cells ≤ 512 }
+    requires few { length state.now.cells ≤ most_ids }
     requires object { HasCell (λ _. true) state.now write.now.object }
     requires value { HasCell (λ _. true) state.now write.now.value }
     ensures { IfOk result (λ child. IsWriteChild state.now (write_of write.now.object write.now.field write.now.value) child) }

@@ -12,7 +12,7 @@ use Rattle.jvm_values.specs.declared.ints.IntOp.TheVariants.{Add, Sub, Mul, Div,
 use Rattle.abs_ints.specs.Cases.{only}
 use Rattle.abs_ints.specs.Falling.{FallsUnder, exact_result}
 use Rattle.abs_ints.specs.Operating.{single_case, single_or, operated}
-use Rattle.abs_ints.specs.Parts.{all_ints, just, is_single}
+use Rattle.abs_ints.specs.IntIntervals.{all_ints, just, is_single}
 use Rattle.abs_ints.specs.declared.cases.IntCase.{IntCase}
 use Rattle.abs_ints.proofs.BitCases.{and_covers, or_covers, xor_covers}
 use Rattle.abs_ints.proofs.Covering.{no_rows, any_first}

@@ -10,7 +10,7 @@ use Rattle.jvm_values.specs.declared.ints.IntOp.TheVariants.{And, Or, Xor}
 use Rattle.abs_ints.specs.Bits.{is_natural, below_left, below_right, and_case, and_cases, ones_over, or_case, or_cases, xor_case, xor_cases}
 use Rattle.abs_ints.specs.Cases.{IsTrueOf, at_least_zero, inside}
 use Rattle.abs_ints.specs.Falling.{FallsUnder}
-use Rattle.abs_ints.specs.Parts.{all_ints, meet_of}
+use Rattle.abs_ints.specs.IntIntervals.{all_ints, meet_of}
 use Rattle.abs_ints.specs.declared.cases.IntCase.{IntCase}
 use Rattle.abs_ints.proofs.Covering.{bounds, in_interval, in_meet, no_rows, more_rows, any_first}
 use Rattle.abs_ints.proofs.OperatorCases.{AreTrue, if_either, both_true, in_inside}

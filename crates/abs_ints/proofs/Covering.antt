@@ -7,7 +7,7 @@ use Rattle.std.specs.Int.{int_max, int_min}
 use Rattle.std.proofs.lemmas.Int.{ints, clamps}
 use Rattle.lin_core.specs.Intervals.{Bounds, IsIn, interval_of}
 use Rattle.abs_ints.specs.Cases.{case_between, case_with, IsTrueOf, AllTrueOf}
-use Rattle.abs_ints.specs.Parts.{meet_of}
+use Rattle.abs_ints.specs.IntIntervals.{meet_of}
 use Rattle.abs_ints.specs.declared.cases.IntCase.{IntCase}
 use Rattle.abs_ints.specs.declared.cases.ShortRow.{ShortRow}
 use Rattle.abs_ints.specs.declared.cases.Way.{Way}

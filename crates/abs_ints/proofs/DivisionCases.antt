@@ -19,7 +19,7 @@ use Rattle.jvm_values.specs.declared.ints.IntOp.TheVariants.{Div, Rem}
 use Rattle.abs_ints.specs.Cases.{at_least_zero, inside}
 use Rattle.abs_ints.specs.Divisions.{divisors_of, are_positive, size_of, zero_case, least_quotient, greatest_quotient, may_wrap, quotients_of, single_divisor_rows, quotient_rows, quotient_cases, least_remainder, greatest_remainder, remainders_of, dividend_rows, remainder_rows, remainder_cases}
 use Rattle.abs_ints.specs.Falling.{FallsUnder}
-use Rattle.abs_ints.specs.Parts.{all_ints, is_single, meet_of}
+use Rattle.abs_ints.specs.IntIntervals.{all_ints, is_single, meet_of}
 use Rattle.abs_ints.specs.declared.cases.IntCase.{IntCase}
 use Rattle.abs_ints.proofs.Covering.{bounds, in_interval, in_meet, no_rows, more_rows, covers_and_then, any_first, any_rest}
 use Rattle.abs_ints.proofs.OperatorCases.{AreTrue, if_either, both_true, single_is, in_inside, in_zero, in_all, dividend_rows_true}

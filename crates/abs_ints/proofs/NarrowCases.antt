@@ -12,7 +12,7 @@ use Rattle.jvm_values.specs.declared.types.Kind.TheVariants.{Boolean, Char, Byte
 use Rattle.abs_ints.specs.Cases.{inside, case_between}
 use Rattle.abs_ints.specs.Falling.{FallsUnder}
 use Rattle.abs_ints.specs.Narrowings.{are_of_kind, narrow_cases}
-use Rattle.abs_ints.specs.Parts.{all_ints}
+use Rattle.abs_ints.specs.IntIntervals.{all_ints}
 use Rattle.abs_ints.specs.declared.cases.IntCase.{IntCase}
 use Rattle.abs_ints.specs.declared.cases.Way.TheVariants.{Inside}
 use Rattle.abs_ints.proofs.Covering.{in_interval, no_rows, covers_between, any_first}

@@ -11,7 +11,7 @@ use Rattle.jvm_values.specs.declared.ints.IntOp.{IntOp}
 use Rattle.abs_ints.specs.Cases.{AllTrueOf, at_least_zero, inside, case_between}
 use Rattle.abs_ints.specs.Divisions.{zero_case, dividend_rows}
 use Rattle.abs_ints.specs.Falling.{FallsUnder, IsAnswered, exact_result}
-use Rattle.abs_ints.specs.Parts.{all_ints, just, is_single, meet_of, are_ints, ints_or_all}
+use Rattle.abs_ints.specs.IntIntervals.{all_ints, just, is_single, meet_of, are_ints, ints_or_all}
 use Rattle.abs_ints.specs.declared.cases.IntCase.{IntCase}
 use Rattle.abs_ints.specs.declared.cases.ShortRow.{ShortRow}
 use Rattle.abs_ints.specs.declared.cases.Way.TheVariants.{Inside, Zero}

@@ -12,7 +12,7 @@ use Rattle.lin_core.specs.Intervals.{Bounds, IsIn}
 use Rattle.jvm_values.specs.declared.ints.IntOp.TheVariants.{Mul}
 use Rattle.abs_ints.specs.Cases.{AllTrueOf, inside}
 use Rattle.abs_ints.specs.Falling.{FallsUnder}
-use Rattle.abs_ints.specs.Parts.{is_single, multiples_of, join_of, hull_of, are_ints, ints_or_all}
+use Rattle.abs_ints.specs.IntIntervals.{is_single, multiples_of, join_of, hull_of, are_ints, ints_or_all}
 use Rattle.abs_ints.specs.Products.{times_left, times_right, factor_rows, product_rows, product_cases}
 use Rattle.abs_ints.specs.declared.cases.ShortRow.{ShortRow}
 use Rattle.abs_ints.proofs.Covering.{no_rows, more_rows, any_first}

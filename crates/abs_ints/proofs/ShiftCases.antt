@@ -16,7 +16,7 @@ use Rattle.jvm_values.specs.declared.ints.IntOp.TheVariants.{Shl, Shr, Ushr}
 use Rattle.abs_ints.specs.Cases.{at_least_zero, is_zero, inside}
 use Rattle.abs_ints.specs.Divisions.{dividend_rows}
 use Rattle.abs_ints.specs.Falling.{FallsUnder, exact_result}
-use Rattle.abs_ints.specs.Parts.{all_ints, is_single, multiples_of, are_ints, ints_or_all}
+use Rattle.abs_ints.specs.IntIntervals.{all_ints, is_single, multiples_of, are_ints, ints_or_all}
 use Rattle.abs_ints.specs.Products.{times_left}
 use Rattle.abs_ints.specs.Shifts.{power_of, shifted_left_rows, shift_left_cases, shifted_right_by, shifted_right_rows, shifted_right, shift_right_case, shift_right_cases, zeros_case, shift_zeros_case, shift_zeros_cases}
 use Rattle.abs_ints.specs.declared.cases.IntCase.{IntCase}

@@ -8,7 +8,7 @@ use Rattle.lin_core.specs.Intervals.{Bounds, IsIn}
 use Rattle.jvm_values.specs.declared.ints.IntOp.TheVariants.{Add, Sub}
 use Rattle.abs_ints.specs.Cases.{AllTrueOf}
 use Rattle.abs_ints.specs.Falling.{FallsUnder, GoesOn}
-use Rattle.abs_ints.specs.Parts.{all_ints, meet_of, sum_of, difference_of}
+use Rattle.abs_ints.specs.IntIntervals.{all_ints, meet_of, sum_of, difference_of}
 use Rattle.abs_ints.specs.Sums.{turn_of, reached_by, wrapped_by, sum_row, difference_row, sum_case, difference_case, sum_cases, difference_cases}
 use Rattle.abs_ints.specs.declared.cases.Way.{Way}
 use Rattle.abs_ints.specs.declared.cases.Way.TheVariants.{Inside, Over, Under, Zero, Taken, Next}

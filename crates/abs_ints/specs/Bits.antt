@@ -3,7 +3,7 @@ use Rattle.std.specs.Prelude.{ℕ, ◌-◌, ◌^◌, ℤ, pos, negsuc, ◌-ℤ�
 use Rattle.std.specs.Int.{w32, int_max, int_min, leading_zeros, cast_unsigned}
 use Rattle.lin_core.specs.Intervals.{Bounds, interval_of}
 use Rattle.abs_ints.specs.Cases.{at_least_zero, inside, only}
-use Rattle.abs_ints.specs.Parts.{all_ints, meet_of}
+use Rattle.abs_ints.specs.IntIntervals.{all_ints, meet_of}
 use Rattle.abs_ints.specs.declared.cases.IntCase.{IntCase}
 use Rattle.abs_ints.specs.declared.cases.ShortRow.{ShortRow}
 

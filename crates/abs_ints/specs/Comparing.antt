@@ -6,7 +6,7 @@ use Rattle.jvm_values.specs.Ints.{cond_holds}
 use Rattle.jvm_values.specs.declared.ints.Cond.{Cond}
 use Rattle.jvm_values.specs.declared.ints.Cond.TheVariants.{Eq, Ne, Lt, Ge, Gt, Le}
 use Rattle.abs_ints.specs.Cases.{case_between, at_least_zero, is_zero, AllTrueOf}
-use Rattle.abs_ints.specs.Parts.{meet_of, below_of, up_to_of, above_of, from_of}
+use Rattle.abs_ints.specs.IntIntervals.{meet_of, below_of, up_to_of, above_of, from_of}
 use Rattle.abs_ints.specs.declared.cases.IntCase.{IntCase}
 use Rattle.abs_ints.specs.declared.cases.ShortRow.{ShortRow}
 use Rattle.abs_ints.specs.declared.cases.Way.{Way}

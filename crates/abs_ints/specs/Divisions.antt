@@ -6,7 +6,7 @@ use Rattle.std.specs.Int.{int_max, int_min}
 use Rattle.std.specs.Option.{option_and_then}
 use Rattle.lin_core.specs.Intervals.{Bounds, interval_of}
 use Rattle.abs_ints.specs.Cases.{at_least_zero, case_between, inside}
-use Rattle.abs_ints.specs.Parts.{all_ints, just, is_single, meet_of}
+use Rattle.abs_ints.specs.IntIntervals.{all_ints, just, is_single, meet_of}
 use Rattle.abs_ints.specs.declared.cases.IntCase.{IntCase}
 use Rattle.abs_ints.specs.declared.cases.ShortRow.{ShortRow}
 use Rattle.abs_ints.specs.declared.cases.Way.TheVariants.{Zero}

@@ -5,7 +5,7 @@ use Rattle.jvm_values.specs.Ints.{int_result}
 use Rattle.jvm_values.specs.declared.ints.IntOp.{IntOp}
 use Rattle.jvm_values.specs.declared.ints.IntOp.TheVariants.{Add, Sub, Mul, Div, Rem, Shl, Shr, Ushr, And, Or, Xor, Narrow}
 use Rattle.abs_ints.specs.Cases.{AllTrueOf}
-use Rattle.abs_ints.specs.Parts.{all_ints}
+use Rattle.abs_ints.specs.IntIntervals.{all_ints}
 use Rattle.abs_ints.specs.declared.cases.IntCase.{IntCase}
 use Rattle.abs_ints.specs.declared.cases.Way.{Way}
 use Rattle.abs_ints.specs.declared.cases.Way.TheVariants.{Inside, Over, Under, Zero, Taken, Next}

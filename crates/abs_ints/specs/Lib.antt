@@ -1,11 +1,11 @@
-pub mod Bits
+pub mod IntIntervals
 pub mod Cases
 pub mod Comparing
+pub mod Sums
+pub mod Products
 pub mod Divisions
-pub mod Falling
+pub mod Shifts
+pub mod Bits
 pub mod Narrowings
 pub mod Operating
-pub mod Parts
-pub mod Products
-pub mod Shifts
-pub mod Sums
+pub mod Falling

@@ -8,7 +8,7 @@ use Rattle.abs_ints.specs.Bits.{and_cases, or_cases, xor_cases}
 use Rattle.abs_ints.specs.Cases.{inside, only}
 use Rattle.abs_ints.specs.Divisions.{quotient_cases, remainder_cases, zero_case}
 use Rattle.abs_ints.specs.Narrowings.{narrow_cases}
-use Rattle.abs_ints.specs.Parts.{just, is_single}
+use Rattle.abs_ints.specs.IntIntervals.{just, is_single}
 use Rattle.abs_ints.specs.Products.{product_cases}
 use Rattle.abs_ints.specs.Shifts.{shift_left_cases, shift_right_cases, shift_zeros_cases}
 use Rattle.abs_ints.specs.Sums.{sum_cases, difference_cases}

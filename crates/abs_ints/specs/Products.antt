@@ -2,7 +2,7 @@
 use Rattle.std.specs.Prelude.{ℕ, ℤ, pos, negsuc, neg_ℤ, Option, List, [], ◌∷◌, if◌then◌else◌}
 use Rattle.lin_core.specs.Intervals.{Bounds}
 use Rattle.abs_ints.specs.Cases.{is_zero, inside, only}
-use Rattle.abs_ints.specs.Parts.{is_single, hull_of, are_ints, ints_or_all}
+use Rattle.abs_ints.specs.IntIntervals.{is_single, hull_of, are_ints, ints_or_all}
 use Rattle.abs_ints.specs.declared.cases.IntCase.{IntCase}
 use Rattle.abs_ints.specs.declared.cases.ShortRow.{ShortRow}
 

@@ -4,7 +4,7 @@ use Rattle.std.specs.Int.{int_max, int_min, int_shr}
 use Rattle.lin_core.specs.Intervals.{Bounds, interval_of}
 use Rattle.jvm_values.specs.Ints.{shift_count}
 use Rattle.abs_ints.specs.Cases.{at_least_zero, is_zero, inside, only}
-use Rattle.abs_ints.specs.Parts.{all_ints, is_single, multiples_of, are_ints, ints_or_all}
+use Rattle.abs_ints.specs.IntIntervals.{all_ints, is_single, multiples_of, are_ints, ints_or_all}
 use Rattle.abs_ints.specs.Products.{times_left}
 use Rattle.abs_ints.specs.Divisions.{dividend_rows}
 use Rattle.abs_ints.specs.declared.cases.IntCase.{IntCase}

@@ -4,7 +4,7 @@ use Rattle.std.specs.List.{cons_option}
 use Rattle.std.specs.Option.{option_and_then}
 use Rattle.lin_core.specs.Intervals.{Bounds}
 use Rattle.abs_ints.specs.Cases.{case_with, is_zero}
-use Rattle.abs_ints.specs.Parts.{all_ints, just, meet_of, sum_of, difference_of}
+use Rattle.abs_ints.specs.IntIntervals.{all_ints, just, meet_of, sum_of, difference_of}
 use Rattle.abs_ints.specs.declared.cases.IntCase.{IntCase}
 use Rattle.abs_ints.specs.declared.cases.ShortRow.{ShortRow}
 use Rattle.abs_ints.specs.declared.cases.Way.{Way}

@@ -1,12 +1,12 @@
 //! Operators on the bits of abstract ints.
 ghost use Rattle.std.specs.Prelude.{◌≡◌, pos};
 ghost use Rattle.std.specs.Int.{int_max};
-ghost use Rattle.abs_ints.specs.Parts.{all_ints, meet_of};
+ghost use Rattle.abs_ints.specs.IntIntervals.{all_ints, meet_of};
 ghost use Rattle.abs_ints.specs.Bits.{and_case, and_cases, ones_over, or_case, or_cases, xor_case, xor_cases};
 
 use crate::cases::{IntCase, ShortRow};
 use crate::few::Few;
-use crate::parts::{all, is_natural};
+use crate::int_intervals::{all, is_natural};
 use crate::span::Wide;
 use lin_core::Interval;
 

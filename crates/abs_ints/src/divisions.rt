@@ -7,7 +7,7 @@ ghost use Rattle.abs_ints.specs.Cases.{inside, at_least_zero};
 
 use crate::cases::{IntCase, ShortRow, Way};
 use crate::few::Few;
-use crate::parts::{all, is_natural, is_single};
+use crate::int_intervals::{all, is_natural, is_single};
 use crate::span::Wide;
 use lin_core::{Interval, RowKind};
 

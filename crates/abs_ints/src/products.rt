@@ -1,11 +1,11 @@
 //! Products of abstract ints.
 ghost use Rattle.std.specs.Prelude.{◌≡◌, neg_ℤ, [], if◌then◌else◌};
-ghost use Rattle.abs_ints.specs.Parts.{are_ints};
+ghost use Rattle.abs_ints.specs.IntIntervals.{are_ints};
 ghost use Rattle.abs_ints.specs.Products.{times_left, times_right, factor_rows, product_cases};
 
 use crate::cases::{IntCase, ShortRow};
 use crate::few::Few;
-use crate::parts::is_single;
+use crate::int_intervals::is_single;
 use crate::span::Wide;
 use lin_core::{Interval, RowKind};
 

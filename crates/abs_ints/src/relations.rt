@@ -4,7 +4,7 @@ ghost use Rattle.abs_ints.specs.Comparing.{related, standing_so, exchanged, row_
 
 use crate::cases::{IntCase, ShortRow, Way};
 use crate::few::Few;
-use crate::parts::{above, below, from, up_to};
+use crate::int_intervals::{above, below, from, up_to};
 use lin_core::Interval;
 
 /// How two ints stand to each other.

@@ -1,10 +1,10 @@
 //! Intervals of exact results.
 ghost use Rattle.std.specs.Prelude.{◌≡◌, ◌*ℤ◌};
-ghost use Rattle.abs_ints.specs.Parts.{meet_of, sum_of, difference_of, just, multiples_of, join_of, hull_of, are_ints, ints_or_all};
+ghost use Rattle.abs_ints.specs.IntIntervals.{meet_of, sum_of, difference_of, just, multiples_of, join_of, hull_of, are_ints, ints_or_all};
 ghost use Rattle.abs_ints.specs.Sums.{reached_by, turn_of};
 
 use crate::cases::Way;
-use crate::parts::all;
+use crate::int_intervals::all;
 use lin_core::Interval;
 use std::marker::Model;
 

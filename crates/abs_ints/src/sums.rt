@@ -1,6 +1,6 @@
 //! Sums and differences of abstract ints.
 ghost use Rattle.std.specs.Prelude.{◌≡◌};
-ghost use Rattle.abs_ints.specs.Parts.{all_ints, meet_of};
+ghost use Rattle.abs_ints.specs.IntIntervals.{all_ints, meet_of};
 ghost use Rattle.abs_ints.specs.Sums.{wrapped_by, sum_row, difference_row, sum_case, difference_case, sum_cases, difference_cases};
 
 use crate::cases::{IntCase, ShortRow, Way};

@@ -17,18 +17,18 @@ use Rattle.jvm_values.specs.declared.types.Ty.{Ty}
 use Rattle.jvm_values.specs.Heaps.{target, Region, HasShape}
 use Rattle.jvm_values.specs.States.{MachineFrame, MachineState}
 use Rattle.jvm_values.specs.Subtyping.{class_type, array_of, array_of_numbers}
-use Rattle.jvm_values.specs.TypedHeaps.{WorldTypes, type_of}
+use Rattle.jvm_values.specs.TypedHeaps.{WorldTypes, AreLawful, type_of}
 use Rattle.jvm_values.proofs.Options.{some_is, none_is_not_some}
 use Rattle.abs_cells.specs.declared.cells.Cell.{Cell}
 use Rattle.abs_cells.specs.declared.cells.Cell.TheVariants.{Int, Null, Obj, Nums, Refs, Unk}
 use Rattle.abs_cells.specs.AbstractStates.{AbstractFrame, AbstractState}
-use Rattle.abs_cells.specs.Cells.{is_int, is_known, is_hazy, is_reference, type_of_cell, shape_of, cell_at, HasCell, AreEqual, Share}
+use Rattle.abs_cells.specs.Cells.{is_int, is_known, is_hazy, is_reference, type_of_cell, shape_of, cell_at, HasCell, AreEqual, Share, can_be_null}
 use Rattle.abs_cells.specs.Sound.{IsWellFormed}
 use Rattle.abs_cells.specs.Fits.{Meaning, FitsFrame, FitsMode, with_statics, IsObject, Describes, Fits}
-use Rattle.abs_reach.specs.Instances.{image_in, IsOver, IsNullOrBelow, can_be_null, is_no_int, is_thrown, HasImageUnder, MayBeOne, AreMapped, HasIdShape, InstanceOf, positions, mode, cells, aliases, sharing, shapes}
+use Rattle.abs_reach.specs.Instances.{image_in, IsOver, IsNullOrBelow, is_no_int, is_thrown, HasImageUnder, MayBeOne, AreMapped, HasIdShape, InstanceOf, positions, mode, cells, aliases, sharing, shapes}
 use Rattle.abs_reach.proofs.Sound.{may_meet, may_be_in, finite, tree}
 use Rattle.abs_reach.proofs.Walks.{some_cell, not_one}
-use Rattle.abs_match.specs.Laws.{MatchesCarryFitting, AreLawful, HasArraysOfWorld, value_of_image, after}
+use Rattle.abs_match.specs.Laws.{MatchesCarryFitting, HasArraysOfWorld, value_of_image, after}
 use Rattle.abs_match.proofs.Positions.{IsFrameUnder, zipped, same_maps, as_many, frame_under}
 
 -- the partner of an item of the second of two related lists

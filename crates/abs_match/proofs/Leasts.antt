@@ -134,21 +134,6 @@ frame_asked entries theirs ours f t o r e g h =
     (λ id m. m t o e g)
     h
 
-pub cell_keeps : (meets : ℕ → Type 0) (cells : List (ℕ × Cell)) (i : ℕ) (c : ℕ × Cell) → slice_get cells i ≡ Some c → meets c.0 → IsLeastOf (CellMeets meets cells i) None
-cell_keeps meets cells i c e m = λ id c2 e2 is. subst meets (ap (λ (x : ℕ × Cell). x.0) (some_is (sym e ∙ e2)) ∙ is) m
-
-pub cell_breaks : (meets : ℕ → Type 0) (cells : List (ℕ × Cell)) (i : ℕ) (c : ℕ × Cell) → slice_get cells i ≡ Some c → (meets c.0 → ⊥) → IsLeastOf (CellMeets meets cells i) (Some c.0)
-cell_breaks meets cells i c e n = (
-  λ m. n (m c e refl),
-  λ lower low c2 e2 is.
-      let same : c.0 ≡ c2.0 = ap (λ (x : ℕ × Cell). x.0) (some_is (sym e ∙ e2)) in
-      absurd (omega (arith, low, same, is)),
-)
-
-pub lower_none : (r : Option ℕ) → lower_of r None ≡ r
-lower_none None = refl
-lower_none (Some x) = refl
-
 -- what an entry of a map asks, said of its key and its image
 pub entry_asked : (given : List (ℕ × Cell)) (entries : List (ℕ × ℕ)) (i : ℕ) (d : ℕ × ℕ) (r : Option ℕ) → i < length entries
     → IsLeastOf (λ n. n ≡ (get_or entries i d).0 → is_of_sort (λ _. true) (cell_in given (get_or entries i d).1) ≡ true) r → IsLeastOf (EntryMeets given entries i) r

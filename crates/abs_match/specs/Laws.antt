@@ -5,9 +5,9 @@ use Rattle.jvm_values.specs.declared.heap.Value.TheVariants as values
 use Rattle.jvm_values.specs.declared.heap.Object.TheVariants as objects
 use Rattle.jvm_values.specs.declared.heap.Heap.{Heap}
 use Rattle.jvm_values.specs.declared.types.Ty.{Ty}
-use Rattle.jvm_values.specs.Subtyping.{array_of, IsReference, SubtypeLaws}
+use Rattle.jvm_values.specs.Subtyping.{array_of, IsReference}
 use Rattle.jvm_values.specs.States.{MachineState}
-use Rattle.jvm_values.specs.TypedHeaps.{WorldTypes}
+use Rattle.jvm_values.specs.TypedHeaps.{WorldTypes, AreLawful}
 use Rattle.abs_cells.specs.AbstractStates.{AbstractState}
 use Rattle.abs_cells.specs.Sound.{IsWellFormed}
 use Rattle.abs_cells.specs.Fits.{Meaning, Fits}
@@ -27,10 +27,6 @@ after meaning entries id = value_of_image meaning (image_in entries id)
 -- each array of references is itself of a type of the world, as in every typed heap
 abbrev pub HasArraysOfWorld : WorldTypes → Heap → Type 0
 HasArraysOfWorld types heap = (place : ℕ) (element : Ty) (items : List Value) → slice_get heap.objects place ≡ Some (objects.Refs element items) → IsReference types.classes (array_of element)
-
--- what a world's types obey
-abbrev pub AreLawful : WorldTypes → Type 0
-AreLawful types = SubtypeLaws types.sub types.erase types.classes types.fields types.can_be_made
 
 -- What is left without the ids that positions don't reach has none of them.
 abbrev pub DroppedStatesReachAll : Type 0

@@ -1,4 +1,4 @@
-pub mod Forced
 pub mod Laws
 pub mod Matching
+pub mod Forced
 pub use Rattle.abs_reach.specs.Instances

@@ -10,9 +10,9 @@ use Rattle.abs_cells.specs.declared.cells.Cell.TheVariants.{Int, Null, Obj, Nums
 use Rattle.abs_cells.specs.AbstractStates.{AbstractFrame, AbstractState}
 use Rattle.jvm_values.specs.declared.shape.Shape.{Shape}
 use Rattle.abs_cells.specs.PairLists.{has}
-use Rattle.abs_cells.specs.Cells.{is_known, is_hazy, cell_in, cell_at, is_of_sort, shape_of, type_of_cell, HasCell, AreEqual}
+use Rattle.abs_cells.specs.Cells.{is_known, is_hazy, cell_in, cell_at, is_of_sort, shape_of, type_of_cell, HasCell, AreEqual, is_null, can_be_null}
 use Rattle.abs_cells.specs.Sound.{IsWellFormed}
-use Rattle.abs_reach.specs.Instances.{image_in, ListsIds, can_be_null, is_no_int, AreMapped, MayBeOne, HasIdShape, HoldsClause, FailsAt, Clause, cells, aliases, sharing, shapes}
+use Rattle.abs_reach.specs.Instances.{image_in, ListsIds, is_no_int, AreMapped, MayBeOne, HasIdShape, HoldsClause, FailsAt, Clause, cells, aliases, sharing, shapes}
 use Rattle.abs_match.specs.declared.clauses.IdClause.{IdClause}
 use Rattle.abs_match.specs.declared.clauses.IdClause.TheVariants.{Cells, Aliases, Sharing, Shapes}
 use Rattle.abs_match.specs.declared.clauses.OtherSort.{OtherSort}
@@ -91,14 +91,6 @@ over_int outer (Unk bound nullable shape) = false
 abbrev pub is_type_below : (Ty → Ty → Bool) → Ty → Option Ty → Bool
 is_type_below sub bound None = false
 is_type_below sub bound (Some t) = sub t bound
-
-abbrev pub is_null : Cell → Bool
-is_null (Int interval) = false
-is_null Null = true
-is_null (Obj class ids) = false
-is_null (Nums kind len) = false
-is_null (Refs element len shape) = false
-is_null (Unk bound nullable shape) = false
 
 abbrev pub over_unknown : (Ty → Ty → Bool) → Ty → Bool → Cell → Bool
 over_unknown sub bound nullable cell = (not (can_be_null cell) || nullable) && (is_null cell || is_type_below sub bound (type_of_cell cell))

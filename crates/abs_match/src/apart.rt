@@ -27,16 +27,6 @@ fn is_other<P: Pairs>(pairs: &P, sort: OtherSort, id: Id, other: Id, cell: &Cell
     is_wanted(sort, cell) && other != id && !pairs.has(id, other)
 }
 
-/// The set of one id.
-pub(crate) fn only(id: Id) -> IdSet
-    requires { id < 2048 }
-    ensures { (n : ℕ) → has_id result n ≡ (n == id) }
-{
-    let mut ids = IdSet::new();
-    ids.put(id);
-    ids
-}
-
 /// Puts a number into a set if it is wanted there.
 fn put_if(images: &mut IdSet, wanted: bool, image: Id)
     requires { image < 2048 }

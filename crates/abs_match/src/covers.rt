@@ -3,16 +3,16 @@ ghost use Rattle.std.specs.Prelude.{◌≡◌, ◌↔◌, ℕ, List, Bool, IsTru
 ghost use Rattle.jvm_values.specs.declared.types.Ty.{Ty};
 ghost use Rattle.abs_cells.specs.declared.cells.Cell.TheVariants.{Int, Null, Obj, Nums, Refs};
 ghost use Rattle.abs_cells.specs.Cells.{type_of_cell};
-ghost use Rattle.jvm_values.specs.Subtyping.{class_type, array_of, array_of_numbers};
+ghost use Rattle.jvm_values.specs.Subtyping.{array_of};
 ghost use Rattle.abs_cells.specs.Sound.{AreIdsRising};
-ghost use Rattle.abs_reach.specs.Instances.{image_in, can_be_null, IsOver, IsArrayUnder, HasImageUnder};
+ghost use Rattle.abs_reach.specs.Instances.{image_in, IsOver, IsArrayUnder, HasImageUnder};
 ghost use Rattle.abs_reach.specs.Keys.{AreKeysRising};
-ghost use Rattle.abs_match.specs.Matching.{image_is, over_int, is_null, is_type_below, over_unknown};
+ghost use Rattle.abs_match.specs.Matching.{image_is, over_int, is_type_below, over_unknown};
 
 use crate::maps::image_of;
 use abs_cells::{AbsState, Cell, Id, Ids, Pairs};
 use abs_reach::cell_of;
-use jvm_values::{Base, Kind, Ty, Types};
+use jvm_values::{Kind, Ty, Types, array_of_numbers, class_type};
 use lin_core::Interval;
 
 /// Whether an id's image is this one.
@@ -50,13 +50,6 @@ fn is_int_within(outer: &Interval, cell: &Cell) -> bool
         Cell::Int(inner) => outer.lo() <= inner.lo() && inner.hi() <= outer.hi(),
         _ => false,
     }
-}
-
-/// Whether a cell is `Null`.
-fn is_null(cell: &Cell) -> bool
-    ensures { result ≡ is_null cell.now }
-{
-    matches!(cell, Cell::Null)
 }
 
 /// Whether a cell is that of an instance of the class whose fields have the images of these ids.
@@ -100,17 +93,6 @@ fn is_array_over<T: Types>(
     }
 }
 
-/// Whether a cell may describe null.
-fn can_be_null(cell: &Cell) -> bool
-    ensures { result ≡ can_be_null cell.now }
-{
-    match cell {
-        Cell::Null => true,
-        Cell::Unk(_, nullable, _) => *nullable,
-        Cell::Int(_) | Cell::Obj(_, _) | Cell::Nums(_, _) | Cell::Refs(_, _, _) => false,
-    }
-}
-
 /// Whether a cell tells of its object a type below a bound.
 fn is_below<T: Types>(types: &T, bound: Ty, cell: &Cell) -> bool
     ensures { result ≡ is_type_below (T.sub types.now) bound (type_of_cell cell.now) }
@@ -121,26 +103,6 @@ fn is_below<T: Types>(types: &T, bound: Ty, cell: &Cell) -> bool
         Cell::Nums(kind, _) => types.sub(array_of_numbers(*kind), bound),
         Cell::Refs(element, _, _) => is_array_below(types, *element, bound),
         Cell::Unk(other, _, _) => types.sub(*other, bound),
-    }
-}
-
-/// The type of a class.
-fn class_type(class: u32) -> Ty
-    ensures { result ≡ class_type class }
-{
-    Ty {
-        dims: 0,
-        base: Base::Class(class),
-    }
-}
-
-/// The type of the arrays of numbers of a kind.
-fn array_of_numbers(kind: Kind) -> Ty
-    ensures { result ≡ array_of_numbers kind }
-{
-    Ty {
-        dims: 1,
-        base: Base::Num(kind),
     }
 }
 
@@ -162,7 +124,7 @@ fn is_array_below<T: Types>(types: &T, element: Ty, bound: Ty) -> bool
 fn is_under_bound<T: Types>(types: &T, bound: Ty, nullable: bool, cell: &Cell) -> bool
     ensures { result ≡ over_unknown (T.sub types.now) bound nullable cell.now }
 {
-    (!can_be_null(cell) || nullable) && (is_null(cell) || is_below(types, bound, cell))
+    (!cell.can_be_null() || nullable) && (cell.is_null() || is_below(types, bound, cell))
 }
 
 /// Whether a cell of the target describes whatever another one does.
@@ -172,7 +134,7 @@ fn is_over<T: Types>(types: &T, entries: &[(Id, Id)], cell: &Cell, below: &Cell)
 {
     match cell {
         Cell::Int(outer) => is_int_within(outer, below),
-        Cell::Null => is_null(below),
+        Cell::Null => below.is_null(),
         Cell::Obj(class, ids) => is_instance_over(entries, *class, ids, below),
         Cell::Nums(kind, len) => is_numbers_over(entries, *kind, *len, below),
         Cell::Refs(element, len, _) => is_array_over(types, entries, *element, *len, below),

@@ -9,9 +9,8 @@ ghost use Rattle.abs_reach.specs.Instances.{InstanceOf};
 ghost use Rattle.abs_match.specs.Forced.{IsSearching, NoneMatches, IsOnlyMatch, names_count};
 
 use crate::forced::{Todo, put_named, put_positions};
-use crate::maps::ids_rise;
 use crate::matching::instance;
-use abs_cells::{AbsState, Cell, Id, IdSet, Pairs};
+use abs_cells::{AbsState, Cell, Id, IdSet, Pairs, ids_rise};
 use abs_reach::{Marks, cell_of, place_of};
 use jvm_values::Types;
 use list_views::Stack;

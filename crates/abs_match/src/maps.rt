@@ -7,7 +7,7 @@ ghost use Rattle.abs_reach.specs.Keys.{AreKeysRising};
 ghost use Rattle.abs_match.specs.Matching.{HasImage, IsLeastOf};
 
 use crate::least::lower_of;
-use abs_cells::{Cell, Id};
+use abs_cells::{Cell, Id, ids_rise};
 use abs_reach::{cell_of, place_of};
 
 /// Whether the keys of a map are the ids of cells, in their order.
@@ -21,20 +21,6 @@ fn has_keys(cells: &[(Id, Cell)], entries: &[(Id, Id)]) -> bool
         if entries[place].0 != *id {
             return false;
         }
-    }
-    true
-}
-
-/// Whether the ids of cells rise, and are below 2,048.
-pub(crate) fn ids_rise(cells: &[(Id, Cell)]) -> bool
-    ensures { IsTrue result ↔ AreIdsRising 0 cells.now }
-{
-    let mut low = 0u32;
-    for (id, _cell) in cells {
-        if u32::from(*id) < low || *id >= 2048 {
-            return false;
-        }
-        low = u32::from(*id) + 1;
     }
     true
 }

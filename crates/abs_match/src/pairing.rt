@@ -7,32 +7,21 @@ ghost use Rattle.abs_cells.specs.Sound.{AreIdsRising, IsWellFormed};
 ghost use Rattle.abs_reach.specs.Instances.{image_in, AreMapped, MayBeOne, HasIdShape, SharesEnough};
 ghost use Rattle.abs_match.specs.Matching.{AreMatched, PairsEnough, IsShaped};
 
-use crate::apart::{apart_images, only};
+use crate::apart::apart_images;
 use crate::clauses::OtherSort;
 use crate::maps::image_of;
 use abs_cells::{AbsState, Cell, Id, IdSet, Pairs};
 use abs_reach::{
-    Marks, cell_of, is_finite, is_tree, may_be_in_some, may_meet_some, some_may_be_in,
+    Marks, has_reference, is_finite, is_tree, may_be_in_some, may_meet_some, some_may_be_in,
 };
 use jvm_values::Shape;
-
-/// Whether an id's cell is that of a reference that is not null.
-fn counts<P: Pairs>(state: &AbsState<P>, id: Id) -> bool
-    requires { AreIdsRising 0 state.now.cells }
-    ensures { IsTrue result ↔ HasCell is_reference state.now id }
-{
-    match cell_of(state.cells(), id) {
-        Some(cell) => cell.is_reference(),
-        None => false,
-    }
-}
 
 /// Whether an id is in a set, and is that of a reference that is not null.
 fn is_among<P: Pairs>(state: &AbsState<P>, id: Id, others: &IdSet) -> bool
     requires { AreIdsRising 0 state.now.cells }
     ensures { IsTrue result ↔ ((has_id others.now id ≡ true) × HasCell is_reference state.now id) }
 {
-    others.has(id) && counts(state, id)
+    others.has(id) && has_reference(state, id)
 }
 
 /// Whether an id and no id of a set may stand for one object.
@@ -44,7 +33,7 @@ fn is_alone<P: Pairs>(state: &AbsState<P>, id: Id, others: &IdSet) -> bool
     if is_among(state, id, others) {
         return false;
     }
-    !state.eq().touches(&only(id), others)
+    !state.eq().touches(&IdSet::only(id), others)
 }
 
 /// Whether an id is a pair with each other one that may stand for its object.

@@ -8,7 +8,7 @@ use Rattle.jvm_values.specs.declared.types.Ty.{Ty}
 use Rattle.abs_cells.specs.declared.cells.Cell.{Cell}
 use Rattle.abs_cells.specs.declared.cells.Cell.TheVariants.{Int, Null, Obj, Nums, Refs, Unk}
 use Rattle.abs_cells.specs.AbstractStates.{AbstractFrame, AbstractState}
-use Rattle.abs_cells.specs.Cells.{is_int, is_known, is_hazy, is_reference, type_of_cell, shape_of, cell_at, HasCell, AreEqual, Share}
+use Rattle.abs_cells.specs.Cells.{is_int, is_known, is_hazy, is_reference, can_be_null, type_of_cell, shape_of, cell_at, HasCell, AreEqual, Share}
 use Rattle.abs_cells.specs.Closures.{MayMeet, MayBeIn, IsFiniteId, IsTreeId}
 use Rattle.abs_cells.specs.Sound.{AreIdsRising}
 
@@ -55,15 +55,6 @@ is_thrown None = false
 is_thrown (Some id) = true
 
 -- ---- cells
-
--- a cell that may describe null
-abbrev pub can_be_null : Cell → Bool
-can_be_null (Int interval) = false
-can_be_null Null = true
-can_be_null (Obj class ids) = false
-can_be_null (Nums kind len) = false
-can_be_null (Refs element len shape) = false
-can_be_null (Unk bound nullable shape) = nullable
 
 -- an array of references whose element type is below another one
 pub record IsArrayUnder (sub : Ty → Ty → Bool) (entries : List (ℕ × ℕ)) (element : Ty) (len : ℕ) (cell : Cell) : Type 0 where

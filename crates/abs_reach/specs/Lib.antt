@@ -1,9 +1,9 @@
+pub mod Known
+pub mod Reached
 pub mod Instances
 pub mod Keys
-pub mod Known
+pub mod Ways
 pub mod Laws
-pub mod Reached
 pub mod Steps
 pub mod Turns
-pub mod Ways
 pub use Rattle.abs_cells.specs.Closures

@@ -1,6 +1,6 @@
 //! The cell of an id, and where a step from it leads.
 ghost use Rattle.std.specs.Prelude.{◌≡◌, ◌+◌, ◌^◌, ◌<◌, true, IsTrue, ◌↔◌, None, Some, IfSome, MatchOption, slice_get};
-ghost use Rattle.abs_cells.specs.Cells.{cell_in, ids_of, ids_in, is_of_sort, HasCell};
+ghost use Rattle.abs_cells.specs.Cells.{cell_in, ids_of, ids_in, is_of_sort, is_reference, HasCell};
 ghost use Rattle.abs_cells.specs.Sound.{AreIdsRising, IsWellFormed};
 ghost use Rattle.abs_reach.specs.Keys.{AreKeysRising, IsKeyAt, IsNoKey};
 ghost use Rattle.abs_reach.specs.Steps.{names_by, steps_in};
@@ -67,6 +67,28 @@ pub fn has_cell<P: Pairs>(state: &AbsState<P>, id: Id) -> bool
     ensures { IsTrue result ↔ HasCell (λ _. true) state.now id }
 {
     is_there(state.cells(), id)
+}
+
+/// Whether an id's cell, among cells that rise, is that of a reference that is not null.
+pub fn is_reference_in(cells: &[(Id, Cell)], id: Id) -> bool
+    requires { AreIdsRising 0 cells.now }
+    ensures { result ≡ is_of_sort is_reference (cell_in cells.now id) }
+{
+    match cell_of(cells, id) {
+        Some(cell) => cell.is_reference(),
+        None => false,
+    }
+}
+
+/// Whether an id's cell is that of a reference that is not null.
+pub fn has_reference<P: Pairs>(state: &AbsState<P>, id: Id) -> bool
+    requires { AreIdsRising 0 state.now.cells }
+    ensures { IsTrue result ↔ HasCell is_reference state.now id }
+{
+    match cell_of(state.cells(), id) {
+        Some(cell) => cell.is_reference(),
+        None => false,
+    }
 }
 
 /// The id at a place of a list.

@@ -1,8 +1,8 @@
-//! Whether frames stand at the same places.
+//! Whether states stand at the same places.
 ghost use Rattle.std.specs.Prelude.{◌≡◌, ◌↔◌, IsTrue, map};
-ghost use Rattle.abs_reach.specs.Instances.{head_of};
+ghost use Rattle.abs_reach.specs.Instances.{head_of, is_thrown};
 
-use abs_cells::AbsFrame;
+use abs_cells::{AbsFrame, Id};
 
 /// Whether two frames have the same method, place and depth of stack.
 pub fn is_same_head(a: &AbsFrame, b: &AbsFrame) -> bool
@@ -24,4 +24,11 @@ pub fn are_same_heads(a: &[AbsFrame], b: &[AbsFrame]) -> bool
         }
     }
     true
+}
+
+/// Whether an object is thrown in both or in none.
+pub fn is_same_mode(x: Option<Id>, y: Option<Id>) -> bool
+    ensures { IsTrue result ↔ (is_thrown x ≡ is_thrown y) }
+{
+    x.is_some() == y.is_some()
 }

@@ -102,12 +102,3 @@ pub fn known_from<P: Pairs>(state: &AbsState<P>, x: Id, marks: &mut Marks)
     let found = marks.walk(state, x);
     marks.ids = found.met;
 }
-
-/// Marks exactly what known cells lead to from the ids of a set that have a cell. It takes no memory.
-pub fn known_from_all<P: Pairs>(state: &AbsState<P>, starts: &IdSet, marks: &mut Marks)
-    requires { IsWellFormed state.now }
-    ensures { (id : ℕ) → (has_id marks.new id ≡ true) ↔ IsKnownFromSome state.now starts.now id }
-{
-    let found = marks.walk_all(state, starts);
-    marks.ids = found.met;
-}

@@ -1,13 +1,13 @@
 //! Which regions may meet, and which objects may lie in them.
-ghost use Rattle.std.specs.Prelude.{◌≡◌, ◌<◌, ◌==◌, ◌&&◌, ◌↔◌, ℕ, true, IsTrue};
+ghost use Rattle.std.specs.Prelude.{◌≡◌, ◌&&◌, ◌↔◌, ℕ, true, IsTrue};
 ghost use Rattle.std.specs.List.{list_any};
 ghost use Rattle.abs_cells.specs.IdSets.{has_id};
 ghost use Rattle.abs_cells.specs.Cells.{HasCell, is_hazy, is_of_sort, sort_test, cell_in};
 ghost use Rattle.abs_cells.specs.Closures.{MayMeet, MayBeIn};
 ghost use Rattle.abs_cells.specs.Sound.{AreIdsRising, IsWellFormed};
 
+use crate::find::is_reference_in;
 use crate::marks::Marks;
-use crate::walk::counts;
 use abs_cells::{AbsState, Cell, CellSort, Id, IdSet, Pairs};
 
 /// Whether some cell of a sort is that of an id which is in two sets.
@@ -20,16 +20,6 @@ pub(crate) fn have_one(cells: &[(Id, Cell)], sort: CellSort, first: &IdSet, seco
         }
     }
     false
-}
-
-/// The set of one id.
-pub(crate) fn only(id: Id) -> IdSet
-    requires { id < 2048 }
-    ensures { (n : ℕ) → has_id result n ≡ (n == id) }
-{
-    let mut ids = IdSet::new();
-    ids.put(id);
-    ids
 }
 
 /// The hazy ids of a set.
@@ -70,7 +60,7 @@ pub fn may_be_in<P: Pairs>(state: &AbsState<P>, k: Id, x: Id, marks: &mut Marks)
     requires outer { HasCell (λ _. true) state.now x }
     ensures { IsTrue result ↔ MayBeIn state.now k x }
 {
-    if !counts(state.cells(), k) {
+    if !is_reference_in(state.cells(), k) {
         return false;
     }
     let found = marks.walk(state, x);
@@ -78,5 +68,5 @@ pub fn may_be_in<P: Pairs>(state: &AbsState<P>, k: Id, x: Id, marks: &mut Marks)
         return true;
     }
     let hazy = hazy_among(state.cells(), &found.met);
-    state.share().touches(&only(k), &hazy)
+    state.share().touches(&IdSet::only(k), &hazy)
 }

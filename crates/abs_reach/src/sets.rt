@@ -4,9 +4,9 @@ ghost use Rattle.abs_cells.specs.Cells.{HasCell};
 ghost use Rattle.abs_cells.specs.Sound.{IsWellFormed};
 ghost use Rattle.abs_reach.specs.Known.{MayMeetSome, SomeMayBeIn, MayBeInSome};
 
+use crate::find::is_reference_in;
 use crate::marks::Marks;
-use crate::meeting::{have_one, hazy_among, only};
-use crate::walk::counts;
+use crate::meeting::{have_one, hazy_among};
 use abs_cells::{AbsState, CellSort, Id, IdSet, Pairs};
 
 /// Whether an id may meet some id of a set that has a cell. It takes no memory, and no longer than for one id.
@@ -54,7 +54,7 @@ pub fn may_be_in_some<P: Pairs>(
     requires there { HasCell (λ _. true) state.now k }
     ensures { IsTrue result ↔ MayBeInSome state.now k others.now }
 {
-    if !counts(state.cells(), k) {
+    if !is_reference_in(state.cells(), k) {
         return false;
     }
     let found = marks.walk_all(state, others);
@@ -62,5 +62,5 @@ pub fn may_be_in_some<P: Pairs>(
         return true;
     }
     let hazy = hazy_among(state.cells(), &found.met);
-    state.share().touches(&only(k), &hazy)
+    state.share().touches(&IdSet::only(k), &hazy)
 }

@@ -7,7 +7,7 @@ ghost use Rattle.abs_cells.specs.Sound.{AreIdsRising};
 ghost use Rattle.abs_reach.specs.Steps.{steps_in, counted_steps_in, AreNamedThere, IsReachedFrom, IsReachedInside};
 ghost use Rattle.abs_reach.specs.Turns.{IsWith, IsBegun, Leaves, Meets, Enters};
 
-use crate::find::{Names, cell_of, step};
+use crate::find::{Names, is_reference_in, step};
 use abs_cells::{Cell, Id, IdSet};
 use list_views::Stack;
 
@@ -36,17 +36,6 @@ fn put_on(trail: &mut Trail, id: Id, place: usize)
 {
     if trail.push((id, place)).is_err() {
         unreachable!();
-    }
-}
-
-/// Whether an id's cell is that of a reference that is not null.
-pub(crate) fn counts(cells: &[(Id, Cell)], id: Id) -> bool
-    requires { AreIdsRising 0 cells.now }
-    ensures { result ≡ is_of_sort is_reference (cell_in cells.now id) }
-{
-    match cell_of(cells, id) {
-        Some(cell) => cell.is_reference(),
-        None => false,
     }
 }
 
@@ -86,7 +75,7 @@ fn turn(
         Some(next) => {
             put_on(trail, id, place + 1);
             if found.met.has(next) {
-                meet(found, next, counts(cells, next));
+                meet(found, next, is_reference_in(cells, next));
             } else {
                 found.met.put(next);
                 put_on(trail, next, 0);

@@ -15,12 +15,12 @@ use Rattle.jvm_values.specs.TypedHeaps.{WorldTypes}
 use Rattle.abs_cells.specs.declared.cells.Cell.{Cell}
 use Rattle.abs_cells.specs.declared.cells.Cell.TheVariants.{Int, Null, Obj, Nums, Refs, Unk}
 use Rattle.abs_cells.specs.AbstractStates.{AbstractFrame, AbstractState}
-use Rattle.abs_cells.specs.Cells.{is_int, is_of_sort, cell_in, cell_at, HasCell}
+use Rattle.abs_cells.specs.Cells.{is_int, is_of_sort, cell_in, cell_at, HasCell, is_null}
 use Rattle.abs_cells.specs.Sound.{IsSound, IsSoundCell, IsOfSlot, is_object}
 use Rattle.abs_cells.proofs.Checking.{has_cell_from, has_cell_to}
 use Rattle.abs_cells.proofs.PairLaws.{bool_cases}
 use Rattle.abs_reach.specs.Instances.{is_no_int}
-use Rattle.abs_widen.specs.Rows.{Row, ints, nulls, instances, numbers, arrays, unlike, is_null, interval_in, fields_in, length_in, array_in, row_of, pairs_of}
+use Rattle.abs_widen.specs.Rows.{Row, ints, nulls, instances, numbers, arrays, unlike, interval_in, fields_in, length_in, array_in, row_of, pairs_of}
 use Rattle.abs_widen.specs.Visits.{are_alike, local_pair, some_in, local_pairs, frame_pairs, frames_pairs, thrown_pair, position_pairs, row_of_cells, pairs_in, pairs_below, IsPaired}
 use Rattle.abs_widen.specs.Visits.IsPaired.{placed, named}
 use Rattle.abs_widen.specs.Widening.{AreFramesAlike, AreAlike}

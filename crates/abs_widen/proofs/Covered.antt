@@ -19,11 +19,11 @@ use Rattle.lin_core.specs.declared.intervals.Interval.{Interval}
 use Rattle.abs_cells.specs.declared.cells.Cell.{Cell}
 use Rattle.abs_cells.specs.declared.cells.Cell.TheVariants.{Int, Null, Obj, Nums, Refs, Unk}
 use Rattle.abs_cells.specs.AbstractStates.{AbstractState}
-use Rattle.abs_cells.specs.Cells.{is_int, ids_in, type_of_cell, shape_of, cell_at}
+use Rattle.abs_cells.specs.Cells.{is_int, ids_in, type_of_cell, shape_of, cell_at, can_be_null, is_null}
 use Rattle.abs_cells.specs.Closures.{counted_steps, IsFiniteId, IsTreeId}
 use Rattle.abs_cells.specs.Sound.{IsSoundCell}
-use Rattle.abs_reach.specs.Instances.{image_in, can_be_null, IsNullOrBelow, IsOver, HasIdShape}
-use Rattle.abs_widen.specs.Rows.{Row, ints, nulls, instances, numbers, arrays, unlike, is_null, interval_in, fields_in, length_in, array_in, row_of, pairs_of, worse, IsShapeOf, IsWorseShape}
+use Rattle.abs_reach.specs.Instances.{image_in, IsNullOrBelow, IsOver, HasIdShape}
+use Rattle.abs_widen.specs.Rows.{Row, ints, nulls, instances, numbers, arrays, unlike, interval_in, fields_in, length_in, array_in, row_of, pairs_of, worse, IsShapeOf, IsWorseShape}
 use Rattle.abs_widen.specs.Visits.{is_among, row_of_cells}
 use Rattle.abs_widen.specs.Visiting.{AreCellsOf}
 use Rattle.abs_widen.specs.Widening.{number_of, IsTypeOver, IsHazed, IsWidenedInt, IsMergedArray, IsRowCell, IsCellUnless, IsMergedCell, is_known_row, is_known_pair, clashes_with, clashes}
@@ -88,14 +88,6 @@ null_cases P (Obj class ids) h k = k
 null_cases P (Nums kind len) h k = k
 null_cases P (Refs element len shape) h k = k
 null_cases P (Unk bound nullable shape) h k = k
-
-pub interval_cell : (q : Cell) (j : Interval) → interval_in q ≡ Some j → q ≡ Int j
-interval_cell (Int i) j e = ap Int (some_is e)
-interval_cell Null j e = absurd (none_is_not_some j e)
-interval_cell (Obj class ids) j e = absurd (none_is_not_some j e)
-interval_cell (Nums kind len) j e = absurd (none_is_not_some j e)
-interval_cell (Refs element len shape) j e = absurd (none_is_not_some j e)
-interval_cell (Unk bound nullable shape) j e = absurd (none_is_not_some j e)
 
 -- an int has an interval
 pub int_cases : (P : Row → Type 0) (f : Interval → Row) (q : Cell) → is_int q ≡ true → ((j : Interval) → q ≡ Int j → P (f j)) → P (option_map_or f (interval_in q) unlike)

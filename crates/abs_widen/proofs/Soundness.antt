@@ -14,19 +14,19 @@ use Rattle.jvm_values.specs.declared.types.Slot.TheVariants as slots
 use Rattle.jvm_values.specs.Kinds.{IsOfKind}
 use Rattle.jvm_values.specs.Subtyping.{array_of, IsReference, IsErased}
 use Rattle.jvm_values.specs.Joins.{IsJoin}
-use Rattle.jvm_values.specs.TypedHeaps.{WorldTypes}
+use Rattle.jvm_values.specs.TypedHeaps.{WorldTypes, AreLawful}
 use Rattle.abs_cells.specs.declared.cells.Cell.{Cell}
 use Rattle.abs_cells.specs.declared.cells.Cell.TheVariants.{Int, Null, Obj, Nums, Refs, Unk}
 use Rattle.abs_cells.specs.AbstractStates.{AbstractFrame, AbstractState}
-use Rattle.abs_cells.specs.Cells.{is_int, ids_in, type_of_cell, cell_at, HasCell}
+use Rattle.abs_cells.specs.Cells.{is_int, ids_in, type_of_cell, cell_at, HasCell, can_be_null}
 use Rattle.abs_cells.specs.Sound.{given_ids, ids_of_frame, ids_used, IsOfSlot, IsSoundCell, is_object, IsWellFormed, IsSound}
-use Rattle.abs_reach.specs.Instances.{can_be_null, is_no_int}
+use Rattle.abs_reach.specs.Instances.{is_no_int}
 use Rattle.abs_reach.specs.Reached.{positions}
 use Rattle.abs_reach.proofs.Finding.{stands}
 use Rattle.abs_widen.specs.Rows.{bound_below, bound_above, widened_lo, widened_hi}
 use Rattle.abs_widen.specs.Visiting.{AreCellsOf}
 use Rattle.abs_widen.specs.Widening.{number_of, merged_frame, merged_frames, AreFramesAlike, AreAlike, IsTypeOver, IsWidening}
-use Rattle.abs_widen.specs.Laws.{AreLawful, WideningsAreSound}
+use Rattle.abs_widen.specs.Laws.{WideningsAreSound}
 use Rattle.abs_widen.proofs.Closed.{among_at, number_at}
 use Rattle.abs_widen.proofs.Covered.{AreAllAmong, MadeAs, made_as}
 use Rattle.abs_widen.proofs.Covered.MadeAs.{hazed, both_ints, both_null, both_instances, both_numbers, both_arrays}

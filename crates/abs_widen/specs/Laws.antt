@@ -1,16 +1,12 @@
 -- What holds of every widening.
 use Rattle.std.specs.Prelude.{ℕ, List}
-use Rattle.jvm_values.specs.Subtyping.{SubtypeLaws}
-use Rattle.jvm_values.specs.TypedHeaps.{WorldTypes}
+use Rattle.jvm_values.specs.TypedHeaps.{WorldTypes, AreLawful}
 use Rattle.abs_cells.specs.AbstractStates.{AbstractState}
 use Rattle.abs_cells.specs.Cells.{AreEqual}
 use Rattle.abs_cells.specs.Sound.{IsSound}
 use Rattle.abs_reach.specs.Instances.{InstanceOf}
 use Rattle.abs_widen.specs.Visits.{AreTooMany}
 use Rattle.abs_widen.specs.Widening.{AreAlike, IsWidening}
-
-abbrev pub AreLawful : WorldTypes → Type 0
-AreLawful types = SubtypeLaws types.sub types.erase types.classes types.fields types.can_be_made
 
 -- one state is an instance of another one by some map
 abbrev pub IsInstance : WorldTypes → AbstractState → AbstractState → Type 0

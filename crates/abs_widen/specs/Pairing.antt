@@ -5,6 +5,7 @@ use Rattle.abs_cells.specs.AbstractStates.{AbstractState}
 use Rattle.abs_cells.specs.PairLists.{IsRising, has, added}
 use Rattle.abs_cells.specs.Cells.{is_known, is_reference, cell_in, HasCell}
 use Rattle.abs_cells.specs.Closures.{MayMeet, MayBeIn}
+use Rattle.abs_cells.specs.Limits.{most_ids}
 use Rattle.abs_reach.specs.Instances.{MayBeOne}
 use Rattle.abs_widen.specs.Widening.{merged_frames}
 
@@ -71,7 +72,7 @@ IsPut wants m n old new = (wants m n × (new ≡ added m n old)) ⊎ ((wants m n
 -- the cells of pairs, each with its pair's number
 pub record AreNumbered (pairs : List (ℕ × ℕ)) (cells : List (ℕ × Cell)) : Type 0 where
   pub long : length cells ≡ length pairs
-  pub few : length pairs ≤ 512
+  pub few : length pairs ≤ most_ids
   pub each : (k : ℕ) (entry : ℕ × Cell) → slice_get cells k ≡ Some entry → entry.0 ≡ k
 
 -- a state of pairs with those of its ids that have one object, and those that share

@@ -10,6 +10,7 @@ use Rattle.jvm_values.specs.declared.shape.Shape.TheVariants.{Tree, Dag, Any}
 use Rattle.abs_cells.specs.declared.cells.Cell.{Cell}
 use Rattle.abs_cells.specs.declared.cells.Cell.TheVariants.{Int, Null, Obj, Nums, Refs, Unk}
 use Rattle.abs_cells.specs.AbstractStates.{AbstractState}
+use Rattle.abs_cells.specs.Cells.{is_null}
 use Rattle.abs_cells.specs.Closures.{IsFiniteId, IsTreeId}
 
 -- ---- ints
@@ -61,14 +62,6 @@ interval_in (Obj class ids) = None
 interval_in (Nums kind len) = None
 interval_in (Refs element len shape) = None
 interval_in (Unk bound nullable shape) = None
-
-abbrev pub is_null : Cell → Bool
-is_null (Int i) = false
-is_null Null = true
-is_null (Obj class ids) = false
-is_null (Nums kind len) = false
-is_null (Refs element len shape) = false
-is_null (Unk bound nullable shape) = false
 
 -- the ids of an instance of a class
 abbrev pub fields_in : ℕ → Cell → Option (List ℕ)

@@ -6,6 +6,7 @@ use Rattle.abs_cells.specs.declared.cells.Cell.{Cell}
 use Rattle.abs_cells.specs.Cells.{is_int, cell_at}
 use Rattle.abs_cells.specs.Sound.{IsSoundCell}
 use Rattle.abs_cells.specs.AbstractStates.{AbstractFrame, AbstractState}
+use Rattle.abs_cells.specs.Limits.{most_ids}
 use Rattle.abs_widen.specs.Visits.{is_among, Visits, AreDifferent, IsPaired}
 
 -- a visit of the pairs at the front goes from these that were met to those, whatever is visited behind them
@@ -27,9 +28,9 @@ abbrev pub IsNextOf : List (ℕ × ℕ) → List (ℕ × ℕ) → List (ℕ × �
 IsNextOf met old new None = AreMet met old
 IsNextOf met old new (Some pair) = IsNext met old new pair
 
--- what was met: at most 512 pairs, none twice, and all of them stand beside one another
+-- what was met: at most `most_ids` pairs, none twice, and all of them stand beside one another
 pub record AreFew (a b : AbstractState) (met : List (ℕ × ℕ)) : Type 0 where
-  pub few : length met ≤ 512
+  pub few : length met ≤ most_ids
   pub differ : AreDifferent met
   pub paired : AllByRecursion (IsPaired a b) met
 

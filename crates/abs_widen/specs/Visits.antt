@@ -7,6 +7,7 @@ use Rattle.abs_cells.specs.declared.cells.Cell.{Cell}
 use Rattle.abs_cells.specs.AbstractStates.{AbstractFrame, AbstractState}
 use Rattle.abs_cells.specs.PairLists.{is_same}
 use Rattle.abs_cells.specs.Cells.{is_int, is_of_sort, cell_at}
+use Rattle.abs_cells.specs.Limits.{most_ids}
 use Rattle.abs_reach.specs.Instances.{is_no_int}
 use Rattle.abs_widen.specs.Rows.{Row, row_of, pairs_of}
 
@@ -93,9 +94,9 @@ abbrev pub AreDifferent : List (ℕ × ℕ) → Type 0
 AreDifferent [] = Unit {0}
 AreDifferent (pair ∷ pairs) = (is_among pair pairs ≡ false) × AreDifferent pairs
 
--- there are more than 512 pairs
+-- there are too many pairs: each becomes an id
 pub record AreTooMany (a b : AbstractState) : Type 0 where
   pub pairs : List (ℕ × ℕ)
-  pub many : 512 < length pairs
+  pub many : most_ids < length pairs
   pub differ : AreDifferent pairs
   pub paired : AllByRecursion (IsPaired a b) pairs

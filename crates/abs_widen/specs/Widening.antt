@@ -12,11 +12,12 @@ use Rattle.abs_cells.specs.declared.cells.Cell.{Cell}
 use Rattle.abs_cells.specs.declared.cells.Cell.TheVariants.{Int, Null, Obj, Nums, Refs, Unk}
 use Rattle.abs_cells.specs.AbstractStates.{AbstractFrame, AbstractState}
 use Rattle.abs_cells.specs.PairLists.{is_same}
-use Rattle.abs_cells.specs.Cells.{is_known, is_hazy, is_reference, type_of_cell, cell_at, HasCell, AreEqual, Share}
+use Rattle.abs_cells.specs.Cells.{is_known, is_hazy, is_reference, type_of_cell, cell_at, HasCell, AreEqual, Share, can_be_null}
 use Rattle.abs_cells.specs.Closures.{MayMeet, MayBeIn}
 use Rattle.abs_cells.specs.Sound.{AreIdsRising}
+use Rattle.abs_cells.specs.Limits.{most_ids}
 use Rattle.abs_reach.specs.Reached.{IsDropped}
-use Rattle.abs_reach.specs.Instances.{can_be_null, head_of, is_thrown, MayBeOne}
+use Rattle.abs_reach.specs.Instances.{head_of, is_thrown, MayBeOne}
 use Rattle.abs_widen.specs.Rows.{Row, ints, nulls, instances, numbers, arrays, unlike, gives_known, widened_lo, widened_hi, IsWorseShape}
 use Rattle.abs_widen.specs.Visits.{are_alike, local_pair, thrown_pair, row_at, ArePairs}
 
@@ -179,9 +180,9 @@ pub record IsWideningOf (types : WorldTypes) (a b : AbstractState) (pairs : List
   pub eq : (m n : ℕ) → AreEqual result m n ↔ (MayJoin result m n × OnOneSide MayBeOne a b pairs m n)
   pub share : (m n : ℕ) → Share result m n ↔ (MayJoin result m n × MustShare a b pairs result m n)
 
--- the widening of the one state by the other, of at most 512 pairs
+-- the widening of the one state by the other, of at most `most_ids` pairs
 pub record IsWidening (types : WorldTypes) (a b result : AbstractState) : Type 0 where
   pub pairs : List (ℕ × ℕ)
   pub are_pairs : ArePairs a b pairs
-  pub few : length pairs ≤ 512
+  pub few : length pairs ≤ most_ids
   pub is : IsWideningOf types a b pairs result

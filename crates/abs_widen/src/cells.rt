@@ -1,36 +1,25 @@
 //! The cells of a widening.
 ghost use Rattle.std.specs.Prelude.{◌≡◌, ◌+◌, ◌≤◌, ℕ, List, map, zip, true, length, None, Some, Ok, Err, IfOk, MatchOption};
 ghost use Rattle.jvm_values.specs.declared.types.Ty.{Ty};
-ghost use Rattle.jvm_values.specs.Subtyping.{IsReference, array_of};
+ghost use Rattle.jvm_values.specs.Subtyping.{IsReference};
 ghost use Rattle.jvm_values.specs.TypedHeaps.{world_types};
 ghost use Rattle.abs_cells.specs.Cells.{type_of_cell, cell_at, HasCell};
 ghost use Rattle.abs_cells.specs.Sound.{IsWellFormed};
-ghost use Rattle.abs_reach.specs.Instances.{can_be_null};
 ghost use Rattle.lin_core.specs.declared.intervals.Interval.{Interval};
 ghost use Rattle.abs_cells.specs.declared.cells.Cell.TheVariants.{Obj, Nums};
+ghost use Rattle.abs_cells.specs.Limits.{most_ids};
 ghost use Rattle.abs_widen.specs.Rows.{fields_in, length_in, interval_in, array_in};
 ghost use Rattle.abs_widen.specs.Widening.{number_of, IsTypeOver, IsHazed, IsWidenedInt, IsMergedArray};
 
 use crate::ints::widened;
 use crate::numbers::{number_of, numbers_of};
-use crate::rows::{array_in, fields_in, interval_in, is_null, length_in};
+use crate::rows::{array_in, fields_in, interval_in, length_in};
 use crate::shapes::worse_shape;
 use abs_cells::{AbsState, Cell, Id, Ids, Pairs};
 use abs_reach::Marks;
-use jvm_values::{Base, Kind, Ty, Types, join};
+use jvm_values::{Kind, Ty, Types, array_of, array_of_numbers, class_type, join};
 use lin_core::Interval;
 use std::alloc::{AllocError, Global};
-
-/// The type of the arrays of a type.
-fn array_of(element: Ty) -> Ty
-    requires { element.dims + 1 ≤ 255 }
-    ensures { result ≡ array_of element }
-{
-    Ty {
-        dims: element.dims + 1,
-        base: element.base,
-    }
-}
 
 /// The type that a cell tells of its object, which is a reference type.
 fn type_of(cell: &Cell) -> Option<Ty>
@@ -38,28 +27,11 @@ fn type_of(cell: &Cell) -> Option<Ty>
     ensures { result ≡ type_of_cell cell.now }
 {
     match cell {
-        Cell::Obj(class, _) => Some(Ty {
-            dims: 0,
-            base: Base::Class(*class),
-        }),
-        Cell::Nums(kind, _) => Some(Ty {
-            dims: 1,
-            base: Base::Num(*kind),
-        }),
+        Cell::Obj(class, _) => Some(class_type(*class)),
+        Cell::Nums(kind, _) => Some(array_of_numbers(*kind)),
         Cell::Refs(element, _, _) => Some(array_of(*element)),
         Cell::Unk(bound, _, _) => Some(*bound),
         Cell::Int(_) | Cell::Null => None,
-    }
-}
-
-/// Whether a cell may describe null.
-fn can_be_null(cell: &Cell) -> bool
-    ensures { result ≡ can_be_null cell.now }
-{
-    match cell {
-        Cell::Null => true,
-        Cell::Unk(_, nullable, _) => *nullable,
-        Cell::Int(_) | Cell::Obj(_, _) | Cell::Nums(_, _) | Cell::Refs(_, _, _) => false,
     }
 }
 
@@ -102,7 +74,7 @@ pub(crate) fn hazed<T: Types, P: Pairs>(
         return None;
     };
     let shape = worse_shape(a, b, pair, marks);
-    let nullable = can_be_null(cell) || can_be_null(other);
+    let nullable = cell.can_be_null() || other.can_be_null();
     Some(Cell::Unk(bound, nullable, shape))
 }
 
@@ -114,7 +86,7 @@ pub(crate) fn instance_cell(
     ids: &Ids,
     other: &Cell,
 ) -> Result<Option<Cell>, AllocError>
-    requires few { length pairs.now ≤ 512 }
+    requires few { length pairs.now ≤ most_ids }
     requires long { (more : List ℕ) → fields_in class other.now ≡ Some more → length ids.now ≡ length more }
     ensures { IfOk result (λ found. MatchOption found (fields_in class other.now ≡ None) (λ cell. (more : List ℕ) × ((fields_in class other.now ≡ Some more) × (cell ≡ Obj class (map (number_of pairs.now) (zip ids.now more)))))) }
 {
@@ -127,7 +99,7 @@ pub(crate) fn instance_cell(
 
 /// The cell of two arrays of numbers of one kind, or None where the other cell is no such array.
 pub(crate) fn numbers_cell(pairs: &[(Id, Id)], kind: Kind, len: Id, other: &Cell) -> Option<Cell>
-    requires few { length pairs.now ≤ 512 }
+    requires few { length pairs.now ≤ most_ids }
     ensures { MatchOption result (length_in kind other.now ≡ None) (λ cell. (more : ℕ) × ((length_in kind other.now ≡ Some more) × (cell ≡ Nums kind (number_of pairs.now (len, more))))) }
 {
     let Some(more) = length_in(kind, other) else {
@@ -163,7 +135,7 @@ pub(crate) fn array_cell<T: Types, P: Pairs>(
 ) -> Option<Cell>
     requires first { IsWellFormed a.now }
     requires second { IsWellFormed b.now }
-    requires few { length pairs.now ≤ 512 }
+    requires few { length pairs.now ≤ most_ids }
     requires there { HasCell (λ _. true) a.now pair.0 }
     requires beside { HasCell (λ _. true) b.now pair.1 }
     requires left { IsReference (T.classes types.now) element }

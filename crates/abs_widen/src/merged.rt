@@ -4,13 +4,14 @@ ghost use Rattle.abs_cells.specs.declared.cells.Cell.TheVariants.{Null};
 ghost use Rattle.std.specs.List.{AllByRecursion};
 ghost use Rattle.jvm_values.specs.TypedHeaps.{world_types};
 ghost use Rattle.abs_cells.specs.Sound.{IsWellFormed};
-ghost use Rattle.abs_widen.specs.Rows.{is_null, row_of, unlike};
+ghost use Rattle.abs_cells.specs.Cells.{is_null};
+ghost use Rattle.abs_cells.specs.Limits.{most_ids};
+ghost use Rattle.abs_widen.specs.Rows.{row_of, unlike};
 ghost use Rattle.abs_widen.specs.Widening.{IsRowCell, IsMergedCell, AreMergedCells};
 ghost use Rattle.abs_widen.specs.Visiting.{AreCellsOf, ArePairCells};
 
 use crate::cells::{array_cell, hazed, instance_cell, int_cell, numbers_cell};
 use crate::clashes::clashes;
-use crate::rows::is_null;
 use abs_cells::{AbsState, Cell, Id, Pairs};
 use abs_reach::{Marks, cell_of};
 use jvm_values::Types;
@@ -21,7 +22,7 @@ use std::alloc::{AllocError, Global};
 fn null_cell(other: &Cell) -> Option<Cell>
     ensures { MatchOption result (is_null other.now ≡ false) (λ cell. (is_null other.now ≡ true) × (cell ≡ Null)) }
 {
-    if is_null(other) {
+    if other.is_null() {
         Some(Cell::Null)
     } else {
         None
@@ -42,7 +43,7 @@ fn row_cell<T: Types, P: Pairs>(
 ) -> Result<Option<Cell>, AllocError>
     requires first { IsWellFormed a.now }
     requires second { IsWellFormed b.now }
-    requires few { length pairs.now ≤ 512 }
+    requires few { length pairs.now ≤ most_ids }
     requires cells { AreCellsOf (world_types (T.sub types.now) (T.erase types.now) (T.classes types.now) (T.fields types.now) (T.can_be_made types.now)) a.now b.now pair cell.now other.now }
     ensures { IfOk result (λ found. MatchOption found (row_of cell.now other.now ≡ unlike) (λ made. IsRowCell (world_types (T.sub types.now) (T.erase types.now) (T.classes types.now) (T.fields types.now) (T.can_be_made types.now)) a.now b.now pairs.now pair cell.now other.now (row_of cell.now other.now) made)) }
 {
@@ -70,7 +71,7 @@ fn merged_cell<T: Types, P: Pairs>(
 ) -> Result<Option<Cell>, AllocError>
     requires first { IsWellFormed a.now }
     requires second { IsWellFormed b.now }
-    requires few { length pairs.now ≤ 512 }
+    requires few { length pairs.now ≤ most_ids }
     requires cells { ArePairCells (world_types (T.sub types.now) (T.erase types.now) (T.classes types.now) (T.fields types.now) (T.can_be_made types.now)) a.now b.now pair }
     ensures { IfOk result (λ found. MatchOption found ⊥ (λ made. IsMergedCell (world_types (T.sub types.now) (T.erase types.now) (T.classes types.now) (T.fields types.now) (T.can_be_made types.now)) a.now b.now pairs.now pair made)) }
 {
@@ -101,7 +102,7 @@ pub(crate) fn merged_cells<T: Types, P: Pairs>(
 ) -> Result<Seq<(Id, Cell)>, AllocError>
     requires first { IsWellFormed a.now }
     requires second { IsWellFormed b.now }
-    requires few { length pairs.now ≤ 512 }
+    requires few { length pairs.now ≤ most_ids }
     requires cells { AllByRecursion (ArePairCells (world_types (T.sub types.now) (T.erase types.now) (T.classes types.now) (T.fields types.now) (T.can_be_made types.now)) a.now b.now) pairs.now }
     ensures { IfOk result (λ cells. (length cells ≡ length pairs.now) × AreMergedCells (world_types (T.sub types.now) (T.erase types.now) (T.classes types.now) (T.fields types.now) (T.can_be_made types.now)) a.now b.now pairs.now cells) }
 {

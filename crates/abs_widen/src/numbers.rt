@@ -4,6 +4,7 @@ ghost use Rattle.std.specs.List.{AllZip};
 ghost use Rattle.std.specs.Option.{option_map};
 ghost use Rattle.abs_cells.specs.PairLists.{is_same};
 ghost use Rattle.abs_cells.specs.Sound.{IsWellFormed};
+ghost use Rattle.abs_cells.specs.Limits.{most_ids};
 ghost use Rattle.abs_widen.specs.Widening.{number_of, merged_locals, merged_frame, merged_frames};
 ghost use Rattle.abs_widen.specs.Visiting.{AreAsLong};
 
@@ -23,7 +24,7 @@ fn place_of(pairs: &[(Id, Id)], pair: (Id, Id)) -> Option<usize>
 
 /// A pair's number: its place among the pairs, or their count.
 pub(crate) fn number_of(pairs: &[(Id, Id)], pair: (Id, Id)) -> Id
-    requires { length pairs.now ≤ 512 }
+    requires { length pairs.now ≤ most_ids }
     ensures { result ≡ number_of pairs.now pair }
 {
     match place_of(pairs, pair) {
@@ -34,7 +35,7 @@ pub(crate) fn number_of(pairs: &[(Id, Id)], pair: (Id, Id)) -> Id
 
 /// The number of a pair, if there is one.
 pub(crate) fn number_of_some(pairs: &[(Id, Id)], pair: Option<(Id, Id)>) -> Option<Id>
-    requires { length pairs.now ≤ 512 }
+    requires { length pairs.now ≤ most_ids }
     ensures { result ≡ option_map (number_of pairs.now) pair }
 {
     match pair {
@@ -54,7 +55,7 @@ fn merged_locals<P: Pairs>(
 ) -> Result<Seq<Option<Id>>, AllocError>
     requires first { IsWellFormed a.now }
     requires second { IsWellFormed b.now }
-    requires few { length pairs.now ≤ 512 }
+    requires few { length pairs.now ≤ most_ids }
     requires long { length locals.now ≡ length others.now }
     ensures { IfOk result (λ merged. merged ≡ merged_locals a.now b.now pairs.now locals.now others.now) }
 {
@@ -72,7 +73,7 @@ pub(crate) fn numbers_of(
     ids: &[Id],
     others: &[Id],
 ) -> Result<Vec<Id>, AllocError>
-    requires few { length pairs.now ≤ 512 }
+    requires few { length pairs.now ≤ most_ids }
     requires long { length ids.now ≡ length others.now }
     ensures { IfOk result (λ numbers. numbers.items ≡ map (number_of pairs.now) (zip ids.now others.now)) }
 {
@@ -94,7 +95,7 @@ fn merged_frame<P: Pairs>(
 ) -> Result<AbsFrame, AllocError>
     requires first { IsWellFormed a.now }
     requires second { IsWellFormed b.now }
-    requires few { length pairs.now ≤ 512 }
+    requires few { length pairs.now ≤ most_ids }
     requires long { AreAsLong frame.now other.now }
     ensures { IfOk result (λ merged. merged ≡ merged_frame a.now b.now pairs.now frame.now other.now) }
 {
@@ -114,7 +115,7 @@ fn merged_frames<P: Pairs>(
 ) -> Result<Seq<AbsFrame>, AllocError>
     requires first { IsWellFormed a.now }
     requires second { IsWellFormed b.now }
-    requires few { length pairs.now ≤ 512 }
+    requires few { length pairs.now ≤ most_ids }
     requires long { AllZip AreAsLong frames.now others.now }
     ensures { IfOk result (λ merged. merged ≡ merged_frames a.now b.now pairs.now frames.now others.now) }
 {
@@ -134,7 +135,7 @@ pub(crate) fn frames_of<P: Pairs>(
 ) -> Result<Seq<AbsFrame>, AllocError>
     requires first { IsWellFormed a.now }
     requires second { IsWellFormed b.now }
-    requires few { length pairs.now ≤ 512 }
+    requires few { length pairs.now ≤ most_ids }
     requires long { AllZip AreAsLong a.now.frames b.now.frames }
     ensures { IfOk result (λ frames. reverse frames ≡ merged_frames a.now b.now pairs.now a.now.frames b.now.frames) }
 {

@@ -2,26 +2,16 @@
 ghost use Rattle.std.specs.Prelude.{◌≡◌, ◌⊎◌, ◌↔◌, ◌+◌, ◌<◌, ◌≤◌, ℕ, List, true, length, if◌then◌else◌, IsTrue, None, Some, OnOk, IfOk, MatchOption};
 ghost use Rattle.std.specs.List.{AllByRecursion};
 ghost use Rattle.abs_cells.specs.PairLists.{added};
-ghost use Rattle.abs_cells.specs.Cells.{is_reference, cell_in, HasCell, AreEqual};
+ghost use Rattle.abs_cells.specs.Cells.{cell_in, AreEqual};
 ghost use Rattle.abs_cells.specs.Closures.{MayMeet, MayBeIn};
 ghost use Rattle.abs_cells.specs.Sound.{AreIdsRising, IsWellFormed};
+ghost use Rattle.abs_cells.specs.Limits.{most_ids};
 ghost use Rattle.abs_reach.specs.Instances.{MayBeOne};
 ghost use Rattle.abs_widen.specs.Pairing.{IsWithin, AreOne, may_join_cells, IsPairedAs, WantsOne, WantsShare, IsPut, AreJoinedTo, AreJoined};
 
 use abs_cells::{AbsState, Cell, Id, Pairs};
-use abs_reach::{Marks, cell_of, may_be_in, may_meet};
+use abs_reach::{Marks, cell_of, has_reference, may_be_in, may_meet};
 use std::alloc::{AllocError, Global};
-
-/// Whether an id's cell is that of a reference that is not null.
-fn counts<P: Pairs>(state: &AbsState<P>, id: Id) -> bool
-    requires { AreIdsRising 0 state.now.cells }
-    ensures { IsTrue result ↔ HasCell is_reference state.now id }
-{
-    match cell_of(state.cells(), id) {
-        Some(cell) => cell.is_reference(),
-        None => false,
-    }
-}
 
 /// Whether two ids are a pair with one object. The pairs rise, so that no id is one with itself.
 fn are_equal<P: Pairs>(state: &AbsState<P>, x: Id, y: Id) -> bool
@@ -39,7 +29,7 @@ fn may_be_one<P: Pairs>(state: &AbsState<P>, x: Id, y: Id) -> bool
     requires low { (x < 2048) × (y < 2048) }
     ensures { IsTrue result ↔ MayBeOne state.now x y }
 {
-    (x == y && counts(state, x)) || are_equal(state, x, y)
+    (x == y && has_reference(state, x)) || are_equal(state, x, y)
 }
 
 /// Whether two pairs may stand for one object on one side.
@@ -180,7 +170,7 @@ fn is_shared<P: Pairs>(
 /// Puts two ids among others, where that is wanted.
 fn put_if<P: Pairs>(list: &mut P, wanted: bool, m: usize, n: usize) -> Result<(), AllocError>
     requires order { m < n }
-    requires low { n < 512 }
+    requires low { n < most_ids }
     ensures { OnOk result (P.pairs list.new ≡ (if wanted then added m n (P.pairs list.old) else P.pairs list.old)) }
 {
     if wanted {
@@ -205,7 +195,7 @@ fn join_cells<P: Pairs>(
     requires first { IsWellFormed a.now }
     requires second { IsWellFormed b.now }
     requires within { AllByRecursion (IsWithin a.now b.now) pairs.now }
-    requires few { length pairs.now ≤ 512 }
+    requires few { length pairs.now ≤ most_ids }
     requires order { m < n }
     requires there { n < length pairs.now }
     ensures { OnOk result ((cells : List (ℕ × Cell)) → cell_in cells m ≡ Some first.now → cell_in cells n ≡ Some second.now → IsPut (WantsOne a.now b.now pairs.now cells) m n (P.pairs eq.old) (P.pairs eq.new) × IsPut (WantsShare a.now b.now pairs.now cells) m n (P.pairs shared.old) (P.pairs shared.new)) }
@@ -219,7 +209,7 @@ fn join_cells<P: Pairs>(
 /// The cell of a number among cells that rise, if it has one.
 fn cell_at(cells: &[(Id, Cell)], n: usize) -> Option<&Cell>
     requires rising { AreIdsRising 0 cells.now }
-    requires low { n < 512 }
+    requires low { n < most_ids }
     ensures { MatchOption result (cell_in cells.now n ≡ None) (λ cell. cell_in cells.now n ≡ Some cell.now) }
 {
     cell_of(cells, n as Id)
@@ -241,7 +231,7 @@ fn join_one<P: Pairs>(
     requires first { IsWellFormed a.now }
     requires second { IsWellFormed b.now }
     requires within { AllByRecursion (IsWithin a.now b.now) pairs.now }
-    requires few { length pairs.now ≤ 512 }
+    requires few { length pairs.now ≤ most_ids }
     requires rising { AreIdsRising 0 cells.now }
     requires cell { cell_in cells.now n ≡ Some second.now }
     requires order { m < n }
@@ -269,7 +259,7 @@ fn join_below<P: Pairs>(
     requires first { IsWellFormed a.now }
     requires second { IsWellFormed b.now }
     requires within { AllByRecursion (IsWithin a.now b.now) pairs.now }
-    requires few { length pairs.now ≤ 512 }
+    requires few { length pairs.now ≤ most_ids }
     requires rising { AreIdsRising 0 cells.now }
     requires cell { cell_in cells.now n ≡ Some second.now }
     requires there { n < length pairs.now }
@@ -297,7 +287,7 @@ fn join_row<P: Pairs>(
     requires first { IsWellFormed a.now }
     requires second { IsWellFormed b.now }
     requires within { AllByRecursion (IsWithin a.now b.now) pairs.now }
-    requires few { length pairs.now ≤ 512 }
+    requires few { length pairs.now ≤ most_ids }
     requires rising { AreIdsRising 0 cells.now }
     requires there { n < length pairs.now }
     requires eq { AreJoinedTo (WantsOne a.now b.now pairs.now cells.now) n 0 (P.pairs eq.old) }
@@ -323,7 +313,7 @@ pub(crate) fn joined<P: Pairs>(
     requires first { IsWellFormed a.now }
     requires second { IsWellFormed b.now }
     requires within { AllByRecursion (IsWithin a.now b.now) pairs.now }
-    requires few { length pairs.now ≤ 512 }
+    requires few { length pairs.now ≤ most_ids }
     requires rising { AreIdsRising 0 cells.now }
     ensures { IfOk result (λ both. AreJoined (WantsOne a.now b.now pairs.now cells.now) (P.pairs both.0) × AreJoined (WantsShare a.now b.now pairs.now cells.now) (P.pairs both.1)) }
 {

@@ -1,7 +1,7 @@
 //! What stands beside a cell in another one.
 ghost use Rattle.std.specs.Prelude.{◌≡◌, ◌++◌, ◌∷◌, MatchOption, None, Some, OnOk, zip};
 ghost use Rattle.std.specs.Option.{option_map_or};
-ghost use Rattle.abs_widen.specs.Rows.{instances, numbers, arrays, unlike, interval_in, is_null, fields_in, length_in, array_in, row_of, pairs_of};
+ghost use Rattle.abs_widen.specs.Rows.{instances, numbers, arrays, unlike, interval_in, fields_in, length_in, array_in, row_of, pairs_of};
 
 use abs_cells::{Cell, Id, Ids};
 use jvm_values::{Kind, Ty};
@@ -24,13 +24,6 @@ pub(crate) fn interval_in(cell: &Cell) -> Option<Interval>
         | Cell::Refs(_, _, _)
         | Cell::Unk(_, _, _) => None,
     }
-}
-
-/// Whether the cell is null's.
-pub(crate) fn is_null(cell: &Cell) -> bool
-    ensures { result ≡ is_null cell.now }
-{
-    matches!(cell, Cell::Null)
 }
 
 /// The ids of an instance of a class.

@@ -2,13 +2,12 @@
 ghost use Rattle.std.specs.Prelude.{◌≡◌, ◌↔◌, IsTrue, true, length};
 ghost use Rattle.std.specs.List.{AllZip};
 ghost use Rattle.abs_cells.specs.Sound.{IsWellFormed};
-ghost use Rattle.abs_reach.specs.Instances.{is_thrown};
 ghost use Rattle.abs_widen.specs.Visits.{are_alike};
 ghost use Rattle.abs_widen.specs.Widening.{AreFramesAlike, AreAlike};
 
 use crate::positions::are_alike;
 use abs_cells::{AbsFrame, AbsState, Id, Pairs};
-use abs_reach::is_same_head;
+use abs_reach::{is_same_head, is_same_mode};
 
 /// Whether ids stand beside ids of their sort, place by place: ints beside ints.
 fn are_ids_alike<P: Pairs>(a: &AbsState<P>, b: &AbsState<P>, ids: &[Id], others: &[Id]) -> bool
@@ -74,13 +73,6 @@ fn are_frames_alike<P: Pairs>(
         }
     }
     true
-}
-
-/// Whether an object is thrown in both or in none.
-fn is_same_mode(x: Option<Id>, y: Option<Id>) -> bool
-    ensures { IsTrue result ↔ (is_thrown x ≡ is_thrown y) }
-{
-    x.is_some() == y.is_some()
 }
 
 /// Whether two well-formed states stand alike, as `widen` asks: the same methods, places of instructions, numbers of locals and

@@ -7,7 +7,7 @@ ghost use Rattle.abs_widen.specs.Visiting.{Continues, IsNextOf, AreFew, ArePaire
 
 use crate::fault::WidenFault;
 use crate::rows::{Todo, push_named, push_pair};
-use abs_cells::{AbsState, Id, Pairs};
+use abs_cells::{AbsState, Id, MOST_IDS, Pairs};
 use abs_reach::cell_of;
 use list_views::Stack;
 use std::alloc::{AllocError, Global};
@@ -67,7 +67,7 @@ fn visit_all<P: Pairs>(
     ensures err { result ≡ Err TooManyIds → AreTooMany a.now b.now }
 {
     while let Some(pair) = next_new(todo, met) {
-        if met.len() >= 512 {
+        if met.len() >= MOST_IDS {
             return Err(WidenFault::TooManyIds);
         }
         met.push(pair)?;

@@ -3,6 +3,7 @@ ghost use Rattle.std.specs.Prelude.{◌≡◌, ◌≤◌, length, Err, IfOk};
 ghost use Rattle.std.specs.List.{AllZip, AllByRecursion};
 ghost use Rattle.jvm_values.specs.TypedHeaps.{world_types};
 ghost use Rattle.abs_cells.specs.Sound.{IsWellFormed, IsSound};
+ghost use Rattle.abs_cells.specs.Limits.{most_ids};
 ghost use Rattle.abs_widen.specs.declared.fault.WidenFault.TheVariants.{TooManyIds};
 ghost use Rattle.abs_widen.specs.Visits.{AreTooMany};
 ghost use Rattle.abs_widen.specs.Visiting.{AreAsLong, ArePairCells};
@@ -32,7 +33,7 @@ fn bare_state<T: Types, P: Pairs>(
     requires first { IsWellFormed a.now }
     requires second { IsWellFormed b.now }
     requires long { AllZip AreAsLong a.now.frames b.now.frames }
-    requires few { length pairs.now ≤ 512 }
+    requires few { length pairs.now ≤ most_ids }
     requires cells { AllByRecursion (ArePairCells (world_types (T.sub types.now) (T.erase types.now) (T.classes types.now) (T.fields types.now) (T.can_be_made types.now)) a.now b.now) pairs.now }
     ensures { IfOk result (λ bare. IsMerged (world_types (T.sub types.now) (T.erase types.now) (T.classes types.now) (T.fields types.now) (T.can_be_made types.now)) a.now b.now pairs.now bare) }
 {
@@ -56,7 +57,7 @@ fn paired<P: Pairs>(
     requires second { IsWellFormed b.now }
     requires long { AllZip AreAsLong a.now.frames b.now.frames }
     requires within { AllByRecursion (IsWithin a.now b.now) pairs.now }
-    requires few { length pairs.now ≤ 512 }
+    requires few { length pairs.now ≤ most_ids }
     requires left { IsWellFormed left.now }
     ensures { IfOk result (λ paired. IsPaired a.now b.now pairs.now left.now paired) }
 {

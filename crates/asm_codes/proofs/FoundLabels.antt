@@ -1,5 +1,5 @@
 -- Labels found through an index.
-use Rattle.std.proofs.Common.{◌≡◌, ℕ, Bool, true, false, cond, ◌||◌, List, [], ◌∷◌, ◌++◌, Option, Some, None, refl, sym, ap, ◌∙◌, inl, inr, is_some}
+use Rattle.std.proofs.Common.{◌≡◌, ℕ, Bool, true, false, cond, ◌||◌, List, [], ◌∷◌, ◌++◌, Option, Some, None, not, refl, sym, ap, ◌∙◌, inl, inr, is_some}
 use Rattle.std.proofs.Math.Path.{fun_ext}
 use Rattle.std.proofs.lemmas.Bool.{cases_Bool}
 use Rattle.std.proofs.lemmas.Slice.Eq.{bytes_eq-Decides}
@@ -58,10 +58,6 @@ kept es label place there = fun_ext (λ other. seen_before (place_in es other) (
 
 -- ---- labels alone
 
-any-map : {A : Type 0} (f : A → List ℕ) (test : List ℕ → Bool) (xs : List A) → list_any test (map f xs) ≡ list_any (λ x. test (f x)) xs
-any-map f test [] = refl
-any-map f test (x ∷ xs) = ap (λ b. test (f x) || b) (any-map f test xs)
-
 or_more : (a b c : Bool) → (a || b) || c ≡ a || (b || c)
 or_more true b c = refl
 or_more false b c = refl
@@ -74,9 +70,6 @@ any-push : (test : List ℕ → Bool) (xs : List (List ℕ)) (x : List ℕ) → 
 any-push test [] x = or_false (test x)
 any-push test (y ∷ ys) x = ap (λ b. test y || b) (any-push test ys x) ∙ sym (or_more (test y) (list_any test ys) (test x))
 
-pub is_among-map : {A : Type 0} (f : A → List ℕ) (xs : List A) (label : List ℕ) → is_among (map f xs) label ≡ list_any (λ x. bytes_eq label (f x)) xs
-is_among-map f xs label = any-map f (bytes_eq label) xs
-
 or_seen : (a b : Bool) → (a ≡ false → b ≡ false) → a ≡ (a || b)
 or_seen true b h = refl
 or_seen false b h = sym (h refl)
@@ -88,18 +81,11 @@ among_too xs label other there h =
       | inr differs ↦ differs
     ]
 
--- the list after an insertion, which adds what isn't there
-pub inserted : {A : Type 0} (f : A → List ℕ) (xs ys : List A) (a : A) → ys ≡ cond (list_any (λ x. bytes_eq (f a) (f x)) xs) xs (xs ++ a ∷ []) → is_among (map f ys) ≡ with_label (is_among (map f xs)) (f a)
-inserted {A = A} f xs ys a h =
-    elim (cases_Bool (list_any (λ x. bytes_eq (f a) (f x)) xs)) [
-      | inl there ↦
-          let same : ys ≡ xs = h ∙ ap (λ b. cond b xs (xs ++ a ∷ [])) there in
-          let among : is_among (map f xs) (f a) ≡ true = is_among-map f xs (f a) ∙ there in
-          ap (λ (zs : List A). is_among (map f zs)) same
-          ∙ fun_ext (λ other. or_seen (is_among (map f xs) other) (bytes_eq other (f a)) (among_too (map f xs) (f a) other among))
-      | inr new ↦
-          let more : ys ≡ xs ++ a ∷ [] = h ∙ ap (λ b. cond b xs (xs ++ a ∷ [])) new in
-          ap (λ (zs : List A). is_among (map f zs)) more
-          ∙ ap is_among (map-push f xs a)
-          ∙ fun_ext (λ other. any-push (bytes_eq other) (map f xs) (f a))
-    ]
+-- a label that is added where it isn't there, by what the set answers
+pub added : (xs ys : List (List ℕ)) (label : List ℕ) (fresh : Bool) → ys ≡ cond fresh (xs ++ label ∷ []) xs → list_any (bytes_eq label) xs ≡ cond fresh false true → is_among ys ≡ with_label (is_among xs) label
+added xs ys label true h there = ap is_among h ∙ fun_ext (λ other. any-push (bytes_eq other) xs label)
+added xs ys label false h there = ap is_among h ∙ fun_ext (λ other. or_seen (is_among xs other) (bytes_eq other label) (among_too xs label other there))
+
+pub is_new : (fresh there : Bool) → there ≡ cond fresh false true → fresh ≡ not there
+is_new true there h = rw h refl
+is_new false there h = rw h refl

@@ -174,10 +174,3 @@ code_said named caught lines h n =
 unfaulty : (o : Option AsmFault) (code answer : MethodCode) → answered o code ≡ Ok answer → (o ≡ None) × (code ≡ answer)
 unfaulty None code answer h = (refl, cc)
 unfaulty (Some fault) code answer h = absurd cc
-
-pub says_its_lines : (named : Operation → PoolOperand → Type 0) (caught : Option (List ℕ) → ℕ → Type 0) (lines : List Pooled) (code : MethodCode) → method_code lines ≡ Ok code → AllByRecursion (IsNamed named caught) lines
-    → SaysCode named caught (codes lines) code.bytes code.table
-unfolding method_code
-says_its_lines named caught lines code h n =
-    let u = unfaulty (first_fault (places_of lines) lines) (code_at (places_of lines) lines) code h in
-    subst (λ (c : MethodCode). SaysCode named caught (codes lines) c.bytes c.table) u.1 (code_said named caught lines u.0 n)

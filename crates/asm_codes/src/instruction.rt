@@ -44,7 +44,7 @@ pub(crate) fn target(labels: &Labels<'_>, label: &Seq<u8>) -> u16
 }
 
 /// A load or a store, behind `wide` where the local has two bytes; none where the opcode is none of a load or a store.
-pub fn local_insn(op: u8, local: u16) -> Option<Insn>
+fn local_insn(op: u8, local: u16) -> Option<Insn>
     ensures { result ≡ local_insn op local }
 {
     if local < 0x100 {
@@ -62,7 +62,7 @@ fn entry_insn(op: u8, entry: u16) -> Option<Insn>
 }
 
 /// `ldc` (opcode 18), or `ldc_w` where that is asked for or the entry has two bytes.
-pub fn load_insn(op: u8, entry: u16) -> Option<Insn>
+fn load_insn(op: u8, entry: u16) -> Option<Insn>
     ensures { result ≡ load_insn op entry }
 {
     if op == 18 && entry < 0x100 {
@@ -99,7 +99,7 @@ fn array_insn(code: u8) -> Option<Insn>
 }
 
 /// `iinc`, behind `wide` where the local or the number has two bytes.
-pub fn increment(local: u16, value: i16) -> Insn
+fn increment(local: u16, value: i16) -> Insn
     ensures { result ≡ increment local value }
 {
     if local < 0x100 && -0x80 <= value && value <= 0x7f {

@@ -5,7 +5,8 @@ ghost use Rattle.asm_codes.specs.Instructions.{target};
 ghost use Rattle.asm_codes.specs.Places.{place_in, with_place};
 ghost use Rattle.asm_codes.specs.LineFaults.{is_among, with_label};
 
-use indexmap::{IndexMap, IndexSet};
+use class_base::NameSet;
+use indexmap::IndexMap;
 use std::alloc::{AllocError, AllocFailed, Global};
 use std::marker::Model;
 
@@ -73,36 +74,11 @@ impl<'a> Labels<'a> {
     }
 }
 
-/// The labels of the lines so far. They are seen as their list.
-#[derive(Drop)]
-pub(crate) struct SeenLabels<'a> {
-    labels: IndexSet<&'a [u8]>,
-}
-
-impl<'a> Model for SeenLabels<'a> {
-    ghost use Rattle.std.specs.Prelude.{List, ℕ, map};
-
-    ghost Value = { List (List ℕ) };
-
-    ghost view = { λ s. map (λ k. k.now) s.labels.keys };
-}
-
-impl<'a> SeenLabels<'a> {
-    /// No labels.
-    pub(crate) fn new(alloc: Global) -> SeenLabels<'a>
-        ensures { result ≡ [] }
-    {
-        SeenLabels {
-            labels: IndexSet::new(alloc),
-        }
-    }
-
-    /// One more label, and whether it is new.
-    pub(crate) fn add(&mut self, label: &'a [u8]) -> Result<bool, AllocFailed<&'a [u8]>>
-        ensures labels { OnOk result (is_among self.new ≡ with_label (is_among self.old) label.now) }
-        ensures is_new { IfOk result (λ is_new. is_new ≡ not (is_among self.old label.now)) }
-    {
-        let (_, is_new) = self.labels.insert_full(label)?;
-        Ok(is_new)
-    }
+/// One more label of those of the lines so far, and whether it is new.
+pub(crate) fn add_label<'a>(seen: &mut NameSet<'a>, label: &'a [u8]) -> Result<bool, AllocError>
+    ensures labels { OnOk result (is_among seen.new ≡ with_label (is_among seen.old) label.now) }
+    ensures is_new { IfOk result (λ is_new. is_new ≡ not (is_among seen.old label.now)) }
+{
+    let is_new = seen.add(label)?;
+    Ok(is_new)
 }

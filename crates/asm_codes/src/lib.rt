@@ -13,6 +13,4 @@ mod places;
 mod pooled;
 
 pub use code::{MethodCode, method_code};
-pub use instruction::{increment, load_insn, local_insn};
-pub use line_fault::is_within;
 pub use pooled::{PoolOperand, PooledLine};

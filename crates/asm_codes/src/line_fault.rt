@@ -6,15 +6,16 @@ ghost use Rattle.std.specs.Option.{option_map_or};
 ghost use Rattle.asm_codes.specs.Places.{place_in, size_at};
 ghost use Rattle.asm_codes.specs.LineFaults.{operation_labels, catch_labels, item_labels, is_among, knows, is_within, is_near, is_far, reaches, passes, operation_is_out, is_catch, catch_is_out, item_is_out, is_out, fault_of, with_seen, first_fault};
 
-use crate::labels::{Labels, SeenLabels};
+use crate::labels::{Labels, add_label};
 use crate::places::size_at;
 use crate::pooled::PooledLine;
 use asm_lines::{AsmFault, CatchLine, Item, Number, Operation};
+use class_base::NameSet;
 use list_views::Seq;
 use std::alloc::{AllocError, Global};
 
 /// Whether a place is at most `limit` bytes behind another, or at most one more before it.
-pub fn is_within(limit: usize, pc: usize, target: usize) -> bool
+fn is_within(limit: usize, pc: usize, target: usize) -> bool
     requires { limit < 2 ^ 32 }
     ensures { result ≡ is_within limit pc target }
 {
@@ -221,15 +222,12 @@ fn fault_of(
 }
 
 /// Whether the label stood before; then it has.
-fn is_repeated<'a>(
-    seen: &mut SeenLabels<'a>,
-    label: &'a Option<Seq<u8>>,
-) -> Result<bool, AllocError>
+fn is_repeated<'a>(seen: &mut NameSet<'a>, label: &'a Option<Seq<u8>>) -> Result<bool, AllocError>
     ensures labels { OnOk result (is_among seen.new ≡ with_seen (is_among seen.old) label.now) }
     ensures repeated { IfOk result (λ repeated. repeated ≡ option_map_or (is_among seen.old) label.now false) }
 {
     match label {
-        Some(label) => Ok(!seen.add(label.as_slice())?),
+        Some(label) => Ok(!add_label(seen, label.as_slice())?),
         None => Ok(false),
     }
 }
@@ -251,7 +249,7 @@ fn first_fault_seen<'a>(
     nothing: &Labels<'_>,
     labels: &Labels<'_>,
     lines: &[PooledLine<'a>],
-    seen: &mut SeenLabels<'a>,
+    seen: &mut NameSet<'a>,
 ) -> Result<Option<AsmFault>, AllocError>
     requires none { nothing.now ≡ [] }
     requires fresh { seen.old ≡ [] }
@@ -282,6 +280,6 @@ pub(crate) fn first_fault(
     requires { nothing.now ≡ [] }
     ensures { IfOk result (λ o. o ≡ first_fault (place_in labels.now) lines.now) }
 {
-    let mut seen = SeenLabels::new(alloc);
+    let mut seen = NameSet::new(alloc);
     first_fault_seen(alloc, nothing, labels, lines, &mut seen)
 }

@@ -5,7 +5,7 @@ use Rattle.std.specs.List.{position_or_len}
 use Rattle.std.proofs.lemmas.Bool.{cases_Bool, ltb-false}
 use Rattle.std.proofs.lemmas.Grind.{common_steps}
 use Rattle.std.proofs.Math.Seq.{take-length}
-use Rattle.asm_lines.specs.Parts.{onto, parts}
+use Rattle.asm_lines.specs.LinesAndWords.{onto, parts}
 
 abbrev first_len : ℕ → List ℕ → ℕ
 first_len at bytes = position_or_len (λ b. eqb b at) bytes

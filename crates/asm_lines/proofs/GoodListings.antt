@@ -16,7 +16,7 @@ use Rattle.asm_lines.specs.declared.statement.ClassLine.{ClassLine}
 use Rattle.asm_lines.specs.Firsts.{is_before, with_fault}
 use Rattle.asm_lines.specs.Items.{Names, label_of}
 use Rattle.asm_lines.specs.Operations.{all_names}
-use Rattle.asm_lines.specs.Parts.{is_plain, lines_of, words_of}
+use Rattle.asm_lines.specs.LinesAndWords.{is_plain, lines_of, words_of}
 use Rattle.list_views.specs.Results.{◌>>=◌}
 use Rattle.asm_lines.specs.Statements.{Said, Words, constant_line, field_line, attribute_line, method_line}
 use Rattle.asm_lines.specs.Listings.{is_skipped, outside_of, make_method, with_outside, with_first, outside_line, labelled, read_item, item_in, code_line, with_code, with_said, method_of_line, plain_outside, with_line, with_lines, no_lines, with_unended, ended, class_said, first_line, listing_of}

@@ -27,7 +27,7 @@ use Rattle.asm_lines.specs.ClassLines.{plain_class, any_word, class_word, ends_c
 use Rattle.asm_lines.specs.Items.{caught, make_catch, catch_line, Names, operation_of, plain_item, item_of}
 use Rattle.asm_lines.specs.Numbers.{is_digits, decimal, capped, number_of_digits, number_of}
 use Rattle.asm_lines.specs.Operations.{one_number, load_value, load_operation, member_operation, increment_operation, some_labels, table_operation, cases_of, lookup_operation, array_operation, operands, template, opcode_in, kind_code}
-use Rattle.asm_lines.specs.Parts.{onto, parts, is_word, words_of, is_plain_byte, is_plain}
+use Rattle.asm_lines.specs.LinesAndWords.{onto, parts, is_word, words_of, is_plain_byte, is_plain}
 use Rattle.list_views.specs.Results.{◌>>=◌}
 use Rattle.asm_lines.specs.Statements.{Said, Words, next_word, no_more, is_new, number_word, one_word, constant_of, constant_line, static_word, make_field, field_line, flag_of, flag_words, size_words, sizes_of, make_method, method_line, hex_word, make_attribute, attribute_line}
 

@@ -1,4 +1,4 @@
-pub mod Parts
+pub mod LinesAndWords
 pub mod Numbers
 pub mod Statements
 pub mod ClassLines

@@ -12,7 +12,7 @@ use Rattle.asm_lines.specs.declared.listing.MethodLines.{MethodLines}
 use Rattle.asm_lines.specs.declared.listing.Outside.{Outside}
 use Rattle.asm_lines.specs.declared.listing.Outside.TheVariants.{Constant, Field, Attribute, Method}
 use Rattle.asm_lines.specs.declared.listing.Listing.{Listing}
-use Rattle.asm_lines.specs.Parts.{is_plain, lines_of, words_of}
+use Rattle.asm_lines.specs.LinesAndWords.{is_plain, lines_of, words_of}
 use Rattle.asm_lines.specs.Firsts.{with_fault}
 use Rattle.list_views.specs.Results.{◌>>=◌}
 use Rattle.asm_lines.specs.Statements.{Said, Words, constant_line, field_line, attribute_line, method_line}

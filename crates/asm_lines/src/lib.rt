@@ -9,10 +9,10 @@ mod class_line;
 mod fault;
 mod first;
 mod item;
+mod lines_and_words;
 mod listing;
 mod number;
 mod operation;
-mod parts;
 mod statement;
 
 pub use fault::AsmFault;

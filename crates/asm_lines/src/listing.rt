@@ -9,8 +9,8 @@ use crate::class_line::class_line;
 use crate::fault::AsmFault;
 use crate::first::First;
 use crate::item::{Item, item_of, label_of};
+use crate::lines_and_words::{is_plain, lines, words};
 use crate::operation::Names;
-use crate::parts::{is_plain, lines, words};
 use crate::statement::{
     AttributeLine, ClassLine, Constant, FieldLine, MethodLine, attribute_line, constant_line,
     field_line, is, method_line,

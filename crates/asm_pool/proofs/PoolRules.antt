@@ -11,7 +11,7 @@ use Rattle.class_pool.specs.declared.entry.PoolEntry.{PoolEntry}
 use Rattle.class_pool.specs.Entry.{is_wide, is_barred, Fits}
 use Rattle.class_pool.specs.Text.{slots_of, places_of, stands, names_badly, text_of, utf8_at, class_of, class_name_at, IsPool}
 use Rattle.asm_pool.specs.Entries.{Entry, Utf8, Integer, Float, Long, Double, Class, Str, Member, NameAndType, with_named, has_text, is_short}
-use Rattle.asm_lines.specs.Parts.{is_plain_byte, is_plain}
+use Rattle.asm_lines.specs.LinesAndWords.{is_plain_byte, is_plain}
 use Rattle.asm_pool.specs.Pools.{Need, needed, brought, count_faults, numbered, number_of, pool_entry, firsts_in}
 use Rattle.asm_lines.proofs.Faultless.{is_less, first_of_both, second_of_both}
 use Rattle.asm_lines.proofs.PlainWords.{IsPlain}

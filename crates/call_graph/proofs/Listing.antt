@@ -182,9 +182,6 @@ receives_interface : (p : Program) (class : ℕ) (call : Call) → IsTrue (can_r
 unfolding can_receive
 receives_interface p class call r = made_within p.world class r
 
-no_receiver : (p : Program) (op : Op) (class : ℕ) → can_receive p.world op class ≡ false → IsTrue (can_receive p.world op class) → ⊥
-no_receiver p op class e r = false≢true (sym e ∙ r)
-
 -- ---- what an instruction can run
 
 of_target : (target : Option ℕ) (b : ℕ) → Has (option_to_list target) b → target ≡ Some b

@@ -12,7 +12,15 @@ use number_graphs::{Ranking, cycles_are_listed, falling_has_no_cycle, rank};
 use std::alloc::{AllocError, Global};
 
 /// The name of the method of a number.
-fn name_of(alloc: Global, program: &Program<'_>, number: u32) -> Result<MethodName, AllocError>
+///
+/// # Errors
+///
+/// Want of memory.
+pub fn method_name(
+    alloc: Global,
+    program: &Program<'_>,
+    number: u32,
+) -> Result<MethodName, AllocError>
     requires { number < length program.now.methods }
     ensures { IfOk result (λ name. IsNameOf (program_of program.now) number name) }
 {
@@ -39,7 +47,7 @@ pub fn acyclic(alloc: Global, program: &Program<'_>) -> Result<(), CallFault>
     match rank(alloc, graph.as_slice())? {
         Ranking::Ranks(_) => Ok(()),
         Ranking::Cycle(number) => {
-            let method = name_of(alloc, program, number)?;
+            let method = method_name(alloc, program, number)?;
             Err(CallFault::Recursive { method })
         }
     }

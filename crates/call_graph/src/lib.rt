@@ -5,5 +5,5 @@ mod calls;
 mod check;
 mod fault;
 
-pub use check::acyclic;
+pub use check::{acyclic, method_name};
 pub use fault::CallFault;

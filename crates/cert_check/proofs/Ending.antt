@@ -18,7 +18,8 @@ use Rattle.jvm_values.specs.States.{MachineState}
 use Rattle.jvm_values.specs.Terms.{IsTerm}
 use Rattle.jvm_values.specs.TypedHeaps.{WorldTypes, TypedHeapsAreClosed}
 use Rattle.jvm_heaps.specs.Marks.{IsMarked}
-use Rattle.jvm_heaps.proofs.MarkLaws.{open_count, set_only}
+use Rattle.list_views.specs.Lists.{open_count}
+use Rattle.jvm_heaps.proofs.MarkLaws.{set_only}
 use Rattle.jvm_heaps.proofs.MarkTurns.{none_marked}
 use Rattle.jvm_heaps.proofs.TermLaws.{ComesTo, one_step, step_more, fewer_open}
 use Rattle.abs_cells.specs.declared.cells.Cell.{Cell}

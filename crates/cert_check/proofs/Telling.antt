@@ -8,7 +8,7 @@ use Rattle.descent.specs.declared.faults.StepFault.TheVariants as proofs
 use Rattle.descent.specs.declared.proof.ProofStep.{ProofStep}
 use Rattle.descent.specs.declared.rules.PathRule.{PathRule}
 use Rattle.descent.specs.Chains.{ChainsEnd}
-use Rattle.descent.specs.Steps.{proof_fault, Answers as ProofAnswers}
+use Rattle.descent.specs.Steps.{proof_fault, Refuses as ProofRefuses}
 use Rattle.term_graph.specs.declared.links.Link.{Link}
 use Rattle.term_graph.specs.declared.links.Links.{Links}
 use Rattle.term_graph.specs.Graphs.{GraphNode}
@@ -40,7 +40,7 @@ bad_paths case links (paths.Uncut node) graph cuts fails = record { links = link
 bad_paths case links paths.TooManyPaths graph cuts fails = record { links = links; graph = graph; cuts = cuts_are case cuts; fails = fails; known = λ e. absurd cc; item_is = refl }
 bad_paths case links (paths.TooManyRows path) graph cuts fails = record { links = links; graph = graph; cuts = cuts_are case cuts; fails = fails; known = λ e. absurd cc; item_is = refl }
 
-pub bad_proof : (case : Case) (links : List (List Link)) (rules : List PathRule) (fault : StepFault) → HasGoodGraph case links → RulesOr case links (Ok rules) → ProofAnswers (Err fault) (proof_fault rules case.steps) → Tells case (Err (proof_refusal (length case.nodes) fault))
+pub bad_proof : (case : Case) (links : List (List Link)) (rules : List PathRule) (fault : StepFault) → HasGoodGraph case links → RulesOr case links (Ok rules) → ProofRefuses (Err fault) (proof_fault rules case.steps) → Tells case (Err (proof_refusal (length case.nodes) fault))
 bad_proof case links rules (proofs.At step fault) graph is fails = record { links = links; graph = graph; cuts = is.0; rules = rules; paths = is.1; step = step; fails = fails; item_is = refl }
 bad_proof case links rules proofs.Memory graph is fails = tt
 
@@ -81,7 +81,7 @@ module _ (p : Program) (typing : ℕ → CodeTypes) (root : AbstractState) (node
     pub rules_given : (are : Bool) (rules : List PathRule) → (IsTrue are ↔ AreCutsOf count cuts) → are ≡ true → PathAnswers nodes links cuts (Ok rules) → (steps : List ProofStep) → RulesOr (case_of p typing root nodes cuts steps) links (Ok rules)
     rules_given are rules tests t answers steps = (cuts_are (case_of p typing root nodes cuts steps) (subst (λ (n : ℕ). AreCutsOf n cuts) counted (tests.0 t)), answers)
 
-    pub proof_refused : (steps : List ProofStep) (rules : List PathRule) (fault : StepFault) (refusal : Refusal) → RulesOr (case_of p typing root nodes cuts steps) links (Ok rules) → ProofAnswers (Err fault) (proof_fault rules steps) → refusal ≡ proof_refusal count fault → Tells (case_of p typing root nodes cuts steps) (Err refusal)
+    pub proof_refused : (steps : List ProofStep) (rules : List PathRule) (fault : StepFault) (refusal : Refusal) → RulesOr (case_of p typing root nodes cuts steps) links (Ok rules) → ProofRefuses (Err fault) (proof_fault rules steps) → refusal ≡ proof_refusal count fault → Tells (case_of p typing root nodes cuts steps) (Err refusal)
     proof_refused steps rules fault refusal is fails e =
         subst (λ (r : Refusal). Tells (case_of p typing root nodes cuts steps) (Err r)) (sym (e ∙ ap (λ (n : ℕ). proof_refusal n fault) counted))
         (bad_proof (case_of p typing root nodes cuts steps) links rules fault graph is fails)

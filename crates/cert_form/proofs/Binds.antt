@@ -3,16 +3,12 @@ use Rattle.std.proofs.Common.{◌≡◌, ℕ, ◌<◌, ◌==◌, nat_lt, nat_le,
 use Rattle.std.proofs.lemmas.Bool.Decides.{nat_tests}
 use Rattle.serde_json.specs.Data.{Data, null, boolean, number, string, array, object}
 use Rattle.serde_json.specs.Events.{items_len}
+use Rattle.list_views.proofs.Steps.{bind_ok}
 use Rattle.json_view.specs.Located.{Located}
 use Rattle.json_view.specs.Reading.{items_of, item_of, item_count, field_of, only_of}
 use Rattle.cert_form.specs.declared.fault.CertFault.{CertFault}
 use Rattle.cert_form.specs.Answers.{Reader, json, wrong_kind, out_of_range, past_limit}
-use Rattle.cert_form.specs.Fields.{◌>>=◌, only, field, at_most, of_length, nth, longer_than, there_or, in_order, number_to, an_id, id_within}
-
--- both of two readers, one behind the other, had a good answer
-pub bind_ok : {A B : Type 0} (said : Result A CertFault) (next : A → Result B CertFault) (y : B) → (said >>= next) ≡ Ok y → (x : A) × ((said ≡ Ok x) × (next x ≡ Ok y))
-bind_ok (Ok x) next y e = (x, (refl, e))
-bind_ok (Err fault) next y e = let no : ⊥ = cc in absurd no
+use Rattle.cert_form.specs.Fields.{field, at_most, of_length, nth, longer_than, there_or, in_order, number_to, an_id, id_within}
 
 -- a test that has no fault stands where its answer is good
 pub test_ok : {A : Type 0} (test : Bool) (said other : Result A CertFault) (x : A) → ((f : A) → other ≡ Ok f → ⊥) → cond test said other ≡ Ok x → (test ≡ true) × (said ≡ Ok x)
@@ -25,19 +21,13 @@ never fault x e = cc
 
 pub field_ok : {A : Type 0} (name : List ℕ) (reader : Reader A) (here : Located) (x : A) → field name reader here ≡ Ok x → (there : Located) × ((json (field_of name here) ≡ Ok there) × (reader there ≡ Ok x))
 unfolding field
-field_ok name reader here x e = bind_ok (json (field_of name here)) reader x e
+field_ok name reader here x e = let b = bind_ok (json (field_of name here)) reader x e in (b.0, (b.1, b.2))
 
 pub of_length_ok : {A : Type 0} (size : ℕ) (reader : Reader A) (here : Located) (x : A) → of_length size reader here ≡ Ok x → reader here ≡ Ok x
 unfolding of_length
 of_length_ok size reader here x e =
     let b = bind_ok (json (items_of here)) (λ count. cond (count == size) (reader here) (wrong_kind here)) x e in
-    (test_ok (b.0 == size) (reader here) (wrong_kind here) x (λ f. never _ f) b.1.1).1
-
-pub longer_ok : {A : Type 0} (least : ℕ) (reader : Reader A) (here : Located) (x : A) → longer_than least reader here ≡ Ok x → reader here ≡ Ok x
-unfolding longer_than
-longer_ok least reader here x e =
-    let b = bind_ok (json (items_of here)) (λ count. cond (nat_lt least count) (reader here) (wrong_kind here)) x e in
-    (test_ok (nat_lt least b.0) (reader here) (wrong_kind here) x (λ f. never _ f) b.1.1).1
+    (test_ok (b.0 == size) (reader here) (wrong_kind here) x (λ f. never _ f) b.2).1
 
 limit_ok : {A : Type 0} (over : Bool) (said other : Result A CertFault) (x : A) → ((f : A) → other ≡ Ok f → ⊥) → cond over other said ≡ Ok x → (over ≡ false) × (said ≡ Ok x)
 limit_ok true said other x bad e = absurd (bad x e)
@@ -48,7 +38,7 @@ pub at_most_ok : {A : Type 0} (most : ℕ) (reader : Reader A) (here : Located) 
 unfolding at_most
 at_most_ok most reader here x e =
     let b = bind_ok (json (items_of here)) (λ count. cond (nat_lt most count) (past_limit here) (reader here)) x e in
-    (b.0, (b.1.0, limit_ok (nat_lt most b.0) (reader here) (past_limit here) x (λ f. never _ f) b.1.1))
+    (b.0, (b.1, limit_ok (nat_lt most b.0) (reader here) (past_limit here) x (λ f. never _ f) b.2))
 
 pub nth_ok : {A : Type 0} (n : ℕ) (reader : Reader A) (here : Located) (x : A) → nth n reader here ≡ Ok x → (there : Located) × ((item_of n here ≡ Some there) × (reader there ≡ Ok x))
 unfolding nth
@@ -70,7 +60,7 @@ pub id_ok : (here : Located) (n : ℕ) → an_id here ≡ Ok n → n < 2048
 unfolding an_id
 id_ok here n e =
     let b = bind_ok (number_to 65535 here) (id_within here) n e in
-    let t = test_ok (nat_lt b.0 2048) (Ok b.0) (past_limit here) n (λ f. never _ f) b.1.1 in
+    let t = test_ok (nat_lt b.0 2048) (Ok b.0) (past_limit here) n (λ f. never _ f) b.2 in
     let same : b.0 ≡ n = let s = t.1 in cc in
     subst (λ (m : ℕ). m < 2048) same (is_below b.0 2048 t.0)
 
@@ -95,5 +85,5 @@ pub length_is : {A : Type 0} (size : ℕ) (reader : Reader A) (here : Located) (
 unfolding of_length
 length_is size reader here x e =
     let b = bind_ok (json (items_of here)) (λ count. cond (count == size) (reader here) (wrong_kind here)) x e in
-    let t = test_ok (b.0 == size) (reader here) (wrong_kind here) x (λ f. never _ f) b.1.1 in
-    sym (items_counted here b.0 b.1.0) ∙ is_count b.0 size t.0
+    let t = test_ok (b.0 == size) (reader here) (wrong_kind here) x (λ f. never _ f) b.2 in
+    sym (items_counted here b.0 b.1) ∙ is_count b.0 size t.0

@@ -8,7 +8,7 @@ use Rattle.serde_json.specs.Events.{items_len}
 use Rattle.serde_json.specs.Find.{get_member, as_object, as_array, as_str, as_bool}
 use Rattle.json_view.specs.Located.{Located, root_of}
 use Rattle.json_view.specs.Names.{least_unlisted, first_missing}
-use Rattle.json_view.specs.Reading.{only_of, field_of, items_of, item_of, at_item, at_member, int_of, text_of, flag_of, within, whole_number_of, result_and_then, first_fault, unknown_field, missing_field, of_kind}
+use Rattle.json_view.specs.Reading.{only_of, field_of, items_of, item_of, at_item, at_member, int_of, text_of, flag_of, within, whole_number_of, first_fault, unknown_field, missing_field, of_kind}
 use Rattle.json_view.specs.declared.fault.JsonFault.{JsonFault}
 use Rattle.json_view.specs.declared.fault.JsonFault.TheVariants as faults
 use Rattle.abs_cells.specs.declared.cells.Cell.{Cell}
@@ -29,12 +29,12 @@ use Rattle.cert_form.specs.declared.steps.RuleWord.{RuleWord}
 use Rattle.cert_form.specs.declared.steps.RuleWord.TheVariants as rule_words
 use Rattle.json_view.specs.Answers.{Reads}
 use Rattle.cert_form.specs.Answers.{Reader, Says, json, wrong_kind, out_of_range, past_limit}
-use Rattle.cert_form.specs.Fields.{◌>>=◌, only, field, entries_from, entries_of, at_most, of_length, nth, there_or, longer_than, in_order, key_in, number_to, a_number, a_place, id_within, an_id, an_int, maybe_to, maybe_number, maybe_within, maybe_id, long_to, a_multiple, a_constant}
-use Rattle.cert_form.specs.Types.{type_in, type_or, type_of_word, shape_of, shape_named, kind_of, kind_or}
-use Rattle.cert_form.specs.Cells.{a_cell_word, word_or, cell_word, up_to, bounds_or, int_cell, ids_of, obj_cell, nums_cell, refs_cell, unk_cell, cell_of, keyed_cell, cell_in}
+use Rattle.cert_form.specs.Fields.{◌>>=◌, only, field, entries_from, entries_of, at_most, of_length, nth, there_or, longer_than, word_or, a_word, in_order, key_in, number_to, a_number, a_place, id_within, an_id, an_int, maybe_to, maybe_number, maybe_within, maybe_id, long_to, a_multiple, a_constant}
+use Rattle.cert_form.specs.Types.{type_in, type_of_word, shape_of, shape_named, kind_of, kind_or}
+use Rattle.cert_form.specs.Cells.{cell_word, up_to, bounds_or, int_cell, ids_of, obj_cell, nums_cell, refs_cell, unk_cell, cell_of, keyed_cell, cell_in}
 use Rattle.cert_form.specs.States.{is_next_pair, two_ids, ordered_pair, pair_in, locals_of, frame_parts, frame_of, cells_of, frames_of, pairs_of, state_of}
-use Rattle.cert_form.specs.Ways.{a_way_word, way_word_or, numbers_of, map_entry, map_of, expand_of, instance_of, way_of, by_of}
-use Rattle.cert_form.specs.Steps.{row_parts, row_of, multipliers_of, a_weight, weight_parts, weight_in, multiple_parts, multiple_in, multiples_of, sized_list, form_parts, form_in, a_rule_word, rule_word_or, weak_of, strict_of, listed_of, rule_parts, rule_in, a_step_word, step_word_or, order_of, order_named, parts_of, steps_of, split_of, rank_parts, rank_of, dead_of, proof_step_of, step_of, proof_of}
+use Rattle.cert_form.specs.Ways.{way_word, numbers_of, map_entry, map_of, expand_of, instance_of, way_of, by_of}
+use Rattle.cert_form.specs.Steps.{row_parts, row_of, multipliers_of, a_weight, weight_parts, weight_in, multiple_parts, multiple_in, multiples_of, sized_list, form_parts, form_in, rule_word, weak_of, strict_of, listed_of, rule_parts, rule_in, step_word, order_of, order_named, parts_of, steps_of, split_of, rank_parts, rank_of, dead_of, proof_step_of, step_of, proof_of}
 use Rattle.cert_form.specs.Certificates.{whole_node, named_node, node_with, node_in, nodes_of, form_of, CertContent, cert_of, AnswersText}
 
 -- ---- faults that a value has
@@ -82,7 +82,7 @@ of_only : (names : List ℕ) (here : Located) → IsClean (only names here)
 unfolding only only_of
 of_only names here = at (as_object here.value)
   where
-    at : (found : Option Members) → IsClean (json (result_and_then (λ members. first_fault (option_map (unknown_field here.place) (least_unlisted names members)) (option_map (missing_field here.place) (first_missing names members))) (ok_or found (faults.WrongKind here.place))))
+    at : (found : Option Members) → IsClean (json (ok_or found (faults.WrongKind here.place) >>= λ members. first_fault (option_map (unknown_field here.place) (least_unlisted names members)) (option_map (missing_field here.place) (first_missing names members))))
     at (Some members) = firsts here.place (least_unlisted names members) (first_missing names members)
     at None = tt
 
@@ -90,7 +90,7 @@ field_is : (name : List ℕ) (here : Located) → IsClean (json (field_of name h
 unfolding field_of
 field_is name here = at (as_object here.value)
   where
-    at : (found : Option Members) → IsClean (json (result_and_then (λ members. ok_or (option_map (at_member here.place name) (get_member name members)) (missing_field here.place name)) (ok_or found (faults.WrongKind here.place))))
+    at : (found : Option Members) → IsClean (json (ok_or found (faults.WrongKind here.place) >>= λ members. ok_or (option_map (at_member here.place name) (get_member name members)) (missing_field here.place name)))
     at (Some members) = kinds (option_map (at_member here.place name) (get_member name members)) (missing_field here.place name) tt
     at None = tt
 
@@ -106,7 +106,7 @@ int low high here = at (whole_number_of here.value)
     inside true n = tt
     inside false n = tt
 
-    at : (found : Option ℤ) → IsClean (json (result_and_then (within here.place low high) (ok_or found (faults.WrongKind here.place))))
+    at : (found : Option ℤ) → IsClean (json (ok_or found (faults.WrongKind here.place) >>= within here.place low high))
     at (Some n) = inside (int_le low n && int_le n high) n
     at None = tt
 
@@ -211,13 +211,17 @@ of_numbers here = of_entries (λ _. a_number) (λ _. of_number) here
 
 -- ---- types and cells
 
+word_or_wrong : {A : Type 0} (here : Located) (found : Option A) → IsClean (word_or here found)
+word_or_wrong here (Some meant) = tt
+word_or_wrong here None = tt
+
+of_word : {A : Type 0} (means : List ℕ → Option A) → AreClean (a_word means)
+unfolding a_word
+of_word means here = bind _ _ (text here) (λ word. word_or_wrong here (means word))
+
 of_type : (names : List (List ℕ)) → AreClean (type_in names)
 unfolding type_in
-of_type names here = bind _ _ (text here) (λ word. at (type_of_word names word))
-  where
-    at : (found : Option _) → IsClean (type_or here found)
-    at (Some t) = tt
-    at None = tt
+of_type names here = bind _ _ (text here) (λ word. word_or_wrong here (type_of_word names word))
 
 of_shape : AreClean shape_of
 unfolding shape_of
@@ -235,14 +239,6 @@ of_kind_number here = bind _ _ (of_number_to 255 here) (λ n. at (kind_of_code n
   where
     at : (found : Option _) → IsClean (kind_or here found)
     at (Some kind) = tt
-    at None = tt
-
-of_cell_word : AreClean a_cell_word
-unfolding a_cell_word
-of_cell_word here = bind _ _ (text here) (λ word. at (cell_word word))
-  where
-    at : (found : Option CellWord) → IsClean (word_or here found)
-    at (Some word) = tt
     at None = tt
 
 of_up_to : (lo : ℤ) → AreClean (up_to lo)
@@ -272,7 +268,7 @@ of_keyed names front word here = bind _ _ (of_nth 0 an_id of_id here) (λ _. bin
 
 of_cell_in : (names : List (List ℕ)) (front : List (ℕ × Cell)) → AreClean (cell_in names front)
 unfolding cell_in
-of_cell_in names front here = bind _ _ (of_longer 1 _ (of_nth 1 a_cell_word of_cell_word) here) (λ word. of_size _ _ (of_keyed names front word) here)
+of_cell_in names front here = bind _ _ (of_longer 1 _ (of_nth 1 (a_word cell_word) (of_word cell_word)) here) (λ word. of_size _ _ (of_keyed names front word) here)
 
 -- ---- states
 
@@ -322,14 +318,6 @@ of_state names here =
 
 -- ---- nodes
 
-of_way_word : AreClean a_way_word
-unfolding a_way_word
-of_way_word here = bind _ _ (text here) (λ word. at (Rattle.cert_form.specs.Ways.way_word word))
-  where
-    at : (found : Option WayWord) → IsClean (way_word_or here found)
-    at (Some word) = tt
-    at None = tt
-
 of_map : AreClean map_of
 unfolding map_of map_entry
 of_map here = of_entries (λ _. map_entry) (λ _. of_size 2 two_ids of_two_ids) here
@@ -342,7 +330,7 @@ of_way way_words.End here = tt
 
 of_by : AreClean by_of
 unfolding by_of
-of_by here = bind _ _ (of_longer 0 _ (of_nth 0 a_way_word of_way_word) here) (λ word. of_size _ _ (of_way word) here)
+of_by here = bind _ _ (of_longer 0 _ (of_nth 0 (a_word way_word) (of_word way_word)) here) (λ word. of_size _ _ (of_way word) here)
 
 of_node_with : (names : List (List ℕ)) (lacks : Bool) → AreClean (node_with names lacks)
 unfolding named_node whole_node
@@ -394,25 +382,9 @@ unfolding weak_of strict_of
 of_listed rule_words.Weak rule here = bind _ _ (of_nth 2 multipliers_of of_multipliers here) (λ _. tt)
 of_listed rule_words.Strict rule here = bind _ _ (of_nth 2 multipliers_of of_multipliers here) (λ _. bind _ _ (of_nth 3 multipliers_of of_multipliers here) (λ _. tt))
 
-of_rule_word : AreClean a_rule_word
-unfolding a_rule_word
-of_rule_word here = bind _ _ (text here) (λ word. at (Rattle.cert_form.specs.Steps.rule_word word))
-  where
-    at : (found : Option RuleWord) → IsClean (rule_word_or here found)
-    at (Some word) = tt
-    at None = tt
-
 of_rule : (front : List RankRule) → AreClean (rule_in front)
 unfolding rule_in rule_parts
-of_rule front here = bind _ _ (of_longer 1 _ (of_nth 1 a_rule_word of_rule_word) here) (λ word. of_size _ (rule_parts front word) (λ there. bind _ _ (of_nth 0 a_number of_number there) (λ rule. bind _ _ (of_order _ there) (λ _. of_listed word rule there))) here)
-
-of_step_word : AreClean a_step_word
-unfolding a_step_word
-of_step_word here = bind _ _ (text here) (λ word. at (Rattle.cert_form.specs.Steps.step_word word))
-  where
-    at : (found : Option StepWord) → IsClean (step_word_or here found)
-    at (Some word) = tt
-    at None = tt
+of_rule front here = bind _ _ (of_longer 1 _ (of_nth 1 (a_word rule_word) (of_word rule_word)) here) (λ word. of_size _ (rule_parts front word) (λ there. bind _ _ (of_nth 0 a_number of_number there) (λ rule. bind _ _ (of_order _ there) (λ _. of_listed word rule there))) here)
 
 of_order_word : AreClean order_of
 unfolding order_of
@@ -447,7 +419,7 @@ of_kind_of_step step_words.Dead here = bind _ _ (of_nth 1 a_number of_number her
 
 of_step : AreClean step_of
 unfolding step_of
-of_step here = bind _ _ (of_longer 0 _ (of_nth 0 a_step_word of_step_word) here) (λ word. of_size _ _ (of_kind_of_step word) here)
+of_step here = bind _ _ (of_longer 0 _ (of_nth 0 (a_word step_word) (of_word step_word)) here) (λ word. of_size _ _ (of_kind_of_step word) here)
 
 of_proof : AreClean proof_of
 unfolding proof_of

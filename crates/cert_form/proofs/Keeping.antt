@@ -6,10 +6,10 @@ use Rattle.serde_json.specs.Events.{items_len}
 use Rattle.serde_json.specs.Find.{get_item, at}
 use Rattle.json_view.specs.Located.{Located}
 use Rattle.json_view.specs.Reading.{item_of, item_count, at_item}
+use Rattle.list_views.proofs.Steps.{bind_ok}
 use Rattle.cert_form.specs.declared.fault.CertFault.{CertFault}
 use Rattle.cert_form.specs.Answers.{Reader, json}
-use Rattle.cert_form.specs.Fields.{◌>>=◌, entries_from, entries_of}
-use Rattle.cert_form.proofs.Binds.{bind_ok}
+use Rattle.cert_form.specs.Fields.{entries_from, entries_of}
 
 -- ---- what each entry keeps
 
@@ -17,7 +17,7 @@ keep_from : {A : Type 0} (Keeps : List A → Type 0) (reader : List A → Reader
 keep_from Keeps reader place n no_items front xs step k e = let same : front ≡ xs = cc in subst Keeps same k
 keep_from Keeps reader place n (item value rest) front xs step k e =
     let b = bind_ok (reader front (at_item place n value)) (λ x. entries_from reader (front ++ x ∷ []) place (suc n) rest) xs e in
-    keep_from Keeps reader place (suc n) rest (front ++ b.0 ∷ []) xs step (step front (at_item place n value) b.0 k b.1.0) b.1.1
+    keep_from Keeps reader place (suc n) rest (front ++ b.0 ∷ []) xs step (step front (at_item place n value) b.0 k b.1) b.2
 
 -- what holds of no entries, and stays with each one that is read, holds of all
 pub entries_keep : {A : Type 0} (Keeps : List A → Type 0) (reader : List A → Reader A) (here : Located) (xs : List A) → Keeps [] → ((f : List A) (there : Located) (x : A) → Keeps f → reader f there ≡ Ok x → Keeps (f ++ x ∷ [])) → entries_of reader here ≡ Ok xs → Keeps xs
@@ -47,7 +47,7 @@ stays_from : {A : Type 0} (reader : List A → Reader A) (place : List ℕ) (n :
 stays_from reader place n no_items front xs k y e g = let same : front ≡ xs = cc in subst (λ (ys : List _). slice_get ys k ≡ Some y) same g
 stays_from reader place n (item value rest) front xs k y e g =
     let b = bind_ok (reader front (at_item place n value)) (λ x. entries_from reader (front ++ x ∷ []) place (suc n) rest) xs e in
-    stays_from reader place (suc n) rest (front ++ b.0 ∷ []) xs k y b.1.1 (front_stays front b.0 k y g)
+    stays_from reader place (suc n) rest (front ++ b.0 ∷ []) xs k y b.2 (front_stays front b.0 k y g)
 
 -- an entry that was read, with those that stood in front of it
 pub record IsRead {A : Type 0} (reader : List A → Reader A) (there : Located) (xs : List A) (n : ℕ) : Type 0 where
@@ -69,13 +69,13 @@ read_from reader place n (item other rest) front xs zero value l e g =
     let same : other ≡ value = cc in
     let at_front : slice_get (front ++ b.0 ∷ []) n ≡ Some b.0 = subst (λ (m : ℕ). slice_get (front ++ b.0 ∷ []) m ≡ Some b.0) l (last_is front b.0) in
     let here : n ≡ n + zero = omega arith in
-    let first : IsRead reader (at_item place n value) xs n = record { front = front; entry = b.0; read = subst (λ (v : Data). reader front (at_item place n v) ≡ Ok b.0) same b.1.0; stands = stays_from reader place (suc n) rest (front ++ b.0 ∷ []) xs n b.0 b.1.1 at_front } in
+    let first : IsRead reader (at_item place n value) xs n = record { front = front; entry = b.0; read = subst (λ (v : Data). reader front (at_item place n v) ≡ Ok b.0) same b.1; stands = stays_from reader place (suc n) rest (front ++ b.0 ∷ []) xs n b.0 b.2 at_front } in
     subst (λ (m : ℕ). IsRead reader (at_item place m value) xs m) here first
 read_from reader place n (item other rest) front xs (suc k) value l e g =
     let b = bind_ok (reader front (at_item place n other)) (λ x. entries_from reader (front ++ x ∷ []) place (suc n) rest) xs e in
     let longer : length (front ++ b.0 ∷ []) ≡ suc n = one_longer front b.0 n l in
     let next : suc n + k ≡ n + suc k = omega arith in
-    subst (λ (m : ℕ). IsRead reader (at_item place m value) xs m) next (read_from reader place (suc n) rest (front ++ b.0 ∷ []) xs k value longer b.1.1 g)
+    subst (λ (m : ℕ). IsRead reader (at_item place m value) xs m) next (read_from reader place (suc n) rest (front ++ b.0 ∷ []) xs k value longer b.2 g)
 
 -- ---- how many entries there are
 
@@ -84,7 +84,7 @@ count_from reader place n no_items front xs e = let same : front ≡ xs = cc in 
 count_from reader place n (item value rest) front xs e =
     let b = bind_ok (reader front (at_item place n value)) (λ x. entries_from reader (front ++ x ∷ []) place (suc n) rest) xs e in
     let longer : length (front ++ b.0 ∷ []) ≡ suc (length front) = one_longer front b.0 (length front) refl in
-    let all : length xs ≡ length (front ++ b.0 ∷ []) + items_len rest = count_from reader place (suc n) rest (front ++ b.0 ∷ []) xs b.1.1 in
+    let all : length xs ≡ length (front ++ b.0 ∷ []) + items_len rest = count_from reader place (suc n) rest (front ++ b.0 ∷ []) xs b.2 in
     omega arith
 
 -- there are as many entries as the list has items

@@ -9,6 +9,7 @@ use Rattle.descent.specs.Conditions.{AreSteps}
 use Rattle.descent.specs.declared.proof.ProofStep.{ProofStep}
 use Rattle.term_graph.specs.Graphs.{GraphPart}
 use Rattle.term_graph.specs.declared.nodes.By.{By}
+use Rattle.list_views.proofs.Steps.{bind_ok}
 use Rattle.cert_form.specs.declared.certs.Kept.{Kept}
 use Rattle.cert_form.specs.declared.fault.CertFault.{CertFault}
 use Rattle.cert_form.specs.Answers.{Reader}
@@ -16,7 +17,7 @@ use Rattle.cert_form.specs.Fields.{◌>>=◌, only, field, entries_of}
 use Rattle.cert_form.specs.States.{state_of}
 use Rattle.cert_form.specs.Ways.{by_of}
 use Rattle.cert_form.specs.Certificates.{CertContent, is_named, whole_node, named_node, node_with, node_in, lacks_state, cert_of, kept, kept_of, parts_or_none, LackingAreNamed}
-use Rattle.cert_form.proofs.Binds.{bind_ok, items_counted}
+use Rattle.cert_form.proofs.Binds.{items_counted}
 use Rattle.cert_form.proofs.GoodSteps.{field_steps_ok}
 use Rattle.cert_form.proofs.Keeping.{entries_keep, entries_count}
 use Rattle.cert_form.proofs.Parts.{HasNodes, IsCert, cert_is}
@@ -49,9 +50,9 @@ whole_has : (names : List (List ℕ)) (there : Located) (part : GraphPart) → w
 unfolding whole_node
 whole_has names there part e none =
     let l = bind_ok (only (codes "by state") there) (λ listed. field (codes "by") by_of there >>= λ by. field (codes "state") (state_of names) there >>= λ state. Ok (record { state = Some state; by = by })) part e in
-    let b = bind_ok (field (codes "by") by_of there) (λ by. field (codes "state") (state_of names) there >>= λ state. Ok (record { state = Some state; by = by })) part l.1.1 in
-    let s = bind_ok (field (codes "state") (state_of names) there) (λ state. Ok (record { state = Some state; by = b.0 })) part b.1.1 in
-    let same : record { state = Some s.0; by = b.0 } ≡ part = let t = s.1.1 in cc in
+    let b = bind_ok (field (codes "by") by_of there) (λ by. field (codes "state") (state_of names) there >>= λ state. Ok (record { state = Some state; by = by })) part l.2 in
+    let s = bind_ok (field (codes "state") (state_of names) there) (λ state. Ok (record { state = Some state; by = b.0 })) part b.2 in
+    let same : record { state = Some s.0; by = b.0 } ≡ part = let t = s.2 in cc in
     some_is_none s.0 (ap (λ (p : GraphPart). p.state) same ∙ none)
   where
     some_is_none : (state : AbstractState) → Some state ≡ None → ⊥

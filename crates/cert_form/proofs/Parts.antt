@@ -19,6 +19,7 @@ use Rattle.abs_cells.specs.AbstractStates.{AbstractState}
 use Rattle.descent.specs.declared.proof.ProofStep.{ProofStep}
 use Rattle.term_graph.specs.Graphs.{GraphPart}
 use Rattle.term_graph.specs.declared.nodes.By.{By}
+use Rattle.list_views.proofs.Steps.{bind_ok}
 use Rattle.cert_form.specs.declared.fault.CertFault.{CertFault}
 use Rattle.cert_form.specs.Answers.{Reader, json, wrong_kind}
 use Rattle.cert_form.specs.Fields.{◌>>=◌, only, field, entries_of, at_most, longer_than, nth, there_or}
@@ -26,7 +27,7 @@ use Rattle.cert_form.specs.States.{state_of}
 use Rattle.cert_form.specs.Ways.{by_of, numbers_of}
 use Rattle.cert_form.specs.Steps.{proof_of}
 use Rattle.cert_form.specs.Certificates.{CertContent, whole_node, named_node, node_with, node_in, nodes_of, lacks_state, maybe_state, of_node, form_of, cert_of}
-use Rattle.cert_form.proofs.Binds.{bind_ok, field_ok, at_most_ok, items_counted}
+use Rattle.cert_form.proofs.Binds.{field_ok, at_most_ok, items_counted}
 use Rattle.cert_form.proofs.Entries.{count_is}
 use Rattle.cert_form.proofs.Keeping.{IsRead, entry_read, entries_count}
 
@@ -104,18 +105,18 @@ named_part : (names : List (List ℕ)) (there : Located) (part : GraphPart) → 
 unfolding named_node maybe_state
 named_part names there part e =
     let l = bind_ok (only (codes "by") there) (λ listed. field (codes "by") by_of there >>= λ by. Ok (record { state = None; by = by })) part e in
-    let b = bind_ok (field (codes "by") by_of there) (λ by. Ok (record { state = None; by = by })) part l.1.1 in
-    let same : record { state = None; by = b.0 } ≡ part = let s = b.1.1 in cc in
-    subst (λ (p : GraphPart). IsPart names there p) same (record { by = b.1.0; state = rw (lacking_has_none there l.0 l.1.0) refl })
+    let b = bind_ok (field (codes "by") by_of there) (λ by. Ok (record { state = None; by = by })) part l.2 in
+    let same : record { state = None; by = b.0 } ≡ part = let s = b.2 in cc in
+    subst (λ (p : GraphPart). IsPart names there p) same (record { by = b.1; state = rw (lacking_has_none there l.0 l.1) refl })
 
 whole_part : (names : List (List ℕ)) (there : Located) (part : GraphPart) → whole_node names there ≡ Ok part → IsPart names there part
 unfolding whole_node maybe_state
 whole_part names there part e =
     let l = bind_ok (only (codes "by state") there) (λ listed. field (codes "by") by_of there >>= λ by. field (codes "state") (state_of names) there >>= λ state. Ok (record { state = Some state; by = by })) part e in
-    let b = bind_ok (field (codes "by") by_of there) (λ by. field (codes "state") (state_of names) there >>= λ state. Ok (record { state = Some state; by = by })) part l.1.1 in
-    let s = bind_ok (field (codes "state") (state_of names) there) (λ state. Ok (record { state = Some state; by = b.0 })) part b.1.1 in
-    let same : record { state = Some s.0; by = b.0 } ≡ part = let t = s.1.1 in cc in
-    subst (λ (p : GraphPart). IsPart names there p) same (record { by = b.1.0; state = ap (λ (b : Bool). cond b (field (codes "state") (state_of names) there >>= λ state. Ok (Some state)) (Ok None)) (read_has (codes "state") (state_of names) there s.0 s.1.0) ∙ ap (λ (r : Result AbstractState CertFault). r >>= λ state. Ok (Some state)) s.1.0 })
+    let b = bind_ok (field (codes "by") by_of there) (λ by. field (codes "state") (state_of names) there >>= λ state. Ok (record { state = Some state; by = by })) part l.2 in
+    let s = bind_ok (field (codes "state") (state_of names) there) (λ state. Ok (record { state = Some state; by = b.0 })) part b.2 in
+    let same : record { state = Some s.0; by = b.0 } ≡ part = let t = s.2 in cc in
+    subst (λ (p : GraphPart). IsPart names there p) same (record { by = b.1; state = ap (λ (b : Bool). cond b (field (codes "state") (state_of names) there >>= λ state. Ok (Some state)) (Ok None)) (read_has (codes "state") (state_of names) there s.0 s.1) ∙ ap (λ (r : Result AbstractState CertFault). r >>= λ state. Ok (Some state)) s.1 })
 
 part_with : (names : List (List ℕ)) (lacks : Bool) (there : Located) (part : GraphPart) → node_with names lacks there ≡ Ok part → IsPart names there part
 part_with names true there part e = named_part names there part e
@@ -150,12 +151,12 @@ pub cert_is : (names : List (List ℕ)) (here : Located) (content : CertContent)
 unfolding cert_of
 cert_is names here content e =
     let l = bind_ok (only (codes "cuts form nodes proof") here) (λ listed. field (codes "form") form_of here >>= λ second. field (codes "cuts") numbers_of here >>= λ cuts. field (codes "nodes") (nodes_of names second) here >>= λ parts. field (codes "proof") proof_of here >>= λ proof. Ok (record { cuts = cuts; parts = parts; proof = proof })) content e in
-    let f = bind_ok (field (codes "form") form_of here) (λ second. field (codes "cuts") numbers_of here >>= λ cuts. field (codes "nodes") (nodes_of names second) here >>= λ parts. field (codes "proof") proof_of here >>= λ proof. Ok (record { cuts = cuts; parts = parts; proof = proof })) content l.1.1 in
-    let c = bind_ok (field (codes "cuts") numbers_of here) (λ cuts. field (codes "nodes") (nodes_of names f.0) here >>= λ parts. field (codes "proof") proof_of here >>= λ proof. Ok (record { cuts = cuts; parts = parts; proof = proof })) content f.1.1 in
-    let n = bind_ok (field (codes "nodes") (nodes_of names f.0) here) (λ parts. field (codes "proof") proof_of here >>= λ proof. Ok (record { cuts = c.0; parts = parts; proof = proof })) content c.1.1 in
-    let p = bind_ok (field (codes "proof") proof_of here) (λ proof. Ok (record { cuts = c.0; parts = n.0; proof = proof })) content n.1.1 in
-    let same : record { cuts = c.0; parts = n.0; proof = p.0 } ≡ content = let s = p.1.1 in cc in
-    subst (λ (x : CertContent). IsCert names here x) same (record { nodes = nodes_by names f.0 here n.0 n.1.0 (record { cuts = c.0; parts = n.0; proof = p.0 }) refl; cuts = c.1.0; proof = p.1.0 })
+    let f = bind_ok (field (codes "form") form_of here) (λ second. field (codes "cuts") numbers_of here >>= λ cuts. field (codes "nodes") (nodes_of names second) here >>= λ parts. field (codes "proof") proof_of here >>= λ proof. Ok (record { cuts = cuts; parts = parts; proof = proof })) content l.2 in
+    let c = bind_ok (field (codes "cuts") numbers_of here) (λ cuts. field (codes "nodes") (nodes_of names f.0) here >>= λ parts. field (codes "proof") proof_of here >>= λ proof. Ok (record { cuts = cuts; parts = parts; proof = proof })) content f.2 in
+    let n = bind_ok (field (codes "nodes") (nodes_of names f.0) here) (λ parts. field (codes "proof") proof_of here >>= λ proof. Ok (record { cuts = c.0; parts = parts; proof = proof })) content c.2 in
+    let p = bind_ok (field (codes "proof") proof_of here) (λ proof. Ok (record { cuts = c.0; parts = n.0; proof = proof })) content n.2 in
+    let same : record { cuts = c.0; parts = n.0; proof = p.0 } ≡ content = let s = p.2 in cc in
+    subst (λ (x : CertContent). IsCert names here x) same (record { nodes = nodes_by names f.0 here n.0 n.1 (record { cuts = c.0; parts = n.0; proof = p.0 }) refl; cuts = c.1; proof = p.1 })
 
 item_there : (n : ℕ) (items : Items) → n < items_len items → (value : Data) × (get_item n items ≡ Some value)
 item_there n no_items l = absurd (omega arith)

@@ -10,11 +10,12 @@ use Rattle.json_view.specs.Reading.{items_of}
 use Rattle.abs_cells.specs.PairLists.{is_before, is_same, IsFirst, IsRising, pair_of, with_pair, added}
 use Rattle.abs_cells.proofs.PairLaws.{before_is, is_before_from, never_both, never_itself, not_same}
 use Rattle.abs_cells.proofs.PairLaws as laws
+use Rattle.list_views.proofs.Steps.{bind_ok}
 use Rattle.cert_form.specs.declared.fault.CertFault.{CertFault}
 use Rattle.cert_form.specs.Answers.{Reader, Says, json, past_limit, out_of_range, wrong_kind}
 use Rattle.cert_form.specs.Fields.{◌>>=◌, field, entries_of, last_of, nth, of_length, in_order, an_id}
 use Rattle.cert_form.specs.States.{is_next_pair, two_ids, ordered_pair, pair_in, pairs_of}
-use Rattle.cert_form.proofs.Binds.{bind_ok, nth_ok, id_ok, order_ok, of_length_ok, field_ok}
+use Rattle.cert_form.proofs.Binds.{nth_ok, id_ok, order_ok, of_length_ok, field_ok}
 use Rattle.cert_form.proofs.Keeping.{entries_keep}
 
 abbrev Bounded : ℕ × ℕ → Type 0
@@ -37,9 +38,9 @@ two_below : (here : Located) (q : ℕ × ℕ) → two_ids here ≡ Ok q → q.1 
 unfolding two_ids
 two_below here q e =
     let a = bind_ok (nth 0 an_id here) (λ a. nth 1 an_id here >>= λ b. Ok (a, b)) q e in
-    let b = bind_ok (nth 1 an_id here) (λ b. Ok (a.0, b)) q a.1.1 in
-    let there = nth_ok 1 an_id here b.0 b.1.0 in
-    let same : (a.0, b.0) ≡ q = let s = b.1.1 in cc in
+    let b = bind_ok (nth 1 an_id here) (λ b. Ok (a.0, b)) q a.2 in
+    let there = nth_ok 1 an_id here b.0 b.1 in
+    let same : (a.0, b.0) ≡ q = let s = b.2 in cc in
     subst (λ (p : ℕ × ℕ). p.1 < 2048) same (id_ok there.0 b.0 there.1.1)
 
 is_lower : (n m : ℕ) → nat_lt n m ≡ true → n < m
@@ -49,10 +50,10 @@ ordered_ok : (front : List (ℕ × ℕ)) (here : Located) (q : ℕ × ℕ) → o
 unfolding ordered_pair
 ordered_ok front here q e =
     let p = bind_ok (two_ids here) (λ pair. in_order (nat_lt pair.0 pair.1 && is_next_pair front pair) here >>= λ order. Ok pair) q e in
-    let o = bind_ok (in_order (nat_lt p.0.0 p.0.1 && is_next_pair front p.0) here) (λ order. Ok p.0) q p.1.1 in
-    let same : p.0 ≡ q = let s = o.1.1 in cc in
-    let both = and_parts (nat_lt p.0.0 p.0.1) (is_next_pair front p.0) (order_ok _ here o.0 o.1.0) in
-    subst (λ (x : ℕ × ℕ). Bounded x × (is_next_pair front x ≡ true)) same (((is_lower p.0.0 p.0.1 both.0), two_below here p.0 p.1.0), both.1)
+    let o = bind_ok (in_order (nat_lt p.0.0 p.0.1 && is_next_pair front p.0) here) (λ order. Ok p.0) q p.2 in
+    let same : p.0 ≡ q = let s = o.2 in cc in
+    let both = and_parts (nat_lt p.0.0 p.0.1) (is_next_pair front p.0) (order_ok _ here o.0 o.1) in
+    subst (λ (x : ℕ × ℕ). Bounded x × (is_next_pair front x ≡ true)) same (((is_lower p.0.0 p.0.1 both.0), two_below here p.0 p.1), both.1)
 
 pair_step : (front : List (ℕ × ℕ)) (there : Located) (q : ℕ × ℕ) → IsRising front → pair_in front there ≡ Ok q → IsRising (front ++ q ∷ [])
 unfolding pair_in
@@ -64,9 +65,6 @@ pair_step front there q r e =
 pub pairs_rise : (here : Located) (pairs : List (ℕ × ℕ)) → pairs_of here ≡ Ok pairs → IsRising pairs
 unfolding pairs_of
 pairs_rise here pairs e = entries_keep (λ (ps : List (ℕ × ℕ)). IsRising ps) pair_in here pairs tt (λ f there x k r. pair_step f there x k r) e
-
-pub field_rises : (name : List ℕ) (here : Located) (pairs : List (ℕ × ℕ)) → field name pairs_of here ≡ Ok pairs → IsRising pairs
-field_rises name here pairs e = let f = field_ok name pairs_of here pairs e in pairs_rise f.0 pairs f.1.1
 
 -- ---- adding pairs to a set
 

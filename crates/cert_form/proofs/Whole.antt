@@ -7,10 +7,11 @@ use lib.Signed.{non_neg}
 use Rattle.std.specs.Int.{Width}
 use Rattle.std.specs.Option.{ok_or}
 use Rattle.json_view.specs.Located.{Located}
-use Rattle.json_view.specs.Reading.{int_of, within, result_and_then, whole_number_of}
+use Rattle.json_view.specs.Reading.{int_of, within, whole_number_of}
 use Rattle.json_view.specs.declared.fault.JsonFault.{JsonFault}
 use Rattle.json_view.specs.declared.fault.JsonFault.TheVariants.{OutOfRange, WrongKind}
 use Rattle.cert_form.specs.declared.fault.CertFault.{CertFault}
+use Rattle.list_views.specs.Results.{◌>>=◌}
 use Rattle.cert_form.specs.Answers.{json}
 
 is_at_most : (m n : ℤ) → int_le m n ≡ true → m ≤ℤ n
@@ -27,7 +28,7 @@ inside fault low high m n true t e =
     subst (λ (x : ℤ). IsWithin low high x) same (record { least = is_at_most low m p.0; greatest = is_at_most m high p.1 })
 inside fault low high m n false t e = let no : ⊥ = cc in absurd no
 
-inside_kind : (place : List ℕ) (low high n : ℤ) (found : Option ℤ) → json (result_and_then (within place low high) (ok_or found (WrongKind place))) ≡ Ok n → IsWithin low high n
+inside_kind : (place : List ℕ) (low high n : ℤ) (found : Option ℤ) → json (ok_or found (WrongKind place) >>= within place low high) ≡ Ok n → IsWithin low high n
 inside_kind place low high n (Some m) e = inside (OutOfRange place) low high m n (int_le low m && int_le m high) refl e
 inside_kind place low high n None e = let no : ⊥ = cc in absurd no
 

@@ -1,5 +1,6 @@
 -- What a reader of a certificate's JSON answers: what the value says, or the first fault, or want of memory.
-use Rattle.std.specs.Prelude.{◌≡◌, List, ℕ, length, Result, Ok, Err}
+use Rattle.std.specs.Prelude.{Bool, true, false, List, ℕ, length, Result, Err}
+use Rattle.list_views.specs.Results as results
 use Rattle.json_view.specs.Located.{Located}
 use Rattle.json_view.specs.declared.fault.JsonFault.{JsonFault}
 use Rattle.json_view.specs.declared.fault.JsonFault.TheVariants as faults
@@ -10,17 +11,18 @@ use Rattle.cert_form.specs.declared.fault.CertFault.TheVariants.{Json, Limit, Me
 abbrev pub Reader : Type 0 → Type 0
 Reader A = Located → Result A CertFault
 
+-- want of memory
+abbrev pub is_memory : CertFault → Bool
+is_memory Memory = true
+is_memory fault = false
+
 -- the answer is what is said, where `shows` is what a clause sees of it; want of memory may stand in its place
 abbrev pub Tells : {T A : Type 0} → (T → A) → Result T CertFault → Result A CertFault → Type 0
-Tells shows (Ok value) said = said ≡ Ok (shows value)
-Tells shows (Err Memory) said = Unit {0}
-Tells shows (Err fault) said = said ≡ Err fault
+Tells shows answer said = results.Gives is_memory shows answer said
 
 -- the same where a clause sees the value as it is
 abbrev pub Says : {A : Type 0} → Result A CertFault → Result A CertFault → Type 0
-Says (Ok value) said = said ≡ Ok value
-Says (Err Memory) said = Unit {0}
-Says (Err fault) said = said ≡ Err fault
+Says answer said = Tells (λ value. value) answer said
 
 -- a fault of JSON as a fault of certificates
 abbrev pub lifted : JsonFault → CertFault
@@ -29,8 +31,7 @@ lifted fault = Json fault
 
 -- what is read of JSON, with its fault as one of certificates
 abbrev pub json : {A : Type 0} → Result A JsonFault → Result A CertFault
-json (Ok value) = Ok value
-json (Err fault) = Err (Json fault)
+json said = results.with_fault Json said
 
 -- faults at a place
 abbrev pub wrong_kind : {A : Type 0} → Located → Result A CertFault
@@ -44,10 +45,8 @@ past_limit here = Err (Limit here.place)
 
 -- whether something is read, or its first fault
 abbrev pub done : {A : Type 0} → Result A CertFault → Result (Unit {0}) CertFault
-done (Ok value) = Ok tt
-done (Err fault) = Err fault
+done said = results.mapped (λ value. tt) said
 
 -- how many entries are read, or the first fault
 abbrev pub counted : {A : Type 0} → Result (List A) CertFault → Result ℕ CertFault
-counted (Ok entries) = Ok (length entries)
-counted (Err fault) = Err fault
+counted said = results.mapped length said

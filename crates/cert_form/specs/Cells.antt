@@ -6,7 +6,7 @@
 use Rattle.std.specs.Prelude.{ℕ, ℤ, pos, negsuc, ◌==◌, nat_lt, if◌then◌else◌, List, Option, Some, None, option_map, codes, Result, Ok, Err}
 use Rattle.std.specs.Str.{bytes_eq}
 use Rattle.json_view.specs.Located.{Located}
-use Rattle.json_view.specs.Reading.{items_of, int_of, text_of, flag_of}
+use Rattle.json_view.specs.Reading.{items_of, int_of, flag_of}
 use Rattle.lin_core.specs.Intervals.{interval_of}
 use Rattle.lin_core.specs.declared.intervals.Interval.{Interval as Bounds}
 use Rattle.abs_cells.specs.declared.cells.Cell.{Cell}
@@ -14,8 +14,8 @@ use Rattle.abs_cells.specs.declared.cells.Cell.TheVariants as cells
 use Rattle.cert_form.specs.declared.fault.CertFault.{CertFault}
 use Rattle.cert_form.specs.declared.cells.CellWord.{CellWord}
 use Rattle.cert_form.specs.declared.cells.CellWord.TheVariants.{Int, Null, Obj, Nums, Refs, Unk}
-use Rattle.cert_form.specs.Answers.{Reader, json, wrong_kind, out_of_range}
-use Rattle.cert_form.specs.Fields.{◌>>=◌, entries_of, nth, of_length, longer_than, a_number, an_id, an_int, key_in}
+use Rattle.cert_form.specs.Answers.{Reader, json, out_of_range}
+use Rattle.cert_form.specs.Fields.{◌>>=◌, entries_of, nth, of_length, longer_than, a_word, a_number, an_id, an_int, key_in}
 use Rattle.cert_form.specs.Types.{type_in, shape_of, kind_of}
 
 -- ---- words
@@ -38,13 +38,6 @@ cell_length Obj = 4
 cell_length Nums = 4
 cell_length Refs = 5
 cell_length Unk = 5
-
-abbrev pub word_or : Located → Option CellWord → Result CellWord CertFault
-word_or here (Some word) = Ok word
-word_or here None = wrong_kind here
-
-unfoldable pub a_cell_word : Reader CellWord
-a_cell_word here = json (text_of here) >>= λ word. word_or here (cell_word word)
 
 -- ---- what stands behind the word
 
@@ -108,4 +101,4 @@ keyed_cell names front word here = do
 
 -- a cell behind those of `front`
 unfoldable pub cell_in : List (List ℕ) → List (ℕ × Cell) → Reader (ℕ × Cell)
-cell_in names front here = longer_than 1 (nth 1 a_cell_word) here >>= λ word. of_length (cell_length word) (keyed_cell names front word) here
+cell_in names front here = longer_than 1 (nth 1 (a_word cell_word)) here >>= λ word. of_length (cell_length word) (keyed_cell names front word) here

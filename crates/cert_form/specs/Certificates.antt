@@ -13,6 +13,7 @@ use Rattle.json_view.specs.declared.fault.JsonFault.TheVariants as faults
 use Rattle.serde_json.specs.Data.{Data}
 use Rattle.abs_cells.specs.AbstractStates.{AbstractState}
 use Rattle.term_graph.specs.Graphs.{GraphPart}
+use Rattle.term_graph.specs.Limits.{most_nodes}
 use Rattle.term_graph.specs.declared.nodes.By.{By}
 use Rattle.term_graph.specs.declared.nodes.By.TheVariants.{Expand, Instance, End, Todo}
 use Rattle.descent.specs.declared.proof.ProofStep.{ProofStep}
@@ -71,7 +72,7 @@ unfoldable pub node_in : List (List ℕ) → Bool → List GraphPart → Reader 
 node_in names second front here = node_with names (lacks_state second front) here
 
 unfoldable pub nodes_of : List (List ℕ) → Bool → Reader (List GraphPart)
-nodes_of names second here = at_most 20000 (entries_of (node_in names second)) here
+nodes_of names second here = at_most most_nodes (entries_of (node_in names second)) here
 
 -- ---- the whole
 

@@ -1,17 +1,13 @@
 -- Readers of JSON values, one after another: the first fault stands for all.
-use Rattle.std.specs.Prelude.{ℕ, suc, ℤ, pos, negsuc, nat_abs, nat_le, nat_lt, unsigned_abs, Bool, List, [], ◌∷◌, ◌++◌, ◌==◌, if◌then◌else◌, ◌+◌, ◌-◌, length, slice_get, Option, Some, None, Result, Ok, Err}
+use Rattle.std.specs.Prelude.{ℕ, suc, ℤ, pos, negsuc, nat_abs, nat_le, nat_lt, unsigned_abs, Bool, List, [], ◌∷◌, ◌++◌, ◌==◌, if◌then◌else◌, ◌+◌, ◌-◌, length, slice_get, Option, Some, None, Result, Ok}
 use Rattle.std.specs.Option.{option_map_or}
+pub use Rattle.list_views.specs.Results.{◌>>=◌}
 use Rattle.serde_json.specs.Data.{Items, no_items, item}
 use Rattle.serde_json.specs.Find.{as_array}
 use Rattle.json_view.specs.Located.{Located}
-use Rattle.json_view.specs.Reading.{of_kind, only_of, field_of, items_of, item_of, at_item, int_of}
+use Rattle.json_view.specs.Reading.{of_kind, only_of, field_of, items_of, item_of, at_item, int_of, text_of}
 use Rattle.cert_form.specs.declared.fault.CertFault.{CertFault}
 use Rattle.cert_form.specs.Answers.{Reader, json, wrong_kind, out_of_range, past_limit}
-
-infixl 10 ◌>>=◌
-abbrev pub ◌>>=◌ : {A B : Type 0} → Result A CertFault → (A → Result B CertFault) → Result B CertFault
-(Ok value) >>= next = next value
-(Err fault) >>= next = Err fault
 
 -- ---- objects
 
@@ -53,6 +49,14 @@ nth n reader here = there_or here reader (item_of n here)
 -- what a reader says of a list of more than so many entries; a shorter one is of the wrong kind
 unfoldable pub longer_than : {A : Type 0} → ℕ → Reader A → Reader A
 longer_than least reader here = json (items_of here) >>= λ count. if nat_lt least count then reader here else wrong_kind here
+
+-- what a word stands for; one that stands for nothing is of the wrong kind
+abbrev pub word_or : {A : Type 0} → Located → Option A → Result A CertFault
+word_or here (Some meant) = Ok meant
+word_or here None = wrong_kind here
+
+unfoldable pub a_word : {A : Type 0} → (List ℕ → Option A) → Reader A
+a_word means here = json (text_of here) >>= λ word. word_or here (means word)
 
 -- an entry that stands in the order of its list
 abbrev pub in_order : Bool → Reader (Unit {0})

@@ -6,6 +6,7 @@ use Rattle.std.specs.Prelude.{ℕ, ◌&&◌, nat_lt, Bool, true, if◌then◌els
 use Rattle.std.specs.Option.{option_map_or}
 use Rattle.abs_cells.specs.AbstractStates.{AbstractFrame, AbstractState}
 use Rattle.abs_cells.specs.declared.cells.Cell.{Cell}
+use Rattle.abs_cells.specs.Limits.{most_ids}
 use Rattle.abs_cells.specs.PairLists.{is_before}
 use Rattle.cert_form.specs.Answers.{Reader}
 use Rattle.cert_form.specs.Fields.{◌>>=◌, only, field, entries_of, at_most, of_length, nth, in_order, last_of, a_number, a_place, an_id, maybe_id}
@@ -54,7 +55,7 @@ abbrev pub state_names : List ℕ
 state_names = codes "cells eq frames share throw"
 
 unfoldable pub cells_of : List (List ℕ) → Reader (List (ℕ × Cell))
-cells_of names here = at_most 512 (entries_of (cell_in names)) here
+cells_of names here = at_most most_ids (entries_of (cell_in names)) here
 
 unfoldable pub frames_of : Reader (List AbstractFrame)
 frames_of here = entries_of (λ _. frame_of) here

@@ -18,7 +18,7 @@ use Rattle.cert_form.specs.declared.steps.StepWord.TheVariants.{Empty, Split, Ra
 use Rattle.cert_form.specs.declared.steps.RuleWord.{RuleWord}
 use Rattle.cert_form.specs.declared.steps.RuleWord.TheVariants.{Weak, Strict}
 use Rattle.cert_form.specs.Answers.{Reader, json, wrong_kind, past_limit}
-use Rattle.cert_form.specs.Fields.{◌>>=◌, entries_of, at_most, of_length, longer_than, nth, in_order, last_of, next_key, key_in, a_number, maybe_number, an_id, a_multiple, a_constant}
+use Rattle.cert_form.specs.Fields.{◌>>=◌, entries_of, at_most, of_length, longer_than, nth, a_word, in_order, last_of, next_key, key_in, a_number, maybe_number, an_id, a_multiple, a_constant}
 use Rattle.cert_form.specs.Ways.{numbers_of}
 
 -- ---- multipliers
@@ -97,13 +97,6 @@ abbrev pub rule_length : RuleWord → ℕ
 rule_length Weak = 3
 rule_length Strict = 4
 
-abbrev pub rule_word_or : Located → Option RuleWord → Result RuleWord CertFault
-rule_word_or here (Some word) = Ok word
-rule_word_or here None = wrong_kind here
-
-unfoldable pub a_rule_word : Reader RuleWord
-a_rule_word here = json (text_of here) >>= λ word. rule_word_or here (rule_word word)
-
 unfoldable pub weak_of : ℕ → Reader RankRule
 weak_of rule here = nth 2 multipliers_of here >>= λ fall. Ok (listed.Weak rule fall)
 
@@ -134,7 +127,7 @@ rule_parts front word here = do
 
 -- a rule, behind those of `front`
 unfoldable pub rule_in : List RankRule → Reader RankRule
-rule_in front here = longer_than 1 (nth 1 a_rule_word) here >>= λ word. of_length (rule_length word) (rule_parts front word) here
+rule_in front here = longer_than 1 (nth 1 (a_word rule_word)) here >>= λ word. of_length (rule_length word) (rule_parts front word) here
 
 -- ---- steps
 
@@ -151,13 +144,6 @@ step_length Empty = 1
 step_length Split = 3
 step_length Rank = 6
 step_length Dead = 4
-
-abbrev pub step_word_or : Located → Option StepWord → Result StepWord CertFault
-step_word_or here (Some word) = Ok word
-step_word_or here None = wrong_kind here
-
-unfoldable pub a_step_word : Reader StepWord
-a_step_word here = json (text_of here) >>= λ word. step_word_or here (step_word word)
 
 -- whether sizes count
 abbrev pub order_named : Located → List ℕ → Result Bool CertFault
@@ -207,7 +193,7 @@ proof_step_of Rank here = rank_of here
 proof_step_of Dead here = dead_of here
 
 unfoldable pub step_of : Reader ProofStep
-step_of here = longer_than 0 (nth 0 a_step_word) here >>= λ word. of_length (step_length word) (proof_step_of word) here
+step_of here = longer_than 0 (nth 0 (a_word step_word)) here >>= λ word. of_length (step_length word) (proof_step_of word) here
 
 unfoldable pub proof_of : Reader (List ProofStep)
 proof_of here = entries_of (λ _. step_of) here

@@ -10,32 +10,21 @@ use Rattle.class_base.specs.Types.{field_type}
 use Rattle.class_base.specs.declared.types.FieldType.{FieldType}
 use Rattle.class_base.specs.declared.types.Element.{Element}
 use Rattle.class_base.specs.declared.types.Element.TheVariants.{Primitive, Object}
-use Rattle.jvm_values.specs.Kinds.{kind_of_code}
+use Rattle.jvm_values.specs.Kinds.{kind_of_code, kind_of_letter}
 use Rattle.jvm_values.specs.Subtyping.{class_type}
 use Rattle.jvm_values.specs.declared.types.Base.{Base}
 use Rattle.jvm_values.specs.declared.types.Base.TheVariants as bases
 use Rattle.jvm_values.specs.declared.types.Kind.{Kind}
-use Rattle.jvm_values.specs.declared.types.Kind.TheVariants as kinds
 use Rattle.jvm_values.specs.declared.types.Ty.{Ty}
 use Rattle.jvm_values.specs.declared.shape.Shape.{Shape}
 use Rattle.jvm_values.specs.declared.shape.Shape.TheVariants.{Tree, Dag, Any}
 use Rattle.cert_form.specs.declared.fault.CertFault.{CertFault}
 use Rattle.cert_form.specs.Answers.{Reader, json, wrong_kind, out_of_range}
-use Rattle.cert_form.specs.Fields.{◌>>=◌, number_to}
+use Rattle.cert_form.specs.Fields.{◌>>=◌, word_or, number_to}
 
 -- the number of the class of a name
 abbrev pub class_named : List (List ℕ) → List ℕ → Option ℕ
 class_named names name = position_from (bytes_eq name) 0 names
-
--- the kind of number of a primitive type's letter: `Z`, `C`, `B`, `S` and `I`; the machine has no long, float and double
-abbrev pub kind_of_letter : ℕ → Option Kind
-kind_of_letter letter =
-    if letter == 90 then Some kinds.Boolean
-    else if letter == 67 then Some kinds.Char
-    else if letter == 66 then Some kinds.Byte
-    else if letter == 83 then Some kinds.Short
-    else if letter == 73 then Some kinds.Int
-    else None
 
 abbrev pub base_of : List (List ℕ) → Element → Option Base
 base_of names (Primitive letter) = option_map (λ kind. bases.Num kind) (kind_of_letter letter)
@@ -51,13 +40,9 @@ type_of_word names word =
     if is_class_name word then option_map class_type (class_named names word)
     else option_and_then (array_type names) (field_type word)
 
-abbrev pub type_or : Located → Option Ty → Result Ty CertFault
-type_or here (Some t) = Ok t
-type_or here None = wrong_kind here
-
 -- a reference type; a word that names none is of the wrong kind
 unfoldable pub type_in : List (List ℕ) → Reader Ty
-type_in names here = json (text_of here) >>= λ word. type_or here (type_of_word names word)
+type_in names here = json (text_of here) >>= λ word. word_or here (type_of_word names word)
 
 -- the shape of a word; another word is of the wrong kind
 abbrev pub shape_named : Located → List ℕ → Result Shape CertFault

@@ -1,15 +1,12 @@
 -- How a node is left: `["expand",[child,..]]`, `["instance",target,[[id of the target, id here],..]]` or `["end"]`.
-use Rattle.std.specs.Prelude.{ℕ, if◌then◌else◌, List, Option, Some, None, codes, Result, Ok, Err}
+use Rattle.std.specs.Prelude.{ℕ, if◌then◌else◌, List, Option, Some, None, codes, Ok}
 use Rattle.std.specs.Str.{bytes_eq}
-use Rattle.json_view.specs.Located.{Located}
-use Rattle.json_view.specs.Reading.{text_of}
 use Rattle.term_graph.specs.declared.nodes.By.{By}
 use Rattle.term_graph.specs.declared.nodes.By.TheVariants as ways
-use Rattle.cert_form.specs.declared.fault.CertFault.{CertFault}
 use Rattle.cert_form.specs.declared.ways.WayWord.{WayWord}
 use Rattle.cert_form.specs.declared.ways.WayWord.TheVariants.{Expand, Instance, End}
-use Rattle.cert_form.specs.Answers.{Reader, json, wrong_kind}
-use Rattle.cert_form.specs.Fields.{◌>>=◌, entries_of, of_length, longer_than, nth, a_number}
+use Rattle.cert_form.specs.Answers.{Reader}
+use Rattle.cert_form.specs.Fields.{◌>>=◌, entries_of, of_length, longer_than, nth, a_word, a_number}
 use Rattle.cert_form.specs.States.{two_ids}
 
 abbrev pub way_word : List ℕ → Option WayWord
@@ -23,13 +20,6 @@ abbrev pub way_length : WayWord → ℕ
 way_length Expand = 2
 way_length Instance = 3
 way_length End = 1
-
-abbrev pub way_word_or : Located → Option WayWord → Result WayWord CertFault
-way_word_or here (Some word) = Ok word
-way_word_or here None = wrong_kind here
-
-unfoldable pub a_way_word : Reader WayWord
-a_way_word here = json (text_of here) >>= λ word. way_word_or here (way_word word)
 
 unfoldable pub numbers_of : Reader (List ℕ)
 numbers_of here = entries_of (λ _. a_number) here
@@ -56,4 +46,4 @@ way_of Instance here = instance_of here
 way_of End here = Ok ways.End
 
 unfoldable pub by_of : Reader By
-by_of here = longer_than 0 (nth 0 a_way_word) here >>= λ word. of_length (way_length word) (way_of word) here
+by_of here = longer_than 0 (nth 0 (a_word way_word)) here >>= λ word. of_length (way_length word) (way_of word) here

@@ -3,15 +3,16 @@ ghost use Rattle.std.specs.Prelude.{◌≡◌, ◌<◌, ◌≤◌};
 ghost use Rattle.json_view.specs.Located.{located};
 ghost use Rattle.json_view.specs.Reading.{item_count, flag_of};
 ghost use Rattle.cert_form.specs.Answers.{Says, json};
-ghost use Rattle.cert_form.specs.Fields.{nth, of_length, longer_than, next_key, key_in};
-ghost use Rattle.cert_form.specs.Cells.{cell_word, cell_length, a_cell_word, up_to, int_cell, ids_of, obj_cell, nums_cell, refs_cell, unk_cell, cell_of, keyed_cell, cell_in};
+ghost use Rattle.cert_form.specs.Fields.{nth, of_length, next_key, key_in};
+ghost use Rattle.cert_form.specs.Cells.{cell_length, up_to, int_cell, ids_of, obj_cell, nums_cell, refs_cell, unk_cell, cell_of, keyed_cell, cell_in};
 
 use crate::fault::CertFault;
 use crate::lists::{Said, list};
 use crate::names::ClassNames;
 use crate::numbers::{int, nth_id, nth_int, nth_number, ordered};
 use crate::types::{nth_kind, nth_shape, nth_type};
-use crate::values::{flag, items, out, text, wrong};
+use crate::values::{flag, items, out, wrong};
+use crate::words::{Word, word_in};
 use abs_cells::{Cell, Id, Ids};
 use json_view::View;
 use lin_core::Interval;
@@ -35,11 +36,12 @@ pub(crate) enum CellWord {
     Unk,
 }
 
-impl CellWord {
-    /// What a word stands for.
-    fn of(word: &str) -> Option<CellWord>
-        ensures { result ≡ cell_word word.now }
-    {
+impl Word for CellWord {
+    ghost use Rattle.cert_form.specs.Cells.{cell_word};
+
+    ghost means = { cell_word };
+
+    fn of(word: &str) -> Option<CellWord> {
         match word {
             "int" => Some(CellWord::Int),
             "null" => Some(CellWord::Null),
@@ -50,7 +52,9 @@ impl CellWord {
             _ => None,
         }
     }
+}
 
+impl CellWord {
     /// How many entries a cell of the word has.
     fn length(self) -> usize
         ensures { result ≡ cell_length self }
@@ -63,18 +67,6 @@ impl CellWord {
             CellWord::Refs => 5,
             CellWord::Unk => 5,
         }
-    }
-}
-
-/// The word of a cell.
-#[tactic(auto, unfolding(crate::specs::Cells::a_cell_word))]
-fn word(alloc: Global, view: &View<'_, '_>) -> Result<CellWord, CertFault>
-    ensures { Says result (a_cell_word (located view.now)) }
-{
-    let word = text(alloc, view)?;
-    match CellWord::of(word) {
-        Some(word) => Ok(word),
-        None => wrong(alloc, view),
     }
 }
 
@@ -221,18 +213,6 @@ fn keyed_cell(
     Ok((id, cell))
 }
 
-/// The word of a cell, as entry 1 of a list that may be too short.
-#[tactic(auto, unfolding(crate::specs::Fields::nth, crate::specs::Fields::longer_than))]
-fn word_in(alloc: Global, view: &View<'_, '_>) -> Result<CellWord, CertFault>
-    ensures { Says result (longer_than 1 (nth 1 a_cell_word) (located view.now)) }
-{
-    if items(alloc, view)? > 1 {
-        word(alloc, &view.item(1))
-    } else {
-        wrong(alloc, view)
-    }
-}
-
 impl Said<ClassNames> for (Id, Cell) {
     ghost use Rattle.cert_form.specs.Cells.{cell_in};
 
@@ -245,7 +225,7 @@ impl Said<ClassNames> for (Id, Cell) {
         front: &[(Id, Cell)],
         view: &View<'_, '_>,
     ) -> Result<(Id, Cell), CertFault> {
-        let word = word_in(alloc, view)?;
+        let word: CellWord = word_in(alloc, view, 1)?;
         if items(alloc, view)? == word.length() {
             keyed_cell(alloc, names, front, word, view)
         } else {

@@ -3,6 +3,7 @@ ghost use Rattle.std.specs.Prelude.{◌≡◌, ◌<◌, ◌≤◌, codes, length
 ghost use Rattle.json_view.specs.Located.{located};
 ghost use Rattle.descent.specs.Conditions.{AreSteps};
 ghost use Rattle.term_graph.specs.Graphs.{by_at, state_at};
+ghost use Rattle.term_graph.specs.Limits.{most_nodes};
 ghost use Rattle.cert_form.specs.Answers.{Says};
 ghost use Rattle.cert_form.specs.Fields.{field};
 ghost use Rattle.cert_form.specs.Ways.{numbers_of};
@@ -123,7 +124,7 @@ impl<'a> CertText<'a> {
     ) -> Result<CertText<'a>, CertFault>
         ensures answer { AnswersText (cert_of names.now) bytes.now result }
         ensures named { IfOk result (λ text. LackingAreNamed text.parts) }
-        ensures few { IfOk result (λ text. length text.parts ≤ 20000) }
+        ensures few { IfOk result (λ text. length text.parts ≤ most_nodes) }
         ensures steps { IfOk result (λ text. AreSteps text.proof) }
     {
         let value = parse(alloc, bytes)?;

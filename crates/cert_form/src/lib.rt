@@ -5,6 +5,7 @@ mod cells;
 mod certs;
 mod fault;
 mod fault_text;
+mod limits;
 mod lists;
 mod marks;
 mod names;
@@ -15,8 +16,10 @@ mod steps;
 mod types;
 mod values;
 mod ways;
+mod words;
 
 pub use certs::CertText;
 pub use fault::CertFault;
+pub use limits::MOST_CERTIFICATE_BYTES;
 pub use marks::NamedNodes;
 pub use names::ClassNames;

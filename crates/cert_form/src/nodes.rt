@@ -18,7 +18,7 @@ use crate::{values, ways};
 use json_view::View;
 use std::alloc::Global;
 use std::marker::Model;
-use term_graph::By;
+use term_graph::{By, MOST_NODES};
 
 /// What a node says. It is seen as a part of a graph.
 #[derive(Drop)]
@@ -137,7 +137,7 @@ fn count(
     ensures { Says result (counted (nodes_of names.now second (located view.now))) }
 {
     let count = items(alloc, view)?;
-    if count > 20000 {
+    if count > MOST_NODES {
         return past(alloc, view);
     }
     match read_all(alloc, names, second, view, count) {

@@ -14,7 +14,7 @@ use crate::names::ClassNames;
 use crate::numbers::{maybe_id, nth_id, nth_number, nth_place, ordered};
 use crate::values::{items, only, past, wrong};
 use crate::{numbers, values};
-use abs_cells::{AbsFrame, AbsState, Cell, Id, Pairs};
+use abs_cells::{AbsFrame, AbsState, Cell, Id, MOST_IDS, Pairs};
 use json_view::View;
 use list_views::Seq;
 use std::alloc::{AllocError, Global};
@@ -137,7 +137,7 @@ fn cells(
 ) -> Result<Seq<(Id, Cell)>, CertFault>
     ensures { Says result (cells_of names.now (located view.now)) }
 {
-    if items(alloc, view)? > 512 {
+    if items(alloc, view)? > MOST_IDS {
         past(alloc, view)
     } else {
         list(alloc, names, view)

@@ -3,14 +3,15 @@ ghost use Rattle.std.specs.Prelude.{◌≡◌, ◌<◌, ◌≤◌, ℤ};
 ghost use Rattle.json_view.specs.Located.{located};
 ghost use Rattle.json_view.specs.Reading.{item_count};
 ghost use Rattle.cert_form.specs.Answers.{Says};
-ghost use Rattle.cert_form.specs.Fields.{nth, of_length, longer_than, entries_of, next_key};
-ghost use Rattle.cert_form.specs.Steps.{row_parts, row_of, multipliers_of, a_weight, weight_parts, multiple_parts, multiples_of, sized_list, multiple_in, weight_in, next_cut, form_parts, form_in, rule_word, rule_length, a_rule_word, weak_of, strict_of, listed_of, number_of, next_rule, rule_parts, rule_in, step_word, step_length, a_step_word, order_of, parts_of, steps_of, split_of, rank_parts, rank_of, dead_of, proof_step_of, step_of, proof_of};
+ghost use Rattle.cert_form.specs.Fields.{nth, of_length, entries_of, next_key};
+ghost use Rattle.cert_form.specs.Steps.{row_parts, row_of, multipliers_of, a_weight, weight_parts, multiple_parts, multiples_of, sized_list, multiple_in, weight_in, next_cut, form_parts, form_in, rule_length, weak_of, strict_of, listed_of, number_of, next_rule, rule_parts, rule_in, step_length, order_of, parts_of, steps_of, split_of, rank_parts, rank_of, dead_of, proof_step_of, step_of, proof_of};
 
 use crate::fault::CertFault;
 use crate::lists::{Said, list};
 use crate::numbers::{nth_constant, nth_id, nth_multiple, nth_number, ordered};
 use crate::values::{items, past, text, whole, wrong};
 use crate::ways::numbers;
+use crate::words::{Word, word_in};
 use descent::{CutForm, ProofStep, RankRule, RankStep};
 use json_view::View;
 use list_views::Seq;
@@ -322,18 +323,21 @@ pub(crate) enum RuleWord {
     Strict,
 }
 
-impl RuleWord {
-    /// What a word stands for.
-    fn of(word: &str) -> Option<RuleWord>
-        ensures { result ≡ rule_word word.now }
-    {
+impl Word for RuleWord {
+    ghost use Rattle.cert_form.specs.Steps.{rule_word};
+
+    ghost means = { rule_word };
+
+    fn of(word: &str) -> Option<RuleWord> {
         match word {
             "weak" => Some(RuleWord::Weak),
             "strict" => Some(RuleWord::Strict),
             _ => None,
         }
     }
+}
 
+impl RuleWord {
     /// How many entries a listed rule has.
     fn length(self) -> usize
         ensures { result ≡ rule_length self }
@@ -342,30 +346,6 @@ impl RuleWord {
             RuleWord::Weak => 3,
             RuleWord::Strict => 4,
         }
-    }
-}
-
-/// The word of a listed rule.
-#[tactic(auto, unfolding(crate::specs::Steps::a_rule_word))]
-fn rule_word(alloc: Global, view: &View<'_, '_>) -> Result<RuleWord, CertFault>
-    ensures { Says result (a_rule_word (located view.now)) }
-{
-    let word = text(alloc, view)?;
-    match RuleWord::of(word) {
-        Some(word) => Ok(word),
-        None => wrong(alloc, view),
-    }
-}
-
-/// The word of a listed rule, as entry 1 of a list that may be too short.
-#[tactic(auto, unfolding(crate::specs::Fields::nth, crate::specs::Fields::longer_than))]
-fn rule_word_in(alloc: Global, view: &View<'_, '_>) -> Result<RuleWord, CertFault>
-    ensures { Says result (longer_than 1 (nth 1 a_rule_word) (located view.now)) }
-{
-    if items(alloc, view)? > 1 {
-        rule_word(alloc, &view.item(1))
-    } else {
-        wrong(alloc, view)
     }
 }
 
@@ -458,7 +438,7 @@ impl Said<()> for RankRule {
         front: &[RankRule],
         view: &View<'_, '_>,
     ) -> Result<RankRule, CertFault> {
-        let word = rule_word_in(alloc, view)?;
+        let word: RuleWord = word_in(alloc, view, 1)?;
         if items(alloc, view)? == word.length() {
             rule_parts(alloc, front, word, view)
         } else {
@@ -482,11 +462,12 @@ pub(crate) enum StepWord {
     Dead,
 }
 
-impl StepWord {
-    /// What a word stands for.
-    fn of(word: &str) -> Option<StepWord>
-        ensures { result ≡ step_word word.now }
-    {
+impl Word for StepWord {
+    ghost use Rattle.cert_form.specs.Steps.{step_word};
+
+    ghost means = { step_word };
+
+    fn of(word: &str) -> Option<StepWord> {
         match word {
             "empty" => Some(StepWord::Empty),
             "split" => Some(StepWord::Split),
@@ -495,7 +476,9 @@ impl StepWord {
             _ => None,
         }
     }
+}
 
+impl StepWord {
     /// How many entries a step has.
     fn length(self) -> usize
         ensures { result ≡ step_length self }
@@ -506,30 +489,6 @@ impl StepWord {
             StepWord::Rank => 6,
             StepWord::Dead => 4,
         }
-    }
-}
-
-/// The word of a step.
-#[tactic(auto, unfolding(crate::specs::Steps::a_step_word))]
-fn word(alloc: Global, view: &View<'_, '_>) -> Result<StepWord, CertFault>
-    ensures { Says result (a_step_word (located view.now)) }
-{
-    let word = text(alloc, view)?;
-    match StepWord::of(word) {
-        Some(word) => Ok(word),
-        None => wrong(alloc, view),
-    }
-}
-
-/// The word at the front of a list that may be empty.
-#[tactic(auto, unfolding(crate::specs::Fields::nth, crate::specs::Fields::longer_than))]
-fn first_word(alloc: Global, view: &View<'_, '_>) -> Result<StepWord, CertFault>
-    ensures { Says result (longer_than 0 (nth 0 a_step_word) (located view.now)) }
-{
-    if items(alloc, view)? > 0 {
-        word(alloc, &view.item(0))
-    } else {
-        wrong(alloc, view)
     }
 }
 
@@ -708,7 +667,7 @@ impl Said<()> for ProofStep {
         _: &[ProofStep],
         view: &View<'_, '_>,
     ) -> Result<ProofStep, CertFault> {
-        let word = first_word(alloc, view)?;
+        let word: StepWord = word_in(alloc, view, 0)?;
         if items(alloc, view)? == word.length() {
             proof_step(alloc, word, view)
         } else {

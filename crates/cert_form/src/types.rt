@@ -5,7 +5,7 @@ ghost use Rattle.json_view.specs.Located.{located};
 ghost use Rattle.json_view.specs.Reading.{item_count};
 ghost use Rattle.cert_form.specs.Answers.{Says};
 ghost use Rattle.cert_form.specs.Fields.{nth};
-ghost use Rattle.cert_form.specs.Types.{class_named, kind_of_letter, base_of, array_type, type_of_word, type_in, shape_of, kind_of};
+ghost use Rattle.cert_form.specs.Types.{class_named, base_of, array_type, type_of_word, type_in, shape_of, kind_of};
 
 use crate::fault::CertFault;
 use crate::names::ClassNames;
@@ -16,26 +16,12 @@ use json_view::View;
 use jvm_values::{Base, Kind, Shape, Ty};
 use std::alloc::Global;
 
-/// The kind of number of a primitive type's letter.
-fn kind_of_letter(letter: u8) -> Option<Kind>
-    ensures { result ≡ kind_of_letter letter }
-{
-    match letter {
-        b'Z' => Some(Kind::Boolean),
-        b'C' => Some(Kind::Char),
-        b'B' => Some(Kind::Byte),
-        b'S' => Some(Kind::Short),
-        b'I' => Some(Kind::Int),
-        _ => None,
-    }
-}
-
 /// What stands under the dimensions of an array type.
 fn base_of(names: &ClassNames, element: &Element<'_>) -> Option<Base>
     ensures { result ≡ base_of names.now element.now }
 {
     match element {
-        Element::Primitive(letter) => match kind_of_letter(*letter) {
+        Element::Primitive(letter) => match Kind::of_letter(*letter) {
             Some(kind) => Some(Base::Num(kind)),
             None => None,
         },

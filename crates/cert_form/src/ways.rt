@@ -3,14 +3,15 @@ ghost use Rattle.std.specs.Prelude.{◌≡◌, ◌<◌};
 ghost use Rattle.json_view.specs.Located.{located};
 ghost use Rattle.json_view.specs.Reading.{item_count};
 ghost use Rattle.cert_form.specs.Answers.{Says};
-ghost use Rattle.cert_form.specs.Fields.{nth, of_length, longer_than};
-ghost use Rattle.cert_form.specs.Ways.{way_word, way_length, a_way_word, numbers_of, map_of, expand_of, instance_of, way_of, by_of};
+ghost use Rattle.cert_form.specs.Fields.{nth, of_length};
+ghost use Rattle.cert_form.specs.Ways.{way_length, numbers_of, map_of, expand_of, instance_of, way_of, by_of};
 
 use crate::fault::CertFault;
 use crate::lists::{Said, list};
 use crate::numbers::nth_number;
 use crate::states::two_ids;
-use crate::values::{items, text, wrong};
+use crate::values::{items, wrong};
+use crate::words::{Word, word_in};
 use abs_cells::Id;
 use json_view::View;
 use list_views::Seq;
@@ -28,11 +29,12 @@ pub(crate) enum WayWord {
     End,
 }
 
-impl WayWord {
-    /// What a word stands for.
-    fn of(word: &str) -> Option<WayWord>
-        ensures { result ≡ way_word word.now }
-    {
+impl Word for WayWord {
+    ghost use Rattle.cert_form.specs.Ways.{way_word};
+
+    ghost means = { way_word };
+
+    fn of(word: &str) -> Option<WayWord> {
         match word {
             "expand" => Some(WayWord::Expand),
             "instance" => Some(WayWord::Instance),
@@ -40,7 +42,9 @@ impl WayWord {
             _ => None,
         }
     }
+}
 
+impl WayWord {
     /// How many entries a list that begins with the word has.
     fn length(self) -> usize
         ensures { result ≡ way_length self }
@@ -50,30 +54,6 @@ impl WayWord {
             WayWord::Instance => 3,
             WayWord::End => 1,
         }
-    }
-}
-
-/// A word.
-#[tactic(auto, unfolding(crate::specs::Ways::a_way_word))]
-fn word(alloc: Global, view: &View<'_, '_>) -> Result<WayWord, CertFault>
-    ensures { Says result (a_way_word (located view.now)) }
-{
-    let word = text(alloc, view)?;
-    match WayWord::of(word) {
-        Some(word) => Ok(word),
-        None => wrong(alloc, view),
-    }
-}
-
-/// The word at the front of a list that may be empty.
-#[tactic(auto, unfolding(crate::specs::Fields::nth, crate::specs::Fields::longer_than))]
-fn first_word(alloc: Global, view: &View<'_, '_>) -> Result<WayWord, CertFault>
-    ensures { Says result (longer_than 0 (nth 0 a_way_word) (located view.now)) }
-{
-    if items(alloc, view)? > 0 {
-        word(alloc, &view.item(0))
-    } else {
-        wrong(alloc, view)
     }
 }
 
@@ -161,7 +141,7 @@ fn way(alloc: Global, word: WayWord, view: &View<'_, '_>) -> Result<By, CertFaul
 pub(crate) fn by(alloc: Global, view: &View<'_, '_>) -> Result<By, CertFault>
     ensures { Says result (by_of (located view.now)) }
 {
-    let word = first_word(alloc, view)?;
+    let word: WayWord = word_in(alloc, view, 0)?;
     if items(alloc, view)? == word.length() {
         way(alloc, word, view)
     } else {

@@ -13,7 +13,7 @@ use list_views::Seq;
 use serde_json::Value;
 use std::alloc::{AllocError, Global};
 use table_cases::Case;
-use term_graph::{Graph, Node, PartSource};
+use term_graph::{Graph, MOST_NODES, Node, PartSource};
 
 /// The answer to a case.
 pub fn answer(alloc: Global, case: &Case<'_>) -> Result<String> {
@@ -76,7 +76,7 @@ fn second(alloc: Global, text: &CertText<'_>, names: &Names) -> Result<Seq<u8>> 
 fn whole_graph(alloc: Global, text: &CertText<'_>) -> Result<Graph<ListPairs>> {
     let mut graph = Graph::new(alloc);
     for n in 0..PartSource::<ListPairs>::count(text) {
-        if graph.len() >= 20_000 {
+        if graph.len() >= MOST_NODES {
             bail!("there are too many nodes");
         }
         graph.push(whole_node(alloc, text, n)?)?;

@@ -6,10 +6,7 @@ use json_cases::{count, field, id_pairs, item, natural, naturals, word};
 use json_view::View;
 use state_cases::state;
 use std::alloc::Global;
-use term_graph::{By, Graph, Node};
-
-/// How many nodes a case may have.
-const MOST_NODES: usize = 20_000;
+use term_graph::{By, Graph, MOST_NODES, Node};
 
 /// The graph of a list of nodes.
 pub fn graph(alloc: Global, world: &World<'_>, list: &View<'_, '_>) -> Result<Graph<ListPairs>> {

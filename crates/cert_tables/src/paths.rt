@@ -3,6 +3,7 @@
 ghost use Rattle.std.specs.Prelude.{◌≤◌, length};
 ghost use Rattle.class_program.specs.Views.{program_of};
 ghost use Rattle.abs_expand.specs.IntForms.{HasIntForms};
+ghost use Rattle.term_graph.specs.Limits.{most_nodes};
 ghost use Rattle.cert_tables.specs.Tests.{HaveIntStates};
 
 use crate::certs::value_of;
@@ -104,7 +105,7 @@ fn rules_from_root(
 ) -> Result<std::result::Result<Seq<PathRule>, Refusal>>
     requires forms { HasIntForms (program_of program.now) }
     requires ints { HaveIntStates graph (length graph) }
-    requires few { length graph ≤ 20000 }
+    requires few { length graph ≤ most_nodes }
 {
     let root = first_state(alloc, &graph)?;
     let mut graph = graph;
@@ -130,7 +131,7 @@ fn int_rules(
 ) -> Result<std::result::Result<Seq<PathRule>, Refusal>>
     requires forms { HasIntForms (program_of program.now) }
     requires ints { HaveIntStates graph.old (length graph.old) }
-    requires few { length graph.old ≤ 20000 }
+    requires few { length graph.old ≤ most_nodes }
 {
     int_links_fit();
     has_short_increments(program);

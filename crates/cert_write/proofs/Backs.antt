@@ -131,10 +131,6 @@ weight_back n l h place =
 
 -- ---- lists and their lengths
 
-pub items_as_many : (ds : List Data) → items_len (items_of ds) ≡ length ds
-items_as_many [] = refl
-items_as_many (d ∷ ds) = ap (λ (n : ℕ). suc n) (items_as_many ds)
-
 pub mapped_as_many : {A : Type 0} (write : A → Data) (xs : List A) → items_len (items_of (map write xs)) ≡ length xs
 mapped_as_many write [] = refl
 mapped_as_many write (x ∷ xs) = ap (λ (n : ℕ). suc n) (mapped_as_many write xs)

@@ -7,8 +7,8 @@ use Rattle.abs_cells.specs.AbstractStates.{AbstractState}
 use Rattle.term_graph.specs.Graphs.{GraphNode, GraphPart}
 use Rattle.term_graph.specs.declared.nodes.By.{By}
 use Rattle.term_graph.specs.declared.nodes.By.TheVariants.{Expand, Instance, End, Todo}
-use Rattle.cert_form.specs.Fields.{of_length, longer_than, nth, only, field, a_number}
-use Rattle.cert_form.specs.Ways.{a_way_word, numbers_of, map_entry, map_of, expand_of, instance_of, by_of}
+use Rattle.cert_form.specs.Fields.{of_length, longer_than, nth, a_word, only, field, a_number}
+use Rattle.cert_form.specs.Ways.{numbers_of, map_entry, map_of, expand_of, instance_of, by_of}
 use Rattle.cert_form.specs.Certificates.{is_named, whole_node, named_node, node_with, node_in}
 use Rattle.cert_write.specs.Data.{natural, naturals, pair, pairs, by, node, part_of, parts_from}
 use Rattle.cert_write.specs.Readable.{IsNumber, IsId, IsState, IsWay, IsStated, AreParts, IsNode}
@@ -29,7 +29,7 @@ unfolding map_of
 map_back ps all place = all_back (λ (p : ℕ × ℕ). IsId p.0 × IsId p.1) map_entry pair ps entry_back all place
 
 by_back : (way : By) → IsWay way → Back by_of (by way) way
-unfolding by_of longer_than count_of nth item_of a_way_word text_of of_length expand_of instance_of
+unfolding by_of longer_than count_of nth item_of a_word text_of of_length expand_of instance_of
 by_back (Expand children) is place = then_back _ _ children _ (numbers_back children is _) refl
 by_back (Instance target map) is place = then_back _ _ target _ (a_number_back target is.0 _) (then_back _ _ map _ (map_back map is.1 _) refl)
 by_back End is place = refl

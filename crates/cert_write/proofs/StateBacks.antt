@@ -17,8 +17,8 @@ use Rattle.jvm_values.specs.declared.types.Ty.{Ty}
 use Rattle.jvm_values.specs.declared.shape.Shape.{Shape}
 use Rattle.lin_core.specs.declared.intervals.Interval.{Interval as Bounds}
 use Rattle.cert_form.specs.declared.fault.CertFault.{CertFault}
-use Rattle.cert_form.specs.Fields.{◌>>=◌, of_length, longer_than, nth, only, field, key_in, next_key, an_id, maybe_id}
-use Rattle.cert_form.specs.Cells.{a_cell_word, bounds_or, up_to, int_cell, ids_of, obj_cell, nums_cell, refs_cell, unk_cell, keyed_cell, cell_in}
+use Rattle.cert_form.specs.Fields.{◌>>=◌, of_length, longer_than, nth, a_word, only, field, key_in, next_key, an_id, maybe_id}
+use Rattle.cert_form.specs.Cells.{bounds_or, up_to, int_cell, ids_of, obj_cell, nums_cell, refs_cell, unk_cell, keyed_cell, cell_in}
 use Rattle.cert_form.specs.States.{is_next_pair, two_ids, ordered_pair, pair_in, locals_of, frame_parts, frame_of, cells_of, frames_of, pairs_of, state_of}
 use Rattle.cert_write.specs.Data.{natural, integer, naturals, maybe, pair, pairs, list, cell, frame, state}
 use Rattle.cert_write.specs.Readable.{IsId, IsMaybe, RisesBy, IsCell, IsFrame, IsState}
@@ -98,7 +98,7 @@ unfolding unk_cell nth item_of flag_of
 unk_cell_back names id bound nullable shape all is place = then_back _ _ bound _ (type_back names bound all is _) (then_back _ _ shape _ (shape_back shape _) refl)
 
 cell_by : (names : List (List ℕ)) (front : List (ℕ × Cell)) (id : ℕ) (c : Cell) → AreNames names → next_key front ≤ id → id < 2048 → IsCell names c → Back (cell_in names front) (cell names (id, c)) (id, c)
-unfolding cell_in longer_than count_of nth item_of a_cell_word text_of of_length keyed_cell
+unfolding cell_in longer_than count_of nth item_of a_word text_of of_length keyed_cell
 cell_by names front id (cells.Int bounds) all next l is place = keyed_back names front id (cells.Int bounds) place _ next l (int_cell_back names id bounds is place)
 cell_by names front id cells.Null all next l is place = keyed_back names front id cells.Null place (Ok cells.Null) next l refl
 cell_by names front id (cells.Obj class ids) all next l is place = keyed_back names front id (cells.Obj class ids) place _ next l (obj_cell_back names id class ids is place)

@@ -15,8 +15,8 @@ use Rattle.descent.specs.declared.proof.RankStep.{RankStep}
 use Rattle.descent.specs.declared.proof.ProofStep.{ProofStep}
 use Rattle.descent.specs.declared.proof.ProofStep.TheVariants.{Empty, Split, Rank, Dead}
 use Rattle.cert_form.specs.Answers.{Reader, wrong_kind}
-use Rattle.cert_form.specs.Fields.{entries_of, of_length, longer_than, nth, next_key, maybe_number}
-use Rattle.cert_form.specs.Steps.{row_parts, row_of, multipliers_of, weight_parts, weight_in, multiple_parts, multiple_in, multiples_of, sized_list, next_cut, form_parts, form_in, a_rule_word, weak_of, strict_of, number_of, next_rule, rule_parts, rule_in, a_step_word, order_of, parts_of, steps_of, split_of, rank_parts, rank_of, dead_of, step_of, proof_of}
+use Rattle.cert_form.specs.Fields.{entries_of, of_length, longer_than, nth, a_word, next_key, maybe_number}
+use Rattle.cert_form.specs.Steps.{row_parts, row_of, multipliers_of, weight_parts, weight_in, multiple_parts, multiple_in, multiples_of, sized_list, next_cut, form_parts, form_in, weak_of, strict_of, number_of, next_rule, rule_parts, rule_in, order_of, parts_of, steps_of, split_of, rank_parts, rank_of, dead_of, step_of, proof_of}
 use Rattle.cert_form.specs.Ways.{numbers_of}
 use Rattle.cert_write.specs.Data.{naturals, maybe, list, entry, entries, form, rule, order_word, step}
 use Rattle.cert_write.specs.Readable.{IsNumber, IsMaybe, RisesBy, IsMultiplier, AreMultipliers, AreMultiples, OnlyWith, IsForm, IsRule, IsRank, IsStep}
@@ -83,7 +83,7 @@ form_back size front f next l is place =
     (then_back _ _ f.sizes _ (sized_back size multiple_in entry f.sizes is.sized (each_multiple f.sizes is.sizes) _) refl))))
 
 rule_back : (front : List RankRule) (r : RankRule) → next_rule front ≤ number_of r → number_of r < 4294967296 → IsRule r → Back (rule_in front) (rule r) r
-unfolding rule_in longer_than count_of nth item_of a_rule_word text_of of_length rule_parts weak_of strict_of
+unfolding rule_in longer_than count_of nth item_of a_word text_of of_length rule_parts weak_of strict_of
 rule_back front (Weak n fall) next l is place =
     then_back _ _ n _ (a_number_back n (in_32_bits n l) _)
     (then_back _ _ tt _ (order_back _ (record { value = rule (Weak n fall); place = place }) (within_most (next_rule front) n next))
@@ -129,7 +129,7 @@ steps_back count steps e all place =
     ∙ all_back (IsMaybe IsNumber) maybe_number maybe steps maybe_number_back all place
 
 pub step_back : (s : ProofStep) → IsStep s → Back step_of (step s) s
-unfolding step_of longer_than count_of nth item_of a_step_word text_of of_length split_of dead_of
+unfolding step_of longer_than count_of nth item_of a_word text_of of_length split_of dead_of
 step_back Empty is place = refl
 step_back (Split parts steps) is place = then_back _ _ parts _ (parts_back parts is.1.0 _) (then_back _ _ steps _ (steps_back (length parts) steps is.0 is.1.1 _) refl)
 step_back (Rank ranked rest) is place = rank_back ranked rest is.0 is.1 place

@@ -13,7 +13,7 @@ use Rattle.class_base.specs.declared.types.FieldType.{FieldType}
 use Rattle.class_base.specs.declared.types.Element.{Element}
 use Rattle.class_base.specs.declared.types.Element.TheVariants.{Primitive, Object}
 use Rattle.class_base.proofs.TypeLaws.{field_again}
-use Rattle.jvm_values.specs.Kinds.{kind_code, kind_of_code}
+use Rattle.jvm_values.specs.Kinds.{kind_code, kind_of_code, kind_of_letter}
 use Rattle.jvm_values.specs.Subtyping.{class_type, IsReference}
 use Rattle.jvm_values.specs.declared.types.Base.{Base}
 use Rattle.jvm_values.specs.declared.types.Base.TheVariants as bases
@@ -22,7 +22,8 @@ use Rattle.jvm_values.specs.declared.types.Kind.TheVariants as kinds
 use Rattle.jvm_values.specs.declared.types.Ty.{Ty}
 use Rattle.jvm_values.specs.declared.shape.Shape.{Shape}
 use Rattle.jvm_values.specs.declared.shape.Shape.TheVariants.{Tree, Dag, Any}
-use Rattle.cert_form.specs.Types.{class_named, kind_of_letter, base_of, array_type, type_of_word, type_or, type_in, shape_of, kind_or, kind_of}
+use Rattle.cert_form.specs.Types.{class_named, base_of, array_type, type_of_word, type_in, shape_of, kind_or, kind_of}
+use Rattle.cert_form.specs.Fields.{word_or}
 use Rattle.cert_form.proofs.Parts.{get_there}
 use Rattle.cert_write.specs.Data.{natural, kind_letter, class_name, base_text, named_base, type_word, shape_word}
 use Rattle.cert_write.specs.Readable.{AreDistinct}
@@ -141,7 +142,7 @@ by_parts names (suc d) base all r =
 
 pub type_back : (names : List (List ℕ)) (t : Ty) → AreNames names → IsReference (length names) t → Back (type_in names) (string (type_word names t)) t
 unfolding type_in text_of
-type_back names t all r place = ap (λ (o : Option Ty). type_or (record { value = string (type_word names t); place = place }) o) (by_parts names t.dims t.base all r)
+type_back names t all r place = ap (λ (o : Option Ty). word_or (record { value = string (type_word names t); place = place }) o) (by_parts names t.dims t.base all r)
 
 -- ---- shapes and kinds
 

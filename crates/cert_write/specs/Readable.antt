@@ -12,9 +12,11 @@ use Rattle.abs_cells.specs.PairLists.{IsRising}
 use Rattle.abs_cells.specs.Sound.{AreIdsRising}
 use Rattle.abs_cells.specs.declared.cells.Cell.{Cell}
 use Rattle.abs_cells.specs.declared.cells.Cell.TheVariants as cells
+use Rattle.abs_cells.specs.Limits.{most_ids}
 use Rattle.term_graph.specs.Graphs.{GraphNode, GraphPart}
 use Rattle.term_graph.specs.declared.nodes.By.{By}
 use Rattle.term_graph.specs.declared.nodes.By.TheVariants.{Expand, Instance, End, Todo}
+use Rattle.term_graph.specs.Limits.{most_nodes}
 use Rattle.descent.specs.declared.proof.CutForm.{CutForm}
 use Rattle.descent.specs.declared.proof.RankRule.{RankRule}
 use Rattle.descent.specs.declared.proof.RankRule.TheVariants.{Weak, Strict}
@@ -61,7 +63,7 @@ pub record IsFrame (frame : AbstractFrame) : Type 0 where
   pub stack : All IsId frame.stack
 
 pub record IsState (names : List (List ℕ)) (state : AbstractState) : Type 0 where
-  pub few : length state.cells ≤ 512
+  pub few : length state.cells ≤ most_ids
   pub rise : AreIdsRising 0 state.cells
   pub cells : All (λ c. IsCell names c.1) state.cells
   pub eq : IsRising state.eq
@@ -143,7 +145,7 @@ pub record IsReadable (names : List (List ℕ)) (content : CertContent) : Type 0
   pub named : IsTrue (list_all is_class_name names)
   pub distinct : AreDistinct names
   pub cuts : All IsNumber content.cuts
-  pub few : length content.parts ≤ 20000
+  pub few : length content.parts ≤ most_nodes
   pub parts : AreParts names [] content.parts
   pub proof : All IsStep content.proof
 
@@ -156,6 +158,6 @@ pub record IsReadableGraph (names : List (List ℕ)) (graph : List GraphNode) (c
   pub named : IsTrue (list_all is_class_name names)
   pub distinct : AreDistinct names
   pub numbers : All IsNumber cuts
-  pub few : length graph ≤ 20000
+  pub few : length graph ≤ most_nodes
   pub nodes : All (IsNode names) graph
   pub steps : All IsStep proof

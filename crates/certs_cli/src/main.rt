@@ -3,9 +3,12 @@
 //! The words are `fill`, the name of a file with a certificate, that of one with a description, and those of 1 to 256 class files.
 #![tactic(auto)]
 
-ghost use Rattle.std.specs.Prelude.{◌≤◌, ◌^◌, length, IfOk};
+ghost use Rattle.std.specs.Prelude.{◌+◌, ◌≤◌, ◌^◌, length, IfOk};
+ghost use Rattle.class_base.specs.Limits.{most_classes};
 
+use cert_form::MOST_CERTIFICATE_BYTES;
 use check_call::{Outcome, fill_line};
+use class_base::{MOST_CLASSES, MOST_FILE_BYTES};
 use input_steps::{Refused, refusal_text};
 use io_ports::{FileFault, Files, RealFiles, Sink, StdSink};
 use list_views::Seq;
@@ -16,41 +19,35 @@ use std::io::ErrorKind;
 use std::process::ExitCode;
 use std::rt::Env;
 
-/// The most bytes of a description and of a class file.
-const MOST_BYTES: usize = 1 << 20;
-
-/// The most bytes of a certificate.
-const MOST_CERTIFICATE_BYTES: usize = 1 << 24;
-
-/// The most words: `fill`, a certificate, a description and 256 class files.
-const MOST_WORDS: usize = 259;
+/// The most words: `fill`, a certificate, a description and the class files.
+const MOST_WORDS: usize = MOST_CLASSES + 3;
 
 /// Why there is no outcome.
 #[derive(Drop)]
-enum Stop {
+enum Failure {
     /// The program ends with this status, and these lines say why.
     Told(u8, Seq<u8>),
     /// Want of memory.
     Memory,
 }
 
-impl From<AllocError> for Stop {
-    fn from(_: AllocError) -> Stop {
-        Stop::Memory
+impl From<AllocError> for Failure {
+    fn from(_: AllocError) -> Failure {
+        Failure::Memory
     }
 }
 
-impl<T: Drop> From<AllocFailed<T>> for Stop {
-    fn from(_: AllocFailed<T>) -> Stop {
-        Stop::Memory
+impl<T: Drop> From<AllocFailed<T>> for Failure {
+    fn from(_: AllocFailed<T>) -> Failure {
+        Failure::Memory
     }
 }
 
 /// The program ends with a status, and lines, if there is memory for them, say why.
-fn stopped(status: u8, lines: Result<Seq<u8>, AllocError>) -> Stop {
+fn told(status: u8, lines: Result<Seq<u8>, AllocError>) -> Failure {
     match lines {
-        Ok(lines) => Stop::Told(status, lines),
-        Err(AllocError) => Stop::Memory,
+        Ok(lines) => Failure::Told(status, lines),
+        Err(AllocError) => Failure::Memory,
     }
 }
 
@@ -68,16 +65,6 @@ fn words(rt: &(impl Env + AllocGlobal)) -> Result<Vec<String>, AllocError> {
     Ok(words)
 }
 
-/// Why a file wasn't read, in a word.
-fn cause(fault: FileFault) -> &'static [u8] {
-    match fault {
-        FileFault::Failed => b"Failed",
-        FileFault::TooLong => b"TooLong",
-        FileFault::Missing => b"Missing",
-        FileFault::Memory => b"Memory",
-    }
-}
-
 /// The line for a file that wasn't read.
 fn unread_line(alloc: Global, name: &[u8], cause: &[u8]) -> Result<Seq<u8>, AllocError> {
     joined(alloc, &[b"certs: read ", name, b": ", cause, b"\n"])
@@ -89,13 +76,13 @@ fn content<F: Files>(
     files: &mut F,
     name: &str,
     limit: usize,
-) -> Result<Vec<u8>, Stop>
+) -> Result<Vec<u8>, Failure>
     requires { limit ≤ 2 ^ 31 }
 {
     match files.read(alloc, name, limit) {
         Ok(content) => Ok(content),
-        Err(FileFault::Memory) => Err(Stop::Memory),
-        Err(fault) => Err(stopped(5, unread_line(alloc, name.as_bytes(), cause(fault)))),
+        Err(FileFault::Memory) => Err(Failure::Memory),
+        Err(fault) => Err(told(5, unread_line(alloc, name.as_bytes(), fault.name()))),
     }
 }
 
@@ -104,35 +91,35 @@ fn class_files<F: Files>(
     alloc: Global,
     files: &mut F,
     words: &[String],
-) -> Result<Vec<Vec<u8>>, Stop>
-    requires { length words.now ≤ 259 }
-    ensures { IfOk result (λ contents. length contents.items ≤ 256) }
+) -> Result<Vec<Vec<u8>>, Failure>
+    requires { length words.now ≤ most_classes + 3 }
+    ensures { IfOk result (λ contents. length contents.items ≤ most_classes) }
 {
     let mut contents = Vec::new(alloc);
     for n in 3..words.len() {
-        contents.push(content(alloc, files, words[n].as_str(), MOST_BYTES)?)?;
+        contents.push(content(alloc, files, words[n].as_str(), MOST_FILE_BYTES)?)?;
     }
     Ok(contents)
 }
 
 /// What is put for the words.
-fn outcome<F: Files>(alloc: Global, files: &mut F, words: &[String]) -> Result<Outcome, Stop> {
+fn outcome<F: Files>(alloc: Global, files: &mut F, words: &[String]) -> Result<Outcome, Failure> {
     if words.len() < 4 || words.len() > MOST_WORDS || words[0].as_str() != "fill" {
         let lines = Seq::from_slice(alloc, b"certs: usage\nfill CERT DESC CLASS..\n");
-        return Err(stopped(4, lines));
+        return Err(told(4, lines));
     }
     let cert = content(alloc, files, words[1].as_str(), MOST_CERTIFICATE_BYTES)?;
-    let desc = content(alloc, files, words[2].as_str(), MOST_BYTES)?;
+    let desc = content(alloc, files, words[2].as_str(), MOST_FILE_BYTES)?;
     let classes = class_files(alloc, files, words)?;
     match fill_line(alloc, cert.as_slice(), desc.as_slice(), classes.as_slice()) {
         Ok(outcome) => Ok(outcome),
-        Err(Refused::At { place, fault }) => Err(stopped(3, refusal_text(alloc, place, &fault))),
-        Err(Refused::Memory) => Err(Stop::Memory),
+        Err(Refused::At { place, fault }) => Err(told(3, refusal_text(alloc, place, &fault))),
+        Err(Refused::Memory) => Err(Failure::Memory),
     }
 }
 
 /// Puts the outcome, or why there is none; the status.
-fn end<O: Sink, E: Sink>(out: &mut O, err: &mut E, outcome: Result<Outcome, Stop>) -> u8 {
+fn end<O: Sink, E: Sink>(out: &mut O, err: &mut E, outcome: Result<Outcome, Failure>) -> u8 {
     match outcome {
         Ok(Outcome { status, out: text }) => match out.put(text.as_slice()) {
             Ok(()) => status,
@@ -141,11 +128,11 @@ fn end<O: Sink, E: Sink>(out: &mut O, err: &mut E, outcome: Result<Outcome, Stop
                 6
             }
         },
-        Err(Stop::Told(status, lines)) => {
+        Err(Failure::Told(status, lines)) => {
             let _ = err.put(lines.as_slice());
             status
         }
-        Err(Stop::Memory) => {
+        Err(Failure::Memory) => {
             let _ = err.put(b"certs: memory\n");
             7
         }
@@ -158,7 +145,7 @@ fn main(rt: HostRuntime) -> ExitCode {
     let mut err = StdSink::new(rt.stderr());
     let outcome = match words(&rt) {
         Ok(words) => outcome(rt.alloc(), &mut files, words.as_slice()),
-        Err(AllocError) => Err(Stop::Memory),
+        Err(AllocError) => Err(Failure::Memory),
     };
     ExitCode::from(end(&mut out, &mut err, outcome))
 }

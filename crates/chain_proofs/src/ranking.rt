@@ -2,11 +2,10 @@
 ghost use Rattle.std.specs.Prelude.{◌≡◌, IfOk};
 ghost use Rattle.std.specs.List.{All};
 ghost use Rattle.descent.specs.Conditions.{AreRules, IsRanked, IsListed};
-ghost use Rattle.descent.specs.Handing.{AreOver};
 ghost use Rattle.rank_search.specs.Graphs.{ArePlainRules};
 ghost use Rattle.chain_proofs.specs.Sets.{Rises, AreOwn, IsRankOf, RanksOr, RanksOwn};
 
-use descent::{PathRule, RankRule, RankStep, Scratch, check_rank_step};
+use descent::{PathRule, RankRule, RankStep, Scratch, check_rank_step, most_variables};
 use list_views::Seq;
 use rank_search::{linear, plain};
 use std::alloc::{AllocError, Global};
@@ -70,19 +69,6 @@ fn step_over(alloc: Global, set: &[u32], step: RankStep) -> Result<RankStep, All
         forms,
         rules: all_renumbered(alloc, set, rules)?,
     })
-}
-
-/// The number of variables of the rule that has most.
-fn most_variables(rules: &[PathRule]) -> u32
-    ensures { AreOver result rules.now }
-{
-    let mut most = 0;
-    for rule in rules {
-        if rule.vars > most {
-            most = rule.vars;
-        }
-    }
-    most
 }
 
 /// The step, which is checked for its set. One that doesn't hold is answered as want of memory.

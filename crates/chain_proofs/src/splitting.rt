@@ -1,13 +1,12 @@
 //! The sets that steps are given, and steps that divide a set.
-ghost use Rattle.std.specs.Prelude.{◌≡◌, ◌≤◌, ◌∷◌, [], ℕ, true, Some, IfOk, OnOk, IsTrue, slice_get, filter, length, replicate, None};
+ghost use Rattle.std.specs.Prelude.{◌≡◌, ◌≤◌, ◌∷◌, [], true, Some, IfOk, IsTrue, slice_get};
 ghost use Rattle.descent.specs.Components.{AreClasses};
 ghost use Rattle.descent.specs.Conditions.{IsStep};
-ghost use Rattle.descent.specs.Splits.{has};
-ghost use Rattle.descent.specs.Steps.{give, given_first, set_of, numbers_from};
+ghost use Rattle.descent.specs.Steps.{give, given_first, set_of};
 ghost use Rattle.chain_proofs.specs.Unfinished.{HoldsAt};
 ghost use Rattle.chain_proofs.specs.Sets.{Rises, AreAt, AreOwn, IsHanded, is_alone};
 
-use descent::{PathRule, ProofStep};
+use descent::{PathRule, ProofStep, given_first, set_of, within};
 use list_views::Seq;
 use std::alloc::{AllocError, Global};
 
@@ -18,39 +17,23 @@ pub(crate) struct Sets {
     pub(crate) next: u32,
 }
 
-/// So many numbers from 0 on.
-fn first_numbers(alloc: Global, count: u32) -> Result<Seq<u32>, AllocError>
-    ensures { IfOk result (λ set. set ≡ numbers_from 0 count) }
-{
-    let mut set = Seq::new(alloc);
-    for rule in 0..count {
-        set.push(rule)?;
-    }
-    Ok(set)
-}
-
 impl Sets {
     /// Step 0 has all rules, and the others, below a number, have no set yet.
     pub(crate) fn first(alloc: Global, rules: u32, below: usize) -> Result<Sets, AllocError>
         requires { 1 ≤ below }
         ensures { IfOk result (λ sets. sets.given.items ≡ given_first rules below) }
     {
-        let mut given = Vec::new(alloc);
-        given.push(Some(first_numbers(alloc, rules)?))?;
-        for _n in 1..below {
-            given.push(None)?;
-        }
-        Ok(Sets { given, next: 1 })
+        Ok(Sets {
+            given: given_first(alloc, rules, below)?,
+            next: 1,
+        })
     }
 
     /// A copy of the set that a step was given, if it was given one.
     pub(crate) fn of(&self, alloc: Global, number: u32) -> Result<Option<Seq<u32>>, AllocError>
         ensures { IfOk result (λ set. set ≡ set_of (slice_get self.now.given.items number)) }
     {
-        match self.given.get(number as usize) {
-            Some(Some(set)) => Ok(Some(Seq::from_slice(alloc, set.as_slice())?)),
-            _ => Ok(None),
-        }
+        set_of(alloc, &self.given, number)
     }
 
     /// Gives a set to the next step that has none, and says which it is. Where no step is left it is answered as want of memory.
@@ -120,26 +103,6 @@ fn part_of(alloc: Global, set: &[u32], class: &[u32]) -> Result<Seq<u32>, AllocE
         part.push(number_at(set, *place)?)?;
     }
     Ok(part)
-}
-
-/// Whether a number is in a set.
-fn has(set: &[u32], rule: u32) -> bool
-    ensures { result ≡ has set.now rule }
-{
-    set.iter().any(|other| *other == rule)
-}
-
-/// The numbers of a set that are in a part.
-fn within(alloc: Global, part: &[u32], set: &[u32]) -> Result<Seq<u32>, AllocError>
-    ensures { IfOk result (λ kept. kept ≡ filter (has part.now) set.now) }
-{
-    let mut kept = Seq::new(alloc);
-    for rule in set {
-        if has(part, *rule) {
-            kept.push(*rule)?;
-        }
-    }
-    Ok(kept)
 }
 
 /// The step that takes a part, to which it is given; none where it is one rule that doesn't follow itself.

@@ -1,10 +1,10 @@
-pub mod Answers
 pub mod Causes
-pub mod FillAnswers
-pub mod FillTexts
-pub mod FillWords
+pub mod Lines
+pub mod Answers
 pub mod Headline
 pub mod Laws
-pub mod Lines
 pub mod OneVerdict
+pub mod FillTexts
+pub mod FillAnswers
 pub mod Said
+pub mod FillWords

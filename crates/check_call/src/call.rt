@@ -1,5 +1,6 @@
 //! The command `check`.
 ghost use Rattle.std.specs.Prelude.{◌≤◌, length, map};
+ghost use Rattle.class_base.specs.Limits.{most_classes};
 ghost use Rattle.check_call.specs.Answers.{Answers};
 ghost use Rattle.check_call.specs.Headline.{AllEndIfAccepted};
 
@@ -25,7 +26,7 @@ pub fn check_line(
     desc: &[u8],
     files: &[Vec<u8>],
 ) -> Result<Outcome, Refused>
-    requires { length files.now ≤ 256 }
+    requires { length files.now ≤ most_classes }
     ensures answers { Answers cert.now desc.now (map (λ file. file.items) files.now) result }
     ensures headline { AllEndIfAccepted (map (λ file. file.items) files.now) desc.now result }
 {

@@ -10,6 +10,7 @@ ghost use Rattle.abs_expand.specs.IntForms.{HasIntForms};
 ghost use Rattle.graph_check.specs.Conditions.{HasIntStates};
 ghost use Rattle.cert_form.specs.Certificates.{LackingAreNamed};
 ghost use Rattle.cert_check.specs.Parts.{case_of};
+ghost use Rattle.term_graph.specs.Limits.{most_nodes};
 ghost use Rattle.check_call.specs.Answers.{AnswersChecked, AnswersContent, AnswersCert};
 ghost use Rattle.check_call.specs.Headline.{EndsIfAccepted};
 ghost use Rattle.check_call.specs.Said.{IsSaid, IsSaidOfText};
@@ -89,7 +90,7 @@ fn check_content(
     requires own { IsOwnDesc (program_of program.now) desc.now }
     requires good { IsGoodDesc (program_of program.now) desc.now }
     requires named { LackingAreNamed cert.now.parts }
-    requires few { length cert.now.parts ≤ 20000 }
+    requires few { length cert.now.parts ≤ most_nodes }
     requires steps { AreSteps cert.now.proof }
     ensures content { AnswersContent (program_of program.now) (typing_at typing.now) desc.now cert.now result }
     ensures ends { EndsIfAccepted (program_of program.now) desc.now result }

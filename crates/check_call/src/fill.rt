@@ -1,5 +1,6 @@
 //! The command `fill`.
 ghost use Rattle.std.specs.Prelude.{◌≤◌, length, map};
+ghost use Rattle.class_base.specs.Limits.{most_classes};
 ghost use Rattle.check_call.specs.FillAnswers.{Answers};
 
 use crate::filled::fill_bytes;
@@ -24,7 +25,7 @@ pub fn fill_line(
     desc: &[u8],
     files: &[Vec<u8>],
 ) -> Result<Outcome, Refused>
-    requires { length files.now ≤ 256 }
+    requires { length files.now ≤ most_classes }
     ensures { Answers cert.now desc.now (map (λ file. file.items) files.now) result }
 {
     match described_program(alloc, desc, files) {

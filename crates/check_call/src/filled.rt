@@ -8,6 +8,7 @@ ghost use Rattle.code_verify.specs.Typings.{typing_at};
 ghost use Rattle.abs_expand.specs.IntForms.{HasIntForms};
 ghost use Rattle.cert_form.specs.Certificates.{LackingAreNamed};
 ghost use Rattle.desc_steps.specs.Names.{names_of};
+ghost use Rattle.term_graph.specs.Limits.{most_nodes};
 ghost use Rattle.check_call.specs.FillAnswers.{AnswersContent, AnswersCert};
 
 use crate::certs::refuse_text;
@@ -36,7 +37,7 @@ fn fill_content(
     requires names { names.now ≡ names_of (classes_of program.now.world) }
     requires are_names { IsTrue (list_all is_class_name names.now) }
     requires named { LackingAreNamed cert.now.parts }
-    requires few { length cert.now.parts ≤ 20000 }
+    requires few { length cert.now.parts ≤ most_nodes }
     ensures { AnswersContent (program_of program.now) (typing_at typing.now) cert.now result }
 {
     let filled: Result<Graph<PackedPairs>, FillFault> = fill(alloc, program, typing, cert);

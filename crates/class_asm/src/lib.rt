@@ -13,5 +13,3 @@ mod texts;
 pub use asm_lines::AsmFault;
 pub use assembly::assemble;
 pub use laws::assembled_keeps_rules;
-pub use rules::{content_fits, field_flags, major_of, method_flags};
-pub use texts::class_flags;

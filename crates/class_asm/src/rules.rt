@@ -1,9 +1,8 @@
 //! The rules on names, descriptors, numbers and lists.
 
 ghost use Rattle.std.specs.Prelude.{◌≡◌, ◌∷◌, ◌++◌, ◌^◌, [], OnOk, IfOk, Some, None, map, true, false, nat_lt, length, if◌then◌else◌};
-ghost use Rattle.std.specs.List.{flat_map, list_all, list_any};
+ghost use Rattle.std.specs.List.{flat_map, list_all};
 ghost use Rattle.class_base.specs.ClassNames.{is_class_name};
-ghost use Rattle.class_read.specs.Rules.{same_key};
 ghost use Rattle.asm_lines.specs.Firsts.{with_faults, unless};
 ghost use Rattle.asm_pool.specs.Needs.{line_needs, attribute_entries};
 ghost use Rattle.class_asm.specs.Rules.{past_count, seconds, field_key, method_key, field_flags, method_flags, field_faults, sizes_fit, attribute_lines, method_faults, fields_faults, methods_faults, attributes_faults, content_fits, attribute_faults, constant_faults, major_of, class_is_good, rule_faults};
@@ -13,57 +12,22 @@ use asm_lines::{
     MethodLine, MethodLines, Number,
 };
 use asm_pool::{constant_entry, super_of};
-use class_base::{MemberKind, PRIVATE, PUBLIC, STATIC, is_class_name, is_descriptor};
-use indexmap::IndexSet;
+use class_base::{KeySet, MemberKind, PRIVATE, PUBLIC, STATIC, is_class_name, is_descriptor};
 use list_views::Seq;
-use std::alloc::{AllocError, AllocFailed, Global};
-use std::marker::Model;
+use std::alloc::{AllocError, Global};
 
 /// How many items a list has at most.
 const MOST: usize = 0xffff;
 
-/// The names and descriptors of members, each once.
-#[derive(Drop)]
-struct Keys<'a> {
-    keys: IndexSet<(&'a [u8], &'a [u8])>,
-}
-
-impl<'a> Model for Keys<'a> {
-    ghost use Rattle.std.specs.Prelude.{List, ℕ, map};
-
-    ghost Value = { List (List ℕ × List ℕ) };
-
-    ghost view = { λ s. map (λ k. (k.0.now, k.1.now)) s.keys.keys };
-}
-
-impl<'a> Keys<'a> {
-    fn new(alloc: Global) -> Keys<'a>
-        ensures { result ≡ [] }
-    {
-        Keys {
-            keys: IndexSet::new(alloc),
-        }
-    }
-
-    /// Adds the key, or answers false where it is there.
-    fn add(&mut self, name: &'a [u8], desc: &'a [u8]) -> Result<bool, AllocError>
-        ensures keys { IfOk result (λ added. self.new ≡ (if added then self.old ++ (name.now, desc.now) ∷ [] else self.old)) }
-        ensures was_there { IfOk result (λ added. list_any (same_key (name.now, desc.now)) self.old ≡ (if added then false else true)) }
-    {
-        let (_, added) = self.keys.insert_full((name, desc))?;
-        Ok(added)
-    }
-}
-
 /// The flags of a field.
-pub fn field_flags(f: &FieldLine) -> u16
+pub(crate) fn field_flags(f: &FieldLine) -> u16
     ensures { result ≡ field_flags f.now }
 {
     if f.is_static { STATIC | PUBLIC } else { PUBLIC }
 }
 
 /// The flags of a method.
-pub fn method_flags(head: &MethodLine) -> u16
+pub(crate) fn method_flags(head: &MethodLine) -> u16
     ensures { result ≡ method_flags head.now }
 {
     if head.flags & PRIVATE == 0 {
@@ -81,7 +45,7 @@ fn check_field_keys(
 ) -> Result<(), AllocError>
     ensures { OnOk result (first.new.fault ≡ with_faults first.old.fault (seconds [] (map field_key fields.now))) }
 {
-    let mut keys = Keys::new(alloc);
+    let mut keys = KeySet::new(alloc);
     for f in fields {
         let added = keys.add(f.1.name.as_slice(), f.1.desc.as_slice())?;
         first.unless(added, f.0);
@@ -96,7 +60,7 @@ fn check_method_keys(
 ) -> Result<(), AllocError>
     ensures { OnOk result (first.new.fault ≡ with_faults first.old.fault (seconds [] (map method_key methods.now))) }
 {
-    let mut keys = Keys::new(alloc);
+    let mut keys = KeySet::new(alloc);
     for m in methods {
         let added = keys.add(m.head.name.as_slice(), m.head.desc.as_slice())?;
         first.unless(added, m.line);
@@ -206,7 +170,7 @@ fn check_methods(
 }
 
 /// Whether the content's length fits its field.
-pub fn content_fits(content: &[u8]) -> bool
+pub(crate) fn content_fits(content: &[u8]) -> bool
     ensures { result ≡ content_fits content.now }
 {
     content.len() < 0x1_0000_0000
@@ -229,7 +193,7 @@ fn check_constants(first: &mut First, constants: &[(usize, Constant)])
 }
 
 /// The major version; none where it doesn't fit.
-pub fn major_of(class: &ClassLine) -> Option<u16>
+pub(crate) fn major_of(class: &ClassLine) -> Option<u16>
     ensures { result ≡ major_of class.now }
 {
     match class.major {

@@ -139,7 +139,7 @@ pub(crate) fn method_texts(
 }
 
 /// The flags of the class.
-pub fn class_flags(class: &ClassLine) -> u16
+pub(crate) fn class_flags(class: &ClassLine) -> u16
     ensures { result ≡ class_flags class.now }
 {
     let kind = if class.is_interface { INTERFACE } else { CLASS };

@@ -1,3 +1,4 @@
+pub mod Maps
 pub mod Keys
 pub mod TypeLaws
 pub mod MethodLaws

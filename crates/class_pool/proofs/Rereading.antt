@@ -14,11 +14,6 @@ use Rattle.class_pool.proofs.PoolLaws.{pool_written, same_pool}
 whole : (text : List ℕ) (es : List PoolEntry) → text ≡ pool_bytes es → pool_bytes es ++ [] ≡ text
 whole text es same = append-nil (pool_bytes es) ∙ sym same
 
-pub pool_from_text : (text : List ℕ) (es es' : List PoolEntry) (v : Unread) → text ≡ pool_bytes es → HasTexts es → Spells (unread text 0) es' v → IsPool es
-pool_from_text text es es' v same texts s =
-    let t : Spells (record { at = 0; bytes = pool_bytes es ++ [] }) es' v = subst (λ (bytes : List ℕ). Spells (record { at = 0; bytes = bytes }) es' v) (sym (whole text es same)) s in
-    subst IsPool (same_pool 0 es es' [] v texts t) s.pool
-
 refuses : {Y : Type 0} (f : PoolFault) (y : Y) → (f ≡ Memory → ⊥) → IsDue is_memory f (done y) → ⊥
 refuses Memory y other h = other refl
 refuses _ y other h = cc

@@ -21,8 +21,5 @@ few_fields (x ∷ xs) (suc n) c e s = few_fields xs n c (and_parts (has_few_memb
 pub few_there : (world : World) (class n : ℕ) (c : ClassContent) → list_all has_few_members world ≡ true → slice_get world class ≡ Some c → n ≡ length c.fields → n < 65536
 few_there world class n c e s l = subst (λ (k : ℕ). k < 65536) (sym l) (few_fields world class c e s)
 
-pub count_there : (world : World) (class : ℕ) (c : ClassContent) → slice_get world class ≡ Some c → field_count world class ≡ length c.fields
-count_there world class c e = ap (λ (o : Option ClassContent). option_map_or (λ x. length x.fields) o 0) e
-
 pub count_past : (world : World) (class : ℕ) → length world ≤ class → field_count world class ≡ 0
 count_past world class l = ap (λ (o : Option ClassContent). option_map_or (λ x. length x.fields) o 0) (slice_get_past world class l)

@@ -1,5 +1,5 @@
 -- Going through the reached methods, one after the other.
-use Rattle.std.proofs.Common.{◌≡◌, ◌++◌, ℕ, zero, suc, ◌+◌, ◌<◌, ◌≤◌, Bool, true, List, [], ◌∷◌, length, Option, Some, None, Ok, Err, sym, refl, ap, ◌∙◌, subst, inl, inr, ◌⊎◌, arith, append_assoc, length-append, get_or, drop, drop-cons, add-one, ◌-◌}
+use Rattle.std.proofs.Common.{◌≡◌, ◌++◌, ℕ, zero, suc, ◌+◌, ◌<◌, ◌≤◌, Bool, true, List, [], ◌∷◌, length, Option, Some, None, Ok, Err, sym, refl, ap, ◌∙◌, subst, inl, inr, arith, append_assoc, length-append, get_or, drop, drop-cons, add-one, ◌-◌}
 use Rattle.std.specs.Prelude.{flat_map, slice_get, option_and_then}
 use Rattle.std.proofs.lemmas.Option.{slice_get_past}
 use Rattle.std.specs.List.{list_all, filter_map, cons_option}
@@ -10,16 +10,16 @@ use Rattle.class_pool.specs.declared.entry.PoolEntry.{PoolEntry}
 use Rattle.class_read.specs.Content.{ClassContent, MethodContent}
 use Rattle.class_program.specs.Ops.{pool_of}
 use Rattle.class_world.specs.declared.fault.LinkFault.{LinkFault}
-use Rattle.class_world.specs.declared.fault.LinkFault.TheVariants.{Memory}
 use Rattle.class_program.specs.declared.program.Method.{Method}
 use Rattle.class_world.specs.declared.world.MethodRef.{MethodRef}
 use Rattle.class_world.specs.World.{World}
-use Rattle.class_program.specs.Said.{each}
+use Rattle.list_views.specs.Results.{each, IsDue}
+use Rattle.class_program.specs.Said.{is_memory}
 use Rattle.class_world.specs.Resolve.{method_at, has_body}
 use Rattle.class_program.specs.Runs.{runs}
 use Rattle.class_program.specs.Methods.{method_of}
 use Rattle.class_program.specs.Reached.{with_one, with_new, runs_in, runs_said, runs_from, reached_within, method_count, reached, contents_of, methods_of}
-use Rattle.class_program.proofs.Saying.{each_more, each_broken}
+use Rattle.list_views.proofs.Steps.{each_more, each_broken, handed_on}
 use Rattle.class_program.proofs.Reaching.{with_new_append, Begins, begins_length, begins_all, within, IsGrowing, grow_start, grow_more, begins_in_time, ends_in_time}
 use Rattle.class_program.proofs.Room.{open_in, all_methods, all_length, at_in_all, body_at, bodies_in_all, all_new, room_start, room_new}
 use Rattle.class_program.proofs.Bodies.{all_flat_map, runs_all}
@@ -133,12 +133,12 @@ reach_more world entry refs more methods mores x content m h e a s r q =
     }
 
 -- the next method breaks a rule
-pub reach_broken : (world : World) (entry : MethodRef) (refs : List MethodRef) (methods : List Method) (x : MethodRef) (content : MethodContent) (fault : LinkFault) → IsReaching world entry refs methods → slice_get refs (length methods) ≡ Some x → method_at world x ≡ Some content → (fault ≡ Memory) ⊎ (method_of world x content ≡ Err fault) → (fault ≡ Memory) ⊎ (methods_of world (reached world entry) ≡ Err fault)
-reach_broken world entry refs methods x content fault h e a (inl m) = inl m
-reach_broken world entry refs methods x content fault h e a (inr s) =
+pub reach_broken : (world : World) (entry : MethodRef) (refs : List MethodRef) (methods : List Method) (x : MethodRef) (content : MethodContent) (fault : LinkFault) → IsReaching world entry refs methods → slice_get refs (length methods) ≡ Some x → method_at world x ≡ Some content → IsDue is_memory fault (method_of world x content) → IsDue is_memory fault (methods_of world (reached world entry))
+reach_broken world entry refs methods x content fault h e a due =
     let room = h.room in
     let b = begins_in_time (runs_from world) entry h.gone refs x (method_count world) h.growing (next_begins world entry refs methods x h e) (omega (arith, room)) in
-    inr (ap (methods_of world) (reached_is world entry ∙ b.1 ∙ append_assoc h.gone (x ∷ []) b.0) ∙ said_broken world h.gone b.0 x content methods fault h.found a s)
+    handed_on is_memory fault (method_of world x content) (methods_of world (reached world entry))
+    (λ s. ap (methods_of world) (reached_is world entry ∙ b.1 ∙ append_assoc h.gone (x ∷ []) b.0) ∙ said_broken world h.gone b.0 x content methods fault h.found a s) due
 
 past : (xs : List MethodRef) (i : ℕ) → slice_get xs i ≡ None → length xs ≤ i
 past [] i e = omega arith

@@ -1,7 +1,7 @@
 -- What calls name: methods that are there, and the methods of the program that they run.
 use Rattle.std.proofs.Common.{◌≡◌, ◌++◌, ◌||◌, ◌&&◌, ℕ, suc, ◌+◌, ◌<◌, Bool, true, false, not, cond, eqb, ltb, List, [], ◌∷◌, length, Option, Some, None, Ok, refl, sym, ap, subst, inl, inr, ◌⊎◌, arith, ◌∙◌, one-add}
 use Rattle.std.specs.Prelude.{slice_get, position, option_and_then, IsTrue}
-use Rattle.std.specs.List.{list_any, list_all, position_or_len}
+use Rattle.std.specs.List.{list_any, list_all, position_or_len, AllByRecursion}
 use Rattle.std.specs.Option.{option_map, option_map_or, option_to_list}
 use Rattle.std.specs.Str.{bytes_eq}
 use Rattle.std.proofs.lemmas.Bool.{false≢true, and_parts, ltb-true, not-true}
@@ -17,6 +17,7 @@ use Rattle.class_world.specs.Members.{declared_method}
 use Rattle.class_world.specs.Resolve.{first_found, superinterfaces_of, method_ref, resolve_method, method_at, has_body}
 use Rattle.class_world.specs.Select.{is_selectable, selectable_method, select, is_abstract_method, selection_of, selected_virtual, selected_interface}
 use Rattle.class_world.specs.Select.Selection.{Runs, Lacks, Unfit}
+use Rattle.list_views.proofs.Steps.{bind_ok}
 use Rattle.class_program.specs.declared.operand.CallForm.{CallForm}
 use Rattle.class_program.specs.declared.operand.CallForm.TheVariants as calls
 use Rattle.class_program.specs.declared.signature.Signature.{Signature}
@@ -34,8 +35,8 @@ use Rattle.class_program.specs.Runs.{with_body, runs}
 use Rattle.class_program.specs.Reached.{same_method, has_method, numbered}
 use Rattle.class_program.specs.Programs.{Program, ref_of, refs_of}
 use Rattle.class_program.specs.Selected.{selection_at, selected_in}
-use Rattle.class_program.specs.Good.{AllOf, IsGoodCall, Takes, IsGoodStatic, SpecialRuns, IsGoodSpecial, IsGoodAnswer, IsGoodSelecting}
-use Rattle.class_program.proofs.Got.{got, got_wanted, got_required, got_both, all_at}
+use Rattle.class_program.specs.Good.{IsGoodCall, Takes, IsGoodStatic, SpecialRuns, IsGoodSpecial, IsGoodAnswer, IsGoodSelecting}
+use Rattle.class_program.proofs.Got.{got_wanted, got_required, got_both, all_at}
 use Rattle.class_program.proofs.GoodTypes.{named_type, numbered_class, named_signature, one_signature}
 use Rattle.class_program.proofs.Closed.{found_at, position_there, selectable_there, op_answered}
 use Rattle.class_program.proofs.Room.{same_is}
@@ -181,10 +182,10 @@ same_method_at a b o p q = cc
 call_named : (world : World) → is_linked world ≡ true → (current : ℕ) (form : CallForm) (m : Member) (class : ℕ) (s : Signature) (ref : MethodRef) → class < length world → signature_of world m.desc ≡ Ok s → method_called world current form class m.name m.desc ≡ Ok ref → IsNamedCall world current form (record { class = class; method = ref; params = s.params; result = s.result; target = None })
 unfolding method_called found_fit
 call_named world linked current form m class s ref l means e =
-    let may = got (required (may_call form m.name && is_fit_class world form class)) _ ref e in
-    let found = got (wanted (method_sought world current form class m.name m.desc)) _ ref may.2 in
-    let method = got (wanted (method_at world found.0)) _ ref found.2 in
-    let fit = got (method_fit world form found.0.class method.0) _ ref method.2 in
+    let may = bind_ok (required (may_call form m.name && is_fit_class world form class)) _ ref e in
+    let found = bind_ok (wanted (method_sought world current form class m.name m.desc)) _ ref may.2 in
+    let method = bind_ok (wanted (method_at world found.0)) _ ref found.2 in
+    let fit = bind_ok (method_fit world form found.0.class method.0) _ ref method.2 in
     let same : found.0 ≡ ref = cc in
     let fits = and_parts (may_call form m.name) (is_fit_class world form class) (got_required (may_call form m.name && is_fit_class world form class) may.0 may.1) in
     by found.0 same method.0 (got_wanted (method_at world found.0) method.0 method.1) fit.1 fits.1 (sought_found world linked current form class m.name m.desc found.0 (got_wanted (method_sought world current form class m.name m.desc) found.0 found.1))
@@ -209,10 +210,10 @@ call_named world linked current form m class s ref l means e =
 pub called : (world : World) → is_linked world ≡ true → (current : ℕ) (form : CallForm) (m : Member) (call : Call) → call_of world current form m ≡ Ok call → IsNamedCall world current form call
 unfolding call_of
 called world linked current form m call e =
-    let named = got (named_parts world m) _ call e in
+    let named = bind_ok (named_parts world m) _ call e in
     let both = got_both (type_named world m.class) (signature_of world m.desc) named.0 named.1 in
-    let class = got (class_number named.0.0) _ call named.2 in
-    let ref = got (method_called world current form class.0 m.name m.desc) _ call class.2 in
+    let class = bind_ok (class_number named.0.0) _ call named.2 in
+    let ref = bind_ok (method_called world current form class.0 m.name m.desc) _ call class.2 in
     let numbered_is = numbered_class (length world) named.0.0 class.0 (named_type world m.class named.0.0 both.0) class.1 in
     let same : ◌≡◌ {A = Call} (record { class = class.0; method = ref.0; params = named.0.1.params; result = named.0.1.result; target = None }) call = cc in
     subst (IsNamedCall world current form) same (call_named world linked current form m class.0 named.0.1 ref.0 numbered_is.1 both.1 ref.1)
@@ -270,7 +271,7 @@ numbered_at methods ref n e = go (list_any (same_method ref) (refs_of methods)) 
     go false q = let none = position_none (same_method ref) (refs_of methods) q in cc
 
 -- the method of a number takes what its declaration says
-pub takes_at : (world : World) (methods : List Method) → AllOf (IsTyped world) methods → (ref : MethodRef) (content : MethodContent) (call : Call) (n : ℕ) (receiver : List Slot)
+pub takes_at : (world : World) (methods : List Method) → AllByRecursion (IsTyped world) methods → (ref : MethodRef) (content : MethodContent) (call : Call) (n : ℕ) (receiver : List Slot)
     → method_at world ref ≡ Some content → signature_of world content.desc ≡ Ok (record { params = call.params; result = call.result })
     → with_receiver ref.class content.flags call.params ≡ receiver ++ call.params
     → position (same_method ref) (refs_of methods) ≡ Some n → Takes methods receiver call n
@@ -302,7 +303,7 @@ bodied : (world : World) (ref : MethodRef) (m : MethodContent) → method_at wor
 unfolding with_body
 bodied world ref m e a = ap (λ (b : Bool). cond b None (Some ref)) (ap (λ (o : Option MethodContent). option_map_or (λ x. is_abstract x.flags) o true) e ∙ a)
 
-module _ (p : Program) (typed : AllOf (IsTyped p.world) p.methods) where
+module _ (p : Program) (typed : AllByRecursion (IsTyped p.world) p.methods) where
   runs_one : (ref : MethodRef) (o : Option MethodRef) → o ≡ Some ref → list_all (has_method (refs_of p.methods)) (option_to_list o) ≡ true → has_method (refs_of p.methods) ref ≡ true
   runs_one ref None q h = cc
   runs_one ref (Some r) q h =

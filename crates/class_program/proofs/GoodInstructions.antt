@@ -3,16 +3,17 @@ use Rattle.std.proofs.Common.{◌≡◌, ℕ, ◌+◌, ◌≤◌, Bool, true, fa
 use Rattle.std.specs.Prelude.{slice_get, option_and_then, IfSome}
 use Rattle.std.specs.Option.{is_some}
 use Rattle.std.proofs.lemmas.Bool.{and_parts, leb-true, eq-eqb, ne_eqb}
+use Rattle.std.specs.List.{AllByRecursion}
 use Rattle.class_program.specs.declared.op.Op.{Op}
 use Rattle.class_program.specs.declared.program.Method.{Method}
 use Rattle.class_program.specs.Instructions.{first_place, instruction_at, rises_from, is_placed}
 use Rattle.class_program.specs.Programs.{Program, insn_at}
-use Rattle.class_program.specs.Good.{AllOf, IsGoodOp, IsGoodMethod, IsGood, IsGoodAt}
+use Rattle.class_program.specs.Good.{IsGoodOp, IsGoodMethod, IsGood, IsGoodAt}
 use Rattle.class_program.proofs.Got.{all_at, some_same}
 use Rattle.class_program.proofs.Places.{placed_rises}
 
 -- what stands at some place has what all of the instructions have
-at_has : {A : Type 0} (P : A → Type 0) (xs : List (ℕ × A)) (pc : ℕ) (x : A × Option ℕ) → AllOf (λ y. P y.1) xs → instruction_at xs pc ≡ Some x → P x.0
+at_has : {A : Type 0} (P : A → Type 0) (xs : List (ℕ × A)) (pc : ℕ) (x : A × Option ℕ) → AllByRecursion (λ y. P y.1) xs → instruction_at xs pc ≡ Some x → P x.0
 at_has P [] pc x h e = cc
 at_has {A} P (y ∷ ys) pc x h e = go (eqb y.0 pc) e (at_has P ys pc x h.1)
   where

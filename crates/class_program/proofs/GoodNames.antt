@@ -8,6 +8,7 @@ use Rattle.jvm_values.specs.declared.types.Ty.{Ty}
 use Rattle.jvm_values.specs.Subtyping.{class_type, IsReference, IsSlot}
 use Rattle.class_world.specs.World.{World, is_interface_class}
 use Rattle.class_world.specs.BuiltIns.{IsWorld}
+use Rattle.list_views.proofs.Steps.{bind_ok}
 use Rattle.class_program.proofs.FieldClasses.{named_no_interface}
 use Rattle.class_world.specs.Types.{is_class_below}
 use Rattle.class_world.specs.Fields.{fields_of, can_be_made}
@@ -21,7 +22,7 @@ use Rattle.class_program.specs.Operands.{Member}
 use Rattle.class_program.specs.Refusals.{◌>>=◌, wanted, required}
 use Rattle.class_program.specs.Ops.{type_named, class_number, new_of, anewarray_of, field_use, field_found, field_of}
 use Rattle.class_program.specs.Good.{IsGoodField, IsGoodNew}
-use Rattle.class_program.proofs.Got.{got, got_wanted, got_required}
+use Rattle.class_program.proofs.Got.{got_wanted, got_required}
 use Rattle.class_program.proofs.GoodTypes.{named_type, numbered_class}
 use Rattle.class_program.proofs.Closed.{made_within}
 use Rattle.class_world.proofs.Found.{field_below, itself}
@@ -55,9 +56,9 @@ pub field_good : (world : World) → IsWorld world → (m : Member) (used : Fiel
     → field_of world m ≡ Ok used → IsGoodField world used
 unfolding field_of
 field_good world known m used slots e =
-    let t = got (type_named world m.class) _ used e in
-    let class = got (class_number t.0) _ used t.2 in
-    let found = got (wanted (resolve_field world class.0 m.name m.desc)) _ used class.2 in
+    let t = bind_ok (type_named world m.class) _ used e in
+    let class = bind_ok (class_number t.0) _ used t.2 in
+    let found = bind_ok (wanted (resolve_field world class.0 m.name m.desc)) _ used class.2 in
     let named = numbered_class (length world) t.0 class.0 (named_type world m.class t.0 t.1) class.1 in
     found_good world known class.0 m.name m.desc found.0 used named.1 slots (got_wanted (resolve_field world class.0 m.name m.desc) found.0 found.1) found.2
 
@@ -70,12 +71,12 @@ new_good world class op e = go (first_static_init world class) e
     go : (o : Option (List ℕ)) → option_map_or (λ name. Err (refusals.StaticInit name)) o (required (can_be_made world class) >>= λ _. Ok (New (class_type class))) ≡ Ok op → (op ≡ New (class_type class)) × IsGoodNew world (class_type class)
     go (Some name) f = cc
     go None f =
-        let made = got (required (can_be_made world class)) (λ _. Ok (New (class_type class))) op f in
+        let made = bind_ok (required (can_be_made world class)) (λ _. Ok (New (class_type class))) op f in
         let test = got_required (can_be_made world class) made.0 made.1 in
         (cc, record { class = class; type_is = refl; within = made_within world class test; made = test })
 
 pub anewarray_good : (n : ℕ) (t : Ty) (op : Op) → IsReference n t → anewarray_of t ≡ Ok op → (op ≡ Anewarray t) × IsReference n t × (t.dims < 255)
 unfolding anewarray_of
 anewarray_good n t op r e =
-    let few = got (required (ltb t.dims 255)) (λ _. Ok (Anewarray t)) op e in
+    let few = bind_ok (required (ltb t.dims 255)) (λ _. Ok (Anewarray t)) op e in
     (cc, r, ltb-true t.dims 255 (got_required (ltb t.dims 255) few.0 few.1))

@@ -1,7 +1,7 @@
 -- Every instruction of a method of a closed program is good.
 use Rattle.std.proofs.Common.{◌≡◌, ℕ, zero, suc, ◌<◌, true, false, List, [], ◌∷◌, length, get_or, Option, Some, None, Ok, refl, sym, subst}
 use Rattle.std.specs.Prelude.{slice_get, is_none, IfSome}
-use Rattle.std.specs.List.{list_all}
+use Rattle.std.specs.List.{list_all, AllByRecursion}
 use Rattle.std.specs.Option.{is_some}
 use Rattle.std.proofs.lemmas.Option.{slice_get_within}
 use Rattle.code_forms.specs.declared.insn.Insn.{Insn}
@@ -15,6 +15,7 @@ use Rattle.class_world.specs.BuiltIns.{IsWorld}
 use Rattle.class_world.specs.Fields.{fields_of}
 use Rattle.class_world.specs.Resolve.{has_body}
 use Rattle.class_world.specs.SlotLaws.{fields_are}
+use Rattle.list_views.proofs.Steps.{bind_ok}
 use Rattle.class_program.specs.declared.operand.Operand.{Operand}
 use Rattle.class_program.specs.declared.operand.Operand.TheVariants as operands
 use Rattle.class_program.specs.declared.operand.FieldForm.{FieldForm}
@@ -39,8 +40,7 @@ use Rattle.class_program.proofs.GoodStatics.{IsDeclaredField, field_declared, st
 use Rattle.class_program.specs.Reached.{has_method, op_numbered}
 use Rattle.class_program.specs.Programs.{Program, refs_of}
 use Rattle.jvm_values.specs.Kinds.{kind_of_code}
-use Rattle.class_program.specs.Good.{AllOf, is_place, IsGoodPlain, IsGoodName, IsGoodOp}
-use Rattle.class_program.proofs.Got.{got}
+use Rattle.class_program.specs.Good.{is_place, IsGoodPlain, IsGoodName, IsGoodOp}
 use Rattle.class_program.proofs.GoodShapes.{Shape}
 use Rattle.class_program.proofs.GoodNames.{field_good, new_good, anewarray_good}
 use Rattle.class_program.proofs.GoodCalls.{IsTyped, IsNamedCall, called, static_good, special_good, virtual_good, interface_good}
@@ -74,7 +74,7 @@ slots_good world c l place slot e =
 abbrev pub IsInside : Program → Op → Type 0
 IsInside p op = (list_all (has_method (refs_of p.methods)) (runs p.world op) ≡ true) × IfSome (field_named op) (λ f. has_field (fields_named p.methods) f ≡ true)
 
-module _ (p : Program) (known : IsWorld p.world) (bodies : list_all (has_body p.world) (refs_of p.methods) ≡ true) (typed : AllOf (IsTyped p.world) p.methods) (kept : p.statics ≡ statics_of p.world (fields_named p.methods)) (m : Method) where
+module _ (p : Program) (known : IsWorld p.world) (bodies : list_all (has_body p.world) (refs_of p.methods) ≡ true) (typed : AllByRecursion (IsTyped p.world) p.methods) (kept : p.statics ≡ statics_of p.world (fields_named p.methods)) (m : Method) where
   abbrev pub Inside : Op → Type 0
   Inside op = IsInside p (op_numbered (refs_of p.methods) p.statics op)
 
@@ -90,7 +90,7 @@ module _ (p : Program) (known : IsWorld p.world) (bodies : list_all (has_body p.
   class_ops : (form : ClassForm) (t : Ty) (op : Op) → IsReference (length p.world) t → class_op p.world form t ≡ Ok op → Good op
   unfolding class_op
   class_ops classes.New t op r e =
-      let class = got (class_number t) (new_of p.world) op e in
+      let class = bind_ok (class_number t) (new_of p.world) op e in
       let new = new_good p.world class.0 op class.2 in
       subst Good (sym new.0) (record { named = new.1; leads = tt })
   class_ops classes.Anewarray t op r e =
@@ -108,7 +108,7 @@ module _ (p : Program) (known : IsWorld p.world) (bodies : list_all (has_body p.
   static_ops statics.Putstatic used d h = record { named = static_found p kept used d h.1; leads = tt }
 
   -- an instruction whose names are resolved, with its call's number
-  pub op_good : (insn : Insn) (operand : Operand) (op : Op) → operand_of insn ≡ operand → Shape p.world m.class insn operand op → Inside op → AllOf (λ t. is_place m.insns t ≡ true) (targets insn) → Good op
+  pub op_good : (insn : Insn) (operand : Operand) (op : Op) → operand_of insn ≡ operand → Shape p.world m.class insn operand op → Inside op → AllByRecursion (λ t. is_place m.insns t ≡ true) (targets insn) → Good op
   op_good insn operands.Nothing op e s h t = subst Good (sym s) (record { named = plain_good insn operands.Nothing e tt; leads = t })
   op_good insn (operands.Numbers code) op e s h t = subst Good (sym s.0) (record { named = plain_good insn (operands.Numbers code) e (array_kind code s.1); leads = t })
   op_good insn (operands.Constant entry) op e s h t = subst Good (sym s.1) (record { named = tt; leads = tt })

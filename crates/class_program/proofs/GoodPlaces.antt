@@ -1,7 +1,7 @@
 -- Targets, handlers and the ends of ranges are places of the method's instructions, or its end.
 use Rattle.std.proofs.Common.{◌≡◌, ℕ, zero, suc, ◌+◌, ◌-◌, ◌<◌, Bool, true, false, not, ◌||◌, cond, eqb, ltb, List, [], ◌∷◌, length, Option, Some, None, Ok, Err, sym, refl, ap, subst, inl, inr, ◌⊎◌, arith, ◌∙◌}
 use Rattle.std.specs.Prelude.{Result, map, IfSome}
-use Rattle.std.specs.List.{list_all, list_any}
+use Rattle.std.specs.List.{list_all, list_any, AllByRecursion}
 use Rattle.std.specs.Option.{option_map_or, is_some}
 use Rattle.std.proofs.lemmas.Bool.{and_parts, ltb-true, eqb-true, or_cases}
 use Rattle.class_pool.specs.declared.entry.PoolEntry.{PoolEntry}
@@ -19,6 +19,7 @@ use Rattle.class_world.specs.declared.fault.LinkFault.TheVariants.{MissingClass}
 use Rattle.class_world.specs.declared.world.MethodRef.{MethodRef}
 use Rattle.class_world.specs.World.{World, class_of}
 use Rattle.class_world.specs.Linked.{class_of_within}
+use Rattle.list_views.proofs.Steps.{bind_ok}
 use Rattle.class_program.specs.declared.program.StaticField.{StaticField}
 use Rattle.class_program.specs.declared.op.Op.{Op}
 use Rattle.class_program.specs.Said.{Said, each}
@@ -26,9 +27,8 @@ use Rattle.class_program.specs.Ops.{op_of}
 use Rattle.class_program.specs.Methods.{table_said, op_said, ops_of, caught, catch_of}
 use Rattle.class_program.specs.Reached.{insns_numbered}
 use Rattle.class_program.specs.Instructions.{first_place, instruction_at}
-use Rattle.class_program.specs.Good.{AllOf, is_place}
+use Rattle.class_program.specs.Good.{is_place}
 use Rattle.class_program.proofs.Got.{all_imply}
-use Rattle.class_program.proofs.Rising.{bind_ok}
 use Rattle.class_program.proofs.RisingCodes.{decoded}
 
 -- ---- places by their list
@@ -66,42 +66,42 @@ stands_so insns xs t e s = place_is insns t ∙ ap (λ us. list_any (λ u. eqb u
 
 -- ---- targets
 
-all_tests : {A : Type 0} (p : A → Bool) (xs : List A) → list_all p xs ≡ true → AllOf (λ x. p x ≡ true) xs
+all_tests : {A : Type 0} (p : A → Bool) (xs : List A) → list_all p xs ≡ true → AllByRecursion (λ x. p x ≡ true) xs
 all_tests p [] e = tt
 all_tests p (x ∷ xs) e = let r = and_parts (p x) (list_all p xs) e in (r.0, all_tests p xs r.1)
 
-none_strays : (p : ℕ → Bool) (xs : List (ℕ × Insn)) → first_stray p xs ≡ None → AllOf (λ x. AllOf (λ t. p t ≡ true) (targets x.1)) xs
+none_strays : (p : ℕ → Bool) (xs : List (ℕ × Insn)) → first_stray p xs ≡ None → AllByRecursion (λ x. AllByRecursion (λ t. p t ≡ true) (targets x.1)) xs
 none_strays p [] e = tt
 none_strays p (x ∷ xs) e = go (none_strays p xs) (list_all p (targets x.1)) refl e
   where
-    go : (first_stray p xs ≡ None → AllOf (λ y. AllOf (λ t. p t ≡ true) (targets y.1)) xs) → (b : Bool) → list_all p (targets x.1) ≡ b → cond b (first_stray p xs) (Some x.0) ≡ None → AllOf (λ y. AllOf (λ t. p t ≡ true) (targets y.1)) (x ∷ xs)
+    go : (first_stray p xs ≡ None → AllByRecursion (λ y. AllByRecursion (λ t. p t ≡ true) (targets y.1)) xs) → (b : Bool) → list_all p (targets x.1) ≡ b → cond b (first_stray p xs) (Some x.0) ≡ None → AllByRecursion (λ y. AllByRecursion (λ t. p t ≡ true) (targets y.1)) (x ∷ xs)
     go rest true q f = (all_tests p (targets x.1) q, rest f)
     go rest false q f = cc
 
 -- the targets of a code's instructions are places of it
-pub targets_stand : (code : List ℕ) (xs : List (ℕ × Insn)) → decode_of code ≡ Ok xs → AllOf (λ x. AllOf (λ t. stands (starts xs) t ≡ true) (targets x.1)) xs
+pub targets_stand : (code : List ℕ) (xs : List (ℕ × Insn)) → decode_of code ≡ Ok xs → AllByRecursion (λ x. AllByRecursion (λ t. stands (starts xs) t ≡ true) (targets x.1)) xs
 targets_stand code xs e = none_strays (stands (starts xs)) xs (decoded code xs e).1
 
 -- ---- exception tables
 
-below_end : (passed pc : ℕ) (bytes : List ℕ) (xs : List (ℕ × Insn)) → insns_from passed pc bytes ≡ Ok xs → AllOf (λ x. x.0 < pc + length bytes) xs
+below_end : (passed pc : ℕ) (bytes : List ℕ) (xs : List (ℕ × Insn)) → insns_from passed pc bytes ≡ Ok xs → AllByRecursion (λ x. x.0 < pc + length bytes) xs
 unfolding insns_from
-below_end passed pc [] xs e = let same : [] ≡ xs = cc in subst (λ (ys : List (ℕ × Insn)). AllOf (λ y. y.0 < pc + 0) ys) same tt
+below_end passed pc [] xs e = let same : [] ≡ xs = cc in subst (λ (ys : List (ℕ × Insn)). AllByRecursion (λ y. y.0 < pc + 0) ys) same tt
 below_end zero pc (op ∷ bytes) xs e = go (insn_at pc op bytes) e (λ passed ys q. all_imply _ _ ys (further pc (length bytes)) (below_end passed (pc + 1) bytes ys q))
   where
     further : (a n : ℕ) (y : ℕ × Insn) → y.0 < (a + 1) + n → y.0 < a + suc n
     further a n y l = omega (arith, l)
 
     Rest : Type 0
-    Rest = (passed : ℕ) (ys : List (ℕ × Insn)) → insns_from passed (pc + 1) bytes ≡ Ok ys → AllOf (λ y. y.0 < pc + suc (length bytes)) ys
+    Rest = (passed : ℕ) (ys : List (ℕ × Insn)) → insns_from passed (pc + 1) bytes ≡ Ok ys → AllByRecursion (λ y. y.0 < pc + suc (length bytes)) ys
 
-    behind : (insn : Insn) (passed : ℕ) (s : Result (List (ℕ × Insn)) CodeFault) → insns_from passed (pc + 1) bytes ≡ s → (s >>= λ rest. Ok ((pc, insn) ∷ rest)) ≡ Ok xs → Rest → AllOf (λ y. y.0 < pc + suc (length bytes)) xs
+    behind : (insn : Insn) (passed : ℕ) (s : Result (List (ℕ × Insn)) CodeFault) → insns_from passed (pc + 1) bytes ≡ s → (s >>= λ rest. Ok ((pc, insn) ∷ rest)) ≡ Ok xs → Rest → AllByRecursion (λ y. y.0 < pc + suc (length bytes)) xs
     behind insn passed (Err fault) q f rest = cc
     behind insn passed (Ok ys) q f rest =
         let same : (pc, insn) ∷ ys ≡ xs = cc in
-        subst (λ (zs : List (ℕ × Insn)). AllOf (λ y. y.0 < pc + suc (length bytes)) zs) same (omega arith, rest passed ys q)
+        subst (λ (zs : List (ℕ × Insn)). AllByRecursion (λ y. y.0 < pc + suc (length bytes)) zs) same (omega arith, rest passed ys q)
 
-    go : (r : Result (Insn × List ℕ) CodeFault) → (r >>= λ x. insns_from (length bytes - length x.1) (pc + 1) bytes >>= λ rest. Ok ((pc, x.0) ∷ rest)) ≡ Ok xs → Rest → AllOf (λ y. y.0 < pc + suc (length bytes)) xs
+    go : (r : Result (Insn × List ℕ) CodeFault) → (r >>= λ x. insns_from (length bytes - length x.1) (pc + 1) bytes >>= λ rest. Ok ((pc, x.0) ∷ rest)) ≡ Ok xs → Rest → AllByRecursion (λ y. y.0 < pc + suc (length bytes)) xs
     go (Err fault) f rest = cc
     go (Ok x) f rest = behind x.0 (length bytes - length x.1) (insns_from (length bytes - length x.1) (pc + 1) bytes) refl f rest
 below_end (suc passed) pc (b ∷ bytes) xs e = all_imply _ _ xs (further pc (length bytes)) (below_end passed (pc + 1) bytes xs e)
@@ -109,7 +109,7 @@ below_end (suc passed) pc (b ∷ bytes) xs e = all_imply _ _ xs (further pc (len
     further : (a n : ℕ) (y : ℕ × Insn) → y.0 < (a + 1) + n → y.0 < a + suc n
     further a n y l = omega (arith, l)
 
-pub code_below : (code : List ℕ) (xs : List (ℕ × Insn)) → decode_of code ≡ Ok xs → AllOf (λ x. x.0 < length code) xs
+pub code_below : (code : List ℕ) (xs : List (ℕ × Insn)) → decode_of code ≡ Ok xs → AllByRecursion (λ x. x.0 < length code) xs
 code_below code xs e = all_imply _ _ xs (λ y l. omega (arith, l)) (below_end 0 0 code xs (decoded code xs e).0)
 
 -- an entry whose boundaries are good
@@ -135,18 +135,18 @@ bounded begins len h e = go (begins h.start) (may_end begins len h.start h.end) 
           handler = r;
         }
 
-none_bad : (begins : ℕ → Bool) (len : ℕ) (hs : List Handler) → first_bad_boundary begins len hs ≡ None → AllOf (λ h. IsBounded begins len h) hs
+none_bad : (begins : ℕ → Bool) (len : ℕ) (hs : List Handler) → first_bad_boundary begins len hs ≡ None → AllByRecursion (λ h. IsBounded begins len h) hs
 none_bad begins len [] e = tt
 none_bad begins len (h ∷ hs) e = go (none_bad begins len hs) (bad_boundary begins len h) refl e
   where
-    go : (first_bad_boundary begins len hs ≡ None → AllOf (λ x. IsBounded begins len x) hs) → (o : Option ℕ) → bad_boundary begins len h ≡ o → earlier o (first_bad_boundary begins len hs) ≡ None → AllOf (λ x. IsBounded begins len x) (h ∷ hs)
+    go : (first_bad_boundary begins len hs ≡ None → AllByRecursion (λ x. IsBounded begins len x) hs) → (o : Option ℕ) → bad_boundary begins len h ≡ o → earlier o (first_bad_boundary begins len hs) ≡ None → AllByRecursion (λ x. IsBounded begins len x) (h ∷ hs)
     go rest None q f = (bounded begins len h q, rest f)
     go rest (Some place) q f = cc
 
-pub table_bounded : (code : CodeContent) (xs : List (ℕ × Insn)) → table_said code xs ≡ Ok tt → AllOf (λ h. IsBounded (stands (starts xs)) (length code.code) h) code.table
+pub table_bounded : (code : CodeContent) (xs : List (ℕ × Insn)) → table_said code xs ≡ Ok tt → AllByRecursion (λ h. IsBounded (stands (starts xs)) (length code.code) h) code.table
 table_bounded code xs e = go (first_bad_boundary (stands (starts xs)) (length code.code) code.table) refl e
   where
-    go : (o : Option ℕ) → first_bad_boundary (stands (starts xs)) (length code.code) code.table ≡ o → boundary_fault o ≡ Ok tt → AllOf (λ h. IsBounded (stands (starts xs)) (length code.code) h) code.table
+    go : (o : Option ℕ) → first_bad_boundary (stands (starts xs)) (length code.code) code.table ≡ o → boundary_fault o ≡ Ok tt → AllByRecursion (λ h. IsBounded (stands (starts xs)) (length code.code) h) code.table
     go None q f = none_bad (stands (starts xs)) (length code.code) code.table q
     go (Some place) q f = cc
 

@@ -10,6 +10,7 @@ use Rattle.jvm_values.specs.declared.types.Ty.{Ty}
 use Rattle.jvm_values.specs.Subtyping.{IsReference}
 use Rattle.class_world.specs.World.{World}
 use Rattle.class_world.specs.declared.fault.MethodName.{MethodName}
+use Rattle.list_views.proofs.Steps.{bind_ok}
 use Rattle.class_program.specs.declared.refusal.Refusal.TheVariants.{UnsupportedType, Unresolved}
 use Rattle.class_program.specs.declared.operand.Operand.{Operand}
 use Rattle.class_program.specs.declared.operand.Operand.TheVariants as operands
@@ -21,7 +22,7 @@ use Rattle.class_program.specs.declared.op.StaticUse.{StaticUse}
 use Rattle.class_program.specs.Operands.{Member, operand_of}
 use Rattle.class_program.specs.Refusals.{◌>>=◌, wanted}
 use Rattle.class_program.specs.Ops.{is_other_constant, constant_of, type_named, type_operand, class_op, field_of, field_op, static_of, static_op, static_operand, member_operand, member_tag, call_of, call_op, numbers_op, field_operand, class_operand, call_operand, op_with, pool_of, op_of}
-use Rattle.class_program.proofs.Got.{got, got_faultless}
+use Rattle.class_program.proofs.Got.{got_faultless}
 use Rattle.class_program.proofs.GoodTypes.{named_type}
 
 abbrev pub Shape : World → ℕ → Insn → Operand → Op → Type 0
@@ -56,20 +57,20 @@ shape_of world current pool insn operands.Nothing op e = cc
 shape_of world current pool insn (operands.Numbers code) op e = numbers_shape insn code op e
 shape_of world current pool insn (operands.Constant entry) op e = constant_shape pool entry op e
 shape_of world current pool insn (operands.Static form entry) op e =
-    let m = got (member_operand pool 9 entry) _ op e in
-    let used = got (static_of world m.0) _ op m.2 in
+    let m = bind_ok (member_operand pool 9 entry) _ op e in
+    let used = bind_ok (static_of world m.0) _ op m.2 in
     (m.0, used.0, used.1, cc)
 shape_of world current pool insn (operands.Field form entry) op e =
-    let m = got (member_operand pool 9 entry) _ op e in
-    let used = got (field_of world m.0) _ op m.2 in
+    let m = bind_ok (member_operand pool 9 entry) _ op e in
+    let used = bind_ok (field_of world m.0) _ op m.2 in
     (m.0, used.0, used.1, cc)
 shape_of world current pool insn (operands.Class form entry) op e =
-    let t = got (wanted (class_name_at pool entry) >>= type_named world) _ op e in
-    let name = got (wanted (class_name_at pool entry)) _ t.0 t.1 in
+    let t = bind_ok (wanted (class_name_at pool entry) >>= type_named world) _ op e in
+    let name = bind_ok (wanted (class_name_at pool entry)) _ t.0 t.1 in
     (t.0, named_type world name.0 t.0 name.2, t.2)
 shape_of world current pool insn (operands.Call form entry) op e =
-    let m = got (member_operand pool (member_tag form) entry) _ op e in
-    let call = got (call_of world current form m.0) _ op m.2 in
+    let m = bind_ok (member_operand pool (member_tag form) entry) _ op e in
+    let call = bind_ok (call_of world current form m.0) _ op m.2 in
     (m.0, call.0, call.1, cc)
 
 -- the instruction at a place of a method that a class declares

@@ -1,7 +1,7 @@
 -- The static fields that instructions name are those of the program.
 use Rattle.std.proofs.Common.{◌≡◌, ◌++◌, ◌||◌, ◌&&◌, ℕ, zero, suc, ◌+◌, ◌<◌, Bool, true, false, not, cond, eqb, List, [], ◌∷◌, length, get_or, Option, Some, None, Ok, Err, refl, ap, sym, ◌∙◌, subst, arith, zero-add, one-add}
 use Rattle.std.specs.Prelude.{slice_get, option_and_then, position, is_none, IfSome}
-use Rattle.std.specs.List.{list_any, filter_map, flat_map, cons_option, range_with_len, position_or_len}
+use Rattle.std.specs.List.{list_any, filter_map, flat_map, cons_option, range_with_len, position_or_len, AllByRecursion}
 use Rattle.std.specs.Option.{option_map, option_map_or}
 use Rattle.std.specs.Str.{bytes_eq}
 use Rattle.std.proofs.lemmas.Bool.{and_parts, and_from, eqb-true, eq-eqb, or_left, or_right, false≢true}
@@ -16,6 +16,7 @@ use Rattle.class_world.specs.Descriptors.{slot_of}
 use Rattle.class_world.specs.Resolve.{is_field_named, declared_field, field_at, is_static_field, found_field, resolve_field, first_static_init}
 use Rattle.class_world.specs.SlotLaws.{slot_is}
 use Rattle.class_world.proofs.Found.{found_in}
+use Rattle.list_views.proofs.Steps.{bind_ok}
 use Rattle.class_program.specs.declared.refusal.Refusal.TheVariants as refusals
 use Rattle.class_program.specs.declared.op.Op.{Op}
 use Rattle.class_program.specs.declared.op.FieldRef.{FieldRef}
@@ -27,8 +28,8 @@ use Rattle.class_program.specs.Refusals.{◌>>=◌, wanted, required}
 use Rattle.class_program.specs.Ops.{type_named, class_number, static_kind, static_found as static_sought, static_of}
 use Rattle.class_program.specs.Statics.{field_count, same_field, has_field, field_named, fields_in, fields_named, static_ref, static_field, static_at, statics_in, statics_of, is_field, placed_use}
 use Rattle.class_program.specs.Programs.{Program}
-use Rattle.class_program.specs.Good.{AllOf, IsGoodStaticUse, IsDeclaredStatic}
-use Rattle.class_program.proofs.Got.{got, got_wanted, got_required}
+use Rattle.class_program.specs.Good.{IsGoodStaticUse, IsDeclaredStatic}
+use Rattle.class_program.proofs.Got.{got_wanted, got_required}
 
 -- ---- what instructions name is among what all of them name
 
@@ -36,7 +37,7 @@ same_self : (a : FieldRef) → same_field a a ≡ true
 same_self a = and_from (eqb a.class a.class) (eqb a.index a.index) (eq-eqb a.class a.class refl) (eq-eqb a.index a.index refl)
 
 abbrev NamedIn : List FieldRef → List (ℕ × Op) → Type 0
-NamedIn all insns = AllOf (λ y. IfSome (field_named y.1) (λ f. has_field all f ≡ true)) insns
+NamedIn all insns = AllByRecursion (λ y. IfSome (field_named y.1) (λ f. has_field all f ≡ true)) insns
 
 insns_named : (all : List FieldRef) (insns : List (ℕ × Op)) → ((f : FieldRef) → has_field (fields_in insns) f ≡ true → has_field all f ≡ true) → NamedIn all insns
 insns_named all [] h = tt
@@ -46,7 +47,7 @@ insns_named all (x ∷ xs) h = go (field_named x.1) h (insns_named all xs)
     go None k rest = (tt, rest k)
     go (Some g) k rest = (k g (or_left (same_field g g) _ (same_self g)), rest (λ f e. k f (or_right (same_field f g) _ e)))
 
-methods_named : (all : List FieldRef) (methods : List Method) → ((f : FieldRef) → has_field (fields_named methods) f ≡ true → has_field all f ≡ true) → AllOf (λ m. NamedIn all m.insns) methods
+methods_named : (all : List FieldRef) (methods : List Method) → ((f : FieldRef) → has_field (fields_named methods) f ≡ true → has_field all f ≡ true) → AllByRecursion (λ m. NamedIn all m.insns) methods
 unfolding fields_named
 methods_named all [] h = tt
 methods_named all (m ∷ ms) h = (
@@ -54,7 +55,7 @@ methods_named all (m ∷ ms) h = (
   methods_named all ms (λ f e. h f (list_any-append (same_field f) (fields_in m.insns) (fields_named ms) ∙ or_right (has_field (fields_in m.insns) f) _ e)),
 )
 
-pub names_named : (methods : List Method) → AllOf (λ m. NamedIn (fields_named methods) m.insns) methods
+pub names_named : (methods : List Method) → AllByRecursion (λ m. NamedIn (fields_named methods) m.insns) methods
 names_named methods = methods_named (fields_named methods) methods (λ f e. e)
 
 -- ---- a static field that look-up found
@@ -121,7 +122,7 @@ kind_declared world desc found used h e = go (slot_of world desc) refl e
     go : (o : Option Slot) → slot_of world desc ≡ o → cond (is_none o) (Err refusals.UnsupportedType) (required (is_static_field world found.0 found.1) >>= λ _. Ok (record { field = field; place = 0 })) ≡ Ok used → IsDeclaredField world used.field
     go None q f = cc
     go (Some slot) q f =
-        let test = got (required (is_static_field world found.0 found.1)) (λ _. Ok (record { field = field; place = 0 })) used f in
+        let test = bind_ok (required (is_static_field world found.0 found.1)) (λ _. Ok (record { field = field; place = 0 })) used f in
         let static = got_required (is_static_field world found.0 found.1) test.0 test.1 in
         let same : ◌≡◌ {A = StaticUse} (record { field = field; place = 0 }) used = cc in
         let content = h.content in
@@ -146,9 +147,9 @@ sought_declared world desc found used h e = go (first_static_init world found.0)
 pub field_declared : (world : World) (m : Member) (used : StaticUse) → static_of world m ≡ Ok used → IsDeclaredField world used.field
 unfolding static_of
 field_declared world m used e =
-    let t = got (type_named world m.class) _ used e in
-    let class = got (class_number t.0) _ used t.2 in
-    let found = got (wanted (resolve_field world class.0 m.name m.desc)) _ used class.2 in
+    let t = bind_ok (type_named world m.class) _ used e in
+    let class = bind_ok (class_number t.0) _ used t.2 in
+    let found = bind_ok (wanted (resolve_field world class.0 m.name m.desc)) _ used class.2 in
     sought_declared world m.desc found.0 used (resolved_there world class.0 m.name m.desc found.0 (got_wanted (resolve_field world class.0 m.name m.desc) found.0 found.1)) found.2
 
 -- ---- it is one of the static fields of the program
@@ -234,19 +235,19 @@ static_found p kept used d h =
 
 -- ---- each of them is declared
 
-all_flat : {A B : Type 0} (P : B → Type 0) (f : A → List B) (xs : List A) → ((x : A) → AllOf P (f x)) → AllOf P (flat_map f xs)
+all_flat : {A B : Type 0} (P : B → Type 0) (f : A → List B) (xs : List A) → ((x : A) → AllByRecursion P (f x)) → AllByRecursion P (flat_map f xs)
 all_flat P f [] h = tt
 all_flat {A} {B} P f (x ∷ xs) h = both (f x) (flat_map f xs) (h x) (all_flat P f xs h)
   where
-    both : (ys zs : List B) → AllOf P ys → AllOf P zs → AllOf P (ys ++ zs)
+    both : (ys zs : List B) → AllByRecursion P ys → AllByRecursion P zs → AllByRecursion P (ys ++ zs)
     both [] zs a b = b
     both (y ∷ ys) zs a b = (a.0, both ys zs a.1 b)
 
-all_filter : {A B : Type 0} (P : B → Type 0) (f : A → Option B) (xs : List A) → ((x : A) (y : B) → f x ≡ Some y → P y) → AllOf P (filter_map f xs)
+all_filter : {A B : Type 0} (P : B → Type 0) (f : A → Option B) (xs : List A) → ((x : A) (y : B) → f x ≡ Some y → P y) → AllByRecursion P (filter_map f xs)
 all_filter P f [] h = tt
 all_filter {A} {B} P f (x ∷ xs) h = go (f x) refl (all_filter P f xs h)
   where
-    go : (o : Option B) → f x ≡ o → AllOf P (filter_map f xs) → AllOf P (cons_option o (filter_map f xs))
+    go : (o : Option B) → f x ≡ o → AllByRecursion P (filter_map f xs) → AllByRecursion P (cons_option o (filter_map f xs))
     go None e rest = rest
     go (Some y) e rest = (h x y e, rest)
 
@@ -283,7 +284,7 @@ at_declared world named class i s e = go (is_static_field world class i) (has_fi
     go true false q f = cc
     go false b q f = cc
 
-pub statics_declared : (world : World) (named : List FieldRef) → AllOf (IsDeclaredStatic world) (statics_of world named)
+pub statics_declared : (world : World) (named : List FieldRef) → AllByRecursion (IsDeclaredStatic world) (statics_of world named)
 unfolding statics_of statics_in
 statics_declared world named =
     all_flat (IsDeclaredStatic world) (statics_in world named) (range_with_len 0 (length world))

@@ -1,7 +1,7 @@
 -- The types that instructions and descriptors name are of the world.
 use Rattle.std.proofs.Common.{◌≡◌, ℕ, zero, suc, ◌≤◌, ◌<◌, Bool, true, false, cond, eqb, List, [], ◌∷◌, length, Option, Some, None, Ok, Err, sym, refl, ap, subst, arith, ◌∙◌}
 use Rattle.std.specs.Prelude.{option_and_then, IfSome}
-use Rattle.std.specs.List.{cons_option}
+use Rattle.std.specs.List.{cons_option, AllByRecursion}
 use Rattle.std.specs.Option.{option_map, option_map_or}
 use Rattle.std.proofs.lemmas.Bool.{eqb-true}
 use Rattle.class_base.specs.declared.types.FieldType.{FieldType}
@@ -21,13 +21,13 @@ use Rattle.class_world.specs.declared.meaning.Meaning.TheVariants.{Known, Unsupp
 use Rattle.class_world.specs.Descriptors.{meaning_of, known_slot}
 use Rattle.class_world.specs.Linked.{class_of_within}
 use Rattle.class_world.specs.SlotLaws.{type_dims, meaning_is}
+use Rattle.list_views.proofs.Steps.{bind_ok}
 use Rattle.class_program.specs.declared.refusal.Refusal.TheVariants as refusals
 use Rattle.class_program.specs.declared.signature.Signature.{Signature}
 use Rattle.class_program.specs.Refusals.{wanted}
 use Rattle.class_program.specs.Signatures.{types_of, all_there, all_supported, slots_of, returned_slot, signature, signature_of, declared_signature}
 use Rattle.class_program.specs.Ops.{meant_type, array_type, class_named, type_named, base_class, class_number}
-use Rattle.class_program.specs.Good.{AllOf}
-use Rattle.class_program.proofs.Got.{got, got_wanted, some_same}
+use Rattle.class_program.proofs.Got.{got_wanted, some_same}
 
 -- ---- types
 
@@ -105,27 +105,27 @@ numbered_class n t class r e = go (eqb t.dims 0) refl e
 
 -- ---- signatures
 
-params_dims : (turns : ℕ) (text : List ℕ) (types : List FieldType) (rest : List ℕ) → types_at turns text ≡ Some (types, rest) → AllOf (λ t. t.dims ≤ 255) types
+params_dims : (turns : ℕ) (text : List ℕ) (types : List FieldType) (rest : List ℕ) → types_at turns text ≡ Some (types, rest) → AllByRecursion (λ t. t.dims ≤ 255) types
 unfolding types_at
 params_dims zero text types rest e = cc
 params_dims (suc turns) [] types rest e = cc
 params_dims (suc turns) (b ∷ text) types rest e = go (params_dims turns) (eqb b 41) e
   where
     Rest : Type 0
-    Rest = (after : List ℕ) (ts : List FieldType) (left : List ℕ) → types_at turns after ≡ Some (ts, left) → AllOf (λ t. t.dims ≤ 255) ts
+    Rest = (after : List ℕ) (ts : List FieldType) (left : List ℕ) → types_at turns after ≡ Some (ts, left) → AllByRecursion (λ t. t.dims ≤ 255) ts
 
-    more : Rest → (t : FieldType) (after : List ℕ) → type_at (b ∷ text) ≡ Some (t, after) → (o : Option (List FieldType × List ℕ)) → types_at turns after ≡ o → option_map {U = List FieldType × List ℕ} (λ r. (t ∷ r.0, r.1)) o ≡ Some (types, rest) → AllOf (λ u. u.dims ≤ 255) types
+    more : Rest → (t : FieldType) (after : List ℕ) → type_at (b ∷ text) ≡ Some (t, after) → (o : Option (List FieldType × List ℕ)) → types_at turns after ≡ o → option_map {U = List FieldType × List ℕ} (λ r. (t ∷ r.0, r.1)) o ≡ Some (types, rest) → AllByRecursion (λ u. u.dims ≤ 255) types
     more go_on t after q None p f = cc
     more go_on t after q (Some r) p f =
         let same : t ∷ r.0 ≡ types = ap (λ (z : List FieldType × List ℕ). z.0) (some_same (t ∷ r.0, r.1) (types, rest) f) in
-        subst (λ (us : List FieldType). AllOf (λ u. u.dims ≤ 255) us) same (type_dims (b ∷ text) after t q, go_on after r.0 r.1 p)
+        subst (λ (us : List FieldType). AllByRecursion (λ u. u.dims ≤ 255) us) same (type_dims (b ∷ text) after t q, go_on after r.0 r.1 p)
 
-    one : Rest → (o : Option (FieldType × List ℕ)) → type_at (b ∷ text) ≡ o → option_and_then (λ x. option_map {U = List FieldType × List ℕ} (λ r. (x.0 ∷ r.0, r.1)) (types_at turns x.1)) o ≡ Some (types, rest) → AllOf (λ u. u.dims ≤ 255) types
+    one : Rest → (o : Option (FieldType × List ℕ)) → type_at (b ∷ text) ≡ o → option_and_then (λ x. option_map {U = List FieldType × List ℕ} (λ r. (x.0 ∷ r.0, r.1)) (types_at turns x.1)) o ≡ Some (types, rest) → AllByRecursion (λ u. u.dims ≤ 255) types
     one go_on None q f = cc
     one go_on (Some x) q f = more go_on x.0 x.1 q (types_at turns x.1) refl f
 
-    go : Rest → (c : Bool) → cond c (Some ([], text)) (option_and_then (λ x. option_map {U = List FieldType × List ℕ} (λ r. (x.0 ∷ r.0, r.1)) (types_at turns x.1)) (type_at (b ∷ text))) ≡ Some (types, rest) → AllOf (λ u. u.dims ≤ 255) types
-    go go_on true f = let same : [] ≡ types = ap (λ (z : List FieldType × List ℕ). z.0) (some_same ([], text) (types, rest) f) in subst (λ (us : List FieldType). AllOf (λ u. u.dims ≤ 255) us) same tt
+    go : Rest → (c : Bool) → cond c (Some ([], text)) (option_and_then (λ x. option_map {U = List FieldType × List ℕ} (λ r. (x.0 ∷ r.0, r.1)) (types_at turns x.1)) (type_at (b ∷ text))) ≡ Some (types, rest) → AllByRecursion (λ u. u.dims ≤ 255) types
+    go go_on true f = let same : [] ≡ types = ap (λ (z : List FieldType × List ℕ). z.0) (some_same ([], text) (types, rest) f) in subst (λ (us : List FieldType). AllByRecursion (λ u. u.dims ≤ 255) us) same tt
     go go_on false f = one go_on (type_at (b ∷ text)) refl f
 
 returned_dims : (text : List ℕ) (t : FieldType) → returned_at text ≡ Some (Some t) → t.dims ≤ 255
@@ -147,7 +147,7 @@ returned_dims (b ∷ text) t e = go (eqb b 86) e
 
 -- the types of a method's parameters, and of its result, have few dimensions
 record HasFewDims (m : MethodType) : Type 0 where
-  pub params : AllOf (λ t. t.dims ≤ 255) m.params
+  pub params : AllByRecursion (λ t. t.dims ≤ 255) m.params
   pub returned : (t : FieldType) → m.returned ≡ Some t → t.dims ≤ 255
 
 type_few : (text : List ℕ) (m : MethodType) → method_type text ≡ Some m → HasFewDims m
@@ -172,17 +172,17 @@ type_few (b ∷ text) m e = go (eqb b 40) e
     go true f = inner (types_at (length text) text) refl f
     go false f = cc
 
-slots_good : (world : World) (types : List FieldType) → AllOf (λ t. t.dims ≤ 255) types → AllOf (IsSlot (length world)) (slots_of world types)
+slots_good : (world : World) (types : List FieldType) → AllByRecursion (λ t. t.dims ≤ 255) types → AllByRecursion (IsSlot (length world)) (slots_of world types)
 slots_good world [] h = tt
 slots_good world (t ∷ ts) h = go (slots_good world ts h.1) (known_slot (meaning_of world t)) refl
   where
-    go : AllOf (IsSlot (length world)) (slots_of world ts) → (o : Option Slot) → known_slot (meaning_of world t) ≡ o → AllOf (IsSlot (length world)) (cons_option o (slots_of world ts))
+    go : AllByRecursion (IsSlot (length world)) (slots_of world ts) → (o : Option Slot) → known_slot (meaning_of world t) ≡ o → AllByRecursion (IsSlot (length world)) (cons_option o (slots_of world ts))
     go more None q = more
     go more (Some slot) q = (meaning_is world t slot h.0 q, more)
 
 -- the slots of a signature are of the world
 pub record IsGoodSignature (world : World) (s : Signature) : Type 0 where
-  pub params : AllOf (IsSlot (length world)) s.params
+  pub params : AllByRecursion (IsSlot (length world)) s.params
   pub result : IfSome s.result (IsSlot (length world))
 
 signature_good : (world : World) (m : MethodType) → HasFewDims m → IsGoodSignature world (signature world m)
@@ -200,9 +200,9 @@ signature_good world m h = record { params = slots_good world m.params h.params;
 pub named_signature : (world : World) (desc : List ℕ) (s : Signature) → signature_of world desc ≡ Ok s → (m : MethodType) × (method_type desc ≡ Some m) × (s ≡ signature world m) × IsGoodSignature world s
 unfolding signature_of
 named_signature world desc s e =
-    let m = got (wanted (method_type desc)) _ s e in
-    let there = got (all_there world (types_of m.0)) _ s m.2 in
-    let supported = got (all_supported world (types_of m.0)) _ s there.2 in
+    let m = bind_ok (wanted (method_type desc)) _ s e in
+    let there = bind_ok (all_there world (types_of m.0)) _ s m.2 in
+    let supported = bind_ok (all_supported world (types_of m.0)) _ s there.2 in
     let same : signature world m.0 ≡ s = cc in
     let type_is = got_wanted (method_type desc) m.0 m.1 in
     (m.0, type_is, sym same, subst (IsGoodSignature world) same (signature_good world m.0 (type_few desc m.0 type_is)))
@@ -210,9 +210,9 @@ named_signature world desc s e =
 pub own_signature : (world : World) (desc : List ℕ) (s : Signature) → declared_signature world desc ≡ Ok s → (m : MethodType) × (method_type desc ≡ Some m) × (s ≡ signature world m) × IsGoodSignature world s
 unfolding declared_signature
 own_signature world desc s e =
-    let m = got (wanted (method_type desc)) _ s e in
-    let supported = got (all_supported world (types_of m.0)) _ s m.2 in
-    let there = got (all_there world (types_of m.0)) _ s supported.2 in
+    let m = bind_ok (wanted (method_type desc)) _ s e in
+    let supported = bind_ok (all_supported world (types_of m.0)) _ s m.2 in
+    let there = bind_ok (all_there world (types_of m.0)) _ s supported.2 in
     let same : signature world m.0 ≡ s = cc in
     let type_is = got_wanted (method_type desc) m.0 m.1 in
     (m.0, type_is, sym same, subst (IsGoodSignature world) same (signature_good world m.0 (type_few desc m.0 type_is)))

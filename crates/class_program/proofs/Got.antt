@@ -1,19 +1,12 @@
 -- What is known of an answer that was given: of each part that it is made of.
 use Rattle.std.proofs.Common.{◌≡◌, ℕ, zero, suc, Bool, true, false, List, [], ◌∷◌, Option, Some, None, Ok, Err, refl, subst}
 use Rattle.std.specs.Prelude.{Result, map, slice_get}
+use Rattle.std.specs.List.{AllByRecursion}
 use Rattle.class_program.specs.declared.refusal.Refusal.{Refusal}
 use Rattle.class_world.specs.declared.fault.MethodName.{MethodName}
-use Rattle.class_program.specs.Refusals.{◌>>=◌, wanted, required, together, with_fault}
+use Rattle.class_program.specs.Refusals.{wanted, required, together, with_fault}
 use Rattle.class_program.specs.Said.{Said, each}
-use Rattle.class_program.specs.Good.{AllOf}
-use Rattle.class_program.proofs.Rising.{bind_ok}
-
-pub got : {A B : Type 0} (s : Result A Refusal) (f : A → Result B Refusal) (y : B) → (s >>= f) ≡ Ok y → (x : A) × (s ≡ Ok x) × (f x ≡ Ok y)
-got (Ok x) f y e = (x, refl, e)
-got (Err refusal) f y e = cc
-
-pub got_same : {A : Type 0} (x y : A) (s : Result A Refusal) → s ≡ Ok x → s ≡ Ok y → x ≡ y
-got_same x y s e f = cc
+use Rattle.list_views.proofs.Steps.{bind_ok}
 
 pub got_wanted : {A : Type 0} (o : Option A) (x : A) → wanted o ≡ Ok x → o ≡ Some x
 got_wanted (Some y) x e = cc
@@ -38,32 +31,28 @@ some_same x y e = cc
 
 -- ---- lists
 
-pub all_at : {A : Type 0} (P : A → Type 0) (xs : List A) (i : ℕ) (x : A) → AllOf P xs → slice_get xs i ≡ Some x → P x
+pub all_at : {A : Type 0} (P : A → Type 0) (xs : List A) (i : ℕ) (x : A) → AllByRecursion P xs → slice_get xs i ≡ Some x → P x
 all_at P [] i x h e = cc
 all_at {A} P (y ∷ ys) zero x h e = let same : y ≡ x = cc in subst (λ (z : A). P z) same h.0
 all_at P (y ∷ ys) (suc i) x h e = all_at P ys i x h.1 e
 
-pub all_imply : {A : Type 0} (P Q : A → Type 0) (xs : List A) → ((x : A) → P x → Q x) → AllOf P xs → AllOf Q xs
+pub all_imply : {A : Type 0} (P Q : A → Type 0) (xs : List A) → ((x : A) → P x → Q x) → AllByRecursion P xs → AllByRecursion Q xs
 all_imply P Q [] f h = tt
 all_imply P Q (x ∷ xs) f h = (f x h.0, all_imply P Q xs f h.1)
 
-pub all_map : {A B : Type 0} (P : B → Type 0) (f : A → B) (xs : List A) → AllOf (λ x. P (f x)) xs → AllOf P (map f xs)
+pub all_map : {A B : Type 0} (P : B → Type 0) (f : A → B) (xs : List A) → AllByRecursion (λ x. P (f x)) xs → AllByRecursion P (map f xs)
 all_map P f [] h = tt
 all_map P f (x ∷ xs) h = (h.0, all_map P f xs h.1)
 
-pub all_both : {A : Type 0} (P Q : A → Type 0) (xs : List A) → AllOf P xs → AllOf Q xs → AllOf (λ x. P x × Q x) xs
+pub all_both : {A : Type 0} (P Q : A → Type 0) (xs : List A) → AllByRecursion P xs → AllByRecursion Q xs → AllByRecursion (λ x. P x × Q x) xs
 all_both P Q [] h k = tt
 all_both P Q (x ∷ xs) h k = ((h.0, k.0), all_both P Q xs h.1 k.1)
 
 -- what is said of each item of a list has what follows of each
-pub each_good : {A B : Type 0} (P : A → Type 0) (Q : B → Type 0) (of : A → Said B) (xs : List A) (ys : List B) → ((x : A) (y : B) → P x → of x ≡ Ok y → Q y) → AllOf P xs → each of xs ≡ Ok ys → AllOf Q ys
-each_good {B = B} P Q of [] ys f h e = let same : [] ≡ ys = cc in subst (λ (zs : List B). AllOf Q zs) same tt
+pub each_good : {A B : Type 0} (P : A → Type 0) (Q : B → Type 0) (of : A → Said B) (xs : List A) (ys : List B) → ((x : A) (y : B) → P x → of x ≡ Ok y → Q y) → AllByRecursion P xs → each of xs ≡ Ok ys → AllByRecursion Q ys
+each_good {B = B} P Q of [] ys f h e = let same : [] ≡ ys = cc in subst (λ (zs : List B). AllByRecursion Q zs) same tt
 each_good {B = B} P Q of (x ∷ xs) ys f h e =
     let y = bind_ok (of x) _ ys e in
     let zs = bind_ok (each of xs) _ ys y.2 in
     let same : y.0 ∷ zs.0 ≡ ys = cc in
-    subst (λ (us : List B). AllOf Q us) same (f x y.0 h.0 y.1, each_good P Q of xs zs.0 f h.1 zs.1)
-
-pub all_any : {A : Type 0} (xs : List A) → AllOf (λ x. Unit {0}) xs
-all_any [] = tt
-all_any (x ∷ xs) = (tt, all_any xs)
+    subst (λ (us : List B). AllByRecursion Q us) same (f x y.0 h.0 y.1, each_good P Q of xs zs.0 f h.1 zs.1)

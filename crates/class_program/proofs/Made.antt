@@ -10,6 +10,7 @@ use Rattle.class_world.specs.declared.fault.MethodName.{MethodName}
 use Rattle.class_world.specs.declared.world.MethodRef.{MethodRef}
 use Rattle.class_world.specs.World.{World}
 use Rattle.class_world.specs.Resolve.{method_at, has_body}
+use Rattle.list_views.proofs.Steps.{bind_ok}
 use Rattle.class_program.specs.declared.op.Op.{Op}
 use Rattle.class_program.specs.declared.program.CatchRange.{CatchRange}
 use Rattle.class_program.specs.declared.program.Method.{Method}
@@ -21,7 +22,7 @@ use Rattle.class_program.specs.Methods.{method_name, static_init, code_of, synch
 use Rattle.class_program.specs.Statics.{statics_named}
 use Rattle.class_program.specs.Reached.{reached, contents_of, methods_of, method_numbered, close_of}
 use Rattle.class_program.specs.Programs.{ref_of, refs_of}
-use Rattle.class_program.proofs.Rising.{bind_ok, unless_ok}
+use Rattle.class_program.proofs.Rising.{unless_ok}
 use Rattle.class_program.proofs.Room.{body_at}
 use Rattle.class_program.proofs.GoingThrough.{IsReaching, all_gone}
 

@@ -12,7 +12,9 @@ use Rattle.class_program.specs.declared.op.Op.{Op}
 use Rattle.class_program.specs.declared.program.StaticField.{StaticField}
 use Rattle.class_world.specs.declared.world.MethodRef.{MethodRef}
 use Rattle.class_world.specs.World.{World}
-use Rattle.class_program.specs.Said.{Said, ◌>>=◌, unless, each}
+use Rattle.list_views.specs.Results.{◌>>=◌, unless, each}
+use Rattle.list_views.proofs.Steps.{bind_ok}
+use Rattle.class_program.specs.Said.{Said}
 use Rattle.class_program.specs.Ops.{op_of}
 use Rattle.class_program.specs.Methods.{in_method, table_said, insns_of, op_said, ops_of}
 use Rattle.class_program.specs.Reached.{insns_numbered}
@@ -20,10 +22,6 @@ use Rattle.class_program.specs.Instructions.{rises_from, starts_at_zero, is_plac
 use Rattle.class_program.proofs.RisingCodes.{code_placed}
 
 -- ---- what is said without a fault
-
-pub bind_ok : {A B : Type 0} (s : Said A) (f : A → Said B) (y : B) → (s >>= f) ≡ Ok y → (x : A) × (s ≡ Ok x) × (f x ≡ Ok y)
-bind_ok (Ok x) f y e = (x, refl, e)
-bind_ok (Err fault) f y e = cc
 
 pub unless_ok : {A : Type 0} (o : Option LinkFault) (s : Said A) (x : A) → unless o s ≡ Ok x → s ≡ Ok x
 unless_ok None s x e = e

@@ -13,25 +13,8 @@ use Rattle.class_program.specs.Reached.{same_method}
 use Rattle.class_program.specs.Rows.{Rows, IsRow, AreRows}
 use Rattle.class_program.proofs.Room.{same_is}
 
--- an item of a list with one more is one of the list's, or that one
-last_or_before : {A : Type 0} (xs : List A) (y : A) (k : ℕ) (z : A) → slice_get (xs ++ y ∷ []) k ≡ Some z → (slice_get xs k ≡ Some z) ⊎ ((k ≡ length xs) × (z ≡ y))
-last_or_before [] y zero z e = inr (refl, sym (same_Some y z e))
-last_or_before [] y (suc k) z e = absurd (none-some z e)
-last_or_before (x ∷ xs) y zero z e = inl e
-last_or_before (x ∷ xs) y (suc k) z e = elim (last_or_before xs y k z e) [
-  | inl before ↦ inl before
-  | inr last ↦ inr (ap suc last.0, last.1)
-]
-
 pub row_start : (world : World) (m : MethodContent) (row : List (Option MethodRef)) → row ≡ [] → IsRow world m row
 row_start world m row e = λ class found at. absurd (none-some found (sym (ap (λ r. slice_get r class) e) ∙ at))
-
-pub row_more : (world : World) (m : MethodContent) (row more : List (Option MethodRef)) (class : ℕ) (found : Option MethodRef) → IsRow world m row → length row ≡ class → found ≡ select world m.name m.desc class → more ≡ row ++ found ∷ [] → IsRow world m more
-row_more world m row more class found is_row count found_is more_is = λ k selected at.
-    elim (last_or_before row found k selected (sym (ap (λ r. slice_get r k) more_is) ∙ at)) [
-      | inl before ↦ is_row k selected before
-      | inr last ↦ last.1 ∙ found_is ∙ ap (select world m.name m.desc) (sym (last.0 ∙ count))
-    ]
 
 -- the row that is found for a method, or no items
 pub row_found : (world : World) (rows : Rows) (ref : MethodRef) (m : MethodContent) (row : List (Option MethodRef)) → AreRows world rows → method_at world ref ≡ Some m → row ≡ option_map_or (λ r. r) (lookup (same_method ref) rows) [] → IsRow world m row

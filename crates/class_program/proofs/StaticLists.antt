@@ -22,9 +22,6 @@ use Rattle.class_program.specs.Statics.{field_count, same_field, has_field, with
 
 -- ---- lists with the same fields
 
-pub same_there : (xs : List FieldRef) → SameFields xs xs
-same_there xs field = refl
-
 field_is : (a b : FieldRef) → same_field a b ≡ true → (xs : List FieldRef) → has_field xs a ≡ has_field xs b
 field_is a b e xs =
     let both = and_parts (eqb a.class b.class) (eqb a.index b.index) e in

@@ -3,6 +3,7 @@
 use Rattle.std.specs.Prelude.{◌≡◌, ◌⊎◌, ◌<◌, ◌≤◌, ℕ, Bool, true, List, [], ◌∷◌, ◌++◌, length, slice_get, Option, Some, None, option_and_then, IfSome, IsTrue, false}
 use Rattle.std.specs.Str.{bytes_eq}
 use Rattle.std.specs.Option.{is_some}
+use Rattle.std.specs.List.{AllByRecursion}
 use Rattle.code_decode.specs.Codes.{targets}
 use Rattle.class_read.specs.Content.{FieldContent, MethodContent, CodeContent}
 use Rattle.jvm_values.specs.declared.types.Slot.{Slot}
@@ -34,13 +35,6 @@ use Rattle.class_program.specs.Statics.{static_ref}
 use Rattle.class_program.specs.Programs.{Program, ref_of, refs_of}
 use Rattle.class_program.specs.Selected.{selection_at, selected_in, can_receive}
 
--- ---- lists
-
--- something holds of each item of a list
-abbrev pub AllOf : {A : Type 0} → (A → Type 0) → List A → Type 0
-AllOf P [] = Unit {0}
-AllOf P (x ∷ xs) = P x × AllOf P xs
-
 -- ---- places
 
 -- an instruction stands at the place
@@ -49,7 +43,7 @@ is_place insns place = is_some (instruction_at insns place)
 
 -- a place where a range may end: one of an instruction, or behind the last one
 abbrev pub IsEnd : List (ℕ × Op) → ℕ → Type 0
-IsEnd insns place = IsTrue (is_place insns place) ⊎ AllOf (λ x. x.0 < place) insns
+IsEnd insns place = IsTrue (is_place insns place) ⊎ AllByRecursion (λ x. x.0 < place) insns
 
 -- ---- what instructions name
 
@@ -71,7 +65,7 @@ pub record IsGoodCall (world : World) (call : Call) : Type 0 where
   pub class : call.class < length world
   pub method : MethodContent
   pub there : method_at world call.method ≡ Some method
-  pub params : AllOf (IsSlot (length world)) call.params
+  pub params : AllByRecursion (IsSlot (length world)) call.params
   pub result : IfSome call.result (IsSlot (length world))
 
 -- the method of that number takes these slots and then the call's parameters, and gives the call's result
@@ -160,7 +154,7 @@ targets_of _ = []
 -- an instruction of a method
 pub record IsGoodOp (p : Program) (m : Method) (op : Op) : Type 0 where
   pub named : IsGoodName p m.class op
-  pub leads : AllOf (λ t. IsTrue (is_place m.insns t)) (targets_of op)
+  pub leads : AllByRecursion (λ t. IsTrue (is_place m.insns t)) (targets_of op)
 
 -- ---- methods and programs
 
@@ -189,11 +183,11 @@ pub record IsDeclared (world : World) (m : Method) : Type 0 where
 pub record IsGoodMethod (p : Program) (m : Method) : Type 0 where
   pub class : m.class < length p.world
   pub declared : IsDeclared p.world m
-  pub params : AllOf (IsSlot (length p.world)) m.params
+  pub params : AllByRecursion (IsSlot (length p.world)) m.params
   pub result : IfSome m.result (IsSlot (length p.world))
   pub placed : IsTrue (is_placed m.insns)
-  pub insns : AllOf (λ x. IsGoodOp p m x.1) m.insns
-  pub table : AllOf (IsGoodRange p.world m) m.table
+  pub insns : AllByRecursion (λ x. IsGoodOp p m x.1) m.insns
+  pub table : AllByRecursion (IsGoodRange p.world m) m.table
 
 -- a static field that a class declares, with what it holds
 pub record IsDeclaredStatic (world : World) (s : StaticField) : Type 0 where
@@ -216,6 +210,6 @@ pub record IsGoodAt (p : Program) (number pc : ℕ) (op : Op) (next : Option ℕ
 pub record IsGood (p : Program) : Type 0 where
   -- the entry is the method of number 0
   pub first : (m : Method) × (slice_get p.methods 0 ≡ Some m) × (ref_of m ≡ p.entry)
-  pub methods : AllOf (IsGoodMethod p) p.methods
-  pub statics : AllOf (IsDeclaredStatic p.world) p.statics
+  pub methods : AllByRecursion (IsGoodMethod p) p.methods
+  pub statics : AllByRecursion (IsDeclaredStatic p.world) p.statics
   pub few : length p.statics ≤ 256

@@ -1,24 +1,22 @@
 -- Why an instruction is refused, and which of several reasons is named.
-use Rattle.std.specs.Prelude.{◌≡◌, ℕ, Bool, if◌then◌else◌, nat_lt, Option, Some, None, Result, Ok, Err}
+use Rattle.std.specs.Prelude.{ℕ, Bool, true, false, if◌then◌else◌, nat_lt, Option, Result, Ok, Err}
+use Rattle.list_views.specs.Results as results
+pub use Rattle.list_views.specs.Results.{◌>>=◌}
 use Rattle.class_world.specs.declared.fault.MethodName.{MethodName}
 use Rattle.class_world.specs.declared.fault.LinkFault.{LinkFault}
 use Rattle.class_world.specs.declared.fault.LinkFault.TheVariants as faults
 use Rattle.class_program.specs.declared.refusal.Refusal.{Refusal}
 use Rattle.class_program.specs.declared.refusal.Refusal.TheVariants.{MissingClass, StaticInit, UnsupportedType, Unresolved, PrivateVirtual, Memory}
 
-infixl 10 ◌>>=◌
-abbrev pub ◌>>=◌ : {A B : Type 0} → Result A Refusal → (A → Result B Refusal) → Result B Refusal
-(Ok x) >>= next = next x
-(Err refusal) >>= next = Err refusal
+-- ---- what an operand names
 
 -- what is there, else the operand names nothing
 abbrev pub wanted : {A : Type 0} → Option A → Result A Refusal
-wanted (Some x) = Ok x
-wanted None = Err Unresolved
+wanted found = results.wanted Unresolved found
 
 -- nothing where a test holds, else the operand names nothing of the right kind
 abbrev pub required : Bool → Result (Unit {0}) Refusal
-required test = if test then Ok tt else Err Unresolved
+required test = results.required Unresolved test
 
 -- ---- which refusal is named
 
@@ -53,21 +51,17 @@ fault_at method pc Unresolved = faults.Unresolved method pc
 fault_at method pc PrivateVirtual = faults.PrivateVirtual method pc
 fault_at method pc Memory = faults.Memory
 
+-- what is said of an instruction of a method at a place, with its refusal as a fault
 abbrev pub with_fault : {A : Type 0} → MethodName → ℕ → Result A Refusal → Result A LinkFault
-with_fault method pc (Ok x) = Ok x
-with_fault method pc (Err refusal) = Err (fault_at method pc refusal)
+with_fault method pc said = results.with_fault (fault_at method pc) said
 
 -- ---- answers
 
-abbrev pub Fails : {Y : Type 0} → Refusal → Result Y Refusal → Type 0
-Fails Memory said = Unit {0}
-Fails (MissingClass name) said = said ≡ Err (MissingClass name)
-Fails (StaticInit name) said = said ≡ Err (StaticInit name)
-Fails UnsupportedType said = said ≡ Err UnsupportedType
-Fails Unresolved said = said ≡ Err Unresolved
-Fails PrivateVirtual said = said ≡ Err PrivateVirtual
+-- want of memory
+abbrev pub is_memory : Refusal → Bool
+is_memory Memory = true
+is_memory refusal = false
 
 -- what a function answers, seen by `view`, is what a definition says, unless memory ran out
 abbrev pub Gives : {X Y : Type 0} → (X → Y) → Result X Refusal → Result Y Refusal → Type 0
-Gives view (Ok x) said = said ≡ Ok (view x)
-Gives view (Err refusal) said = Fails refusal said
+Gives view answer said = results.Gives is_memory view answer said

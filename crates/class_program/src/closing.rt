@@ -197,6 +197,97 @@ fn placed<'a>(
     Ok((methods, statics))
 }
 
+/// What is found from an entry on.
+#[derive(Drop)]
+struct Found<'a> {
+    methods: Seq<Method<'a>>,
+    refs: MethodRefs,
+    selections: Selections,
+}
+
+/// What is found from an entry on, before the numbers and the places are put in.
+fn find_reached<'a>(
+    alloc: Global,
+    world: &World<'a>,
+    entry: MethodRef,
+) -> Result<Found<'a>, LinkFault>
+    requires { IsTrue (has_body (classes_of world.now) entry) }
+    ensures methods { Says (λ found. found.methods) result (methods_of (classes_of world.now) (reached (classes_of world.now) entry)) }
+    ensures refs { IfOk result (λ found. found.refs ≡ reached (classes_of world.now) entry) }
+    ensures numbers { IfOk result (λ found. refs_of found.methods ≡ found.refs) }
+    ensures bodies { IfOk result (λ found. IsTrue (list_all (has_body (classes_of world.now)) found.refs)) }
+    ensures closed { IfOk result (λ found. IsTrue (is_closed (classes_of world.now) found.refs found.methods)) }
+    ensures rows { IfOk result (λ found. AreRows (classes_of world.now) found.selections) }
+{
+    let mut selections = Selections::new(alloc);
+    let mut refs = MethodRefs::new(alloc);
+    let mut methods = Seq::new(alloc);
+    let mut shared = SharedSlots::new(alloc);
+    match reach(
+        world,
+        alloc,
+        &mut shared,
+        &mut selections,
+        &mut refs,
+        &mut methods,
+        entry,
+    ) {
+        Ok(()) => Ok(Found {
+            methods,
+            refs,
+            selections,
+        }),
+        Err(fault) => Err(fault),
+    }
+}
+
+/// What a program has beside its world and its entry.
+#[derive(Drop)]
+struct Closure<'a> {
+    methods: Seq<Method<'a>>,
+    statics: Seq<StaticField<'a>>,
+    refs: MethodRefs,
+    selections: Selections,
+}
+
+/// What the program of an entry has beside its world.
+#[tactic(auto, unfolding(crate::specs::Reached::close_of))]
+fn closure_of<'a>(
+    alloc: Global,
+    world: &World<'a>,
+    entry: MethodRef,
+) -> Result<Closure<'a>, LinkFault>
+    requires { IsTrue (has_body (classes_of world.now) entry) }
+    ensures methods { Says (λ closure. closure.methods) result (close_of (classes_of world.now) entry) }
+    ensures statics { IfOk result (λ closure. closure.statics ≡ statics_of (classes_of world.now) (fields_named closure.methods)) }
+    ensures few { IfOk result (λ closure. length closure.statics ≤ 256) }
+    ensures made { IfOk result (λ closure. close_of (classes_of world.now) entry ≡ Ok closure.methods) }
+    ensures numbers { IfOk result (λ closure. closure.refs ≡ refs_of closure.methods) }
+    ensures reaches { IfOk result (λ closure. closure.refs ≡ reached (classes_of world.now) entry) }
+    ensures bodies { IfOk result (λ closure. IsTrue (list_all (has_body (classes_of world.now)) closure.refs)) }
+    ensures rows { IfOk result (λ closure. AreRows (classes_of world.now) closure.selections) }
+    ensures whole { IfOk result (λ closure. IsTrue (is_closed (classes_of world.now) closure.refs closure.methods)) }
+{
+    let found = match find_reached(alloc, world, entry) {
+        Ok(found) => found,
+        Err(fault) => return Err(fault),
+    };
+    let Found {
+        methods,
+        refs,
+        selections,
+    } = found;
+    match placed(world, alloc, &refs, methods) {
+        Ok((methods, statics)) => Ok(Closure {
+            methods,
+            statics,
+            refs,
+            selections,
+        }),
+        Err(fault) => Err(fault),
+    }
+}
+
 impl<'a> Program<'a> {
     /// The world with the methods that an entry reaches, the entry first.
     ///
@@ -211,7 +302,6 @@ impl<'a> Program<'a> {
     /// instruction by its place, a caught class that is missing. After these [`LinkFault::TooManyStatics`], exactly where more
     /// than 256 static fields are named. Or want of memory, which also stands for more than
     /// 4,294,967,280 methods.
-    #[tactic(auto, unfolding(crate::specs::Reached::close_of))]
     pub fn close(
         alloc: Global,
         world: World<'a>,
@@ -223,27 +313,16 @@ impl<'a> Program<'a> {
         ensures entry { IfOk result (λ program. program.entry ≡ entry) }
         ensures statics { IfOk result (λ program. program.statics ≡ statics_of (classes_of world.entry) (fields_named program.methods)) }
     {
-        let mut selections = Selections::new(alloc);
-        let mut refs = MethodRefs::new(alloc);
-        let mut methods = Seq::new(alloc);
-        let mut shared = SharedSlots::new(alloc);
-        reach(
-            &world,
-            alloc,
-            &mut shared,
-            &mut selections,
-            &mut refs,
-            &mut methods,
-            entry,
-        )?;
-        let (methods, statics) = placed(&world, alloc, &refs, methods)?;
-        Ok(Program {
-            world,
-            entry,
-            methods,
-            statics,
-            refs,
-            selections,
-        })
+        match closure_of(alloc, &world, entry) {
+            Ok(closure) => Ok(Program {
+                world,
+                entry,
+                methods: closure.methods,
+                statics: closure.statics,
+                refs: closure.refs,
+                selections: closure.selections,
+            }),
+            Err(fault) => Err(fault),
+        }
     }
 }

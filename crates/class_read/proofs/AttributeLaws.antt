@@ -16,9 +16,9 @@ use Rattle.class_read.specs.Reading.{Read, and_then, ◌>>=◌, named_at}
 use Rattle.class_read.specs.Content.{Handler, CodeContent}
 use Rattle.class_base.specs.ClassNames.{is_class_name}
 use Rattle.class_read.specs.Text.{u2, u4, counted, attribute_text, handler_text, code_text, attr_text}
-use Rattle.class_read.specs.Rules.{text_of, name_of, IsText, IsClass, code_name, IsAttribute, IsHandler, IsMethodAttribute, IsOtherAttribute, codes_in, first_of, skipped_in}
-use Rattle.class_read.specs.FirstFault.{class_index_at, is_catch, content_at, skipped_at, attributes_at, handler_at, table_at, is_code_length, code_at, is_code_name, Found, may_stand, method_name_at, code_found_at, one_more_at, method_attribute_at, method_attributes_at}
-use Rattle.class_read.proofs.Exact.{Taken, Exact, then_exact, made_exact, told_exact, ruled_exact, passing_exact, u2_exact, u4_exact, bytes_exact, named_exact, sized_exact, FitAll, next_all, held_exact, true_not_false, repeated_exact, listed_exact, bind_ok}
+use Rattle.class_read.specs.Rules.{text_of, name_of, IsText, IsClass, code_name, IsAttribute, IsHandler, IsMethodAttribute, IsOtherAttribute, codes_in, first_of}
+use Rattle.class_read.specs.FirstFault.{class_index_at, is_catch, content_at, skipped_at, attributes_at, handler_at, table_at, is_code_length, code_at, is_code_name, may_stand, method_name_at, code_found_at, no_code_at, method_attribute_at, method_attributes_at}
+use Rattle.class_read.proofs.Exact.{Taken, Exact, then_exact, made_exact, told_exact, ruled_exact, passing_exact, u2_exact, u4_exact, bytes_exact, named_exact, sized_exact, FitAll, next_all, held_exact, true_not_false, repeated_exact, counted_exact, listed_exact, bind_ok}
 
 -- ---- options
 
@@ -65,13 +65,11 @@ units_from pool u [] h = tt
 units_from pool u (t ∷ ts) h = (h.0, units_from pool tt ts h.1)
 
 -- so many attributes, as pairs of a name and a content
-pub attributes_exact : (total : ℕ) (pool : List PoolEntry) → Exact (attributes_at total pool) (counted attribute_text) (λ xs. (length xs < 2 ^ 16) × AllByRecursion (IsAttribute pool) xs) length
+pub attributes_exact : (total : ℕ) (pool : List PoolEntry) → Exact (attributes_at total pool) (counted attribute_text) (λ xs. (length xs < 2 ^ 16) × AllByRecursion (IsAttribute pool) xs) (λ xs. tt)
 unfolding attributes_at
 attributes_exact total pool =
-    told_exact (then_exact (u2_exact total) (λ count. made_exact (λ (u : Unit {0}). count) (repeated_exact (skipped_exact total pool) count tt)))
-    (λ (xs : List (ℕ × List ℕ)). (length xs, xs)) (λ (p : ℕ × List (ℕ × List ℕ)). p.1)
-    (λ p h. ap (λ (n : ℕ). (n, p.1)) h.1.0) (λ p h. (omega (arith, h.0, h.1.0), units_to pool tt p.1 h.1.1)) (λ xs h. (h.0, (refl, units_from pool tt xs h.1)))
-    (λ xs h. refl) (λ xs h. refl)
+    told_exact (counted_exact total (skipped_exact total pool) tt) (λ (xs : List (ℕ × List ℕ)). xs) (λ xs. xs) (λ xs h. refl)
+    (λ xs h. (h.0, units_to pool tt xs h.1)) (λ xs h. (h.0, units_from pool tt xs h.1)) (λ xs h. refl) (λ xs h. refl)
 
 -- attributes of a field or of the class
 abbrev pair_of : AttrText → ℕ × List ℕ
@@ -108,19 +106,14 @@ others_counted : (pool : List PoolEntry) (xs : List AttrText) → AllByRecursion
 others_counted pool xs h =
     ap (λ (n : ℕ). u2 n ++ flat_map attribute_text (map pair_of xs)) (length_map pair_of xs) ∙ ap (λ (r : List ℕ). u2 (length xs) ++ r) (others_text pool xs h)
 
-others_skipped : (pool : List PoolEntry) (xs : List AttrText) → AllByRecursion (IsOtherAttribute pool) xs → length (map pair_of xs) ≡ skipped_in xs
-others_skipped pool [] h = refl
-others_skipped pool (Skipped name content ∷ xs) h = omega (arith, others_skipped pool xs h.1)
-others_skipped pool (Code name max_stack max_locals code table attributes ∷ xs) h = absurd h.0
-
 abbrev pub AreOthers : List PoolEntry → List AttrText → Type 0
 AreOthers pool xs = (length xs < 2 ^ 16) × AllByRecursion (IsOtherAttribute pool) xs
 
-pub others_exact : (total : ℕ) (pool : List PoolEntry) → Exact (attributes_at total pool) (counted attr_text) (AreOthers pool) skipped_in
+pub others_exact : (total : ℕ) (pool : List PoolEntry) → Exact (attributes_at total pool) (counted attr_text) (AreOthers pool) (λ xs. tt)
 others_exact total pool =
     told_exact (attributes_exact total pool) (map pair_of) (map skipped_of)
     (λ xs h. pairs_back xs) (λ xs h. (omega (arith, h.0, length_map skipped_of xs), others_to pool xs h.1)) (λ xs h. (omega (arith, h.0, length_map pair_of xs), others_from pool xs h.1))
-    (λ xs h. others_counted pool xs h.1) (λ xs h. others_skipped pool xs h.1)
+    (λ xs h. others_counted pool xs h.1) (λ xs h. refl)
 
 -- ---- code
 
@@ -184,11 +177,11 @@ code_length_to n h = let p = and_parts (ltb 0 n) (leb n 65535) h in (ltb-true _ 
 code_length_from : (n : ℕ) → 0 < n → n < 2 ^ 16 → is_code_length n ≡ true
 code_length_from n h k = and_from (ltb 0 n) (leb n 65535) (lt-ltb _ _ h) (le-leb _ _ (omega (arith, k)))
 
-pub code_exact : (total : ℕ) (pool : List PoolEntry) → Exact (code_at total pool) parts_text (AreCodeParts pool) (λ c. (parts_content c, length c.attributes))
+pub code_exact : (total : ℕ) (pool : List PoolEntry) → Exact (code_at total pool) parts_text (AreCodeParts pool) parts_content
 unfolding code_at
 code_exact total pool =
     told_exact (then_exact (u2_exact total) (λ max_stack. then_exact (u2_exact total) (λ max_locals. then_exact (passing_exact is_code_length (λ _. CodeLength) total (u4_exact total)) (λ size. then_exact (bytes_exact total size) (λ code.
-    then_exact (table_exact total pool) (λ table. made_exact {B = CodeContent × ℕ} (λ (skipped : ℕ). (record { max_stack = max_stack; max_locals = max_locals; code = code; table = table }, skipped)) (attributes_exact total pool)))))))
+    then_exact (table_exact total pool) (λ table. made_exact {B = CodeContent} (λ (u : Unit {0}). record { max_stack = max_stack; max_locals = max_locals; code = code; table = table }) (attributes_exact total pool)))))))
     (λ (c : CodeParts). (c.max_stack, (c.max_locals, (length c.code, (c.code, (c.table, c.attributes))))))
     (λ (p : Nested). record { max_stack = p.0; max_locals = p.1.0; code = p.1.1.1.0; table = p.1.1.1.1.0; attributes = p.1.1.1.1.1 })
     (λ p h. ap (λ (n : ℕ). (p.0, (p.1.0, (n, p.1.1.1)))) h.1.1.1.0)
@@ -206,30 +199,32 @@ code_exact total pool =
     })
     (λ c h. (h.stack_fits, (h.locals_fit, ((omega (arith, h.most), code_length_from (length c.code) h.some h.most), (refl, ((h.table_fits, h.handlers), (h.attributes_fit, h.skipped)))))))
     (λ c h. refl)
-    (λ c h. ap (λ (t : List Handler). (record { max_stack = c.max_stack; max_locals = c.max_locals; code = c.code; table = t }, length c.attributes)) (map_same c.table))
+    (λ c h.
+    let with_table : List Handler → CodeContent = λ t. record { max_stack = c.max_stack; max_locals = c.max_locals; code = c.code; table = t } in
+    ap with_table (map_same c.table))
 
 -- ---- the attributes of a method
 
-code_found_exact : (total : ℕ) (pool : List PoolEntry) (made : Found)
-    → Exact (code_found_at total pool made) (λ c. u4 (length (parts_text c)) ++ parts_text c) (λ c. AreCodeParts pool c × (length (parts_text c) < 2 ^ 32)) (λ c. (Some (parts_content c), made.1 + length c.attributes))
+code_found_exact : (total : ℕ) (pool : List PoolEntry)
+    → Exact (code_found_at total pool) (λ c. u4 (length (parts_text c)) ++ parts_text c) (λ c. AreCodeParts pool c × (length (parts_text c) < 2 ^ 32)) (λ c. Some (parts_content c))
 unfolding code_found_at
-code_found_exact total pool made = made_exact {B = Found} (λ (code : CodeContent × ℕ). (Some code.0, made.1 + code.1)) (sized_exact total (code_exact total pool))
+code_found_exact total pool = made_exact {B = Option CodeContent} (λ (code : CodeContent). Some code) (sized_exact total (code_exact total pool))
 
-one_more_exact : (total : ℕ) (made : Found) → Exact (one_more_at total made) (λ (c : List ℕ). u4 (length c) ++ c) (λ c. length c < 2 ^ 32) (λ c. (made.0, made.1 + 1))
-unfolding one_more_at
-one_more_exact total made = made_exact {B = Found} (λ (u : Unit {0}). (made.0, made.1 + 1)) (content_exact total)
+no_code_exact : (total : ℕ) (found : Option CodeContent) → Exact (no_code_at total found) (λ (c : List ℕ). u4 (length c) ++ c) (λ c. length c < 2 ^ 32) (λ c. found)
+unfolding no_code_at
+no_code_exact total found = made_exact {B = Option CodeContent} (λ (u : Unit {0}). found) (content_exact total)
 
 -- where `Code` may stand
-abbrev pub MayStand : Bool → Found → AttrText → Type 0
+abbrev pub MayStand : Bool → Option CodeContent → AttrText → Type 0
 MayStand coded made (Skipped name content) = Unit {0}
-MayStand coded made (Code name max_stack max_locals code table attributes) = (coded && is_none made.0) ≡ true
+MayStand coded made (Code name max_stack max_locals code table attributes) = (coded && is_none made) ≡ true
 
-abbrev pub StandsThere : List PoolEntry → Bool → Found → AttrText → Type 0
+abbrev pub StandsThere : List PoolEntry → Bool → Option CodeContent → AttrText → Type 0
 StandsThere pool coded made a = IsMethodAttribute pool a × MayStand coded made a
 
-abbrev pub found_after : Found → AttrText → Found
-found_after made (Skipped name content) = (made.0, made.1 + 1)
-found_after made (Code name max_stack max_locals code table attributes) = (Some (record { max_stack = max_stack; max_locals = max_locals; code = code; table = table }), made.1 + length attributes)
+abbrev pub found_after : Option CodeContent → AttrText → Option CodeContent
+found_after made (Skipped name content) = made
+found_after made (Code name max_stack max_locals code table attributes) = Some (record { max_stack = max_stack; max_locals = max_locals; code = code; table = table })
 
 named_code : (name : List ℕ) → is_code_name name ≡ true → name ≡ code_name
 named_code name h = (bytes_eq-Decides name code_name).0 h
@@ -248,20 +243,20 @@ chosen_at : {A : Type 0} (b : Bool) (x y : List ℕ → Read A) (bytes : List �
 chosen_at true x y bytes v e = inl (refl, e)
 chosen_at false x y bytes v e = inr (refl, e)
 
-may_code : (coded : Bool) (made : Found) (name : List ℕ) → may_stand coded made name ≡ true → is_code_name name ≡ true → (coded && is_none made.0) ≡ true
-may_code coded made name h is = elim (or_cases (not (is_code_name name)) (coded && is_none made.0) h) [
+may_code : (coded : Bool) (made : Option CodeContent) (name : List ℕ) → may_stand coded made name ≡ true → is_code_name name ≡ true → (coded && is_none made) ≡ true
+may_code coded made name h is = elim (or_cases (not (is_code_name name)) (coded && is_none made) h) [
   | inl other ↦ absurd (true_not_false (is_code_name name) is (not-true (is_code_name name) other))
   | inr good ↦ good
 ]
 
-abbrev NameTaken : List PoolEntry → Bool → Found → List ℕ → List ℕ → List ℕ → Type 0
+abbrev NameTaken : List PoolEntry → Bool → Option CodeContent → List ℕ → List ℕ → List ℕ → Type 0
 NameTaken pool coded made bytes name mid = Taken u2 (λ (i : ℕ). IsText pool i × (may_stand coded made (text_of pool i) ≡ true)) (text_of pool) bytes name mid
 
-attribute_taken : (total : ℕ) (pool : List PoolEntry) (coded : Bool) (made : Found) (bytes : List ℕ) (v : Found) (rest name mid : List ℕ) → NameTaken pool coded made bytes name mid
-    → ((is_code_name name ≡ true) × (code_found_at total pool made mid ≡ Ok (v, rest))) ⊎ ((is_code_name name ≡ false) × (one_more_at total made mid ≡ Ok (v, rest)))
+attribute_taken : (total : ℕ) (pool : List PoolEntry) (coded : Bool) (made : Option CodeContent) (bytes : List ℕ) (v : Option CodeContent) (rest name mid : List ℕ) → NameTaken pool coded made bytes name mid
+    → ((is_code_name name ≡ true) × (code_found_at total pool mid ≡ Ok (v, rest))) ⊎ ((is_code_name name ≡ false) × (no_code_at total made mid ≡ Ok (v, rest)))
     → Taken attr_text (StandsThere pool coded made) (found_after made) bytes v rest
 attribute_taken total pool coded made bytes v rest name mid n (inl h) =
-    let c = (code_found_exact total pool made).takes mid v rest n.rest_fits h.1 in
+    let c = (code_found_exact total pool).takes mid v rest n.rest_fits h.1 in
     let named : is_code_name (text_of pool n.it) ≡ true = ap is_code_name n.seen ∙ h.0 in
     let p = c.it in
     record {
@@ -287,7 +282,7 @@ attribute_taken total pool coded made bytes v rest name mid n (inl h) =
       rest_fits = c.rest_fits;
     }
 attribute_taken total pool coded made bytes v rest name mid n (inr h) =
-    let c = (one_more_exact total made).takes mid v rest n.rest_fits h.1 in
+    let c = (no_code_exact total made).takes mid v rest n.rest_fits h.1 in
     record {
       it = Skipped n.it c.it;
       fits = ((record { name = n.fits.0; fits = c.fits }, not_named (text_of pool n.it) (ap is_code_name n.seen ∙ h.0)), tt);
@@ -296,25 +291,25 @@ attribute_taken total pool coded made bytes v rest name mid n (inr h) =
       rest_fits = c.rest_fits;
     }
 
-name_exact : (total : ℕ) (pool : List PoolEntry) (coded : Bool) (made : Found) → Exact (method_name_at total pool coded made) u2 (λ i. IsText pool i × (may_stand coded made (text_of pool i) ≡ true)) (text_of pool)
+name_exact : (total : ℕ) (pool : List PoolEntry) (coded : Bool) (made : Option CodeContent) → Exact (method_name_at total pool coded made) u2 (λ i. IsText pool i × (may_stand coded made (text_of pool i) ≡ true)) (text_of pool)
 name_exact total pool coded made = passing_exact (may_stand coded made) (λ _. ExtraCode) total (text_exact total pool)
 
-attribute_again : (total : ℕ) (pool : List PoolEntry) (coded : Bool) (made : Found) (t : AttrText) (rest : List ℕ) → StandsThere pool coded made t
+attribute_again : (total : ℕ) (pool : List PoolEntry) (coded : Bool) (made : Option CodeContent) (t : AttrText) (rest : List ℕ) → StandsThere pool coded made t
     → method_attribute_at total pool coded made (attr_text t ++ rest) ≡ Ok (found_after made t, rest)
 unfolding method_attribute_at
 attribute_again total pool coded made (Skipped name content) rest fits =
     let other : is_code_name (text_of pool name) ≡ false = not_code (text_of pool name) fits.0.1 in
-    let may : may_stand coded made (text_of pool name) ≡ true = or_left (not (is_code_name (text_of pool name))) (coded && is_none made.0) (not_from_false (is_code_name (text_of pool name)) other) in
-    let after : List ℕ → List ℕ → Read Found = λ n. cond (is_code_name n) (code_found_at total pool made) (one_more_at total made) in
+    let may : may_stand coded made (text_of pool name) ≡ true = or_left (not (is_code_name (text_of pool name))) (coded && is_none made) (not_from_false (is_code_name (text_of pool name)) other) in
+    let after : List ℕ → List ℕ → Read (Option CodeContent) = λ n. cond (is_code_name n) (code_found_at total pool) (no_code_at total made) in
     let tail : List ℕ = (u4 (length content) ++ content) ++ rest in
     ap (method_name_at total pool coded made >>= after) (append_assoc (u2 name) (u4 (length content) ++ content) rest)
     ∙ ap (λ r. and_then r after) ((name_exact total pool coded made).again name tail (fits.0.0.name, may))
-    ∙ ap (λ (b : Bool). cond b (code_found_at total pool made) (one_more_at total made) tail) other
-    ∙ (one_more_exact total made).again content rest fits.0.0.fits
+    ∙ ap (λ (b : Bool). cond b (code_found_at total pool) (no_code_at total made) tail) other
+    ∙ (no_code_exact total made).again content rest fits.0.0.fits
 attribute_again total pool coded made (Code name max_stack max_locals code table attributes) rest fits =
     let is : is_code_name (text_of pool name) ≡ true = code_named (text_of pool name) fits.0.named in
-    let may : may_stand coded made (text_of pool name) ≡ true = or_right (not (is_code_name (text_of pool name))) (coded && is_none made.0) fits.1 in
-    let after : List ℕ → List ℕ → Read Found = λ n. cond (is_code_name n) (code_found_at total pool made) (one_more_at total made) in
+    let may : may_stand coded made (text_of pool name) ≡ true = or_right (not (is_code_name (text_of pool name))) (coded && is_none made) fits.1 in
+    let after : List ℕ → List ℕ → Read (Option CodeContent) = λ n. cond (is_code_name n) (code_found_at total pool) (no_code_at total made) in
     let p : CodeParts = record { max_stack = max_stack; max_locals = max_locals; code = code; table = table; attributes = attributes } in
     let tail : List ℕ = (u4 (length (parts_text p)) ++ parts_text p) ++ rest in
     let good : AreCodeParts pool p = record {
@@ -329,24 +324,21 @@ attribute_again total pool coded made (Code name max_stack max_locals code table
     } in
     ap (method_name_at total pool coded made >>= after) (append_assoc (u2 name) (u4 (length (parts_text p)) ++ parts_text p) rest)
     ∙ ap (λ r. and_then r after) ((name_exact total pool coded made).again name tail (fits.0.name_is, may))
-    ∙ ap (λ (b : Bool). cond b (code_found_at total pool made) (one_more_at total made) tail) is
-    ∙ (code_found_exact total pool made).again p rest (good, fits.0.content_fits)
+    ∙ ap (λ (b : Bool). cond b (code_found_at total pool) (no_code_at total made) tail) is
+    ∙ (code_found_exact total pool).again p rest (good, fits.0.content_fits)
 
-pub method_attribute_exact : (total : ℕ) (pool : List PoolEntry) (coded : Bool) (made : Found) → Exact (method_attribute_at total pool coded made) attr_text (StandsThere pool coded made) (found_after made)
+pub method_attribute_exact : (total : ℕ) (pool : List PoolEntry) (coded : Bool) (made : Option CodeContent) → Exact (method_attribute_at total pool coded made) attr_text (StandsThere pool coded made) (found_after made)
 unfolding method_attribute_at
 method_attribute_exact total pool coded made = record {
   takes = λ bytes v rest fits e.
-      let after : List ℕ → List ℕ → Read Found = λ name. cond (is_code_name name) (code_found_at total pool made) (one_more_at total made) in
+      let after : List ℕ → List ℕ → Read (Option CodeContent) = λ name. cond (is_code_name name) (code_found_at total pool) (no_code_at total made) in
       let b = bind_ok (method_name_at total pool coded made bytes) after (v, rest) e in
       attribute_taken total pool coded made bytes v rest b.0.0 b.0.1 ((name_exact total pool coded made).takes bytes b.0.0 b.0.1 fits b.1)
-      (chosen_at (is_code_name b.0.0) (code_found_at total pool made) (one_more_at total made) b.0.1 (v, rest) b.2);
+      (chosen_at (is_code_name b.0.0) (code_found_at total pool) (no_code_at total made) b.0.1 (v, rest) b.2);
   again = attribute_again total pool coded made;
 }
 
 -- ---- all attributes of a method
-
-found_is : (found : Found) (code : Option CodeContent) (n : ℕ) → found.0 ≡ code → found.1 ≡ n → found ≡ (code, n)
-found_is found code n e f = ap (λ (o : Option CodeContent). (o, found.1)) e ∙ ap (λ (k : ℕ). (code, k)) f
 
 coded_is : (coded : Bool) → 1 ≤ cond coded 1 0 → coded ≡ true
 coded_is true h = refl
@@ -363,42 +355,35 @@ none_is : {A : Type 0} (o : Option A) → is_none o ≡ true → o ≡ None
 none_is None h = refl
 none_is (Some x) h = absurd cc
 
-codes_to : (pool : List PoolEntry) (coded : Bool) (made : Found) (had : List CodeContent) (ts : List AttrText) → made.0 ≡ first_of had → length had ≤ most_codes coded
+codes_to : (pool : List PoolEntry) (coded : Bool) (made : Option CodeContent) (had : List CodeContent) (ts : List AttrText) → made ≡ first_of had → length had ≤ most_codes coded
     → FitAll (StandsThere pool coded) found_after made ts
-    → AllByRecursion (IsMethodAttribute pool) ts × (length (had ++ codes_in ts) ≤ most_codes coded) × ((next_all found_after made ts).0 ≡ first_of (had ++ codes_in ts))
+    → AllByRecursion (IsMethodAttribute pool) ts × (length (had ++ codes_in ts) ≤ most_codes coded) × (next_all found_after made ts ≡ first_of (had ++ codes_in ts))
 codes_to pool coded made had [] same few h = (tt, omega (arith, few, ap length (append-nil had)), same ∙ ap first_of (sym (append-nil had)))
 codes_to pool coded made had (Skipped name content ∷ ts) same few h =
-    let r = codes_to pool coded (made.0, made.1 + 1) had ts same few h.1 in
+    let r = codes_to pool coded made had ts same few h.1 in
     ((h.0.0, r.0), r.1, r.2)
 codes_to pool coded made had (Code name max_stack max_locals code table attributes ∷ ts) same few h =
     let c : CodeContent = record { max_stack = max_stack; max_locals = max_locals; code = code; table = table } in
-    let may = and_parts coded (is_none made.0) h.0.1 in
-    let nothing : had ≡ [] = first_none had (sym same ∙ none_is made.0 may.1) in
+    let may = and_parts coded (is_none made) h.0.1 in
+    let nothing : had ≡ [] = first_none had (sym same ∙ none_is made may.1) in
     let one : 1 ≤ most_codes coded = rw may.0 (omega arith) in
-    let r = codes_to pool coded (Some c, made.1 + length attributes) (c ∷ []) ts refl one h.1 in
+    let r = codes_to pool coded (Some c) (c ∷ []) ts refl one h.1 in
     let front : c ∷ codes_in ts ≡ had ++ c ∷ codes_in ts = ap (λ (x : List CodeContent). x ++ c ∷ codes_in ts) (sym nothing) in
     ((h.0.0, r.0), subst (λ (x : List CodeContent). length x ≤ most_codes coded) front r.1, r.2 ∙ ap first_of front)
 
-codes_from : (pool : List PoolEntry) (coded : Bool) (made : Found) (had : List CodeContent) (ts : List AttrText) → made.0 ≡ first_of had
+codes_from : (pool : List PoolEntry) (coded : Bool) (made : Option CodeContent) (had : List CodeContent) (ts : List AttrText) → made ≡ first_of had
     → AllByRecursion (IsMethodAttribute pool) ts → length (had ++ codes_in ts) ≤ most_codes coded → FitAll (StandsThere pool coded) found_after made ts
 codes_from pool coded made had [] same h few = tt
-codes_from pool coded made had (Skipped name content ∷ ts) same h few = ((h.0, tt), codes_from pool coded (made.0, made.1 + 1) had ts same h.1 few)
+codes_from pool coded made had (Skipped name content ∷ ts) same h few = ((h.0, tt), codes_from pool coded made had ts same h.1 few)
 codes_from pool coded made had (Code name max_stack max_locals code table attributes ∷ ts) same h few =
     let c : CodeContent = record { max_stack = max_stack; max_locals = max_locals; code = code; table = table } in
     let all : length had + (1 + length (codes_in ts)) ≤ most_codes coded = omega (arith, few, length-append had (c ∷ codes_in ts)) in
     let is : coded ≡ true = coded_is coded (omega (arith, all)) in
     let one : most_codes coded ≡ 1 = rw is refl in
     let nothing : had ≡ [] = nil_from_length had (omega (arith, all, one)) in
-    let none : is_none made.0 ≡ true = rw (same, nothing) refl in
+    let none : is_none made ≡ true = rw (same, nothing) refl in
     let here : length ((c ∷ []) ++ codes_in ts) ≤ most_codes coded = omega (arith, all) in
-    ((h.0, and_from coded (is_none made.0) is none), codes_from pool coded (Some c, made.1 + length attributes) (c ∷ []) ts refl h.1 here)
-
-skipped_all : (made : Found) (ts : List AttrText) → (next_all found_after made ts).1 ≡ made.1 + skipped_in ts
-skipped_all made [] = omega arith
-skipped_all made (Skipped name content ∷ ts) = omega (arith, skipped_all (made.0, made.1 + 1) ts)
-skipped_all made (Code name max_stack max_locals code table attributes ∷ ts) =
-    let c : CodeContent = record { max_stack = max_stack; max_locals = max_locals; code = code; table = table } in
-    omega (arith, skipped_all (Some c, made.1 + length attributes) ts)
+    ((h.0, and_from coded (is_none made) is none), codes_from pool coded (Some c) (c ∷ []) ts refl h.1 here)
 
 -- how many codes there are in the end
 enough_to : (coded : Bool) (all : List CodeContent) → length all ≤ most_codes coded → (is_some (first_of all) || not coded) ≡ true → length all ≡ most_codes coded
@@ -415,24 +400,24 @@ abbrev pub HasCodes : List PoolEntry → Bool → List AttrText → Type 0
 HasCodes pool coded ts = (length ts < 2 ^ 16) × AllByRecursion (IsMethodAttribute pool) ts × (length (codes_in ts) ≡ most_codes coded)
 
 pub method_attributes_exact : (total : ℕ) (pool : List PoolEntry) (coded : Bool)
-    → Exact (method_attributes_at total pool coded) (counted attr_text) (HasCodes pool coded) (λ ts. (first_of (codes_in ts), skipped_in ts))
+    → Exact (method_attributes_at total pool coded) (counted attr_text) (HasCodes pool coded) (λ ts. first_of (codes_in ts))
 unfolding method_attributes_at
 method_attributes_exact total pool coded =
-    told_exact (then_exact (u2_exact total) (λ count. held_exact (λ (found : Found). is_some found.0 || not coded) MissingCode total (repeated_exact (method_attribute_exact total pool coded) count (None, 0))))
+    told_exact (then_exact (u2_exact total) (λ count. held_exact (λ (found : Option CodeContent). is_some found || not coded) MissingCode total (repeated_exact (method_attribute_exact total pool coded) count None)))
     (λ (ts : List AttrText). (length ts, ts)) (λ (p : ℕ × List AttrText). p.1)
     (λ p h. ap (λ (n : ℕ). (n, p.1)) h.1.0.0)
     (λ p h.
-    let made : Found = (None, 0) in
+    let made : Option CodeContent = None in
     let r = codes_to pool coded made [] p.1 refl (omega arith) h.1.0.1 in
     (omega (arith, h.0, h.1.0.0), r.0, enough_to coded (codes_in p.1) r.1 (ap (λ (o : Option CodeContent). is_some o || not coded) (sym r.2) ∙ h.1.1)))
     (λ ts h.
-    let made : Found = (None, 0) in
+    let made : Option CodeContent = None in
     let f = codes_from pool coded made [] ts refl h.1 (omega (arith, h.2)) in
     let r = codes_to pool coded made [] ts refl (omega arith) f in
     (h.0, ((refl, f), ap (λ (o : Option CodeContent). is_some o || not coded) r.2 ∙ enough_from coded (codes_in ts) h.2)))
     (λ ts h. refl)
     (λ ts h.
-    let made : Found = (None, 0) in
+    let made : Option CodeContent = None in
     let f = codes_from pool coded made [] ts refl h.1 (omega (arith, h.2)) in
     let r = codes_to pool coded made [] ts refl (omega arith) f in
-    found_is (next_all found_after made ts) (first_of (codes_in ts)) (skipped_in ts) r.2 (skipped_all made ts ∙ omega arith))
+    r.2)

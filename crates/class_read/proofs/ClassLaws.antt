@@ -17,7 +17,7 @@ use Rattle.class_read.specs.declared.text.ClassText.{ClassText}
 use Rattle.class_read.specs.Content.{ClassContent}
 use Rattle.class_read.specs.Reading.{Read, ◌>>=◌, pure, place}
 use Rattle.class_read.specs.Text.{u2, counted, attr_text, member_text, magic_number, class_bytes}
-use Rattle.class_read.specs.Rules.{IsClass, name_of, WellFormed, is_read_major, field_of, method_of, skipped_of, skipped_in, content_of, Spells}
+use Rattle.class_read.specs.Rules.{IsClass, name_of, WellFormed, is_read_major, field_of, method_of, content_of, Spells}
 use Rattle.class_read.specs.FirstFault.{interfaces_at, pool_read, pool_field_at, end_at, lists_at, body_at, file_at, whole_at, without_rest, class_in}
 use Rattle.class_read.proofs.Exact.{IsBytes, IsBytes-drop, Exact, then_exact, made_exact, told_exact, passing_exact, u2_exact, u4_exact, listed_exact, bind_ok, tested_ok, parts_of}
 use Rattle.class_read.proofs.AttributeLaws.{class_exact, AreOthers, others_exact}
@@ -82,7 +82,6 @@ body_content major pool b = record {
   fields = map (field_of pool) b.1.1.1.1.0;
   methods = map (method_of pool) b.1.1.1.1.1.0;
   pool = pool;
-  skipped = skipped_of b.1.1.1.1.0 + skipped_of b.1.1.1.1.1.0 + skipped_in b.1.1.1.1.1.1;
 }
 
 body_exact : (total major : ℕ) (pool : List PoolEntry) → Exact (body_at total major pool) body_text (IsBody pool) (body_content major pool)
@@ -90,16 +89,15 @@ unfolding body_at lists_at
 body_exact total major pool =
     then_exact (u2_exact total) (λ flags. then_exact (class_exact total pool) (λ name. then_exact (class_exact total pool) (λ super_name. then_exact (interfaces_exact total pool) (λ interfaces.
     then_exact (fields_exact total pool) (λ fields. then_exact (methods_exact total pool) (λ methods.
-    made_exact {B = ClassContent} (λ (skipped : ℕ). record {
+    made_exact {B = ClassContent} (λ (u : Unit {0}). record {
       major = major;
       flags = flags;
       name = name;
       super_name = super_name;
       interfaces = interfaces;
-      fields = fields.0;
-      methods = methods.0;
+      fields = fields;
+      methods = methods;
       pool = pool;
-      skipped = fields.1 + methods.1 + skipped;
     }) (others_exact total pool)))))))
 
 -- ---- the file

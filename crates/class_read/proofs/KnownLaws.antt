@@ -14,17 +14,7 @@ use Rattle.class_read.specs.declared.fault.ClassFault.TheVariants.{BadDescriptor
 use Rattle.class_read.specs.Reading.{passing, place, named_at, u2_at}
 use Rattle.class_read.specs.Known.{kinds_of}
 
--- a mapped item, with its default
-pub map_at : {A B : Type 0} (f : A → B) (xs : List A) (i : ℕ) (d : A) → get_or (map f xs) i (f d) ≡ f (get_or xs i d)
-map_at f [] i d = refl
-map_at f (x ∷ xs) zero d = refl
-map_at f (x ∷ xs) (suc i) d = map_at f xs i d
-
 -- ---- what kinds say
-
-pub class_kind : (o : Option (List ℕ)) → (kinds_of o).class ≡ option_map_or is_class_name o false
-class_kind None = refl
-class_kind (Some text) = refl
 
 by_index : (entries : List PoolEntry) (o : Option PoolEntry) → option_and_then (utf8_at entries) (option_and_then name_of o) ≡ option_and_then (class_of entries) o
 by_index entries None = refl
@@ -33,11 +23,6 @@ by_index entries (Some _) = refl
 
 pub named_by : (entries : List PoolEntry) (i : ℕ) → option_and_then (utf8_at entries) (name_index_at entries i) ≡ class_name_at entries i
 named_by entries i = by_index entries (entry_at entries i)
-
--- a Class entry's name, through the index of its text
-pub class_known : (entries : List PoolEntry) (i name : ℕ) → Some name ≡ name_index_at entries i → (kinds_of (utf8_at entries name)).class ≡ option_map_or is_class_name (class_name_at entries i) false
-class_known entries i name e =
-    class_kind (utf8_at entries name) ∙ ap (λ o. option_map_or is_class_name o false) (ap (option_and_then (utf8_at entries)) e ∙ named_by entries i)
 
 pub no_class : (entries : List PoolEntry) (i : ℕ) → None ≡ name_index_at entries i → false ≡ option_map_or is_class_name (class_name_at entries i) false
 no_class entries i e = ap (λ o. option_map_or is_class_name o false) (ap (option_and_then (utf8_at entries)) e ∙ named_by entries i)

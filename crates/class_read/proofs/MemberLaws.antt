@@ -1,8 +1,8 @@
 -- The readings of fields and methods are exact for their texts.
-use Rattle.std.proofs.Common.{◌≡◌, ℕ, ◌+◌, ◌^◌, ◌<◌, true, false, ◌||◌, List, [], ◌∷◌, ◌++◌, length, map, refl, sym, ap, subst, ◌∙◌, append_assoc, arith}
+use Rattle.std.proofs.Common.{◌≡◌, ℕ, ◌^◌, ◌<◌, true, false, ◌||◌, Option, List, [], ◌∷◌, ◌++◌, length, map, refl, sym, ap, subst, ◌∙◌}
 use Rattle.std.specs.List.{AllByRecursion, IsDistinct, list_any}
 use Rattle.std.proofs.lemmas.Bool.{not-true, not_from_false, or_parts, or_from}
-use Rattle.std.proofs.lemmas.List.{append-nil, map-append}
+use Rattle.std.proofs.lemmas.List.{map-append}
 use Rattle.std.proofs.lemmas.List.Folds.{list_any-append}
 use Rattle.class_pool.specs.declared.entry.PoolEntry.{PoolEntry}
 use Rattle.class_read.specs.declared.fault.ClassFault.TheVariants.{BadDescriptor, DuplicateMember}
@@ -10,12 +10,12 @@ use Rattle.class_read.specs.declared.text.AttrText.{AttrText}
 use Rattle.class_read.specs.declared.text.MemberText.{MemberText}
 use Rattle.class_base.specs.declared.member_kind.MemberKind.{MemberKind}
 use Rattle.class_base.specs.declared.member_kind.MemberKind.TheVariants.{Field, Method}
-use Rattle.class_read.specs.Content.{FieldContent, MethodContent}
+use Rattle.class_read.specs.Content.{FieldContent, CodeContent, MethodContent}
 use Rattle.class_base.specs.MemberKinds.{is_descriptor}
 use Rattle.class_read.specs.Text.{u2, counted, member_text}
-use Rattle.class_read.specs.Rules.{text_of, IsText, has_code, IsField, IsMethod, key_of, same_key, AreDistinct, skipped_in, skipped_of, field_of, method_of}
-use Rattle.class_read.specs.FirstFault.{Key, Found, is_new, head_at, field_at, method_at, field_keys, method_keys, more_fields_at, more_methods_at, fields_at, methods_at}
-use Rattle.class_read.proofs.Exact.{Exact, then_exact, made_exact, told_exact, passing_exact, u2_exact, FitAll, next_all, counted_exact}
+use Rattle.class_read.specs.Rules.{text_of, IsText, has_code, IsField, IsMethod, key_of, same_key, AreDistinct, field_of, method_of}
+use Rattle.class_read.specs.FirstFault.{Key, is_new, head_at, field_at, method_at, field_keys, method_keys, more_fields_at, more_methods_at, fields_at, methods_at}
+use Rattle.class_read.proofs.Exact.{Exact, then_exact, made_exact, told_exact, passing_exact, u2_exact, FitAll, counted_exact, adds, collected_exact, added_all}
 use Rattle.class_base.proofs.Keys.{same_swapped}
 use Rattle.class_base.proofs.MethodLaws.{descriptor_found, descriptor_again}
 use Rattle.class_read.proofs.AttributeLaws.{text_exact, others_exact, method_attributes_exact}
@@ -59,10 +59,10 @@ nested m = ((m.flags, (m.name, m.desc)), m.attributes)
 abbrev member : Nested → MemberText
 member p = record { flags = p.0.0; name = p.0.1.0; desc = p.0.1.1; attributes = p.1 }
 
-field_exact : (total : ℕ) (pool : List PoolEntry) (earlier : List Key) → Exact (field_at total pool earlier) member_text (NewField pool earlier) (λ m. (field_of pool m, skipped_in m.attributes))
+field_exact : (total : ℕ) (pool : List PoolEntry) (earlier : List Key) → Exact (field_at total pool earlier) member_text (NewField pool earlier) (field_of pool)
 unfolding field_at
 field_exact total pool earlier =
-    told_exact (then_exact (head_exact total pool Field earlier) (λ field. made_exact {B = FieldContent × ℕ} (λ (skipped : ℕ). (field, skipped)) (others_exact total pool)))
+    told_exact (then_exact (head_exact total pool Field earlier) (λ field. made_exact {B = FieldContent} (λ (u : Unit {0}). field) (others_exact total pool)))
     nested member (λ p h. refl)
     (λ p h. (
       record {
@@ -74,11 +74,11 @@ field_exact total pool earlier =
     (λ m h. ((h.0.member.flags_fit, (h.0.member.name, ((h.0.member.desc, descriptor_again Field m.flags (text_of pool m.desc) h.0.member.descriptor), h.1))), (h.0.member.attributes_fit, h.0.attributes)))
     (λ m h. refl) (λ m h. refl)
 
-method_exact : (total : ℕ) (pool : List PoolEntry) (earlier : List Key) → Exact (method_at total pool earlier) member_text (NewMethod pool earlier) (λ m. (method_of pool m, skipped_in m.attributes))
+method_exact : (total : ℕ) (pool : List PoolEntry) (earlier : List Key) → Exact (method_at total pool earlier) member_text (NewMethod pool earlier) (method_of pool)
 unfolding method_at
 method_exact total pool earlier =
-    told_exact (then_exact (head_exact total pool Method earlier) (λ head. made_exact {B = MethodContent × ℕ}
-    (λ (found : Found). (record { flags = head.flags; name = head.name; desc = head.desc; code = found.0 }, found.1)) (method_attributes_exact total pool (has_code head.flags))))
+    told_exact (then_exact (head_exact total pool Method earlier) (λ head. made_exact {B = MethodContent}
+    (λ (code : Option CodeContent). record { flags = head.flags; name = head.name; desc = head.desc; code = code }) (method_attributes_exact total pool (has_code head.flags))))
     nested member (λ p h. refl)
     (λ p h. (
       record {
@@ -93,12 +93,9 @@ method_exact total pool earlier =
 
 -- ---- members after one another
 
--- members, each with a key that no earlier one has, and with so many attributes
-abbrev Stands : {X : Type 0} → (X → Key) → (MemberText → Key) → (MemberText → Type 0) → List X × ℕ → MemberText → Type 0
-Stands key of Rule made m = Rule m × (is_new (map key made.0) (of m) ≡ true)
-
-abbrev grown : {X : Type 0} → (MemberText → X) → List X × ℕ → MemberText → List X × ℕ
-grown item made m = (made.0 ++ item m ∷ [], made.1 + skipped_in m.attributes)
+-- a member whose key no earlier one has
+abbrev Stands : {X : Type 0} → (X → Key) → (MemberText → Key) → (MemberText → Type 0) → List X → MemberText → Type 0
+Stands key of Rule made m = Rule m × (is_new (map key made) (of m) ≡ true)
 
 abbrev Fresh : List Key → Key → Type 0
 Fresh earlier k = list_any (same_key k) earlier ≡ false
@@ -119,43 +116,32 @@ fresh_join earlier k (j ∷ ks) h g = (
 )
 
 members_to : {X : Type 0} (item : MemberText → X) (key : X → Key) (of : MemberText → Key) (Rule : MemberText → Type 0) → ((m : MemberText) → key (item m) ≡ of m)
-    → (made : List X × ℕ) (ms : List MemberText) → FitAll (Stands key of Rule) (grown item) made ms
-    → AllByRecursion Rule ms × AllByRecursion (Fresh (map key made.0)) (map of ms) × IsDistinct same_key (map of ms)
+    → (made : List X) (ms : List MemberText) → FitAll (Stands key of Rule) (adds item) made ms
+    → AllByRecursion Rule ms × AllByRecursion (Fresh (map key made)) (map of ms) × IsDistinct same_key (map of ms)
 unfolding IsDistinct
 members_to item key of Rule same made [] h = (tt, tt, tt)
 members_to item key of Rule same made (m ∷ ms) h =
-    let r = members_to item key of Rule same (grown item made m) ms h.1 in
-    let more : map key (made.0 ++ item m ∷ []) ≡ map key made.0 ++ of m ∷ [] = map-append key made.0 (item m ∷ []) ∙ ap (λ (k : Key). map key made.0 ++ k ∷ []) (same m) in
-    let s = fresh_split (map key made.0) (of m) (map of ms) (subst (λ (ks : List Key). AllByRecursion (Fresh ks) (map of ms)) more r.1) in
-    let new : Fresh (map key made.0) (of m) = not-true (list_any (same_key (of m)) (map key made.0)) h.0.1 in
+    let r = members_to item key of Rule same (adds item made m) ms h.1 in
+    let more : map key (made ++ item m ∷ []) ≡ map key made ++ of m ∷ [] = map-append key made (item m ∷ []) ∙ ap (λ (k : Key). map key made ++ k ∷ []) (same m) in
+    let s = fresh_split (map key made) (of m) (map of ms) (subst (λ (ks : List Key). AllByRecursion (Fresh ks) (map of ms)) more r.1) in
+    let new : Fresh (map key made) (of m) = not-true (list_any (same_key (of m)) (map key made)) h.0.1 in
     ((h.0.0, r.0), (new, s.0), (s.1, r.2))
 
 members_from : {X : Type 0} (item : MemberText → X) (key : X → Key) (of : MemberText → Key) (Rule : MemberText → Type 0) → ((m : MemberText) → key (item m) ≡ of m)
-    → (made : List X × ℕ) (ms : List MemberText) → AllByRecursion Rule ms → AllByRecursion (Fresh (map key made.0)) (map of ms) → IsDistinct same_key (map of ms)
-    → FitAll (Stands key of Rule) (grown item) made ms
+    → (made : List X) (ms : List MemberText) → AllByRecursion Rule ms → AllByRecursion (Fresh (map key made)) (map of ms) → IsDistinct same_key (map of ms)
+    → FitAll (Stands key of Rule) (adds item) made ms
 unfolding IsDistinct
 members_from item key of Rule same made [] rules fresh distinct = tt
 members_from item key of Rule same made (m ∷ ms) rules fresh distinct =
-    let more : map key (made.0 ++ item m ∷ []) ≡ map key made.0 ++ of m ∷ [] = map-append key made.0 (item m ∷ []) ∙ ap (λ (k : Key). map key made.0 ++ k ∷ []) (same m) in
-    let joined = fresh_join (map key made.0) (of m) (map of ms) fresh.1 distinct.0 in (
-      (rules.0, not_from_false (list_any (same_key (of m)) (map key made.0)) fresh.0),
-      members_from item key of Rule same (grown item made m) ms rules.1 (subst (λ (ks : List Key). AllByRecursion (Fresh ks) (map of ms)) (sym more) joined) distinct.1,
+    let more : map key (made ++ item m ∷ []) ≡ map key made ++ of m ∷ [] = map-append key made (item m ∷ []) ∙ ap (λ (k : Key). map key made ++ k ∷ []) (same m) in
+    let joined = fresh_join (map key made) (of m) (map of ms) fresh.1 distinct.0 in (
+      (rules.0, not_from_false (list_any (same_key (of m)) (map key made)) fresh.0),
+      members_from item key of Rule same (adds item made m) ms rules.1 (subst (λ (ks : List Key). AllByRecursion (Fresh ks) (map of ms)) (sym more) joined) distinct.1,
     )
 
 all_fresh : (ks : List Key) → AllByRecursion (Fresh []) ks
 all_fresh [] = tt
 all_fresh (k ∷ ks) = (refl, all_fresh ks)
-
-made_items : {X : Type 0} (item : MemberText → X) (made : List X × ℕ) (ms : List MemberText) → (next_all (grown item) made ms).0 ≡ made.0 ++ map item ms
-made_items item made [] = sym (append-nil made.0)
-made_items item made (m ∷ ms) = made_items item (grown item made m) ms ∙ append_assoc made.0 (item m ∷ []) (map item ms)
-
-made_skipped : {X : Type 0} (item : MemberText → X) (made : List X × ℕ) (ms : List MemberText) → (next_all (grown item) made ms).1 ≡ made.1 + skipped_of ms
-made_skipped item made [] = omega arith
-made_skipped item made (m ∷ ms) = omega (arith, made_skipped item (grown item made m) ms)
-
-pair_of : {X : Type 0} (made : List X × ℕ) (xs : List X) (n : ℕ) → made.0 ≡ xs → made.1 ≡ n → made ≡ (xs, n)
-pair_of {X = X} made xs n e f = ap (λ (l : List X). (l, made.1)) e ∙ ap (λ (k : ℕ). (xs, k)) f
 
 abbrev pub AreFields : List PoolEntry → List MemberText → Type 0
 AreFields pool ms = (length ms < 2 ^ 16) × AllByRecursion (IsField pool) ms × AreDistinct pool ms
@@ -169,34 +155,34 @@ field_key f = (f.name, f.desc)
 abbrev method_key : MethodContent → Key
 method_key m = (m.name, m.desc)
 
-more_fields_exact : (total : ℕ) (pool : List PoolEntry) (made : List FieldContent × ℕ)
-    → Exact (more_fields_at total pool made) member_text (Stands field_key (key_of pool) (IsField pool) made) (grown (field_of pool) made)
+more_fields_exact : (total : ℕ) (pool : List PoolEntry) (made : List FieldContent)
+    → Exact (more_fields_at total pool made) member_text (Stands field_key (key_of pool) (IsField pool) made) (adds (field_of pool) made)
 unfolding more_fields_at
-more_fields_exact total pool made = made_exact {B = List FieldContent × ℕ} (λ (field : FieldContent × ℕ). (made.0 ++ field.0 ∷ [], made.1 + field.1)) (field_exact total pool (field_keys made.0))
+more_fields_exact total pool made = collected_exact (field_exact total pool (field_keys made)) made
 
-more_methods_exact : (total : ℕ) (pool : List PoolEntry) (made : List MethodContent × ℕ)
-    → Exact (more_methods_at total pool made) member_text (Stands method_key (key_of pool) (IsMethod pool) made) (grown (method_of pool) made)
+more_methods_exact : (total : ℕ) (pool : List PoolEntry) (made : List MethodContent)
+    → Exact (more_methods_at total pool made) member_text (Stands method_key (key_of pool) (IsMethod pool) made) (adds (method_of pool) made)
 unfolding more_methods_at
-more_methods_exact total pool made = made_exact {B = List MethodContent × ℕ} (λ (method : MethodContent × ℕ). (made.0 ++ method.0 ∷ [], made.1 + method.1)) (method_exact total pool (method_keys made.0))
+more_methods_exact total pool made = collected_exact (method_exact total pool (method_keys made)) made
 
-pub fields_exact : (total : ℕ) (pool : List PoolEntry) → Exact (fields_at total pool) (counted member_text) (AreFields pool) (λ ms. (map (field_of pool) ms, skipped_of ms))
+pub fields_exact : (total : ℕ) (pool : List PoolEntry) → Exact (fields_at total pool) (counted member_text) (AreFields pool) (map (field_of pool))
 unfolding fields_at
 fields_exact total pool =
-    told_exact (counted_exact total (more_fields_exact total pool) ([], 0)) (λ ms. ms) (λ ms. ms) (λ ms h. refl)
+    told_exact (counted_exact total (more_fields_exact total pool) []) (λ ms. ms) (λ ms. ms) (λ ms h. refl)
     (λ ms h.
-    let r = members_to (field_of pool) field_key (key_of pool) (IsField pool) (λ m. refl) ([], 0) ms h.1 in
+    let r = members_to (field_of pool) field_key (key_of pool) (IsField pool) (λ m. refl) [] ms h.1 in
     (h.0, r.0, r.2))
-    (λ ms h. (h.0, members_from (field_of pool) field_key (key_of pool) (IsField pool) (λ m. refl) ([], 0) ms h.1 (all_fresh (map (key_of pool) ms)) h.2))
+    (λ ms h. (h.0, members_from (field_of pool) field_key (key_of pool) (IsField pool) (λ m. refl) [] ms h.1 (all_fresh (map (key_of pool) ms)) h.2))
     (λ ms h. refl)
-    (λ ms h. pair_of (next_all (grown (field_of pool)) ([], 0) ms) (map (field_of pool) ms) (skipped_of ms) (made_items (field_of pool) ([], 0) ms) (made_skipped (field_of pool) ([], 0) ms ∙ omega arith))
+    (λ ms h. added_all (field_of pool) [] ms)
 
-pub methods_exact : (total : ℕ) (pool : List PoolEntry) → Exact (methods_at total pool) (counted member_text) (AreMethods pool) (λ ms. (map (method_of pool) ms, skipped_of ms))
+pub methods_exact : (total : ℕ) (pool : List PoolEntry) → Exact (methods_at total pool) (counted member_text) (AreMethods pool) (map (method_of pool))
 unfolding methods_at
 methods_exact total pool =
-    told_exact (counted_exact total (more_methods_exact total pool) ([], 0)) (λ ms. ms) (λ ms. ms) (λ ms h. refl)
+    told_exact (counted_exact total (more_methods_exact total pool) []) (λ ms. ms) (λ ms. ms) (λ ms h. refl)
     (λ ms h.
-    let r = members_to (method_of pool) method_key (key_of pool) (IsMethod pool) (λ m. refl) ([], 0) ms h.1 in
+    let r = members_to (method_of pool) method_key (key_of pool) (IsMethod pool) (λ m. refl) [] ms h.1 in
     (h.0, r.0, r.2))
-    (λ ms h. (h.0, members_from (method_of pool) method_key (key_of pool) (IsMethod pool) (λ m. refl) ([], 0) ms h.1 (all_fresh (map (key_of pool) ms)) h.2))
+    (λ ms h. (h.0, members_from (method_of pool) method_key (key_of pool) (IsMethod pool) (λ m. refl) [] ms h.1 (all_fresh (map (key_of pool) ms)) h.2))
     (λ ms h. refl)
-    (λ ms h. pair_of (next_all (grown (method_of pool)) ([], 0) ms) (map (method_of pool) ms) (skipped_of ms) (made_items (method_of pool) ([], 0) ms) (made_skipped (method_of pool) ([], 0) ms ∙ omega arith))
+    (λ ms h. added_all (method_of pool) [] ms)

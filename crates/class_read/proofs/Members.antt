@@ -1,5 +1,5 @@
 -- One more field or method of a class.
-use Rattle.std.proofs.Common.{◌≡◌, ◌||◌, not, cond, Bool, true, false, ℕ, ◌+◌, List, [], ◌∷◌, ◌++◌, map, Ok, Err, refl, sym, ap, ◌∙◌}
+use Rattle.std.proofs.Common.{◌≡◌, ◌||◌, not, cond, Bool, true, false, ℕ, List, [], ◌∷◌, ◌++◌, map, Ok, Err, refl, sym, ap, ◌∙◌}
 use Rattle.std.specs.List.{list_any}
 use Rattle.std.proofs.lemmas.List.{map-append}
 use Rattle.std.proofs.lemmas.List.Folds.{list_any-append}
@@ -14,7 +14,7 @@ use Rattle.class_read.specs.declared.view.MethodView.{MethodView}
 use Rattle.class_read.specs.Content.{FieldContent, MethodContent}
 use Rattle.class_read.specs.View.{field_content, method_content}
 use Rattle.class_read.specs.Rules.{same_key, has_code}
-use Rattle.class_read.specs.Reading.{Read, and_then, ◌>>=◌, pure, place, u2_at, named_at, Fails}
+use Rattle.class_read.specs.Reading.{Read, and_then, ◌>>=◌, pure, place, u2_at, named_at, collected, Fails}
 use Rattle.class_read.specs.FirstFault.{Key, descriptor_at, new_descriptor_at, head_at, attributes_at, method_attributes_at, field_keys, method_keys, field_at, method_at, more_fields_at, more_methods_at}
 use Rattle.class_read.proofs.Loop.{fails_along}
 
@@ -57,21 +57,21 @@ same_head total pool kind xs ys bytes same =
 same_field : (total : ℕ) (pool : List PoolEntry) (xs ys : List Key) (bytes : List ℕ) → SameKeys xs ys → field_at total pool xs bytes ≡ field_at total pool ys bytes
 unfolding field_at
 same_field total pool xs ys bytes same =
-    ap (λ (r : Read FieldContent). and_then r (λ field. attributes_at total pool >>= λ skipped. pure (field, skipped))) (same_head total pool Field xs ys bytes same)
+    ap (λ (r : Read FieldContent). and_then r (λ field. attributes_at total pool >>= λ skipped. pure field)) (same_head total pool Field xs ys bytes same)
 
 same_method : (total : ℕ) (pool : List PoolEntry) (xs ys : List Key) (bytes : List ℕ) → SameKeys xs ys → method_at total pool xs bytes ≡ method_at total pool ys bytes
 unfolding method_at
 same_method total pool xs ys bytes same =
-    ap (λ (r : Read FieldContent). and_then r (λ head. method_attributes_at total pool (has_code head.flags) >>= λ found. pure (record { flags = head.flags; name = head.name; desc = head.desc; code = found.0 }, found.1)))
+    ap (λ (r : Read FieldContent). and_then r (λ head. method_attributes_at total pool (has_code head.flags) >>= λ code. pure (record { flags = head.flags; name = head.name; desc = head.desc; code = code })))
     (same_head total pool Method xs ys bytes same)
 
 -- one more field
-pub field_steps : (total : ℕ) (pool : List PoolEntry) (seen : List Key) (had next : List FieldView) (skipped attributes : ℕ) (more : FieldView) (bytes rest : List ℕ)
-    → SameKeys seen (field_keys (map field_content had)) → field_at total pool seen bytes ≡ Ok ((field_content more, attributes), rest) → next ≡ had ++ more ∷ []
-    → more_fields_at total pool (map field_content had, skipped) bytes ≡ Ok ((map field_content next, skipped + attributes), rest)
-unfolding more_fields_at
-field_steps total pool seen had next skipped attributes more bytes rest keys read pushed =
-    let read_here : field_at total pool (field_keys (map field_content had)) bytes ≡ Ok ((field_content more, attributes), rest) = sym (same_field total pool seen (field_keys (map field_content had)) bytes keys) ∙ read in
+pub field_steps : (total : ℕ) (pool : List PoolEntry) (seen : List Key) (had next : List FieldView) (more : FieldView) (bytes rest : List ℕ)
+    → SameKeys seen (field_keys (map field_content had)) → field_at total pool seen bytes ≡ Ok (field_content more, rest) → next ≡ had ++ more ∷ []
+    → more_fields_at total pool (map field_content had) bytes ≡ Ok (map field_content next, rest)
+unfolding more_fields_at collected
+field_steps total pool seen had next more bytes rest keys read pushed =
+    let read_here : field_at total pool (field_keys (map field_content had)) bytes ≡ Ok (field_content more, rest) = sym (same_field total pool seen (field_keys (map field_content had)) bytes keys) ∙ read in
     let longer : map field_content next ≡ map field_content had ++ field_content more ∷ [] = rw pushed (map-append field_content had (more ∷ [])) in
     rw (read_here, longer) refl
 
@@ -84,20 +84,20 @@ field_seen seen now had next more keys pushed added k =
     let all : field_keys (map field_content next) ≡ field_keys (map field_content had) ++ (more.name.now, more.desc.now) ∷ [] = rw longer (map-append key (map field_content had) (field_content more ∷ [])) in
     added k ∙ ap (λ (b : Bool). same_key k (more.name.now, more.desc.now) || b) (keys k) ∙ at_end (same_key k) (field_keys (map field_content had)) (more.name.now, more.desc.now) ∙ ap (list_any (same_key k)) (sym all)
 
-pub field_fails : (e : ClassFault) (total : ℕ) (pool : List PoolEntry) (seen : List Key) (had : List FieldView) (skipped : ℕ) (bytes : List ℕ)
-    → SameKeys seen (field_keys (map field_content had)) → Fails e (field_at total pool seen bytes) → Fails e (more_fields_at total pool (map field_content had, skipped) bytes)
-unfolding more_fields_at
-field_fails e total pool seen had skipped bytes keys failed =
-    fails_along e (field_at total pool seen bytes) (more_fields_at total pool (map field_content had, skipped) bytes)
+pub field_fails : (e : ClassFault) (total : ℕ) (pool : List PoolEntry) (seen : List Key) (had : List FieldView) (bytes : List ℕ)
+    → SameKeys seen (field_keys (map field_content had)) → Fails e (field_at total pool seen bytes) → Fails e (more_fields_at total pool (map field_content had) bytes)
+unfolding more_fields_at collected
+field_fails e total pool seen had bytes keys failed =
+    fails_along e (field_at total pool seen bytes) (more_fields_at total pool (map field_content had) bytes)
     (λ h. let here : field_at total pool (field_keys (map field_content had)) bytes ≡ Err e = sym (same_field total pool seen (field_keys (map field_content had)) bytes keys) ∙ h in rw here refl) failed
 
 -- one more method
-pub method_steps : (total : ℕ) (pool : List PoolEntry) (seen : List Key) (had next : List MethodView) (skipped attributes : ℕ) (more : MethodView) (bytes rest : List ℕ)
-    → SameKeys seen (method_keys (map method_content had)) → method_at total pool seen bytes ≡ Ok ((method_content more, attributes), rest) → next ≡ had ++ more ∷ []
-    → more_methods_at total pool (map method_content had, skipped) bytes ≡ Ok ((map method_content next, skipped + attributes), rest)
-unfolding more_methods_at
-method_steps total pool seen had next skipped attributes more bytes rest keys read pushed =
-    let read_here : method_at total pool (method_keys (map method_content had)) bytes ≡ Ok ((method_content more, attributes), rest) = sym (same_method total pool seen (method_keys (map method_content had)) bytes keys) ∙ read in
+pub method_steps : (total : ℕ) (pool : List PoolEntry) (seen : List Key) (had next : List MethodView) (more : MethodView) (bytes rest : List ℕ)
+    → SameKeys seen (method_keys (map method_content had)) → method_at total pool seen bytes ≡ Ok (method_content more, rest) → next ≡ had ++ more ∷ []
+    → more_methods_at total pool (map method_content had) bytes ≡ Ok (map method_content next, rest)
+unfolding more_methods_at collected
+method_steps total pool seen had next more bytes rest keys read pushed =
+    let read_here : method_at total pool (method_keys (map method_content had)) bytes ≡ Ok (method_content more, rest) = sym (same_method total pool seen (method_keys (map method_content had)) bytes keys) ∙ read in
     let longer : map method_content next ≡ map method_content had ++ method_content more ∷ [] = rw pushed (map-append method_content had (more ∷ [])) in
     rw (read_here, longer) refl
 
@@ -110,9 +110,9 @@ method_seen seen now had next more keys pushed added k =
     let all : method_keys (map method_content next) ≡ method_keys (map method_content had) ++ (more.name.now, more.desc.now) ∷ [] = rw longer (map-append key (map method_content had) (method_content more ∷ [])) in
     added k ∙ ap (λ (b : Bool). same_key k (more.name.now, more.desc.now) || b) (keys k) ∙ at_end (same_key k) (method_keys (map method_content had)) (more.name.now, more.desc.now) ∙ ap (list_any (same_key k)) (sym all)
 
-pub method_fails : (e : ClassFault) (total : ℕ) (pool : List PoolEntry) (seen : List Key) (had : List MethodView) (skipped : ℕ) (bytes : List ℕ)
-    → SameKeys seen (method_keys (map method_content had)) → Fails e (method_at total pool seen bytes) → Fails e (more_methods_at total pool (map method_content had, skipped) bytes)
-unfolding more_methods_at
-method_fails e total pool seen had skipped bytes keys failed =
-    fails_along e (method_at total pool seen bytes) (more_methods_at total pool (map method_content had, skipped) bytes)
+pub method_fails : (e : ClassFault) (total : ℕ) (pool : List PoolEntry) (seen : List Key) (had : List MethodView) (bytes : List ℕ)
+    → SameKeys seen (method_keys (map method_content had)) → Fails e (method_at total pool seen bytes) → Fails e (more_methods_at total pool (map method_content had) bytes)
+unfolding more_methods_at collected
+method_fails e total pool seen had bytes keys failed =
+    fails_along e (method_at total pool seen bytes) (more_methods_at total pool (map method_content had) bytes)
     (λ h. let here : method_at total pool (method_keys (map method_content had)) bytes ≡ Err e = sym (same_method total pool seen (method_keys (map method_content had)) bytes keys) ∙ h in rw here refl) failed

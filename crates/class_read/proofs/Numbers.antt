@@ -133,25 +133,6 @@ new_right places i n o u t true same old number h =
     ap (λ (x : Option ℕ). unwrap_or x 0) (sym h) ∙ number ∙ ap (λ (x : List ℕ). number_in places (Some x)) (sym (same refl))
 new_right places i n o u t false same old number h = old h
 
-pub keeps_none : (places : List (Option PoolEntry)) (i : ℕ) (kept : List ℕ → Option ℕ) → KeepsFirst places i kept → place_text (get_or places i None) ≡ None → KeepsFirst places (i + 1) kept
-keeps_none places i kept keeps here = record {
-  right = keeps.right;
-  all = λ j t below is. elim (before i j below) [
-    | inl lt ↦ keeps.all j t lt is
-    | inr e ↦ (let n : Some t ≡ None = sym is ∙ ap (λ k. place_text (get_or places k None)) e ∙ here in absurd cc)
-  ];
-}
-
-pub keeps_known : (places : List (Option PoolEntry)) (i n : ℕ) (kept : List ℕ → Option ℕ) (t : List ℕ) → KeepsFirst places i kept → place_text (get_or places i None) ≡ Some t → kept t ≡ Some n → KeepsFirst places (i + 1) kept
-keeps_known places i n kept t keeps here known = record {
-  right = keeps.right;
-  all = λ j u below is. elim (before i j below) [
-    | inl lt ↦ keeps.all j u lt is
-    | inr e ↦ (let same : Some u ≡ Some t = sym is ∙ ap (λ k. place_text (get_or places k None)) e ∙ here in
-        subst IsSome (sym (ap (λ (x : Option (List ℕ)). option_and_then kept x) same ∙ known)) refl)
-  ];
-}
-
 pub keeps_new : (places : List (Option PoolEntry)) (i : ℕ) (kept next : List ℕ → Option ℕ) (t : List ℕ) → KeepsFirst places i kept → place_text (get_or places i None) ≡ Some t → i ≡ number_in places (Some t)
     → ((u : List ℕ) → next u ≡ cond (bytes_eq u t) (Some i) (kept u)) → KeepsFirst places (i + 1) next
 keeps_new places i kept next t keeps here number more = record {
@@ -162,12 +143,6 @@ keeps_new places i kept next t keeps here number more = record {
         let self : bytes_eq u t ≡ true = (bytes_eq-Decides u t).1 (some_same u t same) in
         subst IsSome (sym (more u ∙ ap (λ (b : Bool). cond b (Some i) (kept u)) self)) refl)
   ];
-}
-
-pub keeps_nothing : (places : List (Option PoolEntry)) (kept : List ℕ → Option ℕ) → ((t : List ℕ) → kept t ≡ None) → KeepsFirst places 0 kept
-keeps_nothing places kept none = record {
-  right = λ t n h. (let e : None ≡ Some n = sym (none t) ∙ h in absurd cc);
-  all = λ j t below is. absurd (omega (arith, below));
 }
 
 -- ---- a look-up after an entry was put in

@@ -1,5 +1,5 @@
 -- What the tests of a text's rules answer, as the rules themselves.
-use Rattle.std.proofs.Common.{◌≡◌, ℕ, suc, ◌+◌, ◌*◌, ◌<◌, ◌^◌, Bool, true, false, ◌||◌, List, [], ◌∷◌, ◌++◌, length, get_or, take, drop, map, Result, Ok, Err, refl, sym, ap, subst, ◌∙◌, arith}
+use Rattle.std.proofs.Common.{◌≡◌, ℕ, suc, ◌+◌, ◌*◌, ◌<◌, ◌^◌, Bool, true, false, cond, List, [], ◌∷◌, ◌++◌, length, get_or, take, drop, map, Result, Ok, Err, refl, sym, ap, ap₂, subst, ◌∙◌, arith}
 use Rattle.std.specs.Prelude.{IfOk}
 use Rattle.std.specs.List.{flat_map, list_any, AllByRecursion, IsDistinct}
 use Rattle.std.proofs.lemmas.Bool.{or_parts, or_from, false≢true}
@@ -14,8 +14,7 @@ use Rattle.class_read.specs.Content.{Handler}
 use Rattle.class_read.specs.Text.{counted, attribute_text, handler_text, code_text}
 use Rattle.class_read.specs.Rules.{text_of, IsClass, IsOtherAttribute, IsField, IsMethod, key_of, same_key, AreDistinct, WellFormed}
 use Rattle.class_read.specs.FirstFault.{Key}
-use Rattle.class_base.proofs.Keys.{or_swap, same_swapped}
-use Rattle.class_read.proofs.Members.{SameKeys}
+use Rattle.class_base.proofs.Keys.{same_swapped}
 
 -- ---- the length of a Code's content
 
@@ -72,39 +71,35 @@ keys_more pool members i m lt is =
 key_of_texts : (pool : List PoolEntry) (m : MemberText) (name desc : List ℕ) → name ≡ text_of pool m.name → desc ≡ text_of pool m.desc → pair name desc ≡ key_of pool m
 key_of_texts pool m name desc n d = ap (λ (x : List ℕ). pair x desc) n ∙ ap (pair (text_of pool m.name)) d
 
-pub of_texts : (pool : List PoolEntry) (m : MemberText) (name desc : List ℕ) (seen : List Key) (b : Bool) → name ≡ text_of pool m.name → desc ≡ text_of pool m.desc
-    → list_any (same_key (name, desc)) seen ≡ b → list_any (same_key (key_of pool m)) seen ≡ b
-of_texts pool m name desc seen b n d found = ap (λ (k : Key). list_any (same_key k) seen) (sym (key_of_texts pool m name desc n d)) ∙ found
+-- a member that is looked up by its texts among those before it
+looked_up : (pool : List PoolEntry) (members : List MemberText) (i : ℕ) (m : MemberText) (name desc : List ℕ) (seen : List Key) → name ≡ text_of pool m.name → desc ≡ text_of pool m.desc
+    → seen ≡ map (key_of pool) (take i members) → list_any (same_key (key_of pool m)) (map (key_of pool) (take i members)) ≡ list_any (same_key (name, desc)) seen
+looked_up pool members i m name desc seen n d same = sym (ap₂ (λ (k : Key) (ks : List Key). list_any (same_key k) ks) (key_of_texts pool m name desc n d) same)
 
-pub added_texts : (pool : List PoolEntry) (m : MemberText) (name desc : List ℕ) (seen more : List Key) → name ≡ text_of pool m.name → desc ≡ text_of pool m.desc
-    → ((k : Key) → list_any (same_key k) more ≡ (same_key k (name, desc) || list_any (same_key k) seen))
-    → (k : Key) → list_any (same_key k) more ≡ (same_key k (key_of pool m) || list_any (same_key k) seen)
-added_texts pool m name desc seen more n d added k = added k ∙ ap (λ (j : Key). same_key k j || list_any (same_key k) seen) (key_of_texts pool m name desc n d)
+-- one more member whose name and descriptor no earlier one has
+pub still_distinct : (pool : List PoolEntry) (members : List MemberText) (i : ℕ) (m : MemberText) (name desc : List ℕ) (seen more : List Key) (added : Bool) → i < length members → get_or members i m ≡ m
+    → name ≡ text_of pool m.name → desc ≡ text_of pool m.desc → seen ≡ map (key_of pool) (take i members) → IsDistinct same_key (map (key_of pool) (take i members))
+    → more ≡ cond added (seen ++ (name, desc) ∷ []) seen → list_any (same_key (name, desc)) seen ≡ cond added false true → added ≡ true
+    → (more ≡ map (key_of pool) (take (i + 1) members)) × IsDistinct same_key (map (key_of pool) (take (i + 1) members))
+still_distinct pool members i m name desc seen more added lt is n d same distinct now there new =
+    let before : List Key = map (key_of pool) (take i members) in
+    let longer : map (key_of pool) (take (i + 1) members) ≡ before ++ key_of pool m ∷ [] = keys_more pool members i m lt is in
+    let fresh : list_any (same_key (key_of pool m)) before ≡ false = looked_up pool members i m name desc seen n d same ∙ there ∙ ap (λ (b : Bool). cond b false true) new in (
+      now ∙ ap (λ (b : Bool). cond b (seen ++ (name, desc) ∷ []) seen) new ∙ ap₂ (λ (ks : List Key) (k : Key). ks ++ k ∷ []) same (key_of_texts pool m name desc n d) ∙ sym longer,
+      subst (IsDistinct same_key) (sym longer) (distinct_more before (key_of pool m) distinct fresh),
+    )
 
-pub still_distinct : (pool : List PoolEntry) (members : List MemberText) (i : ℕ) (m : MemberText) (seen : List Key) → i < length members → get_or members i m ≡ m
-    → SameKeys seen (map (key_of pool) (take i members)) → IsDistinct same_key (map (key_of pool) (take i members)) → list_any (same_key (key_of pool m)) seen ≡ false
-    → IsDistinct same_key (map (key_of pool) (take (i + 1) members))
-still_distinct pool members i m seen lt is same distinct new =
-    subst (IsDistinct same_key) (sym (keys_more pool members i m lt is)) (distinct_more (map (key_of pool) (take i members)) (key_of pool m) distinct (sym (same (key_of pool m)) ∙ new))
-
-pub not_distinct : (pool : List PoolEntry) (members : List MemberText) (i : ℕ) (m : MemberText) (seen : List Key) → i < length members → get_or members i m ≡ m
-    → SameKeys seen (map (key_of pool) (take i members)) → list_any (same_key (key_of pool m)) seen ≡ true → AreDistinct pool members → ⊥
-not_distinct pool members i m seen lt is same found distinct =
-    let parts : map (key_of pool) members ≡ map (key_of pool) (take i members) ++ key_of pool m ∷ map (key_of pool) (drop (suc i) members) =
-    ap (map (key_of pool)) (split_at members i m lt is) ∙ map-append (key_of pool) (take i members) (m ∷ drop (suc i) members) in
-    let new = distinct_new (map (key_of pool) (take i members)) (key_of pool m) (map (key_of pool) (drop (suc i) members)) (subst (IsDistinct same_key) parts distinct) in
-    false≢true (sym new ∙ sym (same (key_of pool m)) ∙ found)
-
-one_more : (p : Key → Bool) (k : Key) (ks : List Key) → (p k || list_any p ks) ≡ list_any p (ks ++ k ∷ [])
-one_more p k [] = refl
-one_more p k (j ∷ ks) = or_swap (p k) (p j) (list_any p ks) ∙ ap (λ (b : Bool). p j || b) (one_more p k ks)
-
-pub seen_more : (pool : List PoolEntry) (members : List MemberText) (i : ℕ) (m : MemberText) (seen more : List Key) → i < length members → get_or members i m ≡ m
-    → SameKeys seen (map (key_of pool) (take i members)) → ((k : Key) → list_any (same_key k) more ≡ (same_key k (key_of pool m) || list_any (same_key k) seen))
-    → SameKeys more (map (key_of pool) (take (i + 1) members))
-seen_more pool members i m seen more lt is same added k =
-    added k ∙ ap (λ (b : Bool). same_key k (key_of pool m) || b) (same k) ∙ one_more (same_key k) (key_of pool m) (map (key_of pool) (take i members))
-    ∙ ap (list_any (same_key k)) (sym (keys_more pool members i m lt is))
+-- a member that an earlier one is equal to
+pub not_distinct : (pool : List PoolEntry) (members : List MemberText) (i : ℕ) (m : MemberText) (name desc : List ℕ) (seen : List Key) (added : Bool) → i < length members → get_or members i m ≡ m
+    → name ≡ text_of pool m.name → desc ≡ text_of pool m.desc → seen ≡ map (key_of pool) (take i members)
+    → list_any (same_key (name, desc)) seen ≡ cond added false true → added ≡ false → AreDistinct pool members → ⊥
+not_distinct pool members i m name desc seen added lt is n d same there old distinct =
+    let before : List Key = map (key_of pool) (take i members) in
+    let after : List Key = map (key_of pool) (drop (suc i) members) in
+    let parts : map (key_of pool) members ≡ before ++ key_of pool m ∷ after = ap (map (key_of pool)) (split_at members i m lt is) ∙ map-append (key_of pool) (take i members) (m ∷ drop (suc i) members) in
+    let new : list_any (same_key (key_of pool m)) before ≡ false = distinct_new before (key_of pool m) after (subst (IsDistinct same_key) parts distinct) in
+    let found : list_any (same_key (key_of pool m)) before ≡ true = looked_up pool members i m name desc seen n d same ∙ there ∙ ap (λ (b : Bool). cond b false true) old in
+    false≢true (sym new ∙ found)
 
 -- ---- the pool
 

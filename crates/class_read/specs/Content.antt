@@ -29,5 +29,3 @@ pub record ClassContent : Type 0 where
   pub fields : List FieldContent
   pub methods : List MethodContent
   pub pool : List PoolEntry
-  -- how many attributes of the file are no method's Code: those of fields, of methods, of Codes and of the class
-  pub skipped : ℕ

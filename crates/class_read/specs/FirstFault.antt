@@ -1,6 +1,6 @@
 -- The class that bytes spell, or the first fault: the fields of the file in their order, and each rule where the last
 -- field that it speaks of ends.
-use Rattle.std.specs.Prelude.{◌≡◌, ◌&&◌, ◌||◌, ◌==◌, ℕ, ◌+◌, ◌-◌, not, Bool, false, List, [], ◌∷◌, ◌++◌, length, map, drop, Option, Some, None, Result, Ok, Err, is_some, is_none, nat_lt, nat_le, if◌then◌else◌}
+use Rattle.std.specs.Prelude.{◌≡◌, ◌&&◌, ◌||◌, ◌==◌, ℕ, ◌-◌, not, Bool, false, List, [], length, map, drop, Option, Some, None, Result, Ok, Err, is_some, is_none, nat_lt, nat_le, if◌then◌else◌}
 use Rattle.std.specs.Option.{option_map_or}
 use Rattle.std.specs.List.{list_any}
 use Rattle.std.specs.Str.{bytes_eq}
@@ -49,12 +49,11 @@ skipped_at total pool _ = do
   name ← attribute_name_at total pool
   content_at total
 
--- attributes that are skipped, and how many they are
-unfoldable pub attributes_at : ℕ → List PoolEntry → List ℕ → Read ℕ
+-- a count, and so many attributes that are skipped
+unfoldable pub attributes_at : ℕ → List PoolEntry → List ℕ → Read (Unit {0})
 attributes_at total pool = do
   count ← u2_at total
-  all ← repeated (skipped_at total pool) count tt
-  pure count
+  repeated (skipped_at total pool) count tt
 
 -- ---- code
 
@@ -82,8 +81,7 @@ is_code_length n = nat_lt 0 n && nat_le n 65535
 abbrev pub code_length_at : ℕ → List ℕ → Read ℕ
 code_length_at total = passing is_code_length (λ _. CodeLength) total (u4_at total)
 
--- code, and how many attributes it has
-unfoldable pub code_at : ℕ → List PoolEntry → List ℕ → Read (CodeContent × ℕ)
+unfoldable pub code_at : ℕ → List PoolEntry → List ℕ → Read CodeContent
 code_at total pool = do
   max_stack ← u2_at total
   max_locals ← u2_at total
@@ -91,43 +89,40 @@ code_at total pool = do
   code ← bytes_at total size
   table ← table_at total pool
   skipped ← attributes_at total pool
-  pure (record { max_stack = max_stack; max_locals = max_locals; code = code; table = table }, skipped)
+  pure (record { max_stack = max_stack; max_locals = max_locals; code = code; table = table })
 
 abbrev pub is_code_name : List ℕ → Bool
 is_code_name name = bytes_eq name code_name
 
--- the code that was found, and how many attributes are no code
-abbrev pub Found : Type 0
-Found = Option CodeContent × ℕ
+-- `Code` may stand where the method has code, and once: `found` is the code that was found before
+abbrev pub may_stand : Bool → Option CodeContent → List ℕ → Bool
+may_stand coded found name = not (is_code_name name) || (coded && is_none found)
 
--- `Code` may stand where the method has code, and once
-abbrev pub may_stand : Bool → Found → List ℕ → Bool
-may_stand coded made name = not (is_code_name name) || (coded && is_none made.0)
+abbrev pub method_name_at : ℕ → List PoolEntry → Bool → Option CodeContent → List ℕ → Read (List ℕ)
+method_name_at total pool coded found = passing (may_stand coded found) (λ _. ExtraCode) total (attribute_name_at total pool)
 
-abbrev pub method_name_at : ℕ → List PoolEntry → Bool → Found → List ℕ → Read (List ℕ)
-method_name_at total pool coded made = passing (may_stand coded made) (λ _. ExtraCode) total (attribute_name_at total pool)
-
-unfoldable pub code_found_at : ℕ → List PoolEntry → Found → List ℕ → Read Found
-code_found_at total pool made = do
+unfoldable pub code_found_at : ℕ → List PoolEntry → List ℕ → Read (Option CodeContent)
+code_found_at total pool = do
   code ← sized_at total (code_at total pool)
-  pure (Some code.0, made.1 + code.1)
+  pure (Some code)
 
-unfoldable pub one_more_at : ℕ → Found → List ℕ → Read Found
-one_more_at total made = do
+-- an attribute that is no code changes nothing
+unfoldable pub no_code_at : ℕ → Option CodeContent → List ℕ → Read (Option CodeContent)
+no_code_at total found = do
   content ← content_at total
-  pure (made.0, made.1 + 1)
+  pure found
 
 -- an attribute of a method that has code, or of one that hasn't
-unfoldable pub method_attribute_at : ℕ → List PoolEntry → Bool → Found → List ℕ → Read Found
-method_attribute_at total pool coded made = do
-  name ← method_name_at total pool coded made
-  if is_code_name name then code_found_at total pool made else one_more_at total made
+unfoldable pub method_attribute_at : ℕ → List PoolEntry → Bool → Option CodeContent → List ℕ → Read (Option CodeContent)
+method_attribute_at total pool coded found = do
+  name ← method_name_at total pool coded found
+  if is_code_name name then code_found_at total pool else no_code_at total found
 
-unfoldable pub method_attributes_at : ℕ → List PoolEntry → Bool → List ℕ → Read Found
+unfoldable pub method_attributes_at : ℕ → List PoolEntry → Bool → List ℕ → Read (Option CodeContent)
 method_attributes_at total pool coded = do
   count ← u2_at total
-  found ← repeated (method_attribute_at total pool coded) count (None, 0)
-  ended ← holding (is_some found.0 || not coded) MissingCode total
+  found ← repeated (method_attribute_at total pool coded) count None
+  ended ← holding (is_some found || not coded) MissingCode total
   pure found
 
 -- ---- members
@@ -157,39 +152,35 @@ field_keys fields = map (λ f. (f.name, f.desc)) fields
 abbrev pub method_keys : List MethodContent → List Key
 method_keys methods = map (λ m. (m.name, m.desc)) methods
 
--- a field after those with the keys `earlier`, and how many attributes it has
-unfoldable pub field_at : ℕ → List PoolEntry → List Key → List ℕ → Read (FieldContent × ℕ)
+-- a field after those with the keys `earlier`
+unfoldable pub field_at : ℕ → List PoolEntry → List Key → List ℕ → Read FieldContent
 field_at total pool earlier = do
   field ← head_at total pool Field earlier
   skipped ← attributes_at total pool
-  pure (field, skipped)
+  pure field
 
-unfoldable pub method_at : ℕ → List PoolEntry → List Key → List ℕ → Read (MethodContent × ℕ)
+unfoldable pub method_at : ℕ → List PoolEntry → List Key → List ℕ → Read MethodContent
 method_at total pool earlier = do
   head ← head_at total pool Method earlier
-  found ← method_attributes_at total pool (has_code head.flags)
-  pure (record { flags = head.flags; name = head.name; desc = head.desc; code = found.0 }, found.1)
+  code ← method_attributes_at total pool (has_code head.flags)
+  pure (record { flags = head.flags; name = head.name; desc = head.desc; code = code })
 
 -- one more field, and one more method
-unfoldable pub more_fields_at : ℕ → List PoolEntry → List FieldContent × ℕ → List ℕ → Read (List FieldContent × ℕ)
-more_fields_at total pool made = do
-  field ← field_at total pool (field_keys made.0)
-  pure (made.0 ++ field.0 ∷ [], made.1 + field.1)
+unfoldable pub more_fields_at : ℕ → List PoolEntry → List FieldContent → List ℕ → Read (List FieldContent)
+more_fields_at total pool made = collected (field_at total pool (field_keys made)) made
 
-unfoldable pub more_methods_at : ℕ → List PoolEntry → List MethodContent × ℕ → List ℕ → Read (List MethodContent × ℕ)
-more_methods_at total pool made = do
-  method ← method_at total pool (method_keys made.0)
-  pure (made.0 ++ method.0 ∷ [], made.1 + method.1)
+unfoldable pub more_methods_at : ℕ → List PoolEntry → List MethodContent → List ℕ → Read (List MethodContent)
+more_methods_at total pool made = collected (method_at total pool (method_keys made)) made
 
-unfoldable pub fields_at : ℕ → List PoolEntry → List ℕ → Read (List FieldContent × ℕ)
+unfoldable pub fields_at : ℕ → List PoolEntry → List ℕ → Read (List FieldContent)
 fields_at total pool = do
   count ← u2_at total
-  repeated (more_fields_at total pool) count ([], 0)
+  repeated (more_fields_at total pool) count []
 
-unfoldable pub methods_at : ℕ → List PoolEntry → List ℕ → Read (List MethodContent × ℕ)
+unfoldable pub methods_at : ℕ → List PoolEntry → List ℕ → Read (List MethodContent)
 methods_at total pool = do
   count ← u2_at total
-  repeated (more_methods_at total pool) count ([], 0)
+  repeated (more_methods_at total pool) count []
 
 -- ---- the class
 
@@ -215,10 +206,9 @@ lists_at total pool major flags name super_name = do
     name = name;
     super_name = super_name;
     interfaces = interfaces;
-    fields = fields.0;
-    methods = methods.0;
+    fields = fields;
+    methods = methods;
     pool = pool;
-    skipped = fields.1 + methods.1 + skipped;
   })
 
 -- what follows the pool, in a file of this major

@@ -1,5 +1,4 @@
 pub mod Reading
-pub mod Names
 pub mod Content
 pub mod Text
 pub mod Rules

@@ -1,5 +1,5 @@
 -- The rules that a class file keeps, and the class that it spells (JVM specification, SE 8, chapter 4).
-use Rattle.std.specs.Prelude.{◌≡◌, ◌≢◌, ◌&&◌, ◌||◌, ℕ, ◌+◌, ◌<◌, ◌^◌, ◌⊎◌, not, Bool, true, false, List, [], ◌∷◌, length, map, Option, Some, None, IsSome, unwrap_or, nat_le, if◌then◌else◌}
+use Rattle.std.specs.Prelude.{◌≡◌, ◌≢◌, ◌&&◌, ◌||◌, ℕ, ◌<◌, ◌^◌, ◌⊎◌, not, Bool, true, false, List, [], ◌∷◌, length, map, Option, Some, None, IsSome, unwrap_or, nat_le, if◌then◌else◌}
 use Rattle.std.specs.List.{AllByRecursion, IsDistinct}
 use Rattle.class_pool.specs.Text.{IsPool, utf8_at, class_name_at}
 use Rattle.class_pool.specs.declared.entry.PoolEntry.{PoolEntry}
@@ -92,12 +92,6 @@ abbrev pub first_of : List CodeContent → Option CodeContent
 first_of [] = None
 first_of (code ∷ codes) = Some code
 
--- how many attributes are no method's Code
-abbrev pub skipped_in : List AttrText → ℕ
-skipped_in [] = 0
-skipped_in (Skipped name content ∷ rest) = 1 + skipped_in rest
-skipped_in (Code name max_stack max_locals code table attributes ∷ rest) = length attributes + skipped_in rest
-
 -- ---- members
 
 -- a method has code unless it is abstract or native
@@ -163,10 +157,6 @@ field_of pool m = record { flags = m.flags; name = text_of pool m.name; desc = t
 abbrev pub method_of : List PoolEntry → MemberText → MethodContent
 method_of pool m = record { flags = m.flags; name = text_of pool m.name; desc = text_of pool m.desc; code = first_of (codes_in m.attributes) }
 
-abbrev pub skipped_of : List MemberText → ℕ
-skipped_of [] = 0
-skipped_of (m ∷ members) = skipped_in m.attributes + skipped_of members
-
 -- what a text says, by the entries that its indexes name
 abbrev pub content_of : ClassText → ClassContent
 content_of c = record {
@@ -178,7 +168,6 @@ content_of c = record {
   fields = map (field_of c.pool) c.fields;
   methods = map (method_of c.pool) c.methods;
   pool = c.pool;
-  skipped = skipped_of c.fields + skipped_of c.methods + skipped_in c.attributes;
 }
 
 -- The bytes spell this class: they are those of a text that keeps the rules and has a major that is read, and the class

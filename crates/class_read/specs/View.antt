@@ -1,10 +1,9 @@
 -- Members and codes where they stand in the file are seen as their contents.
-use Rattle.std.specs.Prelude.{ℕ, List, map, Option, Some, None}
+use Rattle.std.specs.Prelude.{List, map, Option, Some, None}
 use Rattle.class_pool.specs.declared.entry.PoolEntry.{PoolEntry}
 use Rattle.class_read.specs.declared.view.FieldView.{FieldView}
 use Rattle.class_read.specs.declared.view.MethodView.{MethodView}
 use Rattle.class_read.specs.declared.view.CodeView.{CodeView}
-use Rattle.class_read.specs.declared.method.Found.{Found}
 use Rattle.class_read.specs.declared.view.Front.{Front}
 use Rattle.class_read.specs.declared.view.Lists.{Lists}
 use Rattle.class_read.specs.Content.{FieldContent, MethodContent, CodeContent, ClassContent}
@@ -22,10 +21,6 @@ code_contents (Some c) = Some (code_content c)
 abbrev pub method_content : MethodView → MethodContent
 method_content m = record { flags = m.flags; name = m.name.now; desc = m.desc.now; code = code_contents m.code }
 
--- the code that was found so far, and how many attributes are no code
-abbrev pub found_content : Found → Option CodeContent × ℕ
-found_content f = (code_contents f.code, f.skipped)
-
 -- the class of what its file says
 abbrev pub class_content : List PoolEntry → Front → Lists → ClassContent
 class_content pool front lists = record {
@@ -37,5 +32,4 @@ class_content pool front lists = record {
   fields = map field_content lists.fields;
   methods = map method_content lists.methods;
   pool = pool;
-  skipped = lists.skipped;
 }

@@ -95,16 +95,15 @@ fn skipped_times<'a>(
     Ok(rest)
 }
 
-/// Attributes that are skipped, and how many they are.
+/// Attributes that are skipped, after their count.
 #[tactic(auto, unfolding(crate::specs::FirstFault::attributes_at))]
 pub(crate) fn attributes<'a>(
     total: usize,
     pool: &KnownPool<'a>,
     bytes: &'a [u8],
-) -> Result<(u16, &'a [u8]), ClassFault>
-    ensures { Gives (λ x. (x.0, x.1.now)) result (attributes_at total pool.now bytes.now) }
+) -> Result<&'a [u8], ClassFault>
+    ensures { Gives (λ x. (tt, x.now)) result (attributes_at total pool.now bytes.now) }
 {
     let (count, rest) = u2(total, bytes)?;
-    let rest = skipped_times(total, pool, count, rest)?;
-    Ok((count, rest))
+    skipped_times(total, pool, count, rest)
 }

@@ -104,29 +104,29 @@ fn code_length(total: usize, bytes: &[u8]) -> Result<(u32, &[u8]), ClassFault>
     Ok((size, rest))
 }
 
-/// The content of a `Code` attribute, and how many attributes it has.
+/// The content of a `Code` attribute.
 #[tactic(auto, unfolding(crate::specs::FirstFault::code_at))]
 fn content<'a>(
     alloc: Global,
     total: usize,
     pool: &KnownPool<'a>,
     bytes: &'a [u8],
-) -> Result<((CodeView<'a>, u16), &'a [u8]), ClassFault>
-    ensures { Gives (λ x. ((code_content x.0.0, x.0.1), x.1.now)) result (code_at total pool.now bytes.now) }
+) -> Result<(CodeView<'a>, &'a [u8]), ClassFault>
+    ensures { Gives (λ x. (code_content x.0, x.1.now)) result (code_at total pool.now bytes.now) }
 {
     let (max_stack, rest) = u2(total, bytes)?;
     let (max_locals, rest) = u2(total, rest)?;
     let (size, rest) = code_length(total, rest)?;
     let (code, rest) = bytes_of(total, size, rest)?;
     let (table, rest) = table(alloc, total, pool, rest)?;
-    let (skipped, rest) = attributes(total, pool, rest)?;
+    let rest = attributes(total, pool, rest)?;
     let view = CodeView {
         max_stack,
         max_locals,
         code,
         table,
     };
-    Ok(((view, skipped), rest))
+    Ok((view, rest))
 }
 
 /// A `Code` attribute after its name: its length, which has to be that of its content, and the content.
@@ -135,8 +135,8 @@ pub(crate) fn code<'a>(
     total: usize,
     pool: &KnownPool<'a>,
     bytes: &'a [u8],
-) -> Result<((CodeView<'a>, u16), &'a [u8]), ClassFault>
-    ensures { Gives (λ x. ((code_content x.0.0, x.0.1), x.1.now)) result (sized_at total (code_at total pool.now) bytes.now) }
+) -> Result<(CodeView<'a>, &'a [u8]), ClassFault>
+    ensures { Gives (λ x. (code_content x.0, x.1.now)) result (sized_at total (code_at total pool.now) bytes.now) }
 {
     let (size, front) = u4(total, bytes)?;
     let (code, rest) = content(alloc, total, pool, front)?;

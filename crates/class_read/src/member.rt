@@ -1,6 +1,6 @@
 //! Fields and methods.
 
-ghost use Rattle.std.specs.Prelude.{◌≡◌, ◌<◌, ◌^◌, ◌+◌, IfOk, [], map, Ok, Some};
+ghost use Rattle.std.specs.Prelude.{◌≡◌, IfOk, [], map, Ok, Some};
 ghost use Rattle.class_pool.specs.Text.{utf8_at};
 ghost use Rattle.class_read.specs.Numbers.{keys_in, AreNumbers, Joins};
 ghost use Rattle.class_read.specs.Reading.{Gives, repeated};
@@ -89,22 +89,21 @@ fn head<'a>(
     Ok((FieldView { flags, name, desc }, rest))
 }
 
-/// A field, and how many attributes it has.
+/// A field. It joins those that were seen.
 #[tactic(auto, unfolding(crate::specs::FirstFault::field_at))]
 fn field<'a>(
     total: usize,
     pool: &KnownPool<'a>,
     seen: &mut SeenMembers,
     bytes: &'a [u8],
-) -> Result<((FieldView<'a>, u64), &'a [u8]), ClassFault>
+) -> Result<(FieldView<'a>, &'a [u8]), ClassFault>
     requires { AreNumbers pool.now seen.old }
-    ensures field { Gives (λ x. ((field_content x.0.0, x.0.1), x.1.now)) result (field_at total pool.now (keys_in pool.now seen.old) bytes.now) }
-    ensures joins { IfOk result (λ x. Joins pool.now seen.old seen.new (x.0.0.name.now, x.0.0.desc.now)) }
-    ensures small { IfOk result (λ x. x.0.1 < 2 ^ 32) }
+    ensures field { Gives (λ x. (field_content x.0, x.1.now)) result (field_at total pool.now (keys_in pool.now seen.old) bytes.now) }
+    ensures joins { IfOk result (λ x. Joins pool.now seen.old seen.new (x.0.name.now, x.0.desc.now)) }
 {
     let (field, rest) = head(total, pool, MemberKind::Field, seen, bytes)?;
-    let (skipped, rest) = attributes(total, pool, rest)?;
-    Ok(((field, u64::from(skipped)), rest))
+    let rest = attributes(total, pool, rest)?;
+    Ok((field, rest))
 }
 
 pub(crate) fn has_code(flags: u16) -> bool
@@ -113,7 +112,7 @@ pub(crate) fn has_code(flags: u16) -> bool
     !(has_flag(flags, ABSTRACT) || has_flag(flags, NATIVE))
 }
 
-/// A method, and how many of its attributes are no code.
+/// A method. It joins those that were seen.
 #[tactic(auto, unfolding(crate::specs::FirstFault::method_at))]
 fn method<'a>(
     alloc: Global,
@@ -121,21 +120,20 @@ fn method<'a>(
     pool: &KnownPool<'a>,
     seen: &mut SeenMembers,
     bytes: &'a [u8],
-) -> Result<((MethodView<'a>, u64), &'a [u8]), ClassFault>
+) -> Result<(MethodView<'a>, &'a [u8]), ClassFault>
     requires { AreNumbers pool.now seen.old }
-    ensures method { Gives (λ x. ((method_content x.0.0, x.0.1), x.1.now)) result (method_at total pool.now (keys_in pool.now seen.old) bytes.now) }
-    ensures joins { IfOk result (λ x. Joins pool.now seen.old seen.new (x.0.0.name.now, x.0.0.desc.now)) }
-    ensures small { IfOk result (λ x. x.0.1 < 2 ^ 32) }
+    ensures method { Gives (λ x. (method_content x.0, x.1.now)) result (method_at total pool.now (keys_in pool.now seen.old) bytes.now) }
+    ensures joins { IfOk result (λ x. Joins pool.now seen.old seen.new (x.0.name.now, x.0.desc.now)) }
 {
     let (head, rest) = head(total, pool, MemberKind::Method, seen, bytes)?;
-    let (found, rest) = method::attributes(alloc, total, pool, has_code(head.flags), rest)?;
+    let (code, rest) = method::attributes(alloc, total, pool, has_code(head.flags), rest)?;
     let view = MethodView {
         flags: head.flags,
         name: head.name,
         desc: head.desc,
-        code: found.code,
+        code,
     };
-    Ok(((view, found.skipped), rest))
+    Ok((view, rest))
 }
 
 fn field_times<'a>(
@@ -145,24 +143,21 @@ fn field_times<'a>(
     fields: &mut Seq<FieldView<'a>>,
     count: u16,
     bytes: &'a [u8],
-) -> Result<(u64, &'a [u8]), ClassFault>
+) -> Result<&'a [u8], ClassFault>
     requires seen { seen.old ≡ [] }
     requires fields { fields.old ≡ [] }
-    ensures fields { Gives (λ x. ((map field_content fields.new, x.0), x.1.now)) result (repeated (more_fields_at total pool.now) count ([], 0) bytes.now) }
-    ensures small { IfOk result (λ x. x.0 < 2 ^ 48) }
+    ensures { Gives (λ x. (map field_content fields.new, x.now)) result (repeated (more_fields_at total pool.now) count [] bytes.now) }
 {
-    let mut skipped = 0;
     let mut rest = bytes;
     'fields: for _ in 0..count {
-        let ((more, attributes), after) = field(total, pool, seen, rest)?;
+        let (more, after) = field(total, pool, seen, rest)?;
         fields.push(more)?;
-        skipped += attributes;
         rest = after;
     }
-    Ok((skipped, rest))
+    Ok(rest)
 }
 
-/// The fields of a class, into a list that is empty before, and how many attributes they have.
+/// The fields of a class, into a list that is empty before.
 #[tactic(auto, unfolding(crate::specs::FirstFault::fields_at))]
 pub(crate) fn fields<'a>(
     alloc: Global,
@@ -170,10 +165,9 @@ pub(crate) fn fields<'a>(
     pool: &KnownPool<'a>,
     fields: &mut Seq<FieldView<'a>>,
     bytes: &'a [u8],
-) -> Result<(u64, &'a [u8]), ClassFault>
+) -> Result<&'a [u8], ClassFault>
     requires { fields.old ≡ [] }
-    ensures fields { Gives (λ x. ((map field_content fields.new, x.0), x.1.now)) result (fields_at total pool.now bytes.now) }
-    ensures small { IfOk result (λ x. x.0 < 2 ^ 48) }
+    ensures { Gives (λ x. (map field_content fields.new, x.now)) result (fields_at total pool.now bytes.now) }
 {
     let (count, rest) = u2(total, bytes)?;
     let mut seen = SeenMembers::new(alloc);
@@ -188,25 +182,21 @@ fn method_times<'a>(
     methods: &mut Seq<MethodView<'a>>,
     count: u16,
     bytes: &'a [u8],
-) -> Result<(u64, &'a [u8]), ClassFault>
+) -> Result<&'a [u8], ClassFault>
     requires seen { seen.old ≡ [] }
     requires methods { methods.old ≡ [] }
-    ensures methods { Gives (λ x. ((map method_content methods.new, x.0), x.1.now)) result (repeated (more_methods_at total pool.now) count ([], 0) bytes.now) }
-    ensures small { IfOk result (λ x. x.0 < 2 ^ 48) }
+    ensures { Gives (λ x. (map method_content methods.new, x.now)) result (repeated (more_methods_at total pool.now) count [] bytes.now) }
 {
-    let mut skipped = 0;
     let mut rest = bytes;
     'methods: for _ in 0..count {
-        let ((more, attributes), after) = method(alloc, total, pool, seen, rest)?;
+        let (more, after) = method(alloc, total, pool, seen, rest)?;
         methods.push(more)?;
-        skipped += attributes;
         rest = after;
     }
-    Ok((skipped, rest))
+    Ok(rest)
 }
 
-/// The methods of a class, into a list that is empty before, and how many of their attributes and of their codes'
-/// attributes are no code.
+/// The methods of a class, into a list that is empty before.
 #[tactic(auto, unfolding(crate::specs::FirstFault::methods_at))]
 pub(crate) fn methods<'a>(
     alloc: Global,
@@ -214,10 +204,9 @@ pub(crate) fn methods<'a>(
     pool: &KnownPool<'a>,
     methods: &mut Seq<MethodView<'a>>,
     bytes: &'a [u8],
-) -> Result<(u64, &'a [u8]), ClassFault>
+) -> Result<&'a [u8], ClassFault>
     requires { methods.old ≡ [] }
-    ensures methods { Gives (λ x. ((map method_content methods.new, x.0), x.1.now)) result (methods_at total pool.now bytes.now) }
-    ensures small { IfOk result (λ x. x.0 < 2 ^ 48) }
+    ensures { Gives (λ x. (map method_content methods.new, x.now)) result (methods_at total pool.now bytes.now) }
 {
     let (count, rest) = u2(total, bytes)?;
     let mut seen = SeenMembers::new(alloc);

@@ -1,6 +1,6 @@
 //! A whole class file.
 
-ghost use Rattle.std.specs.Prelude.{◌≡◌, ◌<◌, ◌+◌, ℕ, List, [], map, length, IfOk, Ok};
+ghost use Rattle.std.specs.Prelude.{◌≡◌, ℕ, List, [], map, length, IfOk, Ok};
 ghost use Rattle.list_views.specs.ByteLists.{IsBytes};
 ghost use Rattle.class_read.specs.Reading.{Gives, repeated, collected};
 ghost use Rattle.class_read.specs.Content.{ClassContent};
@@ -117,7 +117,7 @@ fn end(total: usize, bytes: &[u8]) -> Result<&[u8], ClassFault>
     Ok(bytes)
 }
 
-/// The lists of a class into `lists`, which are empty before, and how many attributes are no code.
+/// The lists of a class into `lists`, which are empty before, and the attributes of the class itself.
 #[tactic(auto, unfolding(crate::specs::FirstFault::lists_at))]
 fn put_lists<'a>(
     alloc: Global,
@@ -133,10 +133,9 @@ fn put_lists<'a>(
     ensures { Gives (λ x. (class_content pool.now front.entry lists.new, x.now)) result (lists_at total pool.now front.entry.major front.entry.flags front.entry.name.now front.entry.super_name.now bytes.now) }
 {
     let rest = interfaces(total, pool, &mut lists.interfaces, bytes)?;
-    let (of_fields, rest) = fields(alloc, total, pool, &mut lists.fields, rest)?;
-    let (of_methods, rest) = methods(alloc, total, pool, &mut lists.methods, rest)?;
-    let (of_class, rest) = attributes(total, pool, rest)?;
-    lists.skipped = of_fields + of_methods + u64::from(of_class);
+    let rest = fields(alloc, total, pool, &mut lists.fields, rest)?;
+    let rest = methods(alloc, total, pool, &mut lists.methods, rest)?;
+    let rest = attributes(total, pool, rest)?;
     Ok(rest)
 }
 

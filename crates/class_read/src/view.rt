@@ -29,8 +29,6 @@ pub struct ClassView<'a> {
     pub methods: Seq<MethodView<'a>>,
     /// The constant pool.
     pub pool: Pool<'a>,
-    /// How many attributes of the file are no method's `Code`: those of fields, of methods, of their codes and of the class.
-    pub skipped: u64,
 }
 
 /// A field.
@@ -92,8 +90,6 @@ pub(crate) struct Lists<'a> {
     pub fields: Seq<FieldView<'a>>,
     /// The methods in file order.
     pub methods: Seq<MethodView<'a>>,
-    /// How many attributes of the file are no method's `Code`.
-    pub skipped: u64,
 }
 
 impl<'a> Lists<'a> {
@@ -107,7 +103,6 @@ impl<'a> Lists<'a> {
             interfaces: Seq::new(alloc),
             fields: Seq::new(alloc),
             methods: Seq::new(alloc),
-            skipped: 0,
         }
     }
 }
@@ -129,7 +124,6 @@ impl<'a> Model for ClassView<'a> {
       fields = map field_content c.fields;
       methods = map method_content c.methods;
       pool = c.pool;
-      skipped = c.skipped;
     } };
 }
 
@@ -146,6 +140,5 @@ pub(crate) fn class_view<'a>(front: Front<'a>, lists: Lists<'a>, pool: Pool<'a>)
         fields: lists.fields,
         methods: lists.methods,
         pool,
-        skipped: lists.skipped,
     }
 }

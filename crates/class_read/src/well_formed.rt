@@ -7,7 +7,7 @@ ghost use Rattle.class_read.specs.Rules.{IsClass, IsOtherAttribute, IsField, IsM
 
 use crate::rules::{are_classes, are_fields, are_methods, are_other_attributes, is_class, text};
 use crate::text::{AttrText, ClassText, MemberText};
-use class_base::Seen;
+use class_base::KeySet;
 use class_pool::{Pool, PoolFault, has_texts, write_pool};
 use list_views::Seq;
 use std::alloc::{AllocError, Global};
@@ -16,14 +16,13 @@ use std::alloc::{AllocError, Global};
 fn are_distinct(alloc: Global, pool: &Pool<'_>, members: &[MemberText]) -> Result<bool, AllocError>
     ensures { IfOk result (λ b. IsTrue b ↔ AreDistinct pool.now members.now) }
 {
-    let mut seen = Seen::new(alloc);
+    let mut seen = KeySet::new(alloc);
     for m in members {
         let name = text(pool, m.name);
         let desc = text(pool, m.desc);
-        if seen.has(name, desc) {
+        if !seen.add(name, desc)? {
             return Ok(false);
         }
-        seen.add(name, desc)?;
     }
     Ok(true)
 }

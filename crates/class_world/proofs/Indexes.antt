@@ -21,7 +21,7 @@ use Rattle.class_world.specs.Fields.{field_slot}
 use Rattle.class_world.specs.Resolve.{is_field_named, declared_field, is_initialiser, is_initialised}
 use Rattle.class_world.specs.Tables.{values_to}
 use Rattle.class_world.specs.Index.{Key, has_places, field_key, method_key, field_content_key, method_content_key, HasDistinctMembers, method_keys, field_keys, kept_before, kept_counts, kept_row}
-use Rattle.class_world.proofs.Maps.{length_mapped, position-map}
+use Rattle.class_base.proofs.Maps.{length_mapped, position-map}
 use Rattle.class_world.proofs.Tables.{class_at, values_more, length-values, get_or-values}
 
 pub map_map : {A B C : Type 0} (f : B → C) (g : A → B) (xs : List A) → map f (map g xs) ≡ map (λ x. f (g x)) xs

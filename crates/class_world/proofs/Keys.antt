@@ -1,26 +1,12 @@
 -- Members of different names and descriptors, put into an index one after another.
-use Rattle.std.proofs.Common.{◌≡◌, ◌&&◌, ◌||◌, ℕ, zero, suc, ◌+◌, ◌<◌, Bool, true, false, not, cond, List, [], ◌∷◌, ◌++◌, length, get_or, take, sym, refl, ap, ap₂, ◌∙◌, arith, add-one}
+use Rattle.std.proofs.Common.{◌≡◌, ◌||◌, ℕ, zero, suc, ◌+◌, ◌<◌, Bool, true, false, cond, List, [], ◌∷◌, ◌++◌, length, get_or, take, sym, refl, ap, ap₂, ◌∙◌, arith, add-one}
 use Rattle.std.specs.Prelude.{map}
 use Rattle.std.specs.List.{list_any, IsDistinct, AllByRecursion}
-use Rattle.std.specs.Str.{bytes_eq}
-use Rattle.std.specs.Cmp.Lexicographic.{nat_list_eq_equiv}
 use Rattle.std.proofs.Math.Seq.{take-suc}
 use Rattle.std.proofs.lemmas.Bool.{false≢true}
 use Rattle.std.proofs.lemmas.List.{map-append}
-use Rattle.class_read.specs.Rules.{same_key}
-use Rattle.class_world.specs.Index.{Key}
-
-pub turned : (a b : Bool) → a ≡ not b → b ≡ cond a false true
-turned true false e = refl
-turned false true e = refl
-turned true true e = cc
-turned false false e = cc
-
-bytes_swapped : (a b : List ℕ) → bytes_eq a b ≡ bytes_eq b a
-bytes_swapped a b = nat_list_eq_equiv.symm a b
-
-pub same_swapped : (a b : Key) → same_key a b ≡ same_key b a
-same_swapped a b = ap₂ ◌&&◌ (bytes_swapped a.0 b.0) (bytes_swapped a.1 b.1)
+use Rattle.class_base.specs.Members.{Key, same_key}
+use Rattle.class_base.proofs.Keys.{same_swapped}
 
 -- no earlier one has the key of a place
 pub none_before : {X : Type 0} (key : X → Key) (xs : List X) (i : ℕ) (d : X) → IsDistinct same_key (map key xs) → i < length xs → list_any (same_key (key (get_or xs i d))) (map key (take i xs)) ≡ false

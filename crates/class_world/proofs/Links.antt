@@ -1,12 +1,12 @@
 -- Linking, from its steps.
-use Rattle.std.proofs.Common.{◌≡◌, ◌+◌, ◌<◌, ◌≤◌, ◌^◌, ◌-◌, true, List, length, take, Some, None, sym, refl, ap, ◌∙◌, subst, ◌⊎◌, arith, length-append}
+use Rattle.std.proofs.Common.{◌≡◌, ◌+◌, ◌<◌, ◌≤◌, ◌^◌, ◌-◌, true, List, length, take, Some, None, sym, refl, ap, ◌∙◌, subst, arith, length-append}
 use Rattle.std.specs.Prelude.{is_none}
 use Rattle.std.proofs.lemmas.Bool.{and_from}
+use Rattle.list_views.specs.Results.{IsFault}
 use Rattle.class_read.specs.Content.{ClassContent}
 use Rattle.class_world.specs.declared.fault.LinkFault.{LinkFault}
-use Rattle.class_world.specs.declared.fault.LinkFault.TheVariants.{Memory}
 use Rattle.class_world.specs.World.{World, built_ins, built_in_names, world_of}
-use Rattle.class_world.specs.Linking.{first_broken, duplicate_class, later_fault, link_fault, is_linked, is_rooted}
+use Rattle.class_world.specs.Linking.{is_memory, first_broken, duplicate_class, later_fault, link_fault, is_linked, is_rooted}
 use Rattle.class_world.specs.BuiltIns.{built_in_count, IsWorld}
 use Rattle.class_world.proofs.Rules.{first_says, says_along, after_none}
 
@@ -21,15 +21,15 @@ rooted given = refl
 pub enrol_fits : (given : List ClassContent) (all : World) → all ≡ world_of given → length given + 15 ≤ 2 ^ 32 - 16 → length all < 2 ^ 32
 enrol_fits given all e l = omega (arith, ap length e, world_length given, l)
 
-pub link_first : (given : List ClassContent) (all : World) (fault : LinkFault) → all ≡ world_of given → (fault ≡ Memory) ⊎ (first_broken (duplicate_class all) 0 all ≡ Some fault) → (fault ≡ Memory) ⊎ (link_fault (world_of given) ≡ Some fault)
+pub link_first : (given : List ClassContent) (all : World) (fault : LinkFault) → all ≡ world_of given → IsFault is_memory fault (first_broken (duplicate_class all) 0 all) → IsFault is_memory fault (link_fault (world_of given))
 unfolding link_fault
-link_first given all fault e h = first_says _ _ fault (subst (λ (w : World). (fault ≡ Memory) ⊎ (first_broken (duplicate_class w) 0 w ≡ Some fault)) e h)
+link_first given all fault e h = first_says _ _ fault (subst (λ (w : World). IsFault is_memory fault (first_broken (duplicate_class w) 0 w)) e h)
 
-pub link_later : (given : List ClassContent) (all world : World) (fault : LinkFault) → all ≡ world_of given → world ≡ all → first_broken (duplicate_class all) 0 all ≡ None → (fault ≡ Memory) ⊎ (later_fault world ≡ Some fault) → (fault ≡ Memory) ⊎ (link_fault (world_of given) ≡ Some fault)
+pub link_later : (given : List ClassContent) (all world : World) (fault : LinkFault) → all ≡ world_of given → world ≡ all → first_broken (duplicate_class all) 0 all ≡ None → IsFault is_memory fault (later_fault world) → IsFault is_memory fault (link_fault (world_of given))
 unfolding link_fault
 link_later given all world fault e s n h =
     says_along _ _ fault (after_none _ _ (subst (λ (w : World). first_broken (duplicate_class w) 0 w ≡ None) e n))
-    (subst (λ (w : World). (fault ≡ Memory) ⊎ (later_fault w ≡ Some fault)) (s ∙ e) h)
+    (subst (λ (w : World). IsFault is_memory fault (later_fault w)) (s ∙ e) h)
 
 pub link_none : (given : List ClassContent) (all world : World) → all ≡ world_of given → world ≡ all → first_broken (duplicate_class all) 0 all ≡ None → later_fault world ≡ None → link_fault (world_of given) ≡ None
 unfolding link_fault

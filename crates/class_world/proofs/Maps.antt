@@ -1,26 +1,9 @@
--- Searches in a mapped list.
+-- What a list gives through a partial function.
 use Rattle.std.specs.Option.{option_to_list}
 use Rattle.std.proofs.Math.Seq.{drop-cons}
-use Rattle.std.proofs.Common.{◌<◌, ◌++◌, drop, get_or, sym, add-one, append_assoc, ◌≡◌, ℕ, suc, ◌||◌, Some, None, ◌+◌, Bool, not, cond, ltb, List, [], ◌∷◌, length, Option, refl, ap, ◌∙◌}
-use Rattle.std.specs.Prelude.{map, position}
-use Rattle.std.specs.List.{list_any, prefix_len, filter_map, cons_option}
-
-pub any-map : {A B : Type 0} (p : B → Bool) (f : A → B) (xs : List A) → list_any p (map f xs) ≡ list_any (λ x. p (f x)) xs
-any-map p f [] = refl
-any-map p f (x ∷ xs) = ap (λ b. p (f x) || b) (any-map p f xs)
-
-pub prefix-map : {A B : Type 0} (p : B → Bool) (f : A → B) (xs : List A) → prefix_len p (map f xs) ≡ prefix_len (λ x. p (f x)) xs
-prefix-map p f [] = refl
-prefix-map p f (x ∷ xs) = ap (λ n. cond (p (f x)) (1 + n) 0) (prefix-map p f xs)
-
-pub length_mapped : {A B : Type 0} (f : A → B) (xs : List A) → length (map f xs) ≡ length xs
-length_mapped f [] = refl
-length_mapped f (x ∷ xs) = ap (λ n. suc n) (length_mapped f xs)
-
-pub position-map : {A B : Type 0} (p : B → Bool) (f : A → B) (xs : List A) → position p (map f xs) ≡ position (λ x. p (f x)) xs
-position-map p f xs =
-    ap (λ n. cond (ltb n (length (map f xs))) (Some n) None) (prefix-map (λ x. not (p x)) f xs)
-    ∙ ap (λ m. cond (ltb (prefix_len (λ x. not (p (f x))) xs) m) (Some (prefix_len (λ x. not (p (f x))) xs)) None) (length_mapped f xs)
+use Rattle.std.proofs.Common.{◌<◌, ◌++◌, drop, get_or, sym, add-one, append_assoc, ◌≡◌, ℕ, Some, None, ◌+◌, List, [], ◌∷◌, length, Option, refl, ap, ◌∙◌}
+use Rattle.std.specs.Prelude.{map}
+use Rattle.std.specs.List.{filter_map, cons_option}
 
 pub filter_map_map : {A B C : Type 0} (f : B → Option C) (g : A → B) (xs : List A) → filter_map f (map g xs) ≡ filter_map (λ x. f (g x)) xs
 filter_map_map f g [] = refl

@@ -5,7 +5,8 @@ use Rattle.std.proofs.lemmas.List.{get_or-set_same, get_or-set_other, get_or_pas
 use Rattle.std.proofs.lemmas.List.Sums.{sum_by-set}
 use Rattle.std.proofs.lemmas.Bool.{false≢true, eqb-true, cases_lt}
 use Rattle.class_world.specs.World.{leads_up}
-use Rattle.class_world.specs.Marking.{marks_after, todo_after, open_count, listed_at, IsRow, IsClosed}
+use Rattle.list_views.specs.Lists.{open_count}
+use Rattle.class_world.specs.Marking.{marks_after, todo_after, listed_at, IsRow, IsClosed}
 use Rattle.class_world.specs.Walks.{IsIn, Walk, Walk-append, Walk-from_leads, leads-from_any_Walk}
 
 abbrev pub AllBelow : List ℕ → ℕ → Type 0

@@ -1,5 +1,5 @@
 -- Going through the classes rule by rule.
-use Rattle.std.proofs.Common.{◌≡◌, ◌||◌, ℕ, zero, suc, ◌+◌, ◌<◌, ◌≤◌, Bool, true, false, not, cond, eqb, ltb, List, [], ◌∷◌, ◌++◌, length, get_or, take, drop, Option, Some, None, sym, refl, ap, ◌∙◌, subst, inl, inr, ◌⊎◌, arith, add-one, eq-eqb}
+use Rattle.std.proofs.Common.{◌≡◌, ◌||◌, ℕ, zero, suc, ◌+◌, ◌<◌, ◌≤◌, Bool, true, false, not, cond, eqb, ltb, List, [], ◌∷◌, ◌++◌, length, get_or, take, drop, Option, Some, None, sym, refl, ap, ◌∙◌, subst, inl, inr, arith, add-one, eq-eqb}
 use Rattle.std.specs.Prelude.{slice_get, map, option_and_then, Result, Ok, Err, IsErrAnd}
 use Rattle.std.specs.Borrow.{Bor}
 use Rattle.std.specs.List.{list_any, position_or_len}
@@ -10,13 +10,15 @@ use Rattle.std.proofs.lemmas.Option.{slice_get-get_or, get_or_from_slice_get, sl
 use Rattle.std.proofs.lemmas.List.Sums.{position_or_len_is, fails_before_first}
 use Rattle.std.proofs.lemmas.Bool.{false≢true, cases_lt, lt-ltb, ne_eqb, or_parts}
 use Rattle.std.specs.Cmp.Lexicographic.{bytes_decides}
+use Rattle.list_views.specs.Results.{IsFault}
+use Rattle.list_views.proofs.Steps.{found_by}
 use Rattle.class_read.specs.Content.{ClassContent}
 use Rattle.class_world.specs.declared.fault.LinkFault.{LinkFault}
-use Rattle.class_world.specs.declared.fault.LinkFault.TheVariants.{DuplicateClass, Memory}
+use Rattle.class_world.specs.declared.fault.LinkFault.TheVariants.{DuplicateClass}
 use Rattle.class_world.specs.World.{World, class_of, built_in, is_above}
-use Rattle.class_world.specs.Linking.{Rule, Refuses, first_broken, first_missing, missing_name, rule_at, duplicate_class}
+use Rattle.class_world.specs.Linking.{Rule, Refuses, is_memory, first_broken, first_missing, missing_name, rule_at, duplicate_class}
 use Rattle.class_world.specs.Tables.{names_of, values_to, above_table}
-use Rattle.class_world.proofs.Maps.{any-map}
+use Rattle.class_base.proofs.Maps.{any-map}
 use Rattle.class_world.proofs.Tables.{class_at, get_or-values, length-values}
 
 -- one more class
@@ -28,9 +30,6 @@ broken_step rule world i l =
     ap (first_broken rule i) a
     ∙ ap (λ o. option_or o (first_broken rule (suc i) (drop (suc i) world))) (sym (ap (option_and_then (rule i)) (slice_get-get_or world i d l)))
     ∙ ap (λ j. option_or (rule_at rule world i) (first_broken rule j (drop j world))) (sym (add-one i))
-
-pub broken_start : (rule : Rule) (world : World) → first_broken rule 0 (drop 0 world) ≡ first_broken rule 0 world
-broken_start rule world = refl
 
 drop_all : {A : Type 0} (xs : List A) (i : ℕ) → length xs ≤ i → drop i xs ≡ []
 drop_all [] zero l = refl
@@ -149,9 +148,8 @@ enrol_end world i names l e = e ∙ ap names_of (take_all_of world i l)
 
 -- ---- answers
 
-pub refuses_here : (rule : Rule) (world : World) (i : ℕ) (fault : LinkFault) → i < length world → first_broken rule i (drop i world) ≡ first_broken rule 0 world → (fault ≡ Memory) ⊎ (rule_at rule world i ≡ Some fault) → (fault ≡ Memory) ⊎ (first_broken rule 0 world ≡ Some fault)
-refuses_here rule world i fault l k (inl m) = inl m
-refuses_here rule world i fault l k (inr r) = inr (broken_here rule world i fault l k r)
+pub refuses_here : (rule : Rule) (world : World) (i : ℕ) (fault : LinkFault) → i < length world → first_broken rule i (drop i world) ≡ first_broken rule 0 world → IsFault is_memory fault (rule_at rule world i) → IsFault is_memory fault (first_broken rule 0 world)
+refuses_here rule world i fault l k h = found_by is_memory fault (rule_at rule world i) (first_broken rule 0 world) (broken_here rule world i fault l k) h
 
 -- one more name that is there
 pub missing_more : (world : World) (names : List (Bor (List ℕ))) (i : ℕ) (d : Bor (List ℕ)) → i < length names → first_missing world (map (λ r. r.now) (drop i names)) ≡ first_missing world (map (λ r. r.now) names) → missing_name world (get_or names i d).now ≡ None → first_missing world (map (λ r. r.now) (drop (i + 1) names)) ≡ first_missing world (map (λ r. r.now) names)
@@ -165,17 +163,8 @@ missing_here world names i d fault l e r =
     sym e ∙ ap (λ xs. first_missing world (map (λ x. x.now) xs)) (drop-cons names i d l)
     ∙ ap (λ o. option_or o (first_missing world (map (λ x. x.now) (drop (suc i) names)))) r
 
-pub refuses_missing : (world : World) (names : List (Bor (List ℕ))) (i : ℕ) (d : Bor (List ℕ)) (fault : LinkFault) → i < length names → first_missing world (map (λ r. r.now) (drop i names)) ≡ first_missing world (map (λ r. r.now) names) → (fault ≡ Memory) ⊎ (missing_name world (get_or names i d).now ≡ Some fault) → (fault ≡ Memory) ⊎ (first_missing world (map (λ r. r.now) names) ≡ Some fault)
-refuses_missing world names i d fault l e (inl m) = inl m
-refuses_missing world names i d fault l e (inr r) = inr (missing_here world names i d fault l e r)
-
-pub missing_none : (world : World) (names : List (Bor (List ℕ))) (i : ℕ) → length names ≤ i → first_missing world (map (λ r. r.now) (drop i names)) ≡ first_missing world (map (λ r. r.now) names) → first_missing world (map (λ r. r.now) names) ≡ None
-missing_none world names i l e = sym e ∙ ap (λ xs. first_missing world (map (λ x. x.now) xs)) (drop_all names i l)
-
-pub above_read : (world : World) (a b : ℕ) (d : Bool) → a < length world → b < length world → get_or (get_or (above_table world) a []) b d ≡ is_above world a b
-above_read world a b d l m =
-    ap (λ row. get_or row b d) (get_or-values (λ x. values_to (is_above world x) (length world)) (length world) a [] l)
-    ∙ get_or-values (is_above world a) (length world) b d m
+pub refuses_missing : (world : World) (names : List (Bor (List ℕ))) (i : ℕ) (d : Bor (List ℕ)) (fault : LinkFault) → i < length names → first_missing world (map (λ r. r.now) (drop i names)) ≡ first_missing world (map (λ r. r.now) names) → IsFault is_memory fault (missing_name world (get_or names i d).now) → IsFault is_memory fault (first_missing world (map (λ r. r.now) names))
+refuses_missing world names i d fault l e h = found_by is_memory fault (missing_name world (get_or names i d).now) (first_missing world (map (λ r. r.now) names)) (missing_here world names i d fault l e) h
 
 pub above_length : (world : World) (table : List (List Bool)) (a : ℕ) (d : List Bool) → table ≡ above_table world → a < length world → length (get_or table a d) ≡ length world
 above_length world table a d e l =
@@ -193,10 +182,9 @@ above_mark world table row a b mark e l m r q =
     q ∙ ap (λ xs. get_or xs b mark) at ∙ get_or-values (is_above world a) (length world) b mark m
 
 -- a fault that is passed on
-pub passed_on : {A : Type 0} (r : Result A LinkFault) (fault : LinkFault) (o : Option LinkFault) → IsErrAnd r (λ e. e ≡ fault) → (fault ≡ Memory) ⊎ (o ≡ Some fault) → Refuses r o
+pub passed_on : {A : Type 0} (r : Result A LinkFault) (fault : LinkFault) (o : Option LinkFault) → IsErrAnd r (λ e. e ≡ fault) → IsFault is_memory fault o → Refuses r o
 passed_on (Ok value) fault o h a = absurd h
-passed_on (Err e) fault o h (inl m) = inl (h ∙ m)
-passed_on (Err e) fault o h (inr s) = inr (s ∙ ap Some (sym h))
+passed_on (Err e) fault o h a = subst (λ (f : LinkFault). IsFault is_memory f o) (sym h) a
 
 pub get_or_twice : {A : Type 0} (xs : List A) (i : ℕ) (d : A) → get_or xs i d ≡ get_or xs i (get_or xs i d)
 get_or_twice [] i d = refl
@@ -205,13 +193,11 @@ get_or_twice (x ∷ xs) (suc i) d = get_or_twice xs i d
 
 -- ---- one rule after another
 
-pub first_says : (a b : Option LinkFault) (fault : LinkFault) → (fault ≡ Memory) ⊎ (a ≡ Some fault) → (fault ≡ Memory) ⊎ (option_or a b ≡ Some fault)
-first_says a b fault (inl m) = inl m
-first_says a b fault (inr s) = inr (ap (λ o. option_or o b) s)
+pub first_says : (a b : Option LinkFault) (fault : LinkFault) → IsFault is_memory fault a → IsFault is_memory fault (option_or a b)
+first_says a b fault h = found_by is_memory fault a (option_or a b) (λ s. ap (λ o. option_or o b) s) h
 
-pub says_along : (a b : Option LinkFault) (fault : LinkFault) → a ≡ b → (fault ≡ Memory) ⊎ (b ≡ Some fault) → (fault ≡ Memory) ⊎ (a ≡ Some fault)
-says_along a b fault e (inl m) = inl m
-says_along a b fault e (inr s) = inr (e ∙ s)
+pub says_along : (a b : Option LinkFault) (fault : LinkFault) → a ≡ b → IsFault is_memory fault b → IsFault is_memory fault a
+says_along a b fault e h = subst (λ (o : Option LinkFault). IsFault is_memory fault o) (sym e) h
 
 pub after_none : (a b : Option LinkFault) → a ≡ None → option_or a b ≡ b
 after_none a b e = ap (λ o. option_or o b) e

@@ -1,14 +1,16 @@
 -- What each rule says of one class.
-use Rattle.std.proofs.Common.{◌≡◌, ◌||◌, ◌&&◌, ℕ, ◌<◌, Bool, true, false, not, cond, eqb, List, ◌∷◌, length, get_or, Option, Some, None, sym, ap, ◌∙◌, inl, inr, ◌⊎◌}
+use Rattle.std.proofs.Common.{◌≡◌, ◌||◌, ◌&&◌, ℕ, ◌<◌, Bool, true, false, not, cond, eqb, List, ◌∷◌, length, get_or, Option, Some, None, sym, ap, ◌∙◌}
 use Rattle.std.specs.Prelude.{option_and_then}
 use Rattle.std.specs.List.{list_any}
 use Rattle.std.specs.Option.{option_or, option_map_or}
 use Rattle.std.proofs.lemmas.Bool.{ne_eqb, eq-eqb}
+use Rattle.list_views.specs.Results.{IsFault}
+use Rattle.list_views.proofs.Steps.{found_by}
 use Rattle.class_read.specs.Content.{ClassContent, MethodContent}
 use Rattle.class_world.specs.declared.fault.LinkFault.{LinkFault}
-use Rattle.class_world.specs.declared.fault.LinkFault.TheVariants.{CyclicHierarchy, BadSuper, DefaultMethod, Memory}
+use Rattle.class_world.specs.declared.fault.LinkFault.TheVariants.{CyclicHierarchy, BadSuper, DefaultMethod}
 use Rattle.class_world.specs.World.{World, is_above, is_interface, is_interface_class, super_of, interfaces_of}
-use Rattle.class_world.specs.Linking.{first_missing, missing_name, rule_at, missing_super, cyclic_hierarchy, bad_super, default_method, is_default, is_bad_superclass}
+use Rattle.class_world.specs.Linking.{is_memory, first_missing, missing_name, rule_at, missing_super, cyclic_hierarchy, bad_super, default_method, is_default, is_bad_superclass}
 use Rattle.class_world.proofs.Tables.{class_at}
 
 pub cyclic_at : (world : World) (i : ℕ) (c : ClassContent) (name : List ℕ) → i < length world → c ≡ get_or world i c → name ≡ c.name → rule_at (cyclic_hierarchy world) world i ≡ cond (is_above world i i) (Some (CyclicHierarchy name)) None
@@ -50,9 +52,8 @@ says_yes o b x e f = e ∙ ap (λ y. cond y (Some x) None) f
 pub says_no : {A : Type 0} (o : Option A) (b : Bool) (x : A) → o ≡ cond b (Some x) None → b ≡ false → o ≡ None
 says_no o b x e f = e ∙ ap (λ y. cond y (Some x) None) f
 
-pub missing_first : (world : World) (i : ℕ) (o a b : Option LinkFault) (fault : LinkFault) → o ≡ cond (eqb i 0) b (option_or a b) → (i ≡ 0 → ⊥) → (fault ≡ Memory) ⊎ (a ≡ Some fault) → (fault ≡ Memory) ⊎ (o ≡ Some fault)
-missing_first world i o a b fault e n (inl m) = inl m
-missing_first world i o a b fault e n (inr s) = inr (e ∙ ap (λ z. cond z b (option_or a b)) (ne_eqb i 0 n) ∙ ap (λ x. option_or x b) s)
+pub missing_first : (world : World) (i : ℕ) (o a b : Option LinkFault) (fault : LinkFault) → o ≡ cond (eqb i 0) b (option_or a b) → (i ≡ 0 → ⊥) → IsFault is_memory fault a → IsFault is_memory fault o
+missing_first world i o a b fault e n h = found_by is_memory fault a o (λ s. e ∙ ap (λ z. cond z b (option_or a b)) (ne_eqb i 0 n) ∙ ap (λ x. option_or x b) s) h
 
 pub missing_rest : (i : ℕ) (o a b : Option LinkFault) → o ≡ cond (eqb i 0) b (option_or a b) → (i ≡ 0 → ⊥) → a ≡ None → o ≡ b
 missing_rest i o a b e n s = e ∙ ap (λ z. cond z b (option_or a b)) (ne_eqb i 0 n) ∙ ap (λ x. option_or x b) s

@@ -53,6 +53,3 @@ short_at world ref m h e = by (slice_get world ref.class) refl e
     by : (o : Option ClassContent) → slice_get world ref.class ≡ o → option_and_then (λ c. slice_get c.methods ref.index) o ≡ Some m → has_short_code m ≡ true
     by None s k = cc
     by (Some c) s k = item_of has_short_code c.methods ref.index m (item_of has_short_codes world ref.class c h s) k
-
-pub short_code : (m : MethodContent) (code : CodeContent) → has_short_code m ≡ true → m.code ≡ Some code → length code.code < 65536
-short_code m code h e = ltb-true (length code.code) 65536 (ap (λ o. option_map_or is_short o true) (sym e) ∙ h)

@@ -1,10 +1,10 @@
 -- What a type means in a world: what a slot of it holds; that it is not supported; or that its class isn't there.
 use Rattle.std.specs.Prelude.{ℕ, ◌==◌, if◌then◌else◌, List, Option, Some, None, option_and_then}
 use Rattle.jvm_values.specs.declared.types.Kind.{Kind}
-use Rattle.jvm_values.specs.declared.types.Kind.TheVariants.{Boolean, Char, Byte, Short, Int}
 use Rattle.jvm_values.specs.declared.types.Base.TheVariants as bases
 use Rattle.jvm_values.specs.declared.types.Slot.{Slot}
 use Rattle.jvm_values.specs.declared.types.Slot.TheVariants.{Num, Ref}
+use Rattle.jvm_values.specs.Kinds.{kind_of_letter}
 use Rattle.class_base.specs.declared.types.Element.{Element}
 use Rattle.class_base.specs.declared.types.Element.TheVariants.{Primitive, Object}
 use Rattle.class_base.specs.declared.types.FieldType.{FieldType}
@@ -12,15 +12,6 @@ use Rattle.class_base.specs.Types.{type_at}
 use Rattle.class_world.specs.declared.meaning.Meaning.{Meaning}
 use Rattle.class_world.specs.declared.meaning.Meaning.TheVariants.{Known, Unsupported, Missing}
 use Rattle.class_world.specs.World.{World, class_of}
-
--- the kind of a primitive type: `Z`, `C`, `B`, `S`, `I`; long, float and double have none
-abbrev pub kind_of : ℕ → Option Kind
-kind_of b =
-    if b == 90 then Some Boolean
-    else (if b == 67 then Some Char
-    else (if b == 66 then Some Byte
-    else (if b == 83 then Some Short
-    else (if b == 73 then Some Int else None))))
 
 -- numbers of a kind, or arrays of them
 abbrev pub number_slot : ℕ → Kind → Slot
@@ -39,7 +30,7 @@ object_meaning dims name (Some class) = Known (class_slot dims class)
 object_meaning dims name None = Missing name
 
 abbrev pub element_meaning : World → ℕ → Element → Meaning
-element_meaning world dims (Primitive b) = primitive_meaning dims (kind_of b)
+element_meaning world dims (Primitive b) = primitive_meaning dims (kind_of_letter b)
 element_meaning world dims (Object name) = object_meaning dims name (class_of world name)
 
 abbrev pub meaning_of : World → FieldType → Meaning

@@ -7,16 +7,12 @@ use Rattle.jvm_values.specs.declared.types.Slot.{Slot}
 use Rattle.class_read.specs.declared.view.FieldView.{FieldView}
 use Rattle.class_read.specs.declared.view.MethodView.{MethodView}
 use Rattle.class_read.specs.Content.{ClassContent, FieldContent, MethodContent}
-use Rattle.class_read.specs.Rules.{same_key}
+pub use Rattle.class_base.specs.Members.{Key, same_key}
 use Rattle.class_world.specs.declared.index.MemberIndex.{MemberIndex}
 use Rattle.class_world.specs.World.{World}
 use Rattle.class_world.specs.Fields.{field_slot}
 use Rattle.class_world.specs.Resolve.{is_initialised}
 use Rattle.class_world.specs.Tables.{values_to}
-
--- a name and a descriptor
-abbrev pub Key : Type 0
-Key = List ℕ × List ℕ
 
 abbrev pub field_key : FieldView → Key
 field_key f = (f.name.now, f.desc.now)

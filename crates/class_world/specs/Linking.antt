@@ -1,8 +1,9 @@
 -- When classes make a world, and else the first rule that they break: rule by rule, and of a rule the first class by
 -- its number (JVM specification, sections 5.3 and 5.3.5).
-use Rattle.std.specs.Prelude.{◌≡◌, ◌⊎◌, ℕ, suc, ◌==◌, ◌||◌, ◌&&◌, not, Bool, true, false, if◌then◌else◌, List, [], ◌∷◌, length, slice_get, Option, Some, None, is_none, nat_lt, Result, Ok, Err, option_and_then}
+use Rattle.std.specs.Prelude.{◌≡◌, ℕ, suc, ◌==◌, ◌||◌, ◌&&◌, not, Bool, true, false, if◌then◌else◌, List, [], ◌∷◌, length, slice_get, Option, Some, None, is_none, nat_lt, Result, option_and_then}
 use Rattle.std.specs.List.{list_any, list_all}
 use Rattle.std.specs.Option.{option_map_or, option_or}
+use Rattle.list_views.specs.Results as results
 use Rattle.class_world.specs.declared.fault.LinkFault.{LinkFault}
 use Rattle.class_world.specs.declared.fault.LinkFault.TheVariants.{DuplicateClass, MissingClass, CyclicHierarchy, BadSuper, DefaultMethod, Memory}
 use Rattle.class_world.specs.declared.linking.LinkRule.{LinkRule}
@@ -105,10 +106,14 @@ has_short_codes class = list_all has_short_code class.methods
 
 -- ---- answers
 
+-- want of memory
+abbrev pub is_memory : LinkFault → Bool
+is_memory Memory = true
+is_memory fault = false
+
 -- an answer says what the rules say; want of memory says nothing
 abbrev pub Refuses : {A : Type 0} → Result A LinkFault → Option LinkFault → Type 0
-Refuses (Ok value) fault = fault ≡ None
-Refuses (Err found) fault = (found ≡ Memory) ⊎ (fault ≡ Some found)
+Refuses answer fault = results.Refuses is_memory answer fault
 
 -- what a rule says of the class of a number
 abbrev pub rule_at : Rule → World → ℕ → Option LinkFault

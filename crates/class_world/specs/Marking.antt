@@ -1,5 +1,5 @@
 -- Marking what is above a class: the marks and the list of what is to be gone through, after some classes are marked.
-use Rattle.std.specs.Prelude.{◌≡◌, ℕ, ◌<◌, Bool, true, false, if◌then◌else◌, List, [], ◌∷◌, ◌++◌, length, sum_by, slice_index_or, slice_set}
+use Rattle.std.specs.Prelude.{◌≡◌, ℕ, ◌<◌, Bool, true, false, if◌then◌else◌, List, [], ◌∷◌, ◌++◌, length, slice_index_or, slice_set}
 use Rattle.class_world.specs.World.{leads_up}
 
 -- the marks after all of these are marked
@@ -11,10 +11,6 @@ marks_after marks (b ∷ bs) = marks_after (slice_set marks b true) bs
 abbrev pub todo_after : List Bool → List ℕ → List ℕ → List ℕ
 todo_after marks todo [] = todo
 todo_after marks todo (b ∷ bs) = todo_after (slice_set marks b true) (if slice_index_or marks b false then todo else todo ++ b ∷ []) bs
-
--- how many are not marked
-abbrev pub open_count : List Bool → ℕ
-open_count marks = sum_by (λ m. if m then 0 else 1) marks
 
 -- what a table says of a class, nothing past its end
 abbrev pub listed_at : List (List ℕ) → ℕ → List ℕ

@@ -1,7 +1,7 @@
 -- What fields hold is of the world.
 use Rattle.std.proofs.Common.{◌≡◌, ◌++◌, ℕ, zero, suc, ◌≤◌, Bool, true, false, cond, ltb, List, [], ◌∷◌, length, drop, Option, Some, None, sym, refl, ap, subst, arith}
 use Rattle.std.specs.Prelude.{option_and_then, slice_get, All}
-use Rattle.std.specs.List.{filter_map, flat_map, cons_option}
+use Rattle.std.specs.List.{filter_map, flat_map, cons_option, AllByRecursion}
 use Rattle.std.specs.Option.{option_map_or}
 use Rattle.std.proofs.lemmas.Bool.{ltb-false, ne_eqb}
 use Rattle.class_base.specs.declared.types.Element.{Element}
@@ -13,33 +13,30 @@ use Rattle.jvm_values.specs.declared.types.Kind.{Kind}
 use Rattle.jvm_values.specs.declared.types.Slot.{Slot}
 use Rattle.jvm_values.specs.declared.types.Slot.TheVariants.{Num, Ref}
 use Rattle.jvm_values.specs.declared.types.Base.TheVariants as bases
+use Rattle.jvm_values.specs.Kinds.{kind_of_letter}
 use Rattle.jvm_values.specs.Subtyping.{IsSlot}
 use Rattle.class_world.specs.World.{World, class_of, is_static}
-use Rattle.class_world.specs.Descriptors.{kind_of, number_slot, class_slot, primitive_meaning, object_meaning, meaning_of, known_slot, slot_of}
+use Rattle.class_world.specs.Descriptors.{number_slot, class_slot, primitive_meaning, object_meaning, meaning_of, known_slot, slot_of}
 use Rattle.class_world.specs.Fields.{field_slot, own_slots, fields_of}
 use Rattle.class_world.specs.Linked.{class_of_within}
 
-abbrev pub Every : {A : Type 0} → (A → Type 0) → List A → Type 0
-Every P [] = Unit {0}
-Every P (x ∷ xs) = P x × Every P xs
-
-pub every_append : {A : Type 0} (P : A → Type 0) (xs ys : List A) → Every P xs → Every P ys → Every P (xs ++ ys)
+pub every_append : {A : Type 0} (P : A → Type 0) (xs ys : List A) → AllByRecursion P xs → AllByRecursion P ys → AllByRecursion P (xs ++ ys)
 every_append P [] ys h k = k
 every_append P (x ∷ xs) ys h k = (h.0, every_append P xs ys h.1 k)
 
-pub every_filter : {A B : Type 0} (P : B → Type 0) (f : A → Option B) (xs : List A) → ((x : A) (y : B) → f x ≡ Some y → P y) → Every P (filter_map f xs)
+pub every_filter : {A B : Type 0} (P : B → Type 0) (f : A → Option B) (xs : List A) → ((x : A) (y : B) → f x ≡ Some y → P y) → AllByRecursion P (filter_map f xs)
 every_filter P f [] h = tt
 every_filter {B = B} P f (x ∷ xs) h = go (f x) refl (every_filter P f xs h)
   where
-    go : (o : Option B) → f x ≡ o → Every P (filter_map f xs) → Every P (cons_option o (filter_map f xs))
+    go : (o : Option B) → f x ≡ o → AllByRecursion P (filter_map f xs) → AllByRecursion P (cons_option o (filter_map f xs))
     go None e rest = rest
     go (Some y) e rest = (h x y e, rest)
 
-every_flat : {A B : Type 0} (P : B → Type 0) (f : A → List B) (xs : List A) → ((x : A) → Every P (f x)) → Every P (flat_map f xs)
+every_flat : {A B : Type 0} (P : B → Type 0) (f : A → List B) (xs : List A) → ((x : A) → AllByRecursion P (f x)) → AllByRecursion P (flat_map f xs)
 every_flat P f [] h = tt
 every_flat P f (x ∷ xs) h = every_append P (f x) (flat_map f xs) (h x) (every_flat P f xs h)
 
-pub every_all : {A : Type 0} (P : A → Type 0) (xs : List A) → Every P xs → All P xs
+pub every_all : {A : Type 0} (P : A → Type 0) (xs : List A) → AllByRecursion P xs → All P xs
 every_all P [] h k d l = absurd (omega (arith, l))
 every_all P (x ∷ xs) h zero d l = h.0
 every_all P (x ∷ xs) h (suc k) d l = every_all P xs h.1 k d (omega (arith, l))
@@ -64,7 +61,7 @@ pub meaning_is : (world : World) (t : FieldType) (slot : Slot) → t.dims ≤ 25
 meaning_is world t slot l e = by t.element e
   where
     by : (x : Element) → known_slot (meaning_of world (record { dims = t.dims; element = x })) ≡ Some slot → IsSlot (length world) slot
-    by (Primitive b) f = go (kind_of b) f
+    by (Primitive b) f = go (kind_of_letter b) f
       where
         go : (k : Option Kind) → known_slot (primitive_meaning t.dims k) ≡ Some slot → IsSlot (length world) slot
         go None g = cc
@@ -92,11 +89,11 @@ field_is world f slot e = go (is_static f.flags) e
     go true g = cc
     go false g = slot_is world f.desc slot g
 
-own_are : (world : World) (class : ℕ) → Every (IsSlot (length world)) (own_slots world class)
+own_are : (world : World) (class : ℕ) → AllByRecursion (IsSlot (length world)) (own_slots world class)
 unfolding own_slots
 own_are world class = go (slice_get world class)
   where
-    go : (o : Option ClassContent) → Every (IsSlot (length world)) (option_map_or (λ c. filter_map (field_slot world) c.fields) o [])
+    go : (o : Option ClassContent) → AllByRecursion (IsSlot (length world)) (option_map_or (λ c. filter_map (field_slot world) c.fields) o [])
     go None = tt
     go (Some c) = every_filter (IsSlot (length world)) (field_slot world) c.fields (field_is world)
 

@@ -32,7 +32,6 @@ built_in name super_name = record {
   fields = [];
   methods = built_in_init ∷ [];
   pool = [];
-  skipped = 0;
 }
 
 -- the names of the built-in classes, from 0 to 14, and of their superclasses; Object has none

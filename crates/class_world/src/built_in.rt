@@ -102,7 +102,6 @@ fn built_in(
         fields: Seq::new(alloc),
         methods,
         pool,
-        skipped: 0,
     })
 }
 

@@ -6,12 +6,11 @@ ghost use Rattle.class_world.specs.Descriptors.{meaning_of, slot_of};
 ghost use Rattle.class_world.specs.Fields.{field_slot, own_slots, fields_of};
 ghost use Rattle.class_world.specs.Tables.{values_to};
 
-use crate::kinds::kind_of;
 use crate::meaning::Meaning;
 use crate::roster::Roster;
 use class_base::{Element, FieldType, STATIC, has_flag, type_at};
 use class_read::FieldView;
-use jvm_values::{Base, Slot, Ty};
+use jvm_values::{Base, Kind, Slot, Ty};
 use list_views::Seq;
 use std::alloc::{AllocError, Global};
 
@@ -22,7 +21,7 @@ impl<'a> Roster<'a> {
     {
         let dims = of.dims;
         match &of.element {
-            Element::Primitive(letter) => match kind_of(*letter) {
+            Element::Primitive(letter) => match Kind::of_letter(*letter) {
                 Some(kind) if dims == 0 => Meaning::Known(Slot::Num(kind)),
                 Some(kind) => Meaning::Known(Slot::Ref(Ty {
                     dims,

@@ -9,8 +9,9 @@ ghost use Rattle.class_world.specs.Resolve.{is_initialiser, is_initialised};
 ghost use Rattle.class_world.specs.Tables.{values_to};
 ghost use Rattle.class_world.specs.Index.{HasDistinctMembers, method_keys, field_keys, kept_counts, kept_row, IsIndex};
 
-use crate::members::{MemberNames, field_names, method_names};
+use crate::members::{field_names, method_names};
 use crate::roster::Roster;
+use class_base::KeySet;
 use class_read::{FieldView, MethodView};
 use list_views::Seq;
 use std::alloc::{AllocError, Global};
@@ -19,9 +20,9 @@ use std::alloc::{AllocError, Global};
 #[derive(Drop)]
 pub(crate) struct MemberIndex<'a> {
     /// The names and descriptors of the methods that each class declares.
-    pub(crate) methods: Seq<MemberNames<'a>>,
+    pub(crate) methods: Seq<KeySet<'a>>,
     /// The names and descriptors of the fields that each class declares.
-    pub(crate) fields: Seq<MemberNames<'a>>,
+    pub(crate) fields: Seq<KeySet<'a>>,
     /// Whether each class declares a method `<clinit>`.
     pub(crate) initialised: Seq<bool>,
     /// How many of the first fields of each class are part of objects, from none of them on.
@@ -41,7 +42,7 @@ fn has_initialiser(methods: &[MethodView<'_>]) -> bool
 }
 
 impl<'a> Roster<'a> {
-    fn method_names_of(&self, alloc: Global, class: usize) -> Result<MemberNames<'a>, AllocError>
+    fn method_names_of(&self, alloc: Global, class: usize) -> Result<KeySet<'a>, AllocError>
         requires within { class < length self.now.classes }
         requires differ { AllByRecursion HasDistinctMembers self.now.classes }
         ensures { IfOk result (λ names. names ≡ method_keys self.now.classes class) }
@@ -50,7 +51,7 @@ impl<'a> Roster<'a> {
         method_names(alloc, view.methods.as_slice())
     }
 
-    fn field_names_of(&self, alloc: Global, class: usize) -> Result<MemberNames<'a>, AllocError>
+    fn field_names_of(&self, alloc: Global, class: usize) -> Result<KeySet<'a>, AllocError>
         requires within { class < length self.now.classes }
         requires differ { AllByRecursion HasDistinctMembers self.now.classes }
         ensures { IfOk result (λ names. names ≡ field_keys self.now.classes class) }
@@ -103,11 +104,7 @@ impl<'a> Roster<'a> {
     }
 
     #[tactic(auto, using(crate::proofs::Tables::values_more), unfolding(crate::specs::Tables::values_to))]
-    fn put_method_table(
-        &self,
-        alloc: Global,
-        table: &mut Seq<MemberNames<'a>>,
-    ) -> Result<(), AllocError>
+    fn put_method_table(&self, alloc: Global, table: &mut Seq<KeySet<'a>>) -> Result<(), AllocError>
         requires each { AllByRecursion HasDistinctMembers self.now.classes }
         requires empty { table.old ≡ [] }
         ensures { OnOk result (table.new ≡ values_to (method_keys self.now.classes) (length self.now.classes)) }
@@ -119,11 +116,7 @@ impl<'a> Roster<'a> {
     }
 
     #[tactic(auto, using(crate::proofs::Tables::values_more), unfolding(crate::specs::Tables::values_to))]
-    fn put_field_table(
-        &self,
-        alloc: Global,
-        table: &mut Seq<MemberNames<'a>>,
-    ) -> Result<(), AllocError>
+    fn put_field_table(&self, alloc: Global, table: &mut Seq<KeySet<'a>>) -> Result<(), AllocError>
         requires each { AllByRecursion HasDistinctMembers self.now.classes }
         requires empty { table.old ≡ [] }
         ensures { OnOk result (table.new ≡ values_to (field_keys self.now.classes) (length self.now.classes)) }

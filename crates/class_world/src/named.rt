@@ -6,8 +6,8 @@ ghost use Rattle.class_world.specs.Once.{once, interfaces_once};
 ghost use Rattle.class_world.specs.Tables.{names_of, values_to};
 
 use crate::fault::LinkFault;
-use crate::names::ClassNames;
 use crate::once::once;
+use class_base::NameSet;
 use class_read::ClassView;
 use list_views::Seq;
 use std::alloc::{AllocError, Global};
@@ -16,11 +16,11 @@ use std::alloc::{AllocError, Global};
 pub(crate) fn names_of<'a>(
     alloc: Global,
     classes: &[ClassView<'a>],
-) -> Result<ClassNames<'a>, LinkFault>
+) -> Result<NameSet<'a>, LinkFault>
     ensures fault { Refuses result (first_broken (duplicate_class classes.now) 0 classes.now) }
     ensures names { IfOk result (λ names. names ≡ names_of classes.now) }
 {
-    let mut names = ClassNames::new(alloc);
+    let mut names = NameSet::new(alloc);
     for class in 0..classes.len() {
         let view = &classes[class];
         if !names.add(view.name)? {
@@ -36,7 +36,7 @@ pub(crate) fn names_of<'a>(
 #[derive(Drop)]
 pub(crate) struct Named<'a> {
     pub(crate) classes: Seq<ClassView<'a>>,
-    pub(crate) names: ClassNames<'a>,
+    pub(crate) names: NameSet<'a>,
     ghost few: { length classes < 2 ^ 32 },
     ghost named: { names ≡ names_of classes },
 }

@@ -9,8 +9,7 @@ ghost use Rattle.class_world.specs.Tables.{names_of, values_to};
 
 use crate::fault::LinkFault;
 use crate::named::{Named, names_of};
-use crate::names::ClassNames;
-use class_base::{ABSTRACT, INTERFACE, has_flag};
+use class_base::{ABSTRACT, INTERFACE, NameSet, has_flag};
 use class_read::ClassView;
 use list_views::Seq;
 use std::alloc::{AllocError, Global};
@@ -19,7 +18,7 @@ use std::alloc::{AllocError, Global};
 #[derive(Drop)]
 pub struct Roster<'a> {
     pub(crate) classes: Seq<ClassView<'a>>,
-    names: ClassNames<'a>,
+    names: NameSet<'a>,
     supers: Seq<Option<u32>>,
     interfaces: Seq<Seq<u32>>,
     ghost few: { length classes < 2 ^ 32 },

@@ -15,26 +15,15 @@ use Rattle.code_forms.specs.declared.insn.Insn.TheVariants.{Aaload, Aastore, Aco
 use Rattle.code_forms.specs.Spellings as spellings
 use Rattle.code_forms.specs.Spellings.{Spelling, spelling}
 use Rattle.code_decode.specs.Texts.{signed, distance, padding_of, case_text, spelling_text, Reaches, IsTable, IsLookup, FitsSpelling}
-use Rattle.code_forms.specs.Opcodes.{find_by, wide_local}
+use Rattle.code_forms.specs.Opcodes.{opcode_of, find_by, wide_local}
 use Rattle.code_decode.specs.Reading.{target_at, skip_at, repeat_at, case_at, table_targets_at, table_at, counted_cases_at, lookup_at, interface_at, array_at, wide_increment_at, wide_operand_at, wide_at, increment_at, signed_byte_at, sipush_at, far_jump_at, byte_operand_at, pair_operand_at, jump_operand_at, insn_at}
 use Rattle.code_decode.proofs.Fields.{wide16, wide32, number_again, signed_again, target_again}
 
--- the first byte of a spelling, and the others
+-- the first byte of a spelling, which is the opcode where it isn't a wide one, and the others
 abbrev pub first_byte : Spelling → ℕ
 first_byte (spellings.WideLocal op n) = 196
 first_byte (spellings.WideIncrement op n v) = 196
-first_byte (spellings.Plain op) = op
-first_byte (spellings.Byte op n) = op
-first_byte (spellings.Pair op n) = op
-first_byte (spellings.SignedByte op v) = op
-first_byte (spellings.SignedPair op v) = op
-first_byte (spellings.Jump op target) = op
-first_byte (spellings.FarJump op target) = op
-first_byte (spellings.Increment op n v) = op
-first_byte (spellings.Table op default low targets) = op
-first_byte (spellings.Lookup op default cases) = op
-first_byte (spellings.Interface op n count) = op
-first_byte (spellings.Array op code) = op
+first_byte s = opcode_of s
 
 abbrev pub other_bytes : ℕ → List ℕ → Spelling → List ℕ
 other_bytes pc padding (spellings.Plain op) = []

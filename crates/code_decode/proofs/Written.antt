@@ -40,9 +40,6 @@ is_reading xs h = record { spelled = spells 0 xs h.placed h.fits; targets = h.ta
 pub decodes : (xs : List (ℕ × Insn)) → IsCode xs → decode_of (code_of xs) ≡ Ok xs
 decodes xs h = reads_again (code_of xs) xs (is_reading xs h)
 
-pub each_fits : (xs : List (ℕ × Insn)) → IsCode xs → All (λ x. Fits x.0 x.1) xs
-each_fits xs h = All-from_recursion (λ x. Fits x.0 x.1) xs h.fits
-
 -- what two steps add at the end
 pub adds_then : (a b c x y : List ℕ) → b ≡ a ++ x → c ≡ b ++ y → c ≡ a ++ (x ++ y)
 adds_then a b c x y e f = f ∙ ap (λ (t : List ℕ). t ++ y) e ∙ append_assoc a x y

@@ -34,22 +34,6 @@ catches_all world ranges i e h =
 
 -- ---- the first frame
 
-pub params_more : {A B : Type 0} (f : A → B) (xs : List A) (i : ℕ) (d : A) (ys zs : List B) (y : B) → i < length xs → ys ≡ map f (take i xs) → zs ≡ ys ++ y ∷ [] → y ≡ f (get_or xs i d) → zs ≡ map f (take (i + 1) xs)
-params_more {A} {B} f xs i d ys zs y l e p q =
-    p ∙ ap (λ (b : List B). b ++ y ∷ []) e ∙ ap (λ (b : B). map f (take i xs) ++ b ∷ []) q
-    ∙ sym (map-append f (take i xs) (get_or xs i d ∷ [])) ∙ ap (map f) (sym (take_more xs i d l))
-
-pub params_all : {A B : Type 0} (f : A → B) (xs : List A) (i : ℕ) (ys : List B) (u : B) (n : ℕ) → i ≡ length xs → n ≡ 0 → ys ≡ map f (take i xs) → ys ≡ map f xs ++ replicate n u
-params_all {A} {B} f xs i ys u n l z e =
-    e ∙ ap (λ (k : ℕ). map f (take k xs)) l ∙ ap (map f) (take-length xs)
-    ∙ sym (append-nil (map f xs)) ∙ ap (λ (k : ℕ). map f xs ++ replicate k u) (sym z)
-
-pub unset_more : {B : Type 0} (m : List B) (k n : ℕ) (u : B) (ys zs : List B) → n ≤ k → ys ≡ m ++ replicate (k - n) u → zs ≡ ys ++ u ∷ [] → zs ≡ m ++ replicate (k + 1 - n) u
-unset_more {B} m k n u ys zs l e p =
-    let d : k + 1 - n ≡ (k - n) + 1 = omega arith in
-    p ∙ ap (λ (b : List B). b ++ u ∷ []) e ∙ append_assoc m (replicate (k - n) u) (u ∷ [])
-    ∙ ap (λ (b : List B). m ++ b) (replicate_more (k - n) u) ∙ ap (λ (j : ℕ). m ++ replicate j u) (sym d)
-
 pub frame_is : (frame : FrameType) (locals stack : List PlaceType) → frame.locals ≡ locals → frame.stack.0 ≡ stack → seen frame ≡ record { locals = locals; stack = stack }
 frame_is frame locals stack e s =
     let f : List PlaceType → List PlaceType → PlaceTypes = λ l t. record { locals = l; stack = t } in

@@ -6,14 +6,14 @@ use Rattle.std.proofs.lemmas.List.{take-append-drop, map-append, take_more}
 use Rattle.std.proofs.lemmas.List.Elements.{filter-append}
 use Rattle.std.proofs.Math.Seq.{take-length}
 use Rattle.jvm_values.specs.States.{PlaceTypes}
-use Rattle.jvm_values.specs.TypedHeaps.{WorldTypes}
+use Rattle.jvm_values.specs.TypedHeaps.{WorldTypes, AreLawful}
 use Rattle.class_world.specs.World.{World}
 use Rattle.class_program.specs.declared.program.CatchRange.{CatchRange}
 use Rattle.code_forms.specs.declared.insn.Case.{Case}
 use Rattle.frame_types.specs.declared.table.Table.{Table}
 use Rattle.frame_types.specs.Tables.{Flow, Takes}
 use Rattle.frame_types.specs.Growth.{IsTable, IsGrown, AreRefused}
-use Rattle.frame_types.specs.GrowthLaws.{Laws, grown_none, grown_more, refused_after, refused_first}
+use Rattle.frame_types.specs.GrowthLaws.{grown_none, grown_more, refused_after, refused_first}
 use Rattle.code_verify.specs.Answers.{Comes}
 use Rattle.code_verify.specs.Flows.{covers, caught_frame, onward, caught}
 
@@ -36,7 +36,7 @@ caught_adds world place frame xs ys =
 
 -- ---- one after the other
 
-module _ (types : WorldTypes) (laws : Laws types) where
+module _ (types : WorldTypes) (laws : AreLawful types) where
   pub none_come : (F : List Flow) (table : Table) → F ≡ [] → IsTable types table → IsGrown types F table table
   none_come F table e h = subst (λ (fs : List Flow). IsGrown types fs table table) (sym e) (grown_none types laws table h)
 

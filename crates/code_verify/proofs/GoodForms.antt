@@ -3,6 +3,7 @@ use Rattle.std.proofs.Common.{◌≡◌, ℕ, zero, suc, ◌+◌, ◌<◌, Bool,
 use Rattle.std.specs.Prelude.{IfSome, slice_get, length}
 use Rattle.std.specs.Option.{option_map, option_map_or}
 use Rattle.std.proofs.lemmas.Bool.{false≢true}
+use Rattle.std.specs.List.{AllByRecursion}
 use Rattle.jvm_values.specs.declared.types.Slot.{Slot}
 use Rattle.jvm_values.specs.Subtyping.{class_type, IsSlot, IsReference}
 use Rattle.jvm_values.specs.Kinds.{kind_of_code}
@@ -17,7 +18,7 @@ use Rattle.class_program.specs.declared.program.Method.{Method}
 use Rattle.class_program.specs.declared.program.StaticField.{StaticField}
 use Rattle.class_program.specs.Instructions.{instruction_at, first_place}
 use Rattle.class_program.specs.Programs.{Program}
-use Rattle.class_program.specs.Good.{AllOf, IsGood, IsGoodMethod, IsGoodOp, IsDeclaredStatic}
+use Rattle.class_program.specs.Good.{IsGood, IsGoodMethod, IsGoodOp, IsDeclaredStatic}
 use Rattle.op_forms.specs.Forms.{Form, form_of, form_of_insn, number_array}
 use Rattle.op_forms.specs.Forms.Form.{Getstatic, Putstatic, Getfield, Putfield, Invokevirtual, Invokespecial, Invokestatic, Invokeinterface, New, Newarray, Anewarray, Checkcast}
 use Rattle.code_verify.specs.Rows.{static_slot}
@@ -60,7 +61,7 @@ plain_form : (p : Program) (found : Option Form) (form : Form) → option_map_or
 plain_form p found form h e =
     plain_good p form (ap (λ (x : Option Form). option_map_or is_plain x true) (sym e) ∙ h)
 
-all_of_at : {A : Type 0} (P : A → Type 0) (xs : List A) → AllOf P xs → (n : ℕ) (x : A) → slice_get xs n ≡ Some x → P x
+all_of_at : {A : Type 0} (P : A → Type 0) (xs : List A) → AllByRecursion P xs → (n : ℕ) (x : A) → slice_get xs n ≡ Some x → P x
 all_of_at P [] h n x e = absurd (none_is_not_some x e)
 all_of_at P (y ∷ xs) h zero x e = subst P (some_is e) h.0
 all_of_at P (y ∷ xs) h (suc n) x e = all_of_at P xs h.1 n x e
@@ -91,7 +92,7 @@ op_form p good m (ops.Anewarray t) form g e = subst (IsGoodForm p) (some_is e) g
 op_form p good m (ops.Checkcast t) form g e = subst (IsGoodForm p) (some_is e) g.named
 op_form p good m (ops.Instanceof t) form g e = subst (IsGoodForm p) (some_is e) tt
 
-found_good : (P : Op → Type 0) (insns : List (ℕ × Op)) → AllOf (λ x. P x.1) insns → (place : ℕ) (op : Op) (next : Option ℕ) → instruction_at insns place ≡ Some (op, next) → P op
+found_good : (P : Op → Type 0) (insns : List (ℕ × Op)) → AllByRecursion (λ x. P x.1) insns → (place : ℕ) (op : Op) (next : Option ℕ) → instruction_at insns place ≡ Some (op, next) → P op
 found_good P [] h place op next e = absurd (none_is_not_some (op, next) e)
 found_good P (x ∷ insns) h place op next e = go (eqb x.0 place) (found_good P insns h.1 place op next) e
   where

@@ -6,7 +6,7 @@ use Rattle.std.proofs.lemmas.List.Elements.{All-cons, All-nil}
 use Rattle.jvm_values.specs.declared.typing.PlaceType.{PlaceType}
 use Rattle.jvm_values.specs.declared.typing.PlaceType.TheVariants as places
 use Rattle.jvm_values.specs.States.{PlaceTypes}
-use Rattle.jvm_values.specs.TypedHeaps.{WorldTypes}
+use Rattle.jvm_values.specs.TypedHeaps.{WorldTypes, AreLawful}
 use Rattle.class_world.specs.World.{World}
 use Rattle.class_world.specs.Types.{erase}
 use Rattle.class_world.specs.WorldTypes.{types_of}
@@ -15,7 +15,7 @@ use Rattle.frame_types.specs.declared.table.Table.{Table}
 use Rattle.frame_types.specs.Places.{IsOfWorld, IsSet, IsProper}
 use Rattle.frame_types.specs.Tables.{Flow}
 use Rattle.frame_types.specs.Growth.{IsTable, IsGrown}
-use Rattle.frame_types.specs.GrowthLaws.{Laws, grown_none}
+use Rattle.frame_types.specs.GrowthLaws.{grown_none}
 use Rattle.code_verify.specs.Answers.{Comes}
 use Rattle.code_verify.specs.Flows.{covers, caught_class, CanCatch, caught_frame, caught}
 use Rattle.code_verify.proofs.TypeShapes.{erased_of_world}
@@ -30,7 +30,7 @@ one_caught world place frame range b e = go b e
     go true h = ap (λ (t : Bool). map f (cond t (range ∷ filter (covers place) []) (filter (covers place) []))) h
     go false h = ap (λ (t : Bool). map f (cond t (range ∷ filter (covers place) []) (filter (covers place) []))) h
 
-module _ (world : World) (laws : Laws (types_of world)) where
+module _ (world : World) (laws : AreLawful (types_of world)) where
   -- the range does not have the place
   pub passed : (place : ℕ) (old : PlaceTypes) (range : CatchRange) (table : Table) → covers place range ≡ false → IsTable (types_of world) table → IsGrown (types_of world) (caught world place old (range ∷ [])) table table
   passed place old range table e t = subst (λ (fs : List Flow). IsGrown (types_of world) fs table table) (sym (one_caught world place old range false e)) (grown_none (types_of world) laws table t)

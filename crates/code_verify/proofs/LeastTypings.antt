@@ -4,6 +4,7 @@ use Rattle.std.specs.Prelude.{All, IsTrue, nat_eq}
 use Rattle.std.specs.Option.{is_some}
 use Rattle.std.proofs.lemmas.Bool.{false≢true, eqb-true, cases_lt, or_right, cases_eq}
 use Rattle.std.proofs.lemmas.List.Elements.{All-nil, All-cons, All-append, All-head, All-tail, All-filter, length_all_zip}
+use Rattle.jvm_values.specs.TypedHeaps.{AreLawful}
 use Rattle.jvm_values.specs.declared.typing.PlaceType.TheVariants as places
 use Rattle.jvm_values.specs.States.{PlaceTypes}
 use Rattle.jvm_values.proofs.Options.{some_is, none_is_not_some}
@@ -18,7 +19,7 @@ use Rattle.class_program.specs.Good.{IsGood, IsGoodMethod}
 use Rattle.frame_types.specs.Places.{IsWithin, IsFrameWithin, IsOfWorld, IsSet, IsProper, IsFrame}
 use Rattle.frame_types.specs.Tables.{CodeTypes, Flow, Takes, IsAtMost}
 use Rattle.frame_types.specs.Growth.{is_led_to}
-use Rattle.frame_types.specs.GrowthLaws.{Laws, takes_more, frame_refl}
+use Rattle.frame_types.specs.GrowthLaws.{takes_more, frame_refl}
 use Rattle.frame_types.specs.HeightLaws.{same_up, frame_antisym}
 use Rattle.frame_types.specs.JoinLaws.{frame_join}
 use Rattle.frame_types.specs.Work.{way_up, sum_below}
@@ -97,7 +98,7 @@ led_each m (flow ∷ flows) h =
     (h flow.to (ap (λ (b : Bool). b || is_led_to flows flow.to) (nat_eq_itself flow.to)))
     (led_each m flows (λ to k. h to (or_right (nat_eq to flow.to) (is_led_to flows to) k)))
 
-module _ (p : Program) (m : Method) (good : IsGood p) (g : IsGoodMethod p m) (laws : Laws (types_of p.world)) (bound : CodeTypes) (bounded : IsTyping p m bound) where
+module _ (p : Program) (m : Method) (good : IsGood p) (g : IsGoodMethod p m) (laws : AreLawful (types_of p.world)) (bound : CodeTypes) (bounded : IsTyping p m bound) where
   -- types that are at most those of each typing
   record IsPart (typing : CodeTypes) : Type 0 where
     entry : Takes (types_of p.world) typing (entry_flow (types_of p.world) m)
@@ -418,7 +419,7 @@ module _ (p : Program) (m : Method) (good : IsGood p) (g : IsGoodMethod p m) (la
   least_exists = search_from (suc (way begun)) begun begun_part (self_less (way begun))
 
 -- two least typings are one
-pub least_is_one : (p : Program) (m : Method) (laws : Laws (types_of p.world)) (a b : CodeTypes) → IsLeastTyping p m a → IsLeastTyping p m b → (place : ℕ) → a place ≡ b place
+pub least_is_one : (p : Program) (m : Method) (laws : AreLawful (types_of p.world)) (a b : CodeTypes) → IsLeastTyping p m a → IsLeastTyping p m b → (place : ℕ) → a place ≡ b place
 least_is_one p m laws a b s t place = by_types (a place) (b place) refl refl
   where
     by_types : (x y : Option PlaceTypes) → a place ≡ x → b place ≡ y → x ≡ y

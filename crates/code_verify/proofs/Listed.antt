@@ -78,9 +78,6 @@ pub record AreTyped (p : Program) (count : ℕ) (lists : Lists) : Type 0 where
   pub many : length lists ≡ count
   pub each : (k : ℕ) (m : Method) (types : List (Option FrameType)) → slice_get p.methods k ≡ Some m → slice_get lists k ≡ Some types → IsLeastTyping p m (types_at types)
 
-pub none_typed : (p : Program) → AreTyped p 0 []
-none_typed p = record { many = refl; each = λ k m types e f. absurd (none_is_not_some types f) }
-
 last_of : {A : Type 0} (xs : List A) (x : A) (k : ℕ) (y : A) → slice_get (xs ++ x ∷ []) k ≡ Some y → (slice_get xs k ≡ Some y) ⊎ ((k ≡ length xs) × (y ≡ x))
 last_of [] x zero y e = inr (refl, sym (some_is e))
 last_of [] x (suc k) y e = absurd (none_is_not_some y e)
@@ -134,6 +131,3 @@ pushed_typed p i lists pushed m types h e t is = subst (AreTyped p (i + 1)) (sym
 pub refusal_named : (p : Program) (i n : ℕ) (lists : Lists) (m : Method) (fault : VerifyFault) → AreTyped p i lists → n ≡ length lists → slice_get p.methods i ≡ Some m → (HasTyping p m → ⊥) → Names n fault → IsRefusal p fault
 refusal_named p i n lists m (NoTyping k) h e there never is = subst (IsFirstUntyped p) (sym (is ∙ e ∙ h.many)) (first_untyped p i lists m h there never)
 refusal_named p i n lists m Memory h e there never is = tt
-
-pub refusal_memory : (p : Program) (fault : VerifyFault) → fault ≡ Memory → IsRefusal p fault
-refusal_memory p fault e = subst (IsRefusal p) (sym e) tt

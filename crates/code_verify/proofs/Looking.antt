@@ -1,6 +1,7 @@
 -- What a place leads to comes to the table.
 use Rattle.std.proofs.Common.{◌≡◌, ℕ, Bool, true, false, List, [], ◌∷◌, ◌++◌, length, Option, Some, None, Result, Ok, Err, refl, sym, ap, subst, ◌∙◌}
 use Rattle.std.specs.Prelude.{IfOk}
+use Rattle.jvm_values.specs.TypedHeaps.{AreLawful}
 use Rattle.jvm_values.specs.States.{PlaceTypes}
 use Rattle.class_world.specs.WorldTypes.{types_of}
 use Rattle.class_program.specs.declared.program.Method.{Method}
@@ -10,7 +11,6 @@ use Rattle.frame_types.specs.declared.table.Table.{Table}
 use Rattle.frame_types.specs.Tables.{Flow}
 use Rattle.frame_types.specs.Places.{IsProper}
 use Rattle.frame_types.specs.Growth.{IsGrown, AreRefused}
-use Rattle.frame_types.specs.GrowthLaws.{Laws}
 use Rattle.code_verify.specs.Answers.{Comes, Looks}
 use Rattle.code_verify.specs.Flows.{ways, onward, caught, runs_at, flows_from}
 use Rattle.code_verify.proofs.FlowLaws.{both_come, first_refuses}
@@ -21,7 +21,7 @@ module _ (p : Program) (m : Method) (place : ℕ) (frame : PlaceTypes) where
   pub looked_none : (old new : Table) → runs_at p m place frame ≡ None → Looks (types_of p.world) (flows_from p m place frame) false old new
   looked_none old new e = subst (λ (x : Option (List Flow)). Looks (types_of p.world) x false old new) (sym (no_flows p m place frame e)) refl
 
-  module _ (laws : Laws (types_of p.world)) (ran : Form × Option ℕ × PlaceTypes) (e : runs_at p m place frame ≡ Some ran) where
+  module _ (laws : AreLawful (types_of p.world)) (ran : Form × Option ℕ × PlaceTypes) (e : runs_at p m place frame ≡ Some ran) where
     -- what comes after the instruction is refused
     pub looked_away : (old new : Table) → AreRefused (types_of p.world) (onward ran.2 (ways ran.0 ran.1)) old → Looks (types_of p.world) (flows_from p m place frame) false old new
     looked_away old new h =
@@ -36,10 +36,6 @@ module _ (p : Program) (m : Method) (place : ℕ) (frame : PlaceTypes) where
         let all = onward ran.2 (ways ran.0 ran.1) ++ caught p.world place frame m.table in
         let come : Comes (types_of p.world) all ok old new = both_come (types_of p.world) laws (onward ran.2 (ways ran.0 ran.1)) (caught p.world place frame m.table) all ok old mid new h refl k in
         subst (λ (x : Option (List Flow)). Looks (types_of p.world) x ok old new) (sym (flows_are p m place frame ran e)) come
-
--- the same count of locals in another table
-pub proper_there : (p : Program) (a b : ℕ) (frame : PlaceTypes) → b ≡ a → IsProper (types_of p.world) a frame → IsProper (types_of p.world) b frame
-proper_there p a b frame e h = subst (λ (n : ℕ). IsProper (types_of p.world) n frame) (sym e) h
 
 -- the same instruction on the same types
 pub ran_there : (p : Program) (m : Method) (place : ℕ) (frame copy : PlaceTypes) → copy ≡ frame → (x : Option (Form × Option ℕ × PlaceTypes)) → runs_at p m place copy ≡ x → runs_at p m place frame ≡ x

@@ -15,13 +15,12 @@ use Rattle.jvm_values.specs.declared.typing.PlaceType.{PlaceType}
 use Rattle.jvm_values.specs.declared.typing.PlaceType.TheVariants as places
 use Rattle.jvm_values.specs.States.{PlaceTypes}
 use Rattle.jvm_values.specs.Subtyping.{array_of_numbers, IsSlot}
-use Rattle.jvm_values.specs.TypedHeaps.{WorldTypes}
+use Rattle.jvm_values.specs.TypedHeaps.{WorldTypes, AreLawful}
 use Rattle.jvm_values.specs.Joins.{item_of}
 use Rattle.jvm_values.proofs.Options.{some_is, none_is_not_some}
 use Rattle.jvm_values.proofs.Joining.{same_type}
 use Rattle.op_forms.specs.declared.form.ItemKind.{ItemKind}
 use Rattle.frame_types.specs.Places.{IsWithin, IsOfWorld}
-use Rattle.frame_types.specs.GrowthLaws.{Laws}
 use Rattle.code_verify.specs.declared.want.Want.{Want}
 use Rattle.code_verify.specs.declared.want.Want.TheVariants as wants
 use Rattle.code_verify.specs.Operands.{is_int, is_reference, is_below, is_array, is_base_for, is_numbers, is_references, fits, place_of, item_place}
@@ -37,7 +36,7 @@ number_base : (for : ItemKind) (base : Base) → is_base_for for base ≡ true �
 number_base for (Class c) h = absurd (false≢true h)
 number_base for (Num kind) h = (kind, refl)
 
-module _ (types : WorldTypes) (laws : Laws types) where
+module _ (types : WorldTypes) (laws : AreLawful types) where
   int_narrower : (a b : PlaceType) → IsWithin types a b → is_int b ≡ true → is_int a ≡ true
   int_narrower a places.Unset w h = absurd (false≢true h)
   int_narrower places.Int places.Int w h = refl

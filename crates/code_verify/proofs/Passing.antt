@@ -5,6 +5,7 @@ use Rattle.std.proofs.lemmas.Bool.{ltb-true, ltb-false, lt-ltb, le-ltb, le-leb, 
 use Rattle.std.proofs.lemmas.List.{take_more}
 use Rattle.std.proofs.lemmas.List.Elements.{filter-append, All-weaker}
 use Rattle.std.proofs.Math.Bool.{and-false}
+use Rattle.jvm_values.specs.TypedHeaps.{AreLawful}
 use Rattle.jvm_values.specs.declared.typing.PlaceType.{PlaceType}
 use Rattle.jvm_values.specs.declared.typing.PlaceType.TheVariants as places
 use Rattle.jvm_values.specs.States.{PlaceTypes}
@@ -13,7 +14,7 @@ use Rattle.class_world.specs.Types.{erase}
 use Rattle.class_world.specs.WorldTypes.{types_of}
 use Rattle.class_program.specs.declared.program.CatchRange.{CatchRange}
 use Rattle.frame_types.specs.Tables.{CodeTypes, Flow, Takes, IsAtMost}
-use Rattle.frame_types.specs.GrowthLaws.{Laws, takes_more}
+use Rattle.frame_types.specs.GrowthLaws.{takes_more}
 use Rattle.code_verify.specs.declared.passed.Passed.{Passed}
 use Rattle.code_verify.specs.declared.passed.Stretch.{Stretch}
 use Rattle.code_verify.specs.Flows.{covers, caught_class, caught}
@@ -97,7 +98,7 @@ caught_by world locals ranges = map (λ (range : CatchRange). record { to = rang
 pub same_caught : (world : World) (ranges : List CatchRange) (q place : ℕ) (a b : PlaceTypes) → a.locals ≡ b.locals → filter (covers q) ranges ≡ filter (covers place) ranges → caught world q a ranges ≡ caught world place b ranges
 same_caught world ranges q place a b e f = ap (λ (locals : List PlaceType). caught_by world locals (filter (covers q) ranges)) e ∙ ap (caught_by world b.locals) f
 
-module _ (world : World) (laws : Laws (types_of world)) (ranges : List CatchRange) where
+module _ (world : World) (laws : AreLawful (types_of world)) (ranges : List CatchRange) where
   -- the types have grown since
   pub passed_on : (a b : CodeTypes) (passed : Passed) → IsAtMost (types_of world) a b → IsPassed world ranges a passed → IsPassed world ranges b passed
   passed_on a b passed h p place frame l m e = All-weaker (Takes (types_of world) a) (Takes (types_of world) b) (takes_more (types_of world) laws a b h) (caught world place frame ranges) (p place frame l m e)

@@ -17,7 +17,7 @@ use Rattle.jvm_values.specs.declared.typing.PlaceType.{PlaceType}
 use Rattle.jvm_values.specs.declared.typing.PlaceType.TheVariants as places
 use Rattle.jvm_values.specs.States.{PlaceTypes}
 use Rattle.jvm_values.specs.Subtyping.{class_type, array_of, array_of_numbers, IsSlot, IsReference, IsReferenceBase}
-use Rattle.jvm_values.specs.TypedHeaps.{WorldTypes}
+use Rattle.jvm_values.specs.TypedHeaps.{WorldTypes, AreLawful}
 use Rattle.jvm_values.proofs.Options.{some_is, none_is_not_some, given}
 use Rattle.class_world.specs.WorldTypes.{types_of}
 use Rattle.class_world.specs.BuiltIns.{throwable}
@@ -28,7 +28,7 @@ use Rattle.op_forms.specs.declared.form.Shuffle.{Shuffle as StackShuffle}
 use Rattle.op_forms.specs.Forms.{Form, shuffled}
 use Rattle.op_forms.specs.Forms.Form.{Nop, AconstNull, Iconst, Iload, Aload, Istore, Astore, Iinc, Shuffle, Arith, Ineg, Narrow, If, IfIcmp, IfAcmpeq, IfAcmpne, Ifnull, Ifnonnull, Goto, Tableswitch, Lookupswitch, Ireturn, Areturn, Return, Getstatic, Putstatic, Getfield, Putfield, Invokevirtual, Invokespecial, Invokestatic, Invokeinterface, New, Newarray, Anewarray, Arraylength, NumberLoad, Aaload, NumberStore, Aastore, Athrow, Checkcast, Instanceof}
 use Rattle.frame_types.specs.Places.{IsWithin, IsFrameWithin, IsOfWorld, IsSet, IsProper}
-use Rattle.frame_types.specs.GrowthLaws.{Laws, within_refl}
+use Rattle.frame_types.specs.GrowthLaws.{within_refl}
 use Rattle.code_verify.specs.declared.want.Want.{Want}
 use Rattle.code_verify.specs.declared.want.Want.TheVariants as wants
 use Rattle.code_verify.specs.Operands.{is_int, is_reference, item_place, place_of, want_of}
@@ -81,7 +81,7 @@ array_reference n t r l = (omega arith, deeper n t.dims t.base r.1)
 abbrev IsResult : WorldTypes → PlaceType → Type 0
 IsResult types place = IsOfWorld types place × IsSet place
 
-module _ (types : WorldTypes) (laws : Laws types) where
+module _ (types : WorldTypes) (laws : AreLawful types) where
   -- ---- operands and results
 
   result_within : (gives : Option PlaceType) (xs ys : List PlaceType) → IfSome gives (IsResult types) → AllZip (IsWithin types) xs ys → AllZip (IsWithin types) (with_result gives xs) (with_result gives ys)
@@ -361,7 +361,7 @@ module _ (types : WorldTypes) (laws : Laws types) where
 
 -- ---- returns and static fields
 
-module _ (p : Program) (m : Method) (laws : Laws (types_of p.world)) where
+module _ (p : Program) (m : Method) (laws : AreLawful (types_of p.world)) where
   returned_within : (count : ℕ) (a b wide : PlaceTypes) → IsProper (types_of p.world) count a → IsFrameWithin (types_of p.world) a b → (result : Option Slot) → ireturn_types (types_of p.world) result b ≡ Some wide → Narrower (types_of p.world) (ireturn_types (types_of p.world) result a) wide
   returned_within count a b wide o w (Some (slots.Num kind)) e = acted_within (types_of p.world) laws (wants.Int ∷ []) None count a b wide tt o w e
   returned_within count a b wide o w (Some (slots.Ref t)) e = absurd (none_is_not_some wide e)

@@ -11,7 +11,7 @@ use Rattle.jvm_values.specs.declared.typing.PlaceType.{PlaceType}
 use Rattle.jvm_values.specs.declared.typing.PlaceType.TheVariants as places
 use Rattle.jvm_values.specs.States.{PlaceTypes}
 use Rattle.jvm_values.specs.Subtyping.{IsReference}
-use Rattle.jvm_values.specs.TypedHeaps.{WorldTypes}
+use Rattle.jvm_values.specs.TypedHeaps.{WorldTypes, AreLawful}
 use Rattle.jvm_values.proofs.Options.{some_is, none_is_not_some, given}
 use Rattle.class_world.specs.World.{World}
 use Rattle.class_world.specs.Types.{erase}
@@ -26,7 +26,7 @@ use Rattle.op_forms.specs.Forms.{Form, form_of}
 use Rattle.frame_types.specs.Places.{IsWithin, IsFrameWithin, IsOfWorld, IsProper}
 use Rattle.frame_types.specs.Tables.{CodeTypes, Flow, Takes}
 use Rattle.frame_types.specs.Growth.{is_led_to}
-use Rattle.frame_types.specs.GrowthLaws.{Laws, within_refl, frame_trans, any_left, any_right}
+use Rattle.frame_types.specs.GrowthLaws.{within_refl, frame_trans, any_left, any_right}
 use Rattle.code_verify.specs.Rows.{types_after}
 use Rattle.code_verify.specs.Flows.{is_inside, ways, covers, caught_class, CanCatch, caught_frame, onward, caught, runs_at, flows_from, ways_of_op, places_from}
 use Rattle.code_verify.proofs.Basics.{was_asked}
@@ -101,7 +101,7 @@ zip_map_all : {A B : Type 0} (R : B → B → Type 0) (f g : A → B) (P : A →
 zip_map_all R f g P h [] o = tt
 zip_map_all R f g P h (x ∷ xs) o = (h x (All-head P x xs o), zip_map_all R f g P h xs (All-tail P x xs o))
 
-module _ (p : Program) (m : Method) (good : IsGood p) (g : IsGoodMethod p m) (laws : Laws (types_of p.world)) where
+module _ (p : Program) (m : Method) (good : IsGood p) (g : IsGoodMethod p m) (laws : AreLawful (types_of p.world)) where
   -- the class that a range catches, erased, is a type of the world
   pub caught_of_world : (range : CatchRange) → CanCatch p.world range → IsOfWorld (types_of p.world) (places.Ref (erase p.world (caught_class range)))
   caught_of_world range h = erased_of_world (types_of p.world) laws (caught_class range) (laws.of_world _ _ h).0

@@ -1,7 +1,7 @@
 -- What the table of a method keeps while it grows, and what it is when nothing waits.
 use Rattle.std.proofs.Common.{◌≡◌, ℕ, zero, suc, ◌+◌, ◌-◌, ◌<◌, ◌≤◌, Bool, true, false, ◌||◌, List, [], ◌∷◌, ◌++◌, length, map, replicate, get_or, Option, Some, None, inl, inr, refl, sym, ap, subst, ◌∙◌, arith, length-append}
 use Rattle.std.specs.Prelude.{All, IsTrue, slice_set, nat_eq}
-use Rattle.std.specs.List.{list_any}
+use Rattle.std.specs.List.{list_any, AllByRecursion}
 use Rattle.std.specs.Option.{is_some}
 use Rattle.std.proofs.lemmas.Bool.{false≢true, eqb-true, cases_lt, cases_eq}
 use Rattle.std.proofs.lemmas.List.{length-set, length-map, length-replicate, get_or-set_other}
@@ -12,17 +12,17 @@ use Rattle.jvm_values.specs.declared.typing.PlaceType.{PlaceType}
 use Rattle.jvm_values.specs.declared.typing.PlaceType.TheVariants as places
 use Rattle.jvm_values.specs.States.{PlaceTypes}
 use Rattle.jvm_values.specs.Subtyping.{IsSlot}
-use Rattle.jvm_values.specs.TypedHeaps.{WorldTypes}
+use Rattle.jvm_values.specs.TypedHeaps.{WorldTypes, AreLawful}
 use Rattle.jvm_values.proofs.Options.{some_is, none_is_not_some}
 use Rattle.class_world.specs.WorldTypes.{types_of}
 use Rattle.class_program.specs.declared.program.Method.{Method}
 use Rattle.class_program.specs.Programs.{Program}
-use Rattle.class_program.specs.Good.{AllOf, IsGood, IsGoodMethod}
+use Rattle.class_program.specs.Good.{IsGood, IsGoodMethod}
 use Rattle.frame_types.specs.declared.table.Table.{Table}
 use Rattle.frame_types.specs.Places.{IsWithin, IsFrameWithin, IsOfWorld, IsSet, IsProper, IsFrame}
 use Rattle.frame_types.specs.Tables.{CodeTypes, Flow, Takes, IsAtMost, types_at}
 use Rattle.frame_types.specs.Growth.{IsTable, AreFrames, is_led_to, IsGrown, AreRefused, waits}
-use Rattle.frame_types.specs.GrowthLaws.{Laws, takes_more, all_one, one_of, all_map}
+use Rattle.frame_types.specs.GrowthLaws.{takes_more, all_one, one_of, all_map}
 use Rattle.code_verify.specs.Operands.{place_of}
 use Rattle.code_verify.specs.Flows.{flows_from, CanCatch, IsReachable}
 use Rattle.code_verify.specs.Flows.IsReachable.{start, onwards}
@@ -45,11 +45,11 @@ frame_of_method types a b c d frame e f h =
     let g : IsFrame types c b frame = subst (λ n. IsFrame types n b frame) e h in
     subst (λ n. IsFrame types c n frame) f g
 
-slots_of_world : (types : WorldTypes) (laws : Laws types) (slots : List Slot) → AllOf (IsSlot types.classes) slots → All (IsOfWorld types) (map (place_of types) slots)
+slots_of_world : (types : WorldTypes) (laws : AreLawful types) (slots : List Slot) → AllByRecursion (IsSlot types.classes) slots → All (IsOfWorld types) (map (place_of types) slots)
 slots_of_world types laws [] h = All-nil (IsOfWorld types)
 slots_of_world types laws (s ∷ slots) h = All-cons (IsOfWorld types) (place_of types s) (map (place_of types) slots) (slot_of_world types laws s h.0) (slots_of_world types laws slots h.1)
 
-module _ (p : Program) (m : Method) (good : IsGood p) (g : IsGoodMethod p m) (laws : Laws (types_of p.world)) where
+module _ (p : Program) (m : Method) (good : IsGood p) (g : IsGoodMethod p m) (laws : AreLawful (types_of p.world)) where
   other_frames : (table : Table) → table.max_locals ≡ m.max_locals → table.max_stack ≡ m.max_stack → (other : CodeTypes) → IsTyping p m other → AreFrames (types_of p.world) table other
   other_frames table e f other t place frame is = frame_of_method (types_of p.world) m.max_locals m.max_stack table.max_locals table.max_stack frame (sym e) (sym f) (t.each place frame is).limits
 

@@ -2,6 +2,7 @@
 use Rattle.std.proofs.Common.{◌≡◌, ◌↔◌, ℕ, ◌+◌, ◌<◌, ◌≤◌, Bool, true, false, List, [], ◌∷◌, length, Option, Some, None, refl, sym, ap, subst, ◌∙◌}
 use Rattle.std.specs.Prelude.{All, IsTrue, MatchBool, slice_set}
 use Rattle.std.proofs.lemmas.Bool.{false≢true}
+use Rattle.jvm_values.specs.TypedHeaps.{AreLawful}
 use Rattle.jvm_values.specs.declared.typing.FrameType.{FrameType}
 use Rattle.jvm_values.specs.States.{PlaceTypes}
 use Rattle.jvm_values.proofs.Options.{some_is}
@@ -14,7 +15,6 @@ use Rattle.frame_types.specs.declared.table.Table.{Table}
 use Rattle.frame_types.specs.Places.{IsProper}
 use Rattle.frame_types.specs.Tables.{Flow, types_at}
 use Rattle.frame_types.specs.Growth.{IsTable, IsGrown, AreRefused, waits}
-use Rattle.frame_types.specs.GrowthLaws.{Laws}
 use Rattle.frame_types.specs.Work.{work_left}
 use Rattle.frame_types.specs.WorkLaws.{taken_work, looked_work}
 use Rattle.code_verify.specs.Flows.{flows_from, CanCatch}
@@ -31,7 +31,7 @@ not_caught p m ranges ok same e h (other, t) = false≢true (sym e ∙ h.1 (subs
 pub caught_all : (p : Program) (m : Method) (ranges : List CatchRange) (ok : Bool) → ranges ≡ m.table → ok ≡ true → IsTrue ok ↔ All (CanCatch p.world) ranges → All (CanCatch p.world) m.table
 caught_all p m ranges ok same e h = subst (All (CanCatch p.world)) same (h.0 e)
 
-module _ (p : Program) (m : Method) (good : IsGood p) (g : IsGoodMethod p m) (laws : Laws (types_of p.world)) where
+module _ (p : Program) (m : Method) (good : IsGood p) (g : IsGoodMethod p m) (laws : AreLawful (types_of p.world)) where
   -- ---- the beginning
 
   module _ (empty : Table) (e : empty ≡ record { max_locals = m.max_locals; max_stack = m.max_stack; types = []; waiting = []; low = 0 }) where

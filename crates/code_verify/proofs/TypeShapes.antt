@@ -8,11 +8,10 @@ use Rattle.jvm_values.specs.declared.types.Kind.{Kind}
 use Rattle.jvm_values.specs.declared.types.Base.{Base}
 use Rattle.jvm_values.specs.declared.types.Base.TheVariants.{Class, Num}
 use Rattle.jvm_values.specs.Subtyping.{class_type, object_type, array_of, array_of_numbers, IsReference, IsReferenceBase, IsErased, IsArrayAbove}
-use Rattle.jvm_values.specs.TypedHeaps.{WorldTypes}
+use Rattle.jvm_values.specs.TypedHeaps.{WorldTypes, AreLawful}
 use Rattle.jvm_values.specs.Joins.{item_under, item_of}
 use Rattle.jvm_values.proofs.Options.{some_is, none_is_not_some}
 use Rattle.jvm_values.proofs.Joining.{same_type}
-use Rattle.frame_types.specs.GrowthLaws.{Laws}
 
 pub array_inside : (a b : Ty) → array_of a ≡ array_of b → a ≡ b
 array_inside a b e =
@@ -60,7 +59,7 @@ array_of_item n t item r e = by (shape_of n t r)
         let same : x ≡ item = some_is (sym (item_of_array n x q) ∙ ap item_of (sym s) ∙ e) in
         (s ∙ ap array_of same, subst (IsReference n) same q)
 
-module _ (types : WorldTypes) (laws : Laws types) where
+module _ (types : WorldTypes) (laws : AreLawful types) where
   -- what is below an array of references is one, and its items are below
   pub items_below : (s t item : Ty) → IsReference types.classes s → IsTrue (types.sub s t) → item_of t ≡ Some item → (x : Ty) × ((item_of s ≡ Some x) × IsTrue (types.sub x item))
   items_below s t item r below e = by (shape_of types.classes s r)

@@ -10,13 +10,13 @@ ghost use Rattle.code_verify.specs.Rows.{shuffle_types, types_after};
 
 use crate::operands::{place_of, want_of};
 use crate::rows::{
-    THROWABLE, aaload, acts, aload, anewarray, areturn, array_of_numbers, astore, class_type,
-    getstatic, iinc, iload, invoke, invokestatic, ireturn, istore, putstatic, special_receiver,
+    THROWABLE, aaload, acts, aload, anewarray, areturn, astore, getstatic, iinc, iload, invoke,
+    invokestatic, ireturn, istore, putstatic, special_receiver,
 };
 use crate::shuffles::shuffle;
 use crate::want::Want;
 use class_program::{Method, Program};
-use jvm_values::{FrameType, PlaceType, Types};
+use jvm_values::{FrameType, PlaceType, Types, array_of_numbers, class_type};
 use op_forms::{Form, Shuffle};
 use std::alloc::AllocError;
 

@@ -10,12 +10,12 @@ ghost use Rattle.frame_types.specs.Growth.{IsTable};
 ghost use Rattle.code_verify.specs.Answers.{Comes};
 ghost use Rattle.code_verify.specs.Flows.{CanCatch, falls, jump, table_targets, lookup_cases, jumps, ways, covers, caught_class, onward, caught};
 
-use crate::rows::{THROWABLE, class_type};
+use crate::rows::THROWABLE;
 use class_program::CatchRange;
 use class_world::World;
 use code_forms::Case;
 use frame_types::Table;
-use jvm_values::{FrameType, PlaceType, Ty, Types};
+use jvm_values::{FrameType, PlaceType, Ty, Types, class_type};
 use op_forms::Form;
 use std::alloc::{AllocError, Global};
 

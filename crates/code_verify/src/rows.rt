@@ -5,7 +5,7 @@ ghost use Rattle.class_world.specs.Types.{erase};
 ghost use Rattle.std.specs.Prelude.{◌≡◌, ◌<◌, ◌≤◌, [], ◌∷◌, ◌++◌, map, reverse, length, Some, None, IfOk, OnOk, MatchBool, slice_get, slice_set};
 ghost use Rattle.std.specs.Option.{option_map};
 ghost use Rattle.jvm_values.specs.States.{types_of as seen};
-ghost use Rattle.jvm_values.specs.Subtyping.{class_type, array_of, array_of_numbers};
+ghost use Rattle.jvm_values.specs.Subtyping.{class_type, array_of};
 ghost use Rattle.class_program.specs.Views.{program_of};
 ghost use Rattle.op_forms.specs.Forms.{form_seen};
 ghost use Rattle.code_verify.specs.Operands.{place_of, want_of};
@@ -17,22 +17,12 @@ use crate::operands::{
 use crate::want::Want;
 use class_program::{Call, Program};
 use class_world::World;
-use jvm_values::{Base, FrameType, Kind, PlaceType, Slot, Ty, Types};
+use jvm_values::{FrameType, PlaceType, Slot, Ty, Types, array_of, class_type};
 use list_views::Seq;
 use std::alloc::AllocError;
 
 /// The number of `java/lang/Throwable`.
 pub(crate) const THROWABLE: u32 = 1;
-
-/// A class as a type.
-pub(crate) fn class_type(class: u32) -> Ty
-    ensures { result ≡ class_type class }
-{
-    Ty {
-        dims: 0,
-        base: Base::Class(class),
-    }
-}
 
 /// Pushes a result, if there is one.
 fn push(frame: &mut FrameType, gives: Option<PlaceType>) -> Result<(), AllocError>
@@ -301,27 +291,6 @@ pub(crate) fn putstatic(
     match static_slot(program, place) {
         Some(slot) => acts(&program.world, &[want_of(slot)], None, frame),
         None => Ok(false),
-    }
-}
-
-/// An array of numbers of a kind, as a type.
-pub(crate) fn array_of_numbers(kind: Kind) -> Ty
-    ensures { result ≡ array_of_numbers kind }
-{
-    Ty {
-        dims: 1,
-        base: Base::Num(kind),
-    }
-}
-
-/// An array whose items are of a type with fewer than 255 dimensions, as a type.
-fn array_of(t: Ty) -> Ty
-    requires { t.dims < 255 }
-    ensures { result ≡ array_of t }
-{
-    Ty {
-        dims: t.dims + 1,
-        base: t.base,
     }
 }
 

@@ -1,15 +1,17 @@
 //! `prove-int`: a limit of nodes, or nothing, the bytes of a description and of class files; the first line that is said of the method, or why
 //! there is none.
 ghost use Rattle.std.specs.Prelude.{◌≤◌, IfOk};
+ghost use Rattle.term_graph.specs.Limits.{most_nodes};
 
 use anyhow::{Context, Result, bail};
 use line_cases::{files_from, refused_line};
-use prove_call::prove_line;
+use prove_call::{DEFAULT_NODES, prove_line};
 use std::alloc::Global;
 use table_cases::{Case, ascii, natural, said};
+use term_graph::MOST_NODES;
 
-/// The limit of nodes where a case has none.
-const DEFAULT_NODES: u32 = 4000;
+/// The greatest limit of nodes.
+const GREATEST_NODES: u32 = MOST_NODES as u32;
 
 pub fn answer(alloc: Global, case: &Case<'_>) -> Result<String> {
     let nodes = limit(case.text(0)?)?;
@@ -24,13 +26,13 @@ pub fn answer(alloc: Global, case: &Case<'_>) -> Result<String> {
 /// The limit of nodes that a field says.
 fn limit(field: &str) -> Result<u32>
     ensures positive { IfOk result (λ nodes. 1 ≤ nodes) }
-    ensures small { IfOk result (λ nodes. nodes ≤ 20000) }
+    ensures small { IfOk result (λ nodes. nodes ≤ most_nodes) }
 {
     if field.is_empty() {
         return Ok(DEFAULT_NODES);
     }
     let nodes = natural(field)?;
-    if nodes < 1 || nodes > 20_000 {
+    if nodes < 1 || nodes > GREATEST_NODES {
         bail!("the limit is none of `prove`");
     }
     Ok(nodes)

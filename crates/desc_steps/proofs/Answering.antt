@@ -263,15 +263,3 @@ pub record IsSaidOf {X : Type 0} (Says : Saying X) (desc : List ℕ) (files : Li
   pub described : Desc
   pub ints : IsIntProgram program
   pub says : Says program typing described (Ok x)
-
-pub files_given : {X : Type 0} (Says : Saying X) (desc : List ℕ) (files : List (List ℕ)) (x : X) → OfFiles Says desc files (Ok x) → IsSaidOf Says desc files x
-files_given Says desc files x a =
-    let text = a.1.1 in
-    let world = text.1.1 in
-    let entry = world.1.1 in
-    let program = entry.1.1 in
-    let calls = program.1.1 in
-    let typing = calls.1.1 in
-    let described = typing.1.1 in
-    let ints = described.1.1 in
-    record { program = program.0; typing = typing.0; described = described.0; ints = ints.1.0; says = ints.1.1 }

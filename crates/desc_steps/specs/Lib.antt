@@ -1,7 +1,7 @@
-pub mod Answers
-pub mod Descriptions
-pub mod Given
 pub mod Headline
+pub mod Descriptions
 pub mod Ints
-pub mod Laws
 pub mod Names
+pub mod Answers
+pub mod Laws
+pub mod Given

@@ -2,6 +2,7 @@
 ghost use Rattle.std.specs.Prelude.{◌≡◌, ◌≤◌, ℕ, length, map, Err, IfOk, IfErr, IsTrue};
 ghost use Rattle.std.specs.List.{AllByRecursion, list_all};
 ghost use Rattle.class_base.specs.ClassNames.{is_class_name};
+ghost use Rattle.class_base.specs.Limits.{most_classes};
 ghost use Rattle.class_world.specs.Linking.{CanBeRead};
 ghost use Rattle.class_world.specs.Resolve.{has_body};
 ghost use Rattle.class_world.specs.Worlds.{classes_of};
@@ -168,7 +169,7 @@ fn of_classes(
     text: DescText,
     classes: Vec<ClassView<'_>>,
 ) -> Result<DescribedProgram<'_>, Refused>
-    requires few { length classes.items ≤ 256 }
+    requires few { length classes.items ≤ most_classes }
     requires read { AllByRecursion CanBeRead classes.items }
     ensures answers { OfClasses IsGiven text classes.entry.items result }
     ensures ready { IfOk result IsReady }
@@ -192,7 +193,7 @@ pub fn described_program<'a>(
     desc: &[u8],
     files: &'a [Vec<u8>],
 ) -> Result<DescribedProgram<'a>, Refused>
-    requires { length files.now ≤ 256 }
+    requires { length files.now ≤ most_classes }
     ensures answers { OfFiles IsGiven desc.now (map (λ file. file.items) files.now) result }
     ensures ready { IfOk result IsReady }
     ensures named { IfOk result (λ given. NameProgram (map (λ file. file.items) files.now) desc.now (program_of given.program) given.desc) }

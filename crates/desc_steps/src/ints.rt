@@ -46,7 +46,7 @@ fn is_one_int_method(methods: &[Method<'_>]) -> bool
 }
 
 /// Whether a program is one method that is about ints alone.
-pub fn is_int_program(program: &Program<'_>) -> bool
+pub(crate) fn is_int_program(program: &Program<'_>) -> bool
     ensures { IsTrue result ↔ IsIntProgram (program_of program.now) }
 {
     is_one_int_method(program.methods.as_slice())

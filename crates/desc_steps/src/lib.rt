@@ -11,8 +11,8 @@ mod ints;
 mod laws;
 mod names;
 
-pub use description::{described, entry_of, read_desc};
+pub use description::{described, entry_of};
 pub use given::{DescribedProgram, described_program};
-pub use ints::{is_int_program, not_built};
+pub use ints::not_built;
 pub use laws::some_state_fits;
 pub use names::class_names;

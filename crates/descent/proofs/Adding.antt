@@ -45,15 +45,6 @@ pub record IsAdding (weigh : ℕ → ℤ) (slots : List SlotForm) (size : Bool) 
   pub growth : (x : ℕ) → unsigned_abs (coefficient_in now x) ≤ unsigned_abs (coefficient_in old x) + i * 2 ^ 94
   pub constant_growth : unsigned_abs now.constant ≤ unsigned_abs old.constant + i * 2 ^ 94
 
-pub adding_first : (weigh : ℕ → ℤ) (slots : List SlotForm) (size : Bool) (sign : ℤ) (all : List (ℕ × ℤ)) (old : Sum) → IsAdding weigh slots size sign all all 0 old old
-adding_first weigh slots size sign all old = record {
-  count = refl;
-  coefficients = λ x. refl;
-  constant = refl;
-  growth = λ x. omega arith;
-  constant_growth = omega arith;
-}
-
 one_entry : (next now sign by k rest whole part all : ℤ) → next ≡ now +ℤ (sign *ℤ by) *ℤ k → part ≡ by *ℤ k → whole ≡ part +ℤ rest → now +ℤ sign *ℤ whole ≡ all → next +ℤ sign *ℤ rest ≡ all
 one_entry next now sign by k rest whole part all e p w h =
     let d = times_plus sign part rest in
@@ -143,12 +134,6 @@ two_lines room more a b m n sign old mid new h k = record {
   constant = both_signs old.constant mid.constant new.constant sign m n _ h.constant k.constant refl;
   growth = λ x. omega (arith, h.growth x, k.growth x);
   constant_growth = omega (arith, h.constant_growth, k.constant_growth);
-}
-
-pub line_within : (low room high : ℕ) (terms : List (ℕ × ℤ)) (number sign : ℤ) (old new : Sum) → low + room ≤ high → IsWithin low old → AddsLine room terms number sign old new → IsWithin high new
-line_within low room high terms number sign old new le h adds = record {
-  coefficients = λ x. omega (arith, adds.growth x, h.coefficients x);
-  constant = omega (arith, adds.constant_growth, h.constant);
 }
 
 -- a list of forms within their limits has such forms
@@ -253,9 +238,6 @@ pub need_told : (told : Bool) (missing : DescentFault) (weigh : ℕ → ℤ) (ru
 need_told told missing weigh rule end target multipliers sum fit under h is none =
     let test = test_cases told rule.vars end (rows_under weigh rule.rows) target multipliers sum h is (rise_under weigh rule.vars rule.rows fit.rows) under in
     ap (need_fault missing (shows_target rule.vars (rows_under weigh rule.rows) target multipliers)) none ∙ ap (λ (b : Bool). need_fault missing b None) (sym test) ∙ told_fault told missing
-
-pub need_refused : (missing : DescentFault) (weigh : ℕ → ℤ) (rule : PathRule) (target : Target) (multipliers : List (ℕ × ℤ)) (fault : LinFault) → first_fault (rows_under weigh rule.rows) multipliers ≡ Some fault → need missing weigh rule target multipliers ≡ Some (Lin fault)
-need_refused missing weigh rule target multipliers fault e = ap (need_fault missing (shows_target rule.vars (rows_under weigh rule.rows) target multipliers)) e
 
 -- what is told of a row that has no other fault
 pub shown_done : (taken told : Bool) (found : Option DescentFault) (missing : DescentFault) → taken ≡ true → found ≡ cond told None (Some missing) → told ≡ true → None ≡ cond taken found (Some missing)

@@ -18,7 +18,7 @@ use Rattle.descent.specs.Handing.{Gives, IsHanded, AreOver, GoesOn}
 use Rattle.descent.specs.Splits.{edge_fault}
 use Rattle.descent.specs.Orders.{Says}
 use Rattle.descent.specs.Rankings.{minus_one, dead_fault}
-use Rattle.descent.specs.Steps.{Given, numbers_from, rule_of, listed_fault, dead_at, give, given_first, Answers, rank_fault, leaves, step_fault, go_on, try_step, set_of, first_fault_from, proof_fault}
+use Rattle.descent.specs.Steps.{Given, numbers_from, rule_of, listed_fault, dead_at, give, given_first, Refuses, rank_fault, leaves, step_fault, go_on, try_step, set_of, first_fault_from, proof_fault}
 
 pub leaves_one : (told : Bool) (sum : Sum) → (IsTrue told ↔ Leaves sum (negsuc 0)) → (IsTrue told ↔ Shows sum minus_one)
 leaves_one told sum h = (
@@ -46,12 +46,6 @@ numbers_more set rule count all lt e =
     let s : suc (count - (rule + 1)) ≡ count - rule = omega arith in
     append_assoc set (rule ∷ []) (numbers_from (rule + 1) (count - (rule + 1))) ∙ ap (λ (n : ℕ). set ++ rule ∷ numbers_from n (count - (rule + 1))) (add-one rule) ∙ ap (λ (k : ℕ). set ++ numbers_from rule k) s ∙ e
 
-pub first_init : (rules steps : ℕ) (set : List ℕ) → 1 ≤ steps → set ≡ numbers_from 0 rules → (Some set ∷ []) ++ replicate (steps - 1) None ≡ given_first rules steps
-first_init rules zero set h e = absurd (omega arith)
-first_init rules (suc k) set h e =
-    let s : suc k - 1 ≡ k = omega arith in
-    ap (λ (x : List ℕ). Some x ∷ replicate (suc k - 1) None) e ∙ ap (λ (n : ℕ). Some (numbers_from 0 rules) ∷ replicate n None) s
-
 pub first_more : (given all : Given) (n steps : ℕ) → n < steps → given ++ replicate (steps - n) None ≡ all → (given ++ None ∷ []) ++ replicate (steps - (n + 1)) None ≡ all
 first_more given all n steps lt e =
     let s : suc (steps - (n + 1)) ≡ steps - n = omega arith in
@@ -61,33 +55,12 @@ pub handed_one : (number : ℕ) (left : ℕ × List ℕ) (lefts : List (ℕ × L
 handed_one number left lefts true old new e h = ap (λ (l : List (ℕ × List ℕ)). give number l old) (sym e) ∙ h []
 handed_one number left lefts false old new e h = ap (λ (l : List (ℕ × List ℕ)). give number l old) (sym e) ∙ h []
 
-pub answers_ok : (answer : Result (Unit {0}) StepFault) (fault : Option StepFault) (P : Type 0) → Answers answer fault → (fault ≡ None → P) → OnOk answer P
+pub answers_ok : (answer : Result (Unit {0}) StepFault) (fault : Option StepFault) (P : Type 0) → Refuses answer fault → (fault ≡ None → P) → OnOk answer P
 answers_ok (Ok done) fault P h f = f h
 answers_ok (Err e) fault P h f = tt
 
--- one step of the walk
-pub tried_none : (rules : List PathRule) (number : ℕ) (step : ProofStep) (given : Given) (found : Option (List ℕ)) (next : Given → Option StepFault) → None ≡ found → try_step rules number step given found next ≡ Some (At number BadStep)
-tried_none rules number step given found next e = ap (λ (o : Option (List ℕ)). try_step rules number step given o next) (sym e)
-
-pub tried_bad : (rules : List PathRule) (number : ℕ) (step : ProofStep) (given : Given) (found : Option (List ℕ)) (set : List ℕ) (next : Given → Option StepFault) → Some set ≡ found → give number (leaves set step) given ≡ None → try_step rules number step given found next ≡ Some (At number BadStep)
-tried_bad rules number step given found set next e bad = ap (λ (o : Option (List ℕ)). try_step rules number step given o next) (sym e) ∙ ap (λ (o : Option Given). go_on number (step_fault rules set step) o next) bad
-
-fault_gone : (number : ℕ) (fault : Option DescentFault) (gives : Option Given) (after : Given) (broken : DescentFault) (next : Given → Option StepFault) → Some broken ≡ fault → gives ≡ Some after → go_on number fault gives next ≡ Some (At number broken)
-fault_gone number fault gives after broken next f g = ap (λ (o : Option Given). go_on number fault o next) g ∙ ap (λ (o : Option DescentFault). go_on number o (Some after) next) (sym f)
-
 none_gone : (number : ℕ) (fault : Option DescentFault) (gives : Option Given) (after : Given) (next : Given → Option StepFault) → None ≡ fault → gives ≡ Some after → go_on number fault gives next ≡ next after
 none_gone number fault gives after next f g = ap (λ (o : Option Given). go_on number fault o next) g ∙ ap (λ (o : Option DescentFault). go_on number o (Some after) next) (sym f)
-
-pub tried_fault : (rules : List PathRule) (number : ℕ) (step : ProofStep) (given after : Given) (found : Option (List ℕ)) (set : List ℕ) (broken : DescentFault) (next : Given → Option StepFault) → Some set ≡ found → give number (leaves set step) given ≡ Some after → Some broken ≡ step_fault rules set step → try_step rules number step given found next ≡ Some (At number broken)
-tried_fault rules number step given after found set broken next e g f = ap (λ (o : Option (List ℕ)). try_step rules number step given o next) (sym e) ∙ fault_gone number (step_fault rules set step) (give number (leaves set step) given) after broken next f g
-
-pub tried_done : (rules : List PathRule) (number : ℕ) (step : ProofStep) (given after : Given) (found : Option (List ℕ)) (set : List ℕ) (next : Given → Option StepFault) → Some set ≡ found → give number (leaves set step) given ≡ Some after → None ≡ step_fault rules set step → try_step rules number step given found next ≡ next after
-tried_done rules number step given after found set next e g f = ap (λ (o : Option (List ℕ)). try_step rules number step given o next) (sym e) ∙ none_gone number (step_fault rules set step) (give number (leaves set step) given) after next f g
-
--- the walk
-pub walk_first : (rules : List PathRule) (count : ℕ) (steps : List ProofStep) (given : Given) → 1 ≤ length steps → length rules ≡ count → given ≡ given_first count (length steps) → first_fault_from rules 0 given steps ≡ proof_fault rules steps
-walk_first rules count [] given some c e = absurd (omega arith)
-walk_first rules count (step ∷ rest) given some c e = ap (λ (g : Given). first_fault_from rules 0 g (step ∷ rest)) (e ∙ ap (λ (n : ℕ). given_first n (length (step ∷ rest))) (sym c))
 
 pub walk_more : (rules : List PathRule) (steps : List ProofStep) (step : ProofStep) (n : ℕ) (given after : Given) (all : Option StepFault) → n < length steps → step ≡ get_or steps n step → ((next : Given → Option StepFault) → try_step rules n step given (set_of (slice_get given n)) next ≡ next after) → first_fault_from rules n given (drop n steps) ≡ all → first_fault_from rules (n + 1) after (drop (n + 1) steps) ≡ all
 walk_more rules steps step n given after all low is goes e =
@@ -95,14 +68,6 @@ walk_more rules steps step n given after all low is goes e =
     let here = ap (λ (s : ProofStep). first_fault_from rules n given (s ∷ drop (n + 1) steps)) is in
     let gone = goes (λ (g : Given). first_fault_from rules (suc n) g (drop (n + 1) steps)) in
     ap (λ (k : ℕ). first_fault_from rules k after (drop (n + 1) steps)) (add-one n) ∙ sym gone ∙ here ∙ sym split ∙ e
-
-pub walk_stops : (rules : List PathRule) (steps : List ProofStep) (step : ProofStep) (n : ℕ) (given after : Given) (all : Option StepFault) (fault : StepFault) → n < length steps → step ≡ get_or steps n step → ((next : Given → Option StepFault) → GoesOn (Err fault) (try_step rules n step given (set_of (slice_get given n)) next) (next after)) → first_fault_from rules n given (drop n steps) ≡ all → Answers (Err fault) all
-walk_stops rules steps step n given after all Memory low is goes e = tt
-walk_stops rules steps step n given after all (At number broken) low is goes e =
-    let split = at_drop_more (first_fault_from rules n given) steps n step low in
-    let here = ap (λ (s : ProofStep). first_fault_from rules n given (s ∷ drop (n + 1) steps)) is in
-    let gone = goes (λ (g : Given). first_fault_from rules (suc n) g (drop (n + 1) steps)) in
-    sym e ∙ split ∙ sym here ∙ gone
 
 pub walk_last : (rules : List PathRule) (steps : List ProofStep) (n : ℕ) (given : Given) (all : Option StepFault) → length steps ≤ n → first_fault_from rules n given (drop n steps) ≡ all → all ≡ None
 walk_last rules steps n given all past e = sym e ∙ at_drop_all (first_fault_from rules n given) steps n past
@@ -112,11 +77,3 @@ same_number : (low high : Bool) (x n : ℕ) (a b : DescentFault) (here later all
 same_number true high x n a b here later all l h le ge e f = absurd (grind (arith, nat_tests))
 same_number false true x n a b here later all l h le ge e f = absurd (grind (arith, nat_tests))
 same_number false false x n a b here later all l h le ge e f = ap (λ (o : Option DescentFault). edge_fault o later) e ∙ f
-
-pub rank_more : (weak strict bounded : Says) (rules : List PathRule) (set : List ℕ) (listed : List RankRule) (one : RankRule) (n : ℕ) (all : Option DescentFault) → n < length set → n < length listed → one ≡ get_or listed n one → rule_of one ≤ get_or set n 0 → get_or set n 0 ≤ rule_of one → None ≡ listed_fault weak strict bounded one (slice_get rules (get_or set n 0)) → rank_fault weak strict bounded rules (drop n set) (drop n listed) ≡ all → rank_fault weak strict bounded rules (drop (n + 1) set) (drop (n + 1) listed) ≡ all
-rank_more weak strict bounded rules set listed one n all low lower is le ge e f =
-    let x = get_or set n 0 in
-    let first = at_drop_more (λ (l : List ℕ). rank_fault weak strict bounded rules l (drop n listed)) set n 0 low in
-    let second = at_drop_more (λ (l : List RankRule). rank_fault weak strict bounded rules (x ∷ drop (n + 1) set) l) listed n one lower in
-    let here = ap (λ (r : RankRule). rank_fault weak strict bounded rules (x ∷ drop (n + 1) set) (r ∷ drop (n + 1) listed)) is in
-    same_number (nat_lt x (rule_of one)) (nat_lt (rule_of one) x) x (rule_of one) (NotCovered x) (NotCovered (rule_of one)) (listed_fault weak strict bounded one (slice_get rules x)) (rank_fault weak strict bounded rules (drop (n + 1) set) (drop (n + 1) listed)) all refl refl le ge e (here ∙ sym second ∙ sym first ∙ f)

@@ -53,13 +53,6 @@ least_more test found now all rules i low e n =
     let split = at_drop_more (λ (xs : List ℕ). lesser found (least (filter test xs))) rules i 0 low in
     more_cases test (test (get_or rules i 0)) found now all (get_or rules i 0) (drop (i + 1) rules) refl (sym split ∙ e) n
 
-pub least_last : (test : ℕ → Bool) (found all : Option ℕ) (rules : List ℕ) (i : ℕ) → length rules ≤ i → lesser found (least (filter test (drop i rules))) ≡ all → found ≡ all
-least_last test found all rules i past e = none_left found ∙ sym (at_drop_all (λ (xs : List ℕ). lesser found (least (filter test xs))) rules i past) ∙ e
-  where
-    none_left : (o : Option ℕ) → o ≡ lesser o None
-    none_left None = refl
-    none_left (Some n) = refl
-
 -- the rules of one more part
 pub part_more : (test : ℕ → Bool) (found now all : Option ℕ) (parts : List (List ℕ)) (part : List ℕ) (i : ℕ) → i < length parts → part ≡ get_or parts i part → lesser found (least (filter test (concat (drop i parts)))) ≡ all → now ≡ lesser found (least (filter test part)) → lesser now (least (filter test (concat (drop (i + 1) parts)))) ≡ all
 part_more test found now all parts part i low is e n =
@@ -67,13 +60,6 @@ part_more test found now all parts part i low is e n =
     let here = ap (λ (x : List ℕ). lesser found (least (filter test (x ++ concat (drop (i + 1) parts))))) is in
     let both = least_filter test part (concat (drop (i + 1) parts)) in
     ap (λ (o : Option ℕ). lesser o (least (filter test (concat (drop (i + 1) parts))))) n ∙ lesser_assoc found (least (filter test part)) (least (filter test (concat (drop (i + 1) parts)))) ∙ ap (lesser found) (sym both) ∙ here ∙ sym split ∙ e
-
-pub part_last : (test : ℕ → Bool) (found all : Option ℕ) (parts : List (List ℕ)) (i : ℕ) → length parts ≤ i → lesser found (least (filter test (concat (drop i parts)))) ≡ all → found ≡ all
-part_last test found all parts i past e = none_left found ∙ sym (at_drop_all (λ (xs : List (List ℕ)). lesser found (least (filter test (concat xs)))) parts i past) ∙ e
-  where
-    none_left : (o : Option ℕ) → o ≡ lesser o None
-    none_left None = refl
-    none_left (Some n) = refl
 
 -- a split without a misplaced rule
 pub split_told : (rules : List PathRule) (set : List ℕ) (parts : List (List ℕ)) (steps : List (Option ℕ)) (told : Option DescentFault) (all : List (ℕ × Option ℕ)) → None ≡ uncovered set parts → all ≡ placed_of parts set → told ≡ edge_fault (back_among rules all all) (loop_fault (loop_among rules parts steps all)) → told ≡ split_fault rules set parts steps

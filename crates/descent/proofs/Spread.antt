@@ -10,7 +10,8 @@ use Rattle.descent.specs.declared.rules.PathRule.{PathRule}
 use Rattle.descent.specs.Components.{IsWay, Reaches}
 use Rattle.descent.specs.Inserting.{IsRow}
 use Rattle.descent.specs.Splits.{has, meet_at, is_followed}
-use Rattle.descent.specs.Spreading.{first_from, all_from, next_of, is_at, group_at, groups_of, Noted, Front, noted, spread, open_count}
+use Rattle.list_views.specs.Lists.{open_count}
+use Rattle.descent.specs.Spreading.{first_from, all_from, next_of, is_at, group_at, groups_of, Noted, Front, noted, spread}
 use Rattle.descent.proofs.Classes.{reach_both, reach_self, reach_next, has_end, end_has_old, end_has}
 
 -- a mark that is set

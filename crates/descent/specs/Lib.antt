@@ -1,17 +1,19 @@
+pub mod Valuations
 pub mod Chains
-pub mod Components
 pub mod Conditions
+pub mod Rankings
+pub mod Orders
+pub mod Splits
+pub mod Steps
+pub mod Components
+-- words for the crate's own functions
+pub mod Lines
+pub mod Placed
+pub mod Marking
 pub mod Handing
 pub mod Inserting
-pub mod Lines
-pub mod Marking
-pub mod Orders
-pub mod Placed
-pub mod Rankings
-pub mod Splits
 pub mod Spreading
-pub mod Steps
-pub mod Valuations
-pub mod Laws
+-- the law of orders, with what it needs: proofs
 pub mod Shown
 pub mod Values
+pub mod Laws

@@ -1,5 +1,5 @@
 -- How the rules that one rule reaches are marked: by groups of rules that start at one cut. Each group stands at its first rule.
-use Rattle.std.specs.Prelude.{ℕ, suc, ◌==◌, ◌&&◌, not, Bool, true, false, List, [], ◌∷◌, ◌++◌, Option, Some, None, if◌then◌else◌, get_or, length, nat_lt, slice_set, sum_by}
+use Rattle.std.specs.Prelude.{ℕ, suc, ◌==◌, ◌&&◌, not, Bool, true, false, List, [], ◌∷◌, ◌++◌, Option, Some, None, if◌then◌else◌, get_or, length, nat_lt, slice_set}
 use Rattle.descent.specs.declared.rules.PathRule.{PathRule}
 
 -- the first rule that starts at a cut; the rules are counted from n
@@ -46,7 +46,3 @@ Front = List Bool × Noted
 abbrev pub spread : List (Option ℕ) → List ℕ → Front → Front
 spread next [] front = front
 spread next (rule ∷ rest) front = spread next rest (slice_set front.0 rule true, noted (get_or next rule None) front.1)
-
--- how many groups have no mark
-abbrev pub open_count : List Bool → ℕ
-open_count marks = sum_by (λ mark. if mark then 0 else 1) marks

@@ -1,6 +1,8 @@
 -- The steps of a proof, tested one by one, and the first fault.
-use Rattle.std.specs.Prelude.{ℕ, zero, suc, ◌≡◌, ◌==◌, ◌&&◌, not, Bool, true, false, List, [], ◌∷◌, Option, Some, None, Result, Ok, Err, if◌then◌else◌, nat_lt, slice_get, slice_set, length, filter, replicate, ℤ}
+use Rattle.std.specs.Prelude.{ℕ, zero, suc, ◌≡◌, ◌==◌, ◌&&◌, not, Bool, true, false, List, [], ◌∷◌, Option, Some, None, Result, if◌then◌else◌, nat_lt, slice_get, slice_set, length, filter, replicate, ℤ}
 use Rattle.std.specs.List.{filter_map}
+pub use Rattle.list_views.specs.Lists.{numbers_from}
+use Rattle.list_views.specs.Results as results
 use Rattle.descent.specs.declared.faults.DescentFault.{DescentFault}
 use Rattle.descent.specs.declared.faults.DescentFault.TheVariants.{NotCovered, BadStep}
 use Rattle.descent.specs.declared.faults.StepFault.{StepFault}
@@ -17,11 +19,6 @@ use Rattle.descent.specs.Conditions.{AreRules, AreSteps}
 use Rattle.descent.specs.Orders.{Says}
 use Rattle.descent.specs.Rankings.{Ranking, weak_fault, strict_fault, bounded_fault, dead_fault}
 use Rattle.descent.specs.Splits.{has, split_fault, edge_fault}
-
--- so many numbers from `low` on
-abbrev pub numbers_from : ℕ → ℕ → List ℕ
-numbers_from low zero = []
-numbers_from low (suc count) = low ∷ numbers_from (suc low) count
 
 -- what a rank step ranks by: the order `size` counts sizes with the step's weights, the order `linear` ints alone
 abbrev pub ranking_of : RankStep → Ranking
@@ -147,11 +144,14 @@ proof_fault rules (step ∷ rest) = first_fault_from rules 0 (given_first (lengt
 abbrev pub Closed : List PathRule → Proof → Type 0
 Closed rules proof = proof_fault rules proof.steps ≡ None
 
--- what an answer says of a fault that may be there: it is this one, or there is none; want of memory says nothing
-abbrev pub Answers : Result (Unit {0}) StepFault → Option StepFault → Type 0
-Answers (Ok done) fault = fault ≡ None
-Answers (Err Memory) fault = Unit {0}
-Answers (Err (At step broken)) fault = fault ≡ Some (At step broken)
+-- want of memory
+abbrev pub is_memory : StepFault → Bool
+is_memory Memory = true
+is_memory fault = false
+
+-- an answer says what the proof's first fault is; want of memory says nothing
+abbrev pub Refuses : Result (Unit {0}) StepFault → Option StepFault → Type 0
+Refuses answer fault = results.Refuses is_memory answer fault
 
 -- where a proof of good rules is closed, every chain of the rules ends
 abbrev pub ClosedProofsEnd : Type 0

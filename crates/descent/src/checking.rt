@@ -1,11 +1,11 @@
 //! The check of a proof.
-ghost use Rattle.std.specs.Prelude.{◌≡◌, ◌≤◌, List, Option, Some, None, OnOk, All, length, slice_get};
+ghost use Rattle.std.specs.Prelude.{◌≡◌, ◌≤◌, ℕ, List, Option, Some, None, OnOk, All, length, slice_get};
 ghost use Rattle.lin_core.specs.Sums.{variables};
 ghost use Rattle.descent.specs.declared.faults.StepFault.{StepFault};
 ghost use Rattle.descent.specs.Chains.{ChainsEnd, NoInfiniteChain};
 ghost use Rattle.descent.specs.Conditions.{AreRules, AreSteps, IsStep};
 ghost use Rattle.descent.specs.Handing.{AreOver, GoesOn};
-ghost use Rattle.descent.specs.Steps.{Given, try_step, set_of, proof_fault, Answers};
+ghost use Rattle.descent.specs.Steps.{Given, try_step, set_of, proof_fault, Refuses};
 
 use crate::faults::{DescentFault, StepFault};
 use crate::given::{given_first, hand_on, set_of};
@@ -17,8 +17,9 @@ use list_views::Seq;
 use std::alloc::Global;
 
 /// The number of variables of the rule that has most.
-fn most_variables(rules: &[PathRule]) -> u32
-    ensures { AreOver result rules.now }
+pub fn most_variables(rules: &[PathRule]) -> u32
+    ensures over { AreOver result rules.now }
+    ensures least { (count : ℕ) → AreOver count rules.now → result ≤ count }
 {
     let mut most = 0;
     for rule in rules {
@@ -79,7 +80,7 @@ fn walk(
     requires some { 1 ≤ length steps.now }
     requires few { length steps.now ≤ 4294967295 }
     requires room { AreOver (variables scratch.old) rules.now }
-    ensures { Answers result (proof_fault rules.now steps.now) }
+    ensures { Refuses result (proof_fault rules.now steps.now) }
 {
     let mut given = given_first(alloc, count, steps.len())?;
     for (n, step) in steps.iter().enumerate() {
@@ -92,7 +93,7 @@ fn walk(
 fn check_steps(alloc: Global, rules: &[PathRule], steps: &[ProofStep]) -> Result<(), StepFault>
     requires rules { AreRules rules.now }
     requires steps { AreSteps steps.now }
-    ensures answer { Answers result (proof_fault rules.now steps.now) }
+    ensures answer { Refuses result (proof_fault rules.now steps.now) }
     ensures ends { OnOk result (ChainsEnd rules.now) }
     ensures no_infinite { OnOk result (NoInfiniteChain rules.now) }
 {
@@ -119,7 +120,7 @@ fn check_steps(alloc: Global, rules: &[PathRule], steps: &[ProofStep]) -> Result
 pub fn check_proof(alloc: Global, rules: &[PathRule], proof: &Proof) -> Result<(), StepFault>
     requires rules { AreRules rules.now }
     requires steps { AreSteps proof.now.steps }
-    ensures answer { Answers result (proof_fault rules.now proof.now.steps) }
+    ensures answer { Refuses result (proof_fault rules.now proof.now.steps) }
     ensures ends { OnOk result (ChainsEnd rules.now) }
     ensures no_infinite { OnOk result (NoInfiniteChain rules.now) }
 {

@@ -9,8 +9,12 @@ use crate::sets::{all_rules, weak_ones, within, without};
 use list_views::Seq;
 use std::alloc::{AllocError, Global};
 
-/// Step 0 is given all rules, and the other steps have no set yet.
-pub(crate) fn given_first(
+/// The sets of so many steps as a proof begins: step 0 is given all rules, and the other steps have no set yet.
+///
+/// # Errors
+///
+/// Want of memory.
+pub fn given_first(
     alloc: Global,
     rules: u32,
     steps: usize,
@@ -27,7 +31,11 @@ pub(crate) fn given_first(
 }
 
 /// A copy of the set that a step was given, if it was given one.
-pub(crate) fn set_of(
+///
+/// # Errors
+///
+/// Want of memory.
+pub fn set_of(
     alloc: Global,
     given: &[Option<Seq<u32>>],
     number: u32,

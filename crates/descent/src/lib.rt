@@ -17,12 +17,14 @@ mod sets;
 mod splits;
 mod steps;
 
-pub use checking::check_proof;
+pub use checking::{check_proof, most_variables};
 pub use faults::{DescentFault, StepFault};
+pub use given::{given_first, set_of};
 pub use grouping::components;
 pub use laws::{closed_proofs_end, rankings_keep_laws};
 pub use lin_core::{LinFault, RowKind, Scratch, WRow};
 pub use orders::{LinearOrder, Order, SizeOrder};
 pub use proof::{CutForm, Proof, ProofStep, RankRule, RankStep};
 pub use rules::{PathRule, Place, SlotForm};
+pub use sets::{all_rules, within};
 pub use steps::check_rank_step;

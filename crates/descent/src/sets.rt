@@ -82,7 +82,11 @@ pub(crate) fn is_followed(rules: &[PathRule], rule: u32, next: u32) -> bool
 }
 
 /// The set of all rules, where there are `count` rules.
-pub(crate) fn all_rules(alloc: Global, count: u32) -> Result<Seq<u32>, AllocError>
+///
+/// # Errors
+///
+/// Want of memory.
+pub fn all_rules(alloc: Global, count: u32) -> Result<Seq<u32>, AllocError>
     ensures { IfOk result (λ set. set ≡ numbers_from 0 count) }
 {
     let mut set = Seq::new(alloc);
@@ -119,7 +123,11 @@ pub(crate) fn without(alloc: Global, rule: u32, set: &[u32]) -> Result<Seq<u32>,
 }
 
 /// The rules of the set that stand in the part.
-pub(crate) fn within(alloc: Global, part: &[u32], set: &[u32]) -> Result<Seq<u32>, AllocError>
+///
+/// # Errors
+///
+/// Want of memory.
+pub fn within(alloc: Global, part: &[u32], set: &[u32]) -> Result<Seq<u32>, AllocError>
     ensures { IfOk result (λ less. less ≡ filter (has part.now) set.now) }
 {
     let mut less = Seq::new(alloc);

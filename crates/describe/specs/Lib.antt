@@ -1,6 +1,6 @@
-pub mod Calls
 pub mod Methods
-pub mod Rows
 pub mod Starts
-pub mod Templates
 pub mod Whole
+pub mod Templates
+pub mod Calls
+pub mod Rows

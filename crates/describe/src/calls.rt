@@ -5,6 +5,7 @@ ghost use Rattle.class_world.specs.Linking.{CanBeRead};
 ghost use Rattle.class_world.specs.Members.{find_method};
 ghost use Rattle.class_world.specs.Resolve.{has_body};
 ghost use Rattle.class_world.specs.Worlds.{classes_of};
+ghost use Rattle.class_base.specs.Limits.{most_classes};
 ghost use Rattle.describe.specs.Calls.{ListsMethods, DescribesIn, DescribesEntry, Describes};
 
 use crate::checked::template;
@@ -49,7 +50,7 @@ fn template_in(
     classes: Vec<ClassView<'_>>,
     word: &[u8],
 ) -> Result<Vec<u8>, DescribeFault>
-    requires few { length classes.items ≤ 256 }
+    requires few { length classes.items ≤ most_classes }
     requires read { AllByRecursion CanBeRead classes.items }
     ensures { IfOk result (λ text. DescribesIn classes.entry.items word.now text.items) }
 {
@@ -67,7 +68,7 @@ fn template_in(
 /// `Classes` where a file is no class file; `NoMethod` where there is no file. Want of memory.
 #[tactic(auto, using(crate::proofs::Answered::lists))]
 pub fn methods_of(alloc: Global, files: &[Vec<u8>]) -> Result<Vec<u8>, DescribeFault>
-    requires { length files.now ≤ 256 }
+    requires { length files.now ≤ most_classes }
     ensures { IfOk result (λ lines. ListsMethods (map (λ file. file.items) files.now) lines.items) }
 {
     let classes = read_classes(alloc, files)?;
@@ -85,7 +86,7 @@ pub fn methods_of(alloc: Global, files: &[Vec<u8>]) -> Result<Vec<u8>, DescribeF
 /// `Classes`, `NoMethod`, `SeveralMethods`, `Unwritable`. Want of memory.
 #[tactic(auto, using(crate::proofs::Answered::files_described))]
 pub fn template_of(alloc: Global, files: &[Vec<u8>], word: &[u8]) -> Result<Vec<u8>, DescribeFault>
-    requires { length files.now ≤ 256 }
+    requires { length files.now ≤ most_classes }
     ensures { IfOk result (λ text. Describes (map (λ file. file.items) files.now) word.now text.items) }
 {
     let classes = read_classes(alloc, files)?;

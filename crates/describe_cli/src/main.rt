@@ -4,8 +4,10 @@
 //! that may stand the names of the other class files of the program.
 #![tactic(auto)]
 
-ghost use Rattle.std.specs.Prelude.{◌<◌, ◌≤◌, length, IfOk};
+ghost use Rattle.std.specs.Prelude.{◌+◌, ◌<◌, ◌≤◌, length, IfOk};
+ghost use Rattle.class_base.specs.Limits.{most_classes};
 
+use class_base::{MOST_CLASSES, MOST_FILE_BYTES};
 use describe::{DescribeFault, methods_of, template_of};
 use io_ports::{FileFault, Files, RealFiles, Sink, StdSink};
 use std::alloc::{AllocError, AllocFailed, Global};
@@ -14,15 +16,12 @@ use std::io::ErrorKind;
 use std::process::ExitCode;
 use std::rt::Env;
 
-/// The most bytes of a file.
-const MOST_BYTES: usize = 1 << 20;
-
-/// The most words: 256 class files and a method.
-const MOST_WORDS: usize = 257;
+/// The most words: the class files and a method.
+const MOST_WORDS: usize = MOST_CLASSES + 1;
 
 /// Why there is no output.
 #[derive(Drop)]
-enum Stop {
+enum Failure {
     /// The words are no call.
     Usage,
     /// The file of this number among the class files wasn't read.
@@ -33,53 +32,59 @@ enum Stop {
     Memory,
 }
 
-impl From<AllocError> for Stop {
-    fn from(_: AllocError) -> Stop {
-        Stop::Memory
+impl From<AllocError> for Failure {
+    fn from(_: AllocError) -> Failure {
+        Failure::Memory
     }
 }
 
-impl<T: Drop> From<AllocFailed<T>> for Stop {
-    fn from(_: AllocFailed<T>) -> Stop {
-        Stop::Memory
+impl<T: Drop> From<AllocFailed<T>> for Failure {
+    fn from(_: AllocFailed<T>) -> Failure {
+        Failure::Memory
     }
 }
 
-impl From<DescribeFault> for Stop {
-    fn from(fault: DescribeFault) -> Stop {
+impl From<DescribeFault> for Failure {
+    fn from(fault: DescribeFault) -> Failure {
         match fault {
-            DescribeFault::Memory => Stop::Memory,
-            fault => Stop::Refused(fault),
+            DescribeFault::Memory => Failure::Memory,
+            fault => Failure::Refused(fault),
         }
     }
 }
 
-impl Stop {
+impl Failure {
     /// The status that the program ends with.
     fn status(&self) -> u8 {
         match self {
-            Stop::Refused(_) => 3,
-            Stop::Usage => 4,
-            Stop::Unread(_, _) => 5,
-            Stop::Memory => 7,
+            Failure::Refused(_) => 3,
+            Failure::Usage => 4,
+            Failure::Unread(_, _) => 5,
+            Failure::Memory => 7,
         }
     }
 
     /// The lines that say why.
     fn lines(&self, alloc: Global) -> Result<Vec<u8>, AllocError> {
         match self {
-            Stop::Usage => Vec::from_slice(alloc, b"describe: usage\nCLASS [METHOD [CLASS..]]\n"),
-            Stop::Unread(n, fault) => {
-                let line = format!(in alloc; "describe: class {n}: {fault}\n")?;
-                Vec::from_slice(alloc, line.as_bytes())
+            Failure::Usage => Vec::from_slice(
+                alloc,
+                b"describe: usage\nCLASS [METHOD [CLASS..]]\n",
+            ),
+            Failure::Unread(n, fault) => {
+                let place = format!(in alloc; "describe: class {n}: ")?;
+                let mut line = Vec::from_slice(alloc, place.as_bytes())?;
+                line.extend_from_slice(fault.name())?;
+                line.extend_from_slice(b"\n")?;
+                Ok(line)
             }
-            Stop::Refused(fault) => {
+            Failure::Refused(fault) => {
                 let mut line = Vec::from_slice(alloc, b"describe: ")?;
                 line.extend_from_slice(fault.text(alloc)?.as_slice())?;
                 line.extend_from_slice(b"\n")?;
                 Ok(line)
             }
-            Stop::Memory => Vec::from_slice(alloc, b"describe: memory\n"),
+            Failure::Memory => Vec::from_slice(alloc, b"describe: memory\n"),
         }
     }
 }
@@ -99,19 +104,28 @@ fn words(rt: &(impl Env + AllocGlobal)) -> Result<Vec<String>, AllocError> {
 }
 
 /// The content of the class file of this number and name.
-fn content<F: Files>(alloc: Global, files: &mut F, n: usize, name: &str) -> Result<Vec<u8>, Stop> {
-    match files.read(alloc, name, MOST_BYTES) {
+fn content<F: Files>(
+    alloc: Global,
+    files: &mut F,
+    n: usize,
+    name: &str,
+) -> Result<Vec<u8>, Failure> {
+    match files.read(alloc, name, MOST_FILE_BYTES) {
         Ok(content) => Ok(content),
-        Err(FileFault::Memory) => Err(Stop::Memory),
-        Err(fault) => Err(Stop::Unread(n, fault)),
+        Err(FileFault::Memory) => Err(Failure::Memory),
+        Err(fault) => Err(Failure::Unread(n, fault)),
     }
 }
 
 /// The contents of the class files that the words name: the first word, and those behind the second.
-fn contents<F: Files>(alloc: Global, files: &mut F, words: &[String]) -> Result<Vec<Vec<u8>>, Stop>
+fn contents<F: Files>(
+    alloc: Global,
+    files: &mut F,
+    words: &[String],
+) -> Result<Vec<Vec<u8>>, Failure>
     requires there { 0 < length words.now }
-    requires few { length words.now ≤ 257 }
-    ensures { IfOk result (λ contents. length contents.items ≤ 256) }
+    requires few { length words.now ≤ most_classes + 1 }
+    ensures { IfOk result (λ contents. length contents.items ≤ most_classes) }
 {
     let mut contents = Vec::new(alloc);
     contents.push(content(alloc, files, 0, words[0].as_str())?)?;
@@ -122,9 +136,9 @@ fn contents<F: Files>(alloc: Global, files: &mut F, words: &[String]) -> Result<
 }
 
 /// What is printed for the words.
-fn output<F: Files>(alloc: Global, files: &mut F, words: &[String]) -> Result<Vec<u8>, Stop> {
+fn output<F: Files>(alloc: Global, files: &mut F, words: &[String]) -> Result<Vec<u8>, Failure> {
     if words.is_empty() || words.len() > MOST_WORDS {
-        return Err(Stop::Usage);
+        return Err(Failure::Usage);
     }
     let contents = contents(alloc, files, words)?;
     match words.get(1) {
@@ -138,18 +152,18 @@ fn end<O: Sink, E: Sink>(
     alloc: Global,
     out: &mut O,
     err: &mut E,
-    output: Result<Vec<u8>, Stop>,
+    output: Result<Vec<u8>, Failure>,
 ) -> u8 {
     match output {
         Ok(bytes) => match out.put(bytes.as_slice()) {
             Ok(()) => 0,
             Err(_) => 6,
         },
-        Err(stop) => {
-            if let Ok(lines) = stop.lines(alloc) {
+        Err(failure) => {
+            if let Ok(lines) = failure.lines(alloc) {
                 let _ = err.put(lines.as_slice());
             }
-            stop.status()
+            failure.status()
         }
     }
 }
@@ -160,7 +174,7 @@ fn main(rt: HostRuntime) -> ExitCode {
     let mut err = StdSink::new(rt.stderr());
     let output = match words(&rt) {
         Ok(words) => output(rt.alloc(), &mut files, words.as_slice()),
-        Err(AllocError) => Err(Stop::Memory),
+        Err(AllocError) => Err(Failure::Memory),
     };
     ExitCode::from(end(rt.alloc(), &mut out, &mut err, output))
 }

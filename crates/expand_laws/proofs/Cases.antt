@@ -15,7 +15,7 @@ use Rattle.abs_ints.specs.Bits.{is_natural, below_left, below_right, and_case, a
 use Rattle.abs_ints.specs.Cases.{at_least_zero, is_zero, case_between, case_with, inside}
 use Rattle.abs_ints.specs.Comparing.{standing_so, exchanged, row_of, related, both_of, cases_between, compared}
 use Rattle.abs_ints.specs.Operating.{single_case, single_or, operated}
-use Rattle.abs_ints.specs.Parts.{all_ints, just, is_single, meet_of, sum_of, difference_of, multiples_of, hull_of, ints_or_all}
+use Rattle.abs_ints.specs.IntIntervals.{all_ints, just, is_single, meet_of, sum_of, difference_of, multiples_of, hull_of, ints_or_all}
 use Rattle.abs_ints.specs.Divisions.{dividend_rows}
 use Rattle.abs_ints.specs.Products.{product_rows, product_cases}
 use Rattle.abs_ints.specs.Shifts.{power_of, shifted_left_rows, shift_left_cases, shifted_right_by, shifted_right_rows, shifted_right, shift_right_case, shift_right_cases, zeros_case, shift_zeros_case, shift_zeros_cases}

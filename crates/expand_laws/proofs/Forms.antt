@@ -29,7 +29,7 @@ use Rattle.abs_ints.specs.Cases.{AllTrueOf}
 use Rattle.abs_ints.specs.Comparing.{compared, FallsBetween, GoesBetween}
 use Rattle.abs_ints.specs.Falling.{FallsUnder, IsAnswered}
 use Rattle.abs_ints.specs.Operating.{operated}
-use Rattle.abs_ints.specs.Parts.{all_ints, just, meet_of}
+use Rattle.abs_ints.specs.IntIntervals.{all_ints, just, meet_of}
 use Rattle.abs_ints.specs.declared.cases.IntCase.{IntCase}
 use Rattle.abs_ints.specs.declared.cases.ShortRow.{ShortRow}
 use Rattle.abs_ints.specs.declared.cases.Way.{Way}

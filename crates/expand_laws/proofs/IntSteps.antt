@@ -15,7 +15,7 @@ use Rattle.abs_cells.specs.declared.cells.Cell.TheVariants as cells
 use Rattle.abs_cells.specs.AbstractStates.{AbstractFrame, AbstractState}
 use Rattle.abs_cells.specs.Cells.{HasCell}
 use Rattle.abs_cells.specs.Fits.{Meaning, FitsFrame, Fits}
-use Rattle.abs_ints.specs.Parts.{meet_of}
+use Rattle.abs_ints.specs.IntIntervals.{meet_of}
 use Rattle.abs_ints.proofs.AllCases.{AreInts}
 use Rattle.abs_ints.proofs.Covering.{in_meet}
 use Rattle.class_program.specs.Programs.{Program}

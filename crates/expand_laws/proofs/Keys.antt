@@ -9,7 +9,7 @@ use Rattle.std.proofs.lemmas.Bool.Decides.{Decides-int_eq}
 use Rattle.std.proofs.lemmas.Int.{ints}
 use Rattle.lin_core.specs.Intervals.{Bounds, IsIn}
 use Rattle.code_forms.specs.declared.insn.Case.{Case}
-use Rattle.abs_ints.specs.Parts.{all_ints, just}
+use Rattle.abs_ints.specs.IntIntervals.{all_ints, just}
 use Rattle.abs_ints.proofs.Covering.{in_interval}
 use Rattle.jvm_step.specs.Effects.{target_at, target_of}
 use Rattle.abs_expand.specs.Switches.{table_keys, lookup_keys, parts_from, parts_of}

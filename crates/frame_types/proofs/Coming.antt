@@ -1,19 +1,19 @@
 -- What a frame makes of an entry.
 use Rattle.std.proofs.Common.{◌≡◌, ℕ, Option, Some, None, refl, sym, subst, ap, ◌∙◌}
 use Rattle.jvm_values.specs.States.{PlaceTypes}
-use Rattle.jvm_values.specs.TypedHeaps.{WorldTypes}
+use Rattle.jvm_values.specs.TypedHeaps.{WorldTypes, AreLawful}
 use Rattle.frame_types.specs.Places.{IsFrameWithin, IsProper}
 use Rattle.frame_types.specs.declared.merges.Coming.{Coming}
 use Rattle.frame_types.specs.declared.merges.Coming.TheVariants as comings
 use Rattle.frame_types.specs.Joins.{IsFrameJoin, AreFramesApart, IsMergedAs}
 use Rattle.frame_types.specs.Growth.{IsMerged, IsApart, IsComing}
-use Rattle.frame_types.specs.GrowthLaws.{Laws, frame_refl}
+use Rattle.frame_types.specs.GrowthLaws.{frame_refl}
 use Rattle.jvm_values.proofs.Options.{some_is}
 
 pub not_there : (frame : PlaceTypes) → None ≡ Some frame → ⊥
 not_there frame e = cc
 
-module _ (types : WorldTypes) (laws : Laws types) (max_locals : ℕ) where
+module _ (types : WorldTypes) (laws : AreLawful types) (max_locals : ℕ) where
   pub first : (before : Option PlaceTypes) (more new : PlaceTypes) → before ≡ None → new ≡ more → IsProper types max_locals more → IsMerged types max_locals before more new
   first before more new n e p = subst (IsMerged types max_locals before more) (sym e) (record {
     proper = p;

@@ -7,12 +7,12 @@ use Rattle.std.proofs.lemmas.List.Elements.{length_all_zip}
 use Rattle.std.proofs.lemmas.Option.{slice_get-get_or}
 use Rattle.jvm_values.specs.declared.typing.FrameType.{FrameType}
 use Rattle.jvm_values.specs.States.{PlaceTypes, types_of}
-use Rattle.jvm_values.specs.TypedHeaps.{WorldTypes}
+use Rattle.jvm_values.specs.TypedHeaps.{WorldTypes, AreLawful}
 use Rattle.frame_types.specs.declared.table.Table.{Table}
 use Rattle.frame_types.specs.Places.{IsWithin, IsFrameWithin, IsProper, IsFrame}
 use Rattle.frame_types.specs.Tables.{CodeTypes, Takes, IsAtMost, types_at}
 use Rattle.frame_types.specs.Growth.{IsMerged, IsApart, IsTable, AreFrames, is_led_to, IsGrown, AreRefused, IsRoomier, waits}
-use Rattle.frame_types.specs.GrowthLaws.{Laws, frame_refl, all_one, one_of}
+use Rattle.frame_types.specs.GrowthLaws.{frame_refl, all_one, one_of}
 use Rattle.jvm_values.proofs.Lists.{get_set_other, same_or_not}
 use Rattle.jvm_values.proofs.Options.{some_is}
 use Rattle.frame_types.proofs.Lists.{get_set_same}
@@ -28,7 +28,7 @@ at_others xs i j x h = ap (option_and_then (option_map types_of)) (get_set_other
 pub at_read : (xs : List (Option FrameType)) (i : ℕ) (x : Option FrameType) → i < length xs → x ≡ get_or xs i x → types_at xs i ≡ option_map types_of x
 at_read xs i x l e = ap (option_and_then (option_map types_of)) (slice_get-get_or xs i x l ∙ ap Some (sym e))
 
-module _ (types : WorldTypes) (laws : Laws types) where
+module _ (types : WorldTypes) (laws : AreLawful types) where
   -- ---- one place of the new table differs
 
   module _ (old new : Table) (to : ℕ) (more frame : PlaceTypes) (t : IsTable types old) (depth : length more.stack ≤ old.max_stack) (m : IsMerged types old.max_locals (types_at old.types to) more frame) (at_to : types_at new.types to ≡ Some frame) (others : (place : ℕ) → (place ≡ to → ⊥) → types_at new.types place ≡ types_at old.types place) where

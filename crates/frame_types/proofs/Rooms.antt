@@ -28,9 +28,6 @@ one_more old new even small e =
       max_stack = ap (λ (x : Table). x.max_stack) e;
     }
 
-pub as_roomy : (old : Table) → length old.waiting ≡ length old.types → length old.types ≤ 65536 → IsRoomier old old
-as_roomy old even small = record { even = even; small = small; same = λ place. refl; marks = λ place. refl; low = refl; max_locals = refl; max_stack = refl }
-
 pub roomier : (a b c : Table) → IsRoomier a b → IsRoomier b c → IsRoomier a c
 roomier a b c p q = record {
   even = q.even;

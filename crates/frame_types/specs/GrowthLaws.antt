@@ -8,8 +8,7 @@ use Rattle.std.proofs.lemmas.List.Folds.{list_any-append}
 use Rattle.jvm_values.specs.declared.typing.PlaceType.{PlaceType}
 use Rattle.jvm_values.specs.declared.typing.PlaceType.TheVariants as places
 use Rattle.jvm_values.specs.States.{PlaceTypes}
-use Rattle.jvm_values.specs.Subtyping.{SubtypeLaws}
-use Rattle.jvm_values.specs.TypedHeaps.{WorldTypes}
+use Rattle.jvm_values.specs.TypedHeaps.{WorldTypes, AreLawful}
 use Rattle.jvm_values.proofs.Options.{some_is, none_is_not_some}
 use Rattle.frame_types.specs.declared.table.Table.{Table}
 use Rattle.frame_types.specs.Places.{IsWithin, IsFrameWithin, IsOfWorld, IsProper, IsFrame}
@@ -59,10 +58,7 @@ zip_trans R f (x ∷ xs) (y ∷ ys) (z ∷ zs) p q = (f x y z p.0 q.0, zip_trans
 
 -- ---- wider types
 
-abbrev pub Laws : WorldTypes → Type 0
-Laws types = SubtypeLaws types.sub types.erase types.classes types.fields types.can_be_made
-
-module _ (types : WorldTypes) (laws : Laws types) where
+module _ (types : WorldTypes) (laws : AreLawful types) where
   pub within_refl : (a : PlaceType) → IsOfWorld types a → IsWithin types a a
   within_refl places.Unset h = tt
   within_refl places.Int h = tt

@@ -11,8 +11,8 @@ use Rattle.jvm_values.specs.declared.types.Kind.TheVariants as kinds
 use Rattle.jvm_values.specs.declared.typing.PlaceType.{PlaceType}
 use Rattle.jvm_values.specs.declared.typing.PlaceType.TheVariants as places
 use Rattle.jvm_values.specs.States.{PlaceTypes}
-use Rattle.jvm_values.specs.Subtyping.{IsReference, IsReferenceBase, SubtypeLaws}
-use Rattle.jvm_values.specs.TypedHeaps.{WorldTypes}
+use Rattle.jvm_values.specs.Subtyping.{IsReference, IsReferenceBase}
+use Rattle.jvm_values.specs.TypedHeaps.{WorldTypes, AreLawful}
 use Rattle.frame_types.specs.Places.{IsWithin, IsFrameWithin}
 use Rattle.frame_types.specs.Heights.{bases, of_dims, types_below, all_types, count, height, rank, ranks, most}
 
@@ -133,7 +133,7 @@ among_all types t r = among_below 256 t (bases types.classes) (omega (arith, r.0
 
 -- ---- what is wider ranks lower
 
-module _ (types : WorldTypes) (laws : SubtypeLaws types.sub types.erase types.classes types.fields types.can_be_made) where
+module _ (types : WorldTypes) (laws : AreLawful types) where
   below_or_not : (b : Bool) → (IsTrue b) ⊎ (b ≡ false)
   below_or_not true = inl refl
   below_or_not false = inr refl

@@ -9,12 +9,12 @@ use Rattle.jvm_values.specs.declared.typing.PlaceType.{PlaceType}
 use Rattle.jvm_values.specs.declared.typing.PlaceType.TheVariants as places
 use Rattle.jvm_values.specs.States.{PlaceTypes}
 use Rattle.jvm_values.specs.Subtyping.{object_type, IsReference}
-use Rattle.jvm_values.specs.TypedHeaps.{WorldTypes}
+use Rattle.jvm_values.specs.TypedHeaps.{WorldTypes, AreLawful}
 use Rattle.frame_types.specs.Places.{IsWithin, IsFrameWithin, IsOfWorld, IsSet, IsProper}
 use Rattle.frame_types.specs.Joins.{IsPlaceJoin, IsFrameJoin}
 use Rattle.frame_types.specs.Heights.{all_types}
 use Rattle.frame_types.specs.HeightLaws.{Among, among_all}
-use Rattle.frame_types.specs.GrowthLaws.{Laws, within_refl}
+use Rattle.frame_types.specs.GrowthLaws.{within_refl}
 
 both : (a b : Bool) → (a && b) ≡ true → (a ≡ true) × (b ≡ true)
 both true b e = (refl, e)
@@ -24,7 +24,7 @@ true_or_false : (b : Bool) → (b ≡ true) ⊎ (b ≡ false)
 true_or_false true = inl refl
 true_or_false false = inr refl
 
-module _ (types : WorldTypes) (laws : Laws types) where
+module _ (types : WorldTypes) (laws : AreLawful types) where
   -- ---- reference types
 
   -- an erased type above both

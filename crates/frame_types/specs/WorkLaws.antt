@@ -3,12 +3,11 @@ use Rattle.std.proofs.Common.{◌≡◌, ℕ, zero, suc, ◌+◌, ◌*◌, ◌<�
 use Rattle.std.specs.Prelude.{IsTrue, slice_set}
 use Rattle.std.proofs.lemmas.Bool.{false≢true, cases_lt}
 use Rattle.jvm_values.specs.States.{PlaceTypes}
-use Rattle.jvm_values.specs.TypedHeaps.{WorldTypes}
+use Rattle.jvm_values.specs.TypedHeaps.{WorldTypes, AreLawful}
 use Rattle.frame_types.specs.declared.table.Table.{Table}
 use Rattle.frame_types.specs.Places.{IsFrame}
 use Rattle.frame_types.specs.Tables.{Flow, Takes, types_at}
 use Rattle.frame_types.specs.Growth.{IsTable, IsGrown, waits}
-use Rattle.frame_types.specs.GrowthLaws.{Laws}
 use Rattle.frame_types.specs.Heights.{ranks, most}
 use Rattle.frame_types.specs.HeightLaws.{add_up, add_less, add_up_less, ranks_most, lower_frame}
 use Rattle.frame_types.specs.Work.{way_up, sum_below, mark, work_at, work_left}
@@ -74,7 +73,7 @@ less_than_most a b c d l k = omega arith
 fall : (a b c d : ℕ) → a ≤ b → b ≡ c → c < d → a < d
 fall a b c d l e k = omega arith
 
-module _ (types : WorldTypes) (laws : Laws types) where
+module _ (types : WorldTypes) (laws : AreLawful types) where
   pub frame_way : (max_locals max_stack : ℕ) (frame : PlaceTypes) → IsFrame types max_locals max_stack frame → way_up types max_locals max_stack (Some frame) < way_up types max_locals max_stack None
   frame_way max_locals max_stack frame h =
       let c = h.proper.count in

@@ -82,7 +82,7 @@ down parent (suc k) p v h =
 -- ---- parting
 
 -- where two nodes part
-pub record Parts (count : ℕ) (parent : ℕ → ℕ) (u v : ℕ) : Type 0 where
+pub record Fork (count : ℕ) (parent : ℕ → ℕ) (u v : ℕ) : Type 0 where
   pub at : ℕ
   pub first : ℕ
   pub second : ℕ
@@ -96,7 +96,7 @@ pub record Parts (count : ℕ) (parent : ℕ → ℕ) (u v : ℕ) : Type 0 where
   pub over_first : IsAtOrAbove parent first v
   pub over_second : IsAtOrAbove parent second u
 
-pub parts : (nodes : List GraphNode) (parent : ℕ → ℕ) (tree : IsTree nodes parent) (u v : ℕ) → IsUnderLater nodes parent u v → Parts (length nodes) parent u v
+pub parts : (nodes : List GraphNode) (parent : ℕ → ℕ) (tree : IsTree nodes parent) (u v : ℕ) → IsUnderLater nodes parent u v → Fork (length nodes) parent u v
 parts nodes parent tree u v h =
     let one = tree.children h.at h.earlier h.first h.state h.named h.is h.is_first in
     let two = tree.children h.at h.later h.second h.state h.named h.is h.is_second in
@@ -117,7 +117,7 @@ parts nodes parent tree u v h =
 
 -- ---- the order of growth
 
-above_and_parted : {count : ℕ} {parent : ℕ → ℕ} (falls : Falls count parent) (u v : ℕ) → IsAbove parent u v → Parts count parent v u → ⊥
+above_and_parted : {count : ℕ} {parent : ℕ → ℕ} (falls : Falls count parent) (u v : ℕ) → IsAbove parent u v → Fork count parent v u → ⊥
 above_and_parted {parent = parent} falls u v h p =
     let over : IsAtOrAbove parent p.first v = inr (at_or_above_then parent p.first u v p.over_first h) in
     let same : p.first ≡ p.second = siblings falls p.first p.second v p.positive_first p.positive_second p.within_first p.within_second (p.first_comes ∙ sym p.second_comes) over p.over_second in
@@ -127,7 +127,7 @@ pub own_then : (parent : ℕ → ℕ) (c p v : ℕ) → 0 < c → parent c ≡ p
 own_then parent c p v pos e over = above_then parent p c v (zero, (pos, e)) over
 
 -- the place of one parting is above that of another
-parted_above : {count : ℕ} {parent : ℕ → ℕ} (falls : Falls count parent) (u v : ℕ) → u < count → v < count → (p : Parts count parent u v) (q : Parts count parent v u) → IsAbove parent p.at q.at → ⊥
+parted_above : {count : ℕ} {parent : ℕ → ℕ} (falls : Falls count parent) (u v : ℕ) → u < count → v < count → (p : Fork count parent u v) (q : Fork count parent v u) → IsAbove parent p.at q.at → ⊥
 parted_above {count = count} {parent = parent} falls u v l m p q h =
     let d = down parent h.0 p.at q.at h.1 in
     let to_u : IsAbove parent d.child u = at_or_above_then parent d.child q.at u d.over (own_then parent q.first q.at u q.positive_first q.first_comes q.over_first) in
@@ -137,7 +137,7 @@ parted_above {count = count} {parent = parent} falls u v l m p q h =
     let two : d.child ≡ p.second = siblings falls d.child p.second u d.positive p.positive_second within p.within_second (d.comes ∙ sym p.second_comes) (inr to_u) p.over_second in
     omega (arith, one, two, p.order)
 
-both_parted : {count : ℕ} {parent : ℕ → ℕ} (falls : Falls count parent) (u v : ℕ) → u < count → v < count → (p : Parts count parent u v) (q : Parts count parent v u) → ⊥
+both_parted : {count : ℕ} {parent : ℕ → ℕ} (falls : Falls count parent) (u v : ℕ) → u < count → v < count → (p : Fork count parent u v) (q : Fork count parent v u) → ⊥
 both_parted {count = count} {parent = parent} falls u v l m p q =
     elim (chain parent p.at q.at u (inr (own_then parent p.second p.at u p.positive_second p.second_comes p.over_second)) (inr (own_then parent q.first q.at u q.positive_first q.first_comes q.over_first))) as (λ o. ⊥) [
       | inl (inl same) ↦

@@ -9,7 +9,8 @@ use Rattle.term_graph.specs.Graphs.{GraphNode, left_by}
 use Rattle.graph_build.specs.Rules.{GrowthRules}
 use Rattle.graph_build.specs.Disciplined.{IsNode, IsStateAt}
 use Rattle.graph_build.specs.Disciplined.Due.{growing, matching, widening}
-use Rattle.graph_build.specs.Working.{Work, todo, with_all, without, left, numbers, tail_of, grown, IsSound, MayGrow}
+use Rattle.list_views.specs.Lists.{numbers_from}
+use Rattle.graph_build.specs.Working.{Work, todo, with_all, without, left, tail_of, grown, IsSound, MayGrow}
 use Rattle.graph_build.specs.declared.growth.Plan.{Plan}
 use Rattle.graph_build.specs.declared.growth.Plan.TheVariants as plan
 use Rattle.graph_build.proofs.Growths.{pushed, with_all_is, number_is, fresh_end, fresh_joining, fresh_opening, fresh_expanding}
@@ -20,7 +21,7 @@ grown_as work n rest states by e =
     ap (λ (w : Work). left w n by) (with_all_is (without work) states n)
     ∙ ap (λ (ws : List ℕ). record { nodes = left_by (work.nodes ++ map todo states) n by; parents = work.parents ++ replicate (length states) n; waiting = pushed (length work.nodes) (length states) (tail_of ws) }) e
 
-named_states : (nodes : List GraphNode) (states : List AbstractState) (from : ℕ) → ((i : ℕ) (s : AbstractState) → IsNode (map todo states) i s Todo → IsNode nodes (from + i) s Todo) → AllZip (IsStateAt nodes) states (numbers from (length states))
+named_states : (nodes : List GraphNode) (states : List AbstractState) (from : ℕ) → ((i : ℕ) (s : AbstractState) → IsNode (map todo states) i s Todo → IsNode nodes (from + i) s Todo) → AllZip (IsStateAt nodes) states (numbers_from from (length states))
 named_states nodes [] from h = tt
 named_states nodes (s ∷ ss) from h = (
   record { by = Todo; is = subst (λ (k : ℕ). IsNode nodes k s Todo) (omega arith) (h 0 s refl) },
@@ -86,7 +87,7 @@ module _ (rules : GrowthRules) (good : AbstractState → Type 0) (root : Abstrac
 
   after_expanding : (P : Type 0) (states : List AbstractState) → MayGrow {P = P} rules good work n state limit (plan.Children states) → IsSound rules good root (grown {P = P} work n (plan.Children states))
   after_expanding P states may =
-      let list = numbers (length nodes) (length states) in
+      let list = numbers_from (length nodes) (length states) in
       let f = fresh_expanding (length nodes) (length states) in
       subst (λ (w : Work). IsSound rules good root w) (sym (grown_as work n rest states (Expand list) refl))
       (sound_after rules good root nodes parents n rest sound state was states (Expand list) f may.1.0.1

@@ -8,7 +8,7 @@ use Rattle.term_graph.specs.declared.nodes.By.{By}
 use Rattle.term_graph.specs.declared.nodes.By.TheVariants.{Expand, Instance, End, Todo}
 use Rattle.term_graph.specs.Graphs.{GraphNode}
 use Rattle.graph_build.specs.Rules.{GrowthRules}
-use Rattle.graph_build.specs.Disciplined.{IsNode, Names, IsWidening, IsMatch, IsAlikeAbove, IsSeeking, IsFirstMatch, HasNoMatch, IsWidenedBy, IsDue}
+use Rattle.graph_build.specs.Disciplined.{IsNode, Names, IsWidening, IsMatch, IsAlikeAbove, IsSeeking, IsFirstMatch, HasNoMatch, IsWidenedBy, IsDueAt}
 use Rattle.graph_build.specs.Disciplined.Due.{growing, widening}
 use Rattle.graph_build.specs.Working.{parent_in, is_instance, is_instance_of, is_instance_at, IsPassed, IsFirstFound, IsAlike, IsNearest, IsNextOpen}
 use Rattle.graph_build.proofs.Extending.{todo_not_expanded}
@@ -67,8 +67,8 @@ module _ (rules : GrowthRules) (good : AbstractState → Type 0) (nodes : List G
         no_widening = λ w. false≢true (sym (not_true (nat_lt 0 n && is_instance_at nodes (parent_in parents n)) both.1) ∙ widening_told w);
       }
 
-  pub not_seeking : (rules.is_head state && not (nat_lt 0 n && is_instance_at nodes (parent_in parents n))) ≡ false → IsDue rules nodes (parent_in parents) n state growing
-  not_seeking h = elim (and_false (rules.is_head state) (not (nat_lt 0 n && is_instance_at nodes (parent_in parents n))) h) as (λ o. IsDue rules nodes (parent_in parents) n state growing) [
+  pub not_seeking : (rules.is_head state && not (nat_lt 0 n && is_instance_at nodes (parent_in parents n))) ≡ false → IsDueAt rules nodes (parent_in parents) n state growing
+  not_seeking h = elim (and_false (rules.is_head state) (not (nat_lt 0 n && is_instance_at nodes (parent_in parents n))) h) as (λ o. IsDueAt rules nodes (parent_in parents) n state growing) [
     | inl head ↦ inl head
     | inr told ↦ inr (inl (told_widening (not_false (nat_lt 0 n && is_instance_at nodes (parent_in parents n)) told)))
   ]
@@ -118,5 +118,5 @@ module _ (rules : GrowthRules) (good : AbstractState → Type 0) (nodes : List G
     nearest = λ other a. near.nearest other (alike_from other a);
   }
 
-  pub alone_is_due : HasNoMatch rules nodes (parent_in parents) n state → ((u : ℕ) → IsAlike nodes (parent_in parents) n state u → ⊥) → IsDue rules nodes (parent_in parents) n state growing
+  pub alone_is_due : HasNoMatch rules nodes (parent_in parents) n state → ((u : ℕ) → IsAlike nodes (parent_in parents) n state u → ⊥) → IsDueAt rules nodes (parent_in parents) n state growing
   alone_is_due none above = inr (inr (record { unmatched = none; none_above = λ u a. above u (alike_from u a) }))

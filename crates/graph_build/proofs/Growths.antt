@@ -9,20 +9,21 @@ use Rattle.term_graph.specs.declared.nodes.By.{By}
 use Rattle.term_graph.specs.declared.nodes.By.TheVariants.{Expand, Instance, End, Todo}
 use Rattle.term_graph.specs.Graphs.{GraphNode}
 use Rattle.graph_build.specs.Disciplined.{IsBefore, is_expanded}
-use Rattle.graph_build.specs.Working.{Work, with_all, numbers, todo, Has, AreInOrder}
+use Rattle.list_views.specs.Lists.{Has, numbers_from}
+use Rattle.graph_build.specs.Working.{Work, with_all, todo, AreInOrder}
 use Rattle.graph_build.proofs.Extending.{names_no_todo}
 use Rattle.graph_build.proofs.Nodes.{Fresh}
 
 -- ---- numbers
 
-pub number_at : (from count i x : ℕ) → slice_get (numbers from count) i ≡ Some x → (x ≡ from + i) × (i < count)
+pub number_at : (from count i x : ℕ) → slice_get (numbers_from from count) i ≡ Some x → (x ≡ from + i) × (i < count)
 number_at from zero i x h = absurd (omega (arith, slice_get_within {A = ℕ} [] i x h))
 number_at from (suc count) zero x h = (sym (same_Some from x h) ∙ omega arith, omega arith)
 number_at from (suc count) (suc i) x h =
     let rest = number_at (suc from) count i x h in
     (omega (arith, rest.0), omega (arith, rest.1))
 
-pub number_is : (from count i : ℕ) → i < count → slice_get (numbers from count) i ≡ Some (from + i)
+pub number_is : (from count i : ℕ) → i < count → slice_get (numbers_from from count) i ≡ Some (from + i)
 number_is from zero i l = absurd (omega (arith, l))
 number_is from (suc count) zero l = ap (λ (x : ℕ). Some x) (omega arith)
 number_is from (suc count) (suc i) l = number_is (suc from) count i (omega (arith, l)) ∙ ap (λ (x : ℕ). Some x) (omega arith)
@@ -65,7 +66,7 @@ fresh_opening from entries = record {
   in_order = λ list i j a b e l ha hb. absurd (false≢true (ap is_expand e));
 }
 
-pub fresh_expanding : (from count : ℕ) → Fresh from count (Expand (numbers from count))
+pub fresh_expanding : (from count : ℕ) → Fresh from count (Expand (numbers_from from count))
 fresh_expanding from count = record {
   done = λ e. false≢true (sym (ap is_expanded e));
   named = λ m l r. (m - from, number_is from count (m - from) (omega (arith, l, r)) ∙ ap (λ (x : ℕ). Some x) (omega (arith, l)));

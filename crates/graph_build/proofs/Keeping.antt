@@ -8,7 +8,7 @@ use Rattle.term_graph.specs.declared.nodes.By.{By}
 use Rattle.term_graph.specs.declared.nodes.By.TheVariants.{Expand, Instance, End, Todo}
 use Rattle.term_graph.specs.Graphs.{GraphNode}
 use Rattle.graph_build.specs.Rules.{GrowthRules}
-use Rattle.graph_build.specs.Disciplined.{IsNode, IsTree, IsAtOrAbove, IsBefore, is_expanded, IsWidening, IsEarlier, IsMatch, IsAlikeAbove, IsSeeking, IsDue, Due, IsStateAt, IsLeftAsDue, IsDisciplinedBy}
+use Rattle.graph_build.specs.Disciplined.{IsNode, IsTree, IsAtOrAbove, IsBefore, is_expanded, IsWidening, IsEarlier, IsMatch, IsAlikeAbove, IsSeeking, IsDueAt, Due, IsStateAt, IsLeftAsDue, IsDisciplinedBy}
 use Rattle.graph_build.specs.Disciplined.Due.{growing, matching, widening}
 use Rattle.graph_build.proofs.Ancestry.{one_is_before}
 use Rattle.graph_build.proofs.Extending.{Extends, same_by, same_state, names_no_todo, todo_not_expanded, childless}
@@ -108,7 +108,7 @@ module _ (rules : GrowthRules) (nodes nodes' : List GraphNode) (parent parent' :
 
   -- ---- what is due
 
-  pub due_kept : (m : ℕ) (s : AbstractState) (due : Due) → m < length nodes → (IsBefore nodes parent n m → ⊥) → IsDue rules nodes parent m s due → IsDue rules nodes' parent' m s due
+  pub due_kept : (m : ℕ) (s : AbstractState) (due : Due) → m < length nodes → (IsBefore nodes parent n m → ⊥) → IsDueAt rules nodes parent m s due → IsDueAt rules nodes' parent' m s due
   due_kept m s growing l none (inl h) = inl h
   due_kept m s growing l none (inr (inl w)) = inr (inl (widening_kept m l w))
   due_kept m s growing l none (inr (inr a)) = inr (inr (record {

@@ -10,8 +10,9 @@ use Rattle.term_graph.specs.declared.nodes.By.{By}
 use Rattle.term_graph.specs.declared.nodes.By.TheVariants.{Expand, Todo}
 use Rattle.term_graph.specs.Graphs.{GraphNode, left_by}
 use Rattle.graph_build.specs.Rules.{GrowthRules}
-use Rattle.graph_build.specs.Disciplined.{IsNode, IsBefore, IsTree, IsLeftAsDue, IsDue, Due, IsStateAt}
-use Rattle.graph_build.specs.Working.{parent_in, todo, Has, AreInOrder, IsSound}
+use Rattle.graph_build.specs.Disciplined.{IsNode, IsBefore, IsTree, IsLeftAsDue, IsDueAt, Due, IsStateAt}
+use Rattle.list_views.specs.Lists.{Has}
+use Rattle.graph_build.specs.Working.{parent_in, todo, AreInOrder, IsSound}
 use Rattle.graph_build.proofs.Ancestry.{one_is_before}
 use Rattle.graph_build.proofs.Extending.{Extends, same_by, same_state, before_kept, fresh_before, fresh_order}
 use Rattle.graph_build.proofs.Keeping.{grown_disciplined, due_kept, state_kept}
@@ -121,7 +122,7 @@ module _ (rules : GrowthRules) (good : AbstractState → Type 0) (root : Abstrac
         (order_kept rest rest_within sound.order.1);
   }
 
-  pub due_after : (due : Due) → IsDue rules nodes (parent_in parents) n state due → IsDue rules nodes' (parent_in parents') n state due
+  pub due_after : (due : Due) → IsDueAt rules nodes (parent_in parents) n state due → IsDueAt rules nodes' (parent_in parents') n state due
   due_after due h = due_kept rules nodes nodes' (parent_in parents) (parent_in parents') n state by tree g n state due low (λ b. one_is_before nodes (parent_in parents) tree n n low low b b) h
 
   pub state_after : (s : AbstractState) (m : ℕ) → IsStateAt nodes s m → IsStateAt nodes' s m

@@ -9,7 +9,8 @@ use Rattle.term_graph.specs.Graphs.{GraphNode}
 use Rattle.graph_build.specs.Rules.{GrowthRules}
 use Rattle.graph_build.specs.Disciplined.{IsNode, IsBefore, IsDisciplined}
 use Rattle.graph_build.specs.Answers.{IsClosed, IsFirstOpen, IsStopped}
-use Rattle.graph_build.specs.Working.{Work, parent_in, todo, numbers, with_all, with_one, without, tail_of, grown, Has, AreInOrder, IsSound, IsNextOpen, MayGrow, HasRoom, work_left}
+use Rattle.list_views.specs.Lists.{Has, numbers_from}
+use Rattle.graph_build.specs.Working.{Work, parent_in, todo, with_all, with_one, without, tail_of, grown, AreInOrder, IsSound, IsNextOpen, MayGrow, HasRoom, work_left}
 use Rattle.graph_build.specs.declared.growth.Plan.{Plan}
 use Rattle.graph_build.specs.declared.growth.Plan.TheVariants as plan
 use Rattle.graph_build.proofs.Nodes.{length_left}
@@ -104,7 +105,7 @@ grown_nodes : {P : Type 0} (work : Work) (n : ℕ) (p : Plan P) → (length (gro
 grown_nodes work n plan.End = (length_left work.nodes n End ∙ omega arith, omega arith)
 grown_nodes work n (plan.Children states) =
     let all = all_nodes (without work) states n in
-    (length_left (with_all (without work) states n).nodes n (Expand (numbers (length work.nodes) (length states))) ∙ all.0, all.1)
+    (length_left (with_all (without work) states n).nodes n (Expand (numbers_from (length work.nodes) (length states))) ∙ all.0, all.1)
 grown_nodes work n (plan.Join u entries) = (length_left work.nodes n (Instance u entries) ∙ omega arith, omega arith)
 grown_nodes work n (plan.Open wide entries) =
     (length_left (work.nodes ++ todo wide ∷ []) n (Instance (length work.nodes) entries) ∙ length-append work.nodes (todo wide ∷ []), omega arith)

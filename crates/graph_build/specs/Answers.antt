@@ -4,7 +4,7 @@ use Rattle.abs_cells.specs.AbstractStates.{AbstractState}
 use Rattle.term_graph.specs.declared.nodes.By.TheVariants.{Todo}
 use Rattle.term_graph.specs.Graphs.{GraphNode}
 use Rattle.graph_build.specs.Rules.{GrowthRules}
-use Rattle.graph_build.specs.Disciplined.{IsNode, IsBefore, IsDue, IsStateAt, IsDisciplined, IsDisciplinedBy}
+use Rattle.graph_build.specs.Disciplined.{IsNode, IsBefore, IsDueAt, IsStateAt, IsDisciplined, IsDisciplinedBy}
 use Rattle.graph_build.specs.Disciplined.Due.{growing, widening}
 use Rattle.graph_build.specs.declared.building.Built.{Built}
 use Rattle.graph_build.specs.declared.building.Built.TheVariants as built
@@ -27,7 +27,7 @@ pub record HasManyChildren (rules : GrowthRules) (nodes : List GraphNode) (state
 
 pub record HasWide (rules : GrowthRules) (nodes : List GraphNode) (parent : ℕ → ℕ) (n : ℕ) (state : AbstractState) (Is : AbstractState → Type 0) : Type 0 where
   pub u : ℕ
-  pub due : IsDue rules nodes parent n state (widening u)
+  pub due : IsDueAt rules nodes parent n state (widening u)
   pub above : AbstractState
   pub is_above : IsStateAt nodes above u
   pub is : Is above
@@ -38,13 +38,13 @@ CanBeWidened rules state above = (wide : AbstractState) × rules.HasWidening abo
 
 abbrev pub PassesLimit : GrowthRules → List GraphNode → (ℕ → ℕ) → ℕ → AbstractState → ℕ → Type 0
 PassesLimit rules nodes parent n state limit =
-    (IsDue rules nodes parent n state growing × HasManyChildren rules nodes state limit)
+    (IsDueAt rules nodes parent n state growing × HasManyChildren rules nodes state limit)
     ⊎ (HasWide rules nodes parent n state (CanBeWidened rules state) × (limit < length nodes + 1))
 
 -- its growth has a state with too many ids
 abbrev pub HasLarge : GrowthRules → List GraphNode → (ℕ → ℕ) → ℕ → AbstractState → Type 0
 HasLarge rules nodes parent n state =
-    (IsDue rules nodes parent n state growing × rules.HasLargeChild state)
+    (IsDueAt rules nodes parent n state growing × rules.HasLargeChild state)
     ⊎ HasWide rules nodes parent n state (λ above. rules.HasLargeWidening above state)
 
 -- a disciplined graph whose first open node has a growth that is not to be

@@ -134,10 +134,10 @@ pub record IsAlone (rules : GrowthRules) (nodes : List GraphNode) (parent : ℕ 
   pub none_above : (u : ℕ) → IsAlikeAbove nodes parent n state u → ⊥
 
 -- what is due at a node: to be expanded, to be an instance of an earlier node, or of the widening of that node's state by its own
-abbrev pub IsDue : GrowthRules → List GraphNode → (ℕ → ℕ) → ℕ → AbstractState → Due → Type 0
-IsDue rules nodes parent n state growing = (rules.is_head state ≡ false) ⊎ (IsWidening nodes parent n ⊎ IsAlone rules nodes parent n state)
-IsDue rules nodes parent n state (matching u) = IsFirstMatch rules nodes parent n state u
-IsDue rules nodes parent n state (widening u) = IsWidenedBy rules nodes parent n state u
+abbrev pub IsDueAt : GrowthRules → List GraphNode → (ℕ → ℕ) → ℕ → AbstractState → Due → Type 0
+IsDueAt rules nodes parent n state growing = (rules.is_head state ≡ false) ⊎ (IsWidening nodes parent n ⊎ IsAlone rules nodes parent n state)
+IsDueAt rules nodes parent n state (matching u) = IsFirstMatch rules nodes parent n state u
+IsDueAt rules nodes parent n state (widening u) = IsWidenedBy rules nodes parent n state u
 
 -- ---- disciplined graphs
 
@@ -152,14 +152,14 @@ pub record IsGrown (rules : GrowthRules) (nodes : List GraphNode) (state : Abstr
   pub names : AllZip (IsStateAt nodes) children named
 
 pub record IsMatched (rules : GrowthRules) (nodes : List GraphNode) (parent : ℕ → ℕ) (n : ℕ) (state : AbstractState) (target : ℕ) (entries : List (ℕ × ℕ)) : Type 0 where
-  pub due : IsDue rules nodes parent n state (matching target)
+  pub due : IsDueAt rules nodes parent n state (matching target)
   pub other : AbstractState
   pub is : IsStateAt nodes other target
   pub instance : rules.IsInstance state other entries
 
 pub record IsWidened (rules : GrowthRules) (nodes : List GraphNode) (parent : ℕ → ℕ) (n : ℕ) (state : AbstractState) (target : ℕ) (entries : List (ℕ × ℕ)) : Type 0 where
   pub u : ℕ
-  pub due : IsDue rules nodes parent n state (widening u)
+  pub due : IsDueAt rules nodes parent n state (widening u)
   pub above : AbstractState
   pub is_above : IsStateAt nodes above u
   pub wide : AbstractState
@@ -170,8 +170,8 @@ pub record IsWidened (rules : GrowthRules) (nodes : List GraphNode) (parent : �
 
 -- a node is left as is due, or not yet known
 abbrev pub IsLeftAsDue : GrowthRules → List GraphNode → (ℕ → ℕ) → ℕ → AbstractState → By → Type 0
-IsLeftAsDue rules nodes parent n state (Expand named) = IsDue rules nodes parent n state growing × IsGrown rules nodes state named
-IsLeftAsDue rules nodes parent n state End = IsDue rules nodes parent n state growing × rules.Ends state
+IsLeftAsDue rules nodes parent n state (Expand named) = IsDueAt rules nodes parent n state growing × IsGrown rules nodes state named
+IsLeftAsDue rules nodes parent n state End = IsDueAt rules nodes parent n state growing × rules.Ends state
 IsLeftAsDue rules nodes parent n state (Instance target entries) = IsMatched rules nodes parent n state target entries ⊎ IsWidened rules nodes parent n state target entries
 IsLeftAsDue rules nodes parent n state Todo = Unit {0}
 

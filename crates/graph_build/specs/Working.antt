@@ -1,12 +1,14 @@
 -- A graph that grows, with what is kept beside it, and the steps of its growth.
-use Rattle.std.specs.Prelude.{◌≡◌, ◌⊎◌, ℕ, zero, suc, ◌+◌, ◌-◌, ◌<◌, ◌≤◌, Bool, true, false, List, [], ◌∷◌, ◌++◌, length, Option, Some, None, Result, Ok, Err, slice_get, get_or}
+use Rattle.std.specs.Prelude.{◌≡◌, ℕ, ◌+◌, ◌-◌, ◌<◌, ◌≤◌, Bool, true, false, List, [], ◌∷◌, ◌++◌, length, Option, Some, None, Result, Ok, Err, slice_get, get_or}
 use Rattle.std.specs.List.{AllByRecursion}
+use Rattle.list_views.specs.Lists.{Has, numbers_from}
 use Rattle.abs_cells.specs.AbstractStates.{AbstractState}
 use Rattle.term_graph.specs.declared.nodes.By.{By}
 use Rattle.term_graph.specs.declared.nodes.By.TheVariants.{Expand, Instance, End, Todo}
 use Rattle.term_graph.specs.Graphs.{GraphNode, left_by}
+use Rattle.term_graph.specs.Limits.{most_nodes}
 use Rattle.graph_build.specs.Rules.{GrowthRules, HaveSamePositions}
-use Rattle.graph_build.specs.Disciplined.{IsNode, IsStateAt, IsBefore, IsAbove, IsAtOrAbove, IsDue, IsDisciplinedBy, is_expanded}
+use Rattle.graph_build.specs.Disciplined.{IsNode, IsStateAt, IsBefore, IsAbove, IsAtOrAbove, IsDueAt, IsDisciplinedBy, is_expanded}
 use Rattle.graph_build.specs.Disciplined.Due.{growing, matching, widening}
 use Rattle.graph_build.specs.Answers.{PassesLimit, HasLarge}
 use Rattle.graph_build.specs.declared.due.Next.{Next}
@@ -14,8 +16,8 @@ use Rattle.graph_build.specs.declared.due.Next.TheVariants as next
 use Rattle.graph_build.specs.declared.growth.Growing.{Growing}
 use Rattle.graph_build.specs.declared.growth.Plan.{Plan}
 use Rattle.graph_build.specs.declared.growth.Plan.TheVariants as plan
-use Rattle.graph_build.specs.declared.growth.Stop.{Stop}
-use Rattle.graph_build.specs.declared.growth.Stop.TheVariants as stop
+use Rattle.graph_build.specs.declared.growth.GrowthLimit.{GrowthLimit}
+use Rattle.graph_build.specs.declared.growth.GrowthLimit.TheVariants as limits
 
 -- ---- what is kept
 
@@ -58,11 +60,6 @@ abbrev pub with_all : Work → List AbstractState → ℕ → Work
 with_all work [] parent = work
 with_all work (state ∷ states) parent = with_all (with_one work state parent) states parent
 
--- the numbers from one on
-abbrev pub numbers : ℕ → ℕ → List ℕ
-numbers from zero = []
-numbers from (suc count) = from ∷ numbers (suc from) count
-
 abbrev pub tail_of : List ℕ → List ℕ
 tail_of [] = []
 tail_of (n ∷ ns) = ns
@@ -78,7 +75,7 @@ left work n by = record { nodes = left_by work.nodes n by; parents = work.parent
 
 abbrev pub grown : {P : Type 0} → Work → ℕ → Plan P → Work
 grown work n plan.End = left (without work) n End
-grown work n (plan.Children states) = left (with_all (without work) states n) n (Expand (numbers (length work.nodes) (length states)))
+grown work n (plan.Children states) = left (with_all (without work) states n) n (Expand (numbers_from (length work.nodes) (length states)))
 grown work n (plan.Join target entries) = left (without work) n (Instance target entries)
 grown work n (plan.Open wide entries) = left (with_one (without work) wide n) n (Instance (length work.nodes) entries)
 
@@ -131,10 +128,6 @@ NearestOr nodes parent n state None = (u : ℕ) → IsAlike nodes parent n state
 
 -- ---- what holds between growths
 
-abbrev pub Has : List ℕ → ℕ → Type 0
-Has [] n = ⊥
-Has (m ∷ ms) n = (m ≡ n) ⊎ Has ms n
-
 -- each one is before the later ones in the order of growth
 abbrev pub AreInOrder : List GraphNode → (ℕ → ℕ) → List ℕ → Type 0
 AreInOrder nodes parent [] = Unit {0}
@@ -159,22 +152,22 @@ pub record IsNextOpen (rules : GrowthRules) (good : AbstractState → Type 0) (n
 
 -- what is due next, and the instance where it is to be one
 abbrev pub NextOr : {E : Type 0} → GrowthRules → List GraphNode → (ℕ → ℕ) → ℕ → AbstractState → Result Next E → Type 0
-NextOr rules nodes parent n state (Ok next.Growing) = IsDue rules nodes parent n state growing
-NextOr rules nodes parent n state (Ok (next.Matching u entries)) = IsDue rules nodes parent n state (matching u) × IsFirstFound rules nodes state u entries
-NextOr rules nodes parent n state (Ok (next.Widening u)) = IsDue rules nodes parent n state (widening u)
+NextOr rules nodes parent n state (Ok next.Growing) = IsDueAt rules nodes parent n state growing
+NextOr rules nodes parent n state (Ok (next.Matching u entries)) = IsDueAt rules nodes parent n state (matching u) × IsFirstFound rules nodes state u entries
+NextOr rules nodes parent n state (Ok (next.Widening u)) = IsDueAt rules nodes parent n state (widening u)
 NextOr rules nodes parent n state (Err fault) = Unit {0}
 
 -- ---- what may be done at the next open node
 
 pub record IsMatchedTo (rules : GrowthRules) (work : Work) (n : ℕ) (state : AbstractState) (u : ℕ) (entries : List (ℕ × ℕ)) : Type 0 where
-  pub due : IsDue rules work.nodes (parent_in work.parents) n state (matching u)
+  pub due : IsDueAt rules work.nodes (parent_in work.parents) n state (matching u)
   pub other : AbstractState
   pub is : IsStateAt work.nodes other u
   pub instance : rules.IsInstance state other entries
 
 pub record IsWidenedTo (rules : GrowthRules) (good : AbstractState → Type 0) (work : Work) (n : ℕ) (state wide : AbstractState) (entries : List (ℕ × ℕ)) : Type 0 where
   pub u : ℕ
-  pub due : IsDue rules work.nodes (parent_in work.parents) n state (widening u)
+  pub due : IsDueAt rules work.nodes (parent_in work.parents) n state (widening u)
   pub above : AbstractState
   pub is_above : IsStateAt work.nodes above u
   pub widened : rules.HasWidening above state wide
@@ -182,24 +175,24 @@ pub record IsWidenedTo (rules : GrowthRules) (good : AbstractState → Type 0) (
   pub instance : rules.IsInstance state wide entries
 
 abbrev pub MayGrow : {P : Type 0} → GrowthRules → (AbstractState → Type 0) → Work → ℕ → AbstractState → ℕ → Plan P → Type 0
-MayGrow rules good work n state limit plan.End = IsDue rules work.nodes (parent_in work.parents) n state growing × rules.Ends state
-MayGrow rules good work n state limit (plan.Children states) = IsDue rules work.nodes (parent_in work.parents) n state growing × ((rules.HasChildren state states × AllByRecursion good states) × (length work.nodes + length states ≤ limit))
+MayGrow rules good work n state limit plan.End = IsDueAt rules work.nodes (parent_in work.parents) n state growing × rules.Ends state
+MayGrow rules good work n state limit (plan.Children states) = IsDueAt rules work.nodes (parent_in work.parents) n state growing × ((rules.HasChildren state states × AllByRecursion good states) × (length work.nodes + length states ≤ limit))
 MayGrow rules good work n state limit (plan.Join u entries) = IsMatchedTo rules work n state u entries
 MayGrow rules good work n state limit (plan.Open wide entries) = IsWidenedTo rules good work n state wide entries × (length work.nodes + 1 ≤ limit)
 
 -- the next growth, or why there is none
-abbrev pub PlanOr : {P : Type 0} → GrowthRules → (AbstractState → Type 0) → Work → ℕ → AbstractState → ℕ → Result (Plan P) Stop → Type 0
+abbrev pub PlanOr : {P : Type 0} → GrowthRules → (AbstractState → Type 0) → Work → ℕ → AbstractState → ℕ → Result (Plan P) GrowthLimit → Type 0
 PlanOr rules good work n state limit (Ok growth) = MayGrow rules good work n state limit growth
-PlanOr rules good work n state limit (Err stop.Nodes) = PassesLimit rules work.nodes (parent_in work.parents) n state limit
-PlanOr rules good work n state limit (Err stop.Ids) = HasLarge rules work.nodes (parent_in work.parents) n state
-PlanOr rules good work n state limit (Err stop.Memory) = Unit {0}
+PlanOr rules good work n state limit (Err limits.Nodes) = PassesLimit rules work.nodes (parent_in work.parents) n state limit
+PlanOr rules good work n state limit (Err limits.Ids) = HasLarge rules work.nodes (parent_in work.parents) n state
+PlanOr rules good work n state limit (Err limits.Memory) = Unit {0}
 
 -- a growth that keeps the numbers small
 abbrev pub HasRoom : {P : Type 0} → Work → Plan P → Type 0
 HasRoom work plan.End = Unit {0}
-HasRoom work (plan.Children states) = length work.nodes + length states ≤ 20000
+HasRoom work (plan.Children states) = length work.nodes + length states ≤ most_nodes
 HasRoom work (plan.Join u entries) = Unit {0}
-HasRoom work (plan.Open wide entries) = length work.nodes + 1 ≤ 20000
+HasRoom work (plan.Open wide entries) = length work.nodes + 1 ≤ most_nodes
 
 abbrev pub seen : {P : Type 0} → Growing P → Work
 seen work = record { nodes = work.graph; parents = work.parents; waiting = work.waiting.0 }

@@ -1,10 +1,11 @@
 //! Graphs that are built node by node.
 ghost use Rattle.std.specs.Prelude.{◌≡◌, ◌≤◌};
+ghost use Rattle.term_graph.specs.Limits.{most_nodes};
 ghost use Rattle.graph_build.specs.Answers.{BuildsOr};
 ghost use Rattle.graph_build.specs.declared.building.BuildFault.TheVariants.{Memory};
 
 use crate::grower::Grower;
-use crate::growth::{Growing, Stop};
+use crate::growth::{Growing, GrowthLimit};
 use abs_cells::{AbsState, Pairs};
 use std::alloc::{AllocError, AllocFailed, Global};
 use term_graph::Graph;
@@ -56,7 +57,7 @@ pub fn build<P: Pairs, G: Grower<P>>(
 ) -> Result<Built<P>, BuildFault>
     requires root { G.good (G.meaning grower.old) root }
     requires positive { 1 ≤ limit }
-    requires small { limit ≤ 20000 }
+    requires small { limit ≤ most_nodes }
     ensures built { BuildsOr (G.rules (G.meaning grower.old)) root limit result }
     ensures same { G.meaning grower.new ≡ G.meaning grower.old }
 {
@@ -65,9 +66,9 @@ pub fn build<P: Pairs, G: Grower<P>>(
         let n = *growing.waiting.at(0);
         match growing.plan(alloc, grower, n, growing.graph.at(n).state(), limit) {
             Ok(plan) => growing.grow(alloc, n, plan)?,
-            Err(Stop::Nodes) => return Ok(Built::Nodes(growing.graph)),
-            Err(Stop::Ids) => return Ok(Built::Ids(growing.graph)),
-            Err(Stop::Memory) => return Err(BuildFault::Memory),
+            Err(GrowthLimit::Nodes) => return Ok(Built::Nodes(growing.graph)),
+            Err(GrowthLimit::Ids) => return Ok(Built::Ids(growing.graph)),
+            Err(GrowthLimit::Memory) => return Err(BuildFault::Memory),
         }
     }
     Ok(Built::Closed(growing.graph))

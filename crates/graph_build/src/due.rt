@@ -1,7 +1,6 @@
 //! What is due at a node: to be expanded, or to be an instance of an earlier node or of a widening.
 ghost use Rattle.std.specs.Prelude.{◌≡◌, ◌<◌, ◌↔◌, ◌&&◌, not, nat_lt, ℕ, IsTrue, IfOk, length};
 ghost use Rattle.abs_cells.specs.AbstractStates.{AbstractState};
-ghost use Rattle.abs_reach.specs.Instances.{is_thrown};
 ghost use Rattle.term_graph.specs.declared.nodes.By.{By};
 ghost use Rattle.graph_build.specs.Rules.{HaveSamePositions};
 ghost use Rattle.graph_build.specs.Disciplined.{IsNode, is_expanded};
@@ -9,7 +8,7 @@ ghost use Rattle.graph_build.specs.Working.{is_instance, is_instance_at, parent_
 
 use crate::grower::Grower;
 use abs_cells::{AbsState, Id, Pairs};
-use abs_reach::are_same_heads;
+use abs_reach::{are_same_heads, is_same_mode};
 use list_views::Seq;
 use std::alloc::{AllocError, Global};
 use term_graph::{By, Graph, Node, NodeSource};
@@ -23,13 +22,6 @@ pub(crate) enum Next {
     Matching(u32, Seq<(Id, Id)>),
     /// It is an instance of the widening of an earlier node's state by its own.
     Widening(u32),
-}
-
-/// Whether an object is thrown in both or in none.
-fn is_same_mode(x: Option<Id>, y: Option<Id>) -> bool
-    ensures { IsTrue result ↔ (is_thrown x ≡ is_thrown y) }
-{
-    x.is_some() == y.is_some()
 }
 
 /// Whether two states have the same positions.

@@ -1,8 +1,9 @@
 //! The growths of a graph: what the next one is to be, and carrying it out.
 ghost use Rattle.std.specs.Prelude.{◌≡◌, ◌+◌, ◌-◌, ◌^◌, ◌<◌, ◌≤◌, ◌↔◌, IsTrue, length, IfOk, OnOk};
-ghost use Rattle.graph_build.specs.Disciplined.{IsDue};
+ghost use Rattle.graph_build.specs.Disciplined.{IsDueAt};
 ghost use Rattle.graph_build.specs.Disciplined.Due.{growing, widening};
-ghost use Rattle.graph_build.specs.Working.{seen, parent_in, IsNextOpen, PlanOr, HasRoom, of_root, with_one, with_all, numbers, grown};
+ghost use Rattle.list_views.specs.Lists.{numbers_from};
+ghost use Rattle.graph_build.specs.Working.{seen, parent_in, IsNextOpen, PlanOr, HasRoom, of_root, with_one, with_all, grown};
 
 use crate::due::{Next, next_at};
 use crate::grower::{GrowFault, Grower, Grown};
@@ -34,7 +35,7 @@ pub(crate) enum Plan<P: Pairs> {
 
 /// Why a graph grows no more.
 #[derive(Clone, Copy, PartialEq, Eq)]
-pub(crate) enum Stop {
+pub(crate) enum GrowthLimit {
     /// It would have more nodes than the limit.
     Nodes,
     /// A state would have too many ids.
@@ -76,9 +77,9 @@ impl<P: Pairs> Growing<P> {
         n: u32,
         state: &AbsState<P>,
         limit: u32,
-    ) -> Result<Plan<P>, Stop>
+    ) -> Result<Plan<P>, GrowthLimit>
         requires next { IsNextOpen (G.rules (G.meaning grower.old)) (G.good (G.meaning grower.old)) self.now.graph self.now.parents n state.now }
-        requires due { IsDue (G.rules (G.meaning grower.old)) self.now.graph (parent_in self.now.parents) n state.now growing }
+        requires due { IsDueAt (G.rules (G.meaning grower.old)) self.now.graph (parent_in self.now.parents) n state.now growing }
         ensures plan { PlanOr (G.rules (G.meaning grower.old)) (G.good (G.meaning grower.old)) (seen self.now) n state.now limit result }
         ensures same { G.meaning grower.new ≡ G.meaning grower.old }
     {
@@ -88,11 +89,11 @@ impl<P: Pairs> Growing<P> {
                 if has_room(&self.graph, children.len(), limit) {
                     Ok(Plan::Children(children))
                 } else {
-                    Err(Stop::Nodes)
+                    Err(GrowthLimit::Nodes)
                 }
             }
-            Err(GrowFault::TooManyIds) => Err(Stop::Ids),
-            Err(GrowFault::Memory) => Err(Stop::Memory),
+            Err(GrowFault::TooManyIds) => Err(GrowthLimit::Ids),
+            Err(GrowFault::Memory) => Err(GrowthLimit::Memory),
         }
     }
 
@@ -105,25 +106,25 @@ impl<P: Pairs> Growing<P> {
         n: u32,
         state: &AbsState<P>,
         limit: u32,
-    ) -> Result<Plan<P>, Stop>
+    ) -> Result<Plan<P>, GrowthLimit>
         requires next { IsNextOpen (G.rules (G.meaning grower.old)) (G.good (G.meaning grower.old)) self.now.graph self.now.parents n state.now }
-        requires due { IsDue (G.rules (G.meaning grower.old)) self.now.graph (parent_in self.now.parents) n state.now (widening u) }
+        requires due { IsDueAt (G.rules (G.meaning grower.old)) self.now.graph (parent_in self.now.parents) n state.now (widening u) }
         ensures plan { PlanOr (G.rules (G.meaning grower.old)) (G.good (G.meaning grower.old)) (seen self.now) n state.now limit result }
         ensures same { G.meaning grower.new ≡ G.meaning grower.old }
     {
         match grower.widen(alloc, self.graph.at(u).state(), state) {
             Ok(wide) => {
                 if !has_room(&self.graph, 1, limit) {
-                    return Err(Stop::Nodes);
+                    return Err(GrowthLimit::Nodes);
                 }
                 match grower.matches(alloc, state, &wide) {
                     Ok(Some(map)) => Ok(Plan::Open(wide, map)),
                     Ok(None) => unreachable!(),
-                    Err(_) => Err(Stop::Memory),
+                    Err(_) => Err(GrowthLimit::Memory),
                 }
             }
-            Err(GrowFault::TooManyIds) => Err(Stop::Ids),
-            Err(GrowFault::Memory) => Err(Stop::Memory),
+            Err(GrowFault::TooManyIds) => Err(GrowthLimit::Ids),
+            Err(GrowFault::Memory) => Err(GrowthLimit::Memory),
         }
     }
 
@@ -135,7 +136,7 @@ impl<P: Pairs> Growing<P> {
         n: u32,
         state: &AbsState<P>,
         limit: u32,
-    ) -> Result<Plan<P>, Stop>
+    ) -> Result<Plan<P>, GrowthLimit>
         requires next { IsNextOpen (G.rules (G.meaning grower.old)) (G.good (G.meaning grower.old)) self.now.graph self.now.parents n state.now }
         ensures plan { PlanOr (G.rules (G.meaning grower.old)) (G.good (G.meaning grower.old)) (seen self.now) n state.now limit result }
         ensures same { G.meaning grower.new ≡ G.meaning grower.old }
@@ -151,7 +152,7 @@ impl<P: Pairs> Growing<P> {
             Ok(Next::Growing) => self.plan_to_expand(alloc, grower, n, state, limit),
             Ok(Next::Matching(u, map)) => Ok(Plan::Join(u, map)),
             Ok(Next::Widening(u)) => self.plan_to_widen(alloc, grower, u, n, state, limit),
-            Err(_) => Err(Stop::Memory),
+            Err(_) => Err(GrowthLimit::Memory),
         }
     }
 
@@ -175,7 +176,7 @@ impl<P: Pairs> Growing<P> {
         parent: u32,
     ) -> Result<Seq<u32>, AllocError>
         requires { length self.old.graph + length states ≤ 2 ^ 32 - 16 }
-        ensures numbers { IfOk result (λ named. named ≡ numbers (length self.old.graph) (length states)) }
+        ensures numbers { IfOk result (λ named. named ≡ numbers_from (length self.old.graph) (length states)) }
         ensures added { OnOk result (seen self.new ≡ with_all (seen self.old) states parent) }
     {
         let mut named = Seq::new(alloc);

@@ -1,6 +1,6 @@
-pub mod Checked
-pub mod Conditions
-pub mod Exclusion
-pub mod Filling
 pub mod Good
 pub mod Laws
+pub mod Exclusion
+pub mod Filling
+pub mod Conditions
+pub mod Checked

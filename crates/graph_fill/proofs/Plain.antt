@@ -45,9 +45,6 @@ child_same p typing state a b place child plain g h at = same_at a b place child
 
 -- ---- states without children
 
-pub none_ended : (p : Program) (typing : ℕ → CodeTypes) (state : AbstractState) → HasEnded p typing state → HasChildrenOrNone p typing state []
-none_ended p typing state ended = inr (refl, λ others h. no_children (types_of p.world) state (plan_of p typing state) others ended.1 h.1)
-
 pub none_bad : (p : Program) (typing : ℕ → CodeTypes) (state : AbstractState) (clause : ℕ) → IsBadState p typing state clause → HasChildrenOrNone p typing state []
 none_bad p typing state clause bad = inr (refl, λ others h. not_bad p typing state clause h.0 bad)
 

@@ -24,12 +24,6 @@ take_map f zero xs = refl
 take_map f (suc n) [] = refl
 take_map f (suc n) (x ∷ xs) = ap (λ ys. f x ∷ ys) (take_map f n xs)
 
-within_take : {A : Type 0} (xs : List A) (n k : ℕ) (x : A) → slice_get (take n xs) k ≡ Some x → k < n
-within_take xs zero k x at = absurd (none_is_not_some x at)
-within_take [] (suc n) k x at = absurd (none_is_not_some x at)
-within_take (y ∷ xs) (suc n) zero x at = omega arith
-within_take (y ∷ xs) (suc n) (suc k) x at = let l = within_take xs n k x at in omega (arith, l)
-
 first_front : (front more : List GraphNode) (namer place number : ℕ) → namer < length front → IsFirstNamed (front ++ more) namer place number → IsFirstNamed front namer place number
 first_front front more namer place number l first = record {
   names = names_front front more namer place number l first.names;

@@ -1,10 +1,9 @@
 -- Words for the calls that fill a graph. Slots are the states of the nodes by number: empty where a state is still to be found, or where
 -- it was taken.
-use Rattle.std.specs.Prelude.{◌≡◌, ℕ, suc, Bool, true, false, nat_lt, ◌&&◌, if◌then◌else◌, List, [], ◌∷◌, ◌++◌, Option, Some, None, slice_get, slice_set, Result, Ok, Err, ◌⊎◌}
-use Rattle.std.specs.List.{list_all, list_any}
-use Rattle.std.specs.Option.{option_map_or, is_none}
+use Rattle.std.specs.Prelude.{◌≡◌, ℕ, suc, Bool, true, false, nat_lt, if◌then◌else◌, List, [], ◌∷◌, ◌++◌, Option, Some, None, slice_get, slice_set, Result, Ok, Err, ◌⊎◌}
+use Rattle.std.specs.List.{list_any}
+use Rattle.std.specs.Option.{option_map_or}
 use Rattle.abs_cells.specs.AbstractStates.{AbstractState}
-use Rattle.abs_cells.specs.Cells.{is_int}
 use Rattle.class_program.specs.Programs.{Program}
 use Rattle.frame_types.specs.Tables.{CodeTypes}
 use Rattle.term_graph.specs.declared.nodes.By.{By}
@@ -17,9 +16,6 @@ use Rattle.graph_fill.specs.declared.fault.FillFault.{FillFault}
 use Rattle.graph_fill.specs.declared.fault.FillFault.TheVariants.{NotOfInts, Memory}
 
 -- ---- states of ints
-
-abbrev pub has_ints : AbstractState → Bool
-has_ints state = is_none (slice_get state.eq 0) && (is_none (slice_get state.share 0) && (is_none state.throwing && list_all (λ c. is_int c.1) state.cells))
 
 -- a state is of ints, or has no expansion; or it is neither
 abbrev pub IsReadyOr : Program → (ℕ → CodeTypes) → AbstractState → Bool → Type 0

@@ -5,7 +5,7 @@ use Rattle.std.specs.Option.{option_map, option_or}
 use Rattle.std.proofs.lemmas.Bool.{eqb-true, not-false}
 use Rattle.input_text.specs.declared.fault.DescFault.{DescFault}
 use Rattle.input_text.specs.declared.fault.DescFault.TheVariants.{Json, NoMethod, Abstract, ParamCount, ParamKind, EmptyInterval, UnknownType, BadPair, BadObject, StaticCount, Memory}
-use Rattle.input_desc.specs.Due.{IsDue, fault_if}
+use Rattle.input_desc.specs.Due.{IsFault, is_memory, fault_if}
 
 pub neither : (first second : Option DescFault) → option_or first second ≡ None → (first ≡ None) × (second ≡ None)
 neither None second e = (refl, e)
@@ -24,7 +24,7 @@ pub counted : (a b : ℕ) (fault : DescFault) → fault_if (not (eqb a b)) fault
 counted a b fault e = eqb-true a b (not-false (eqb a b) (no_fault (not (eqb a b)) fault e))
 
 -- a fault that is due
-pub due : (fault : DescFault) (wanted : Option DescFault) → wanted ≡ Some fault → IsDue fault wanted
+pub due : (fault : DescFault) (wanted : Option DescFault) → wanted ≡ Some fault → IsFault is_memory fault wanted
 due (Json fault) wanted e = e
 due NoMethod wanted e = e
 due Abstract wanted e = e
@@ -38,7 +38,7 @@ due StaticCount wanted e = e
 due Memory wanted e = tt
 
 -- a fault that is due, and no want of memory, is wanted
-pub due_is : (fault : DescFault) (wanted : Option DescFault) → fault ≢ Memory → IsDue fault wanted → wanted ≡ Some fault
+pub due_is : (fault : DescFault) (wanted : Option DescFault) → fault ≢ Memory → IsFault is_memory fault wanted → wanted ≡ Some fault
 due_is (Json fault) wanted other d = d
 due_is NoMethod wanted other d = d
 due_is Abstract wanted other d = d
@@ -52,5 +52,5 @@ due_is StaticCount wanted other d = d
 due_is Memory wanted other d = absurd (other refl)
 
 -- want of memory is always due
-pub memory_due : (fault : DescFault) (wanted : Option DescFault) → fault ≡ Memory → IsDue fault wanted
-memory_due fault wanted e = subst (λ f. IsDue f wanted) (sym e) tt
+pub memory_due : (fault : DescFault) (wanted : Option DescFault) → fault ≡ Memory → IsFault is_memory fault wanted
+memory_due fault wanted e = subst (λ f. IsFault is_memory f wanted) (sym e) tt

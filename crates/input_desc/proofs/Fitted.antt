@@ -10,7 +10,7 @@ use Rattle.input_text.specs.declared.texts.InputText.{InputText}
 use Rattle.input_text.specs.declared.texts.DescText.{DescText}
 use Rattle.input_desc.specs.declared.desc.Input.{Input}
 use Rattle.input_desc.specs.declared.desc.Desc.{Desc}
-use Rattle.input_desc.specs.Due.{IsDue, fault_if, IsMemoryOr}
+use Rattle.input_desc.specs.Due.{IsFault, is_memory, fault_if, IsMemoryOr}
 use Rattle.input_desc.specs.Given.{params_of, statics_of, slots_of}
 use Rattle.input_desc.specs.Descs.{inputs_from, later_fault, desc_fault, Finds, IsMade, Fitted, Describes, IsGoodDesc, IsOwnDesc}
 use Rattle.input_desc.proofs.Faultless.{memory_due}
@@ -36,7 +36,7 @@ fitted_describes p text texts' (Ok desc) l m e h =
     (none, record { inputs_are = h.1.inputs_are ∙ ap (inputs_from p.world (slots_of p)) e; same_is = h.1.same_is; share_is = h.1.share_is })
 fitted_describes p text texts' (Err fault) l m e h =
     let same : later_fault p texts' (text.same ++ text.share) ≡ desc_fault p text = ap (λ xs. later_fault p xs (text.same ++ text.share)) e ∙ sym (past_counts p text l m) in
-    subst (λ o. IsDue fault o) same h
+    subst (λ o. IsFault is_memory fault o) same h
 
 pub fitted_is_good : (p : Program) (texts' : List InputText) (same share : List (ℕ × ℕ)) (result : Result Desc DescFault) → length texts' ≡ length (slots_of p) → Fitted p texts' same share result → IfOk result (IsGoodDesc p)
 fitted_is_good p texts' same share (Ok desc) l h = made_is_good p texts' same share (inputs_from p.world (slots_of p) texts') desc l (h.0, refl) h.1

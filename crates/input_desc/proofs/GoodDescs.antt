@@ -9,6 +9,7 @@ use Rattle.std.proofs.lemmas.List.Elements.{All-nil, All-cons, All-head, All-tai
 use Rattle.std.proofs.lemmas.Option.{slice_get_within}
 use Rattle.jvm_values.specs.declared.types.Slot.{Slot}
 use Rattle.jvm_values.specs.declared.types.Slot.TheVariants as slots
+use Rattle.jvm_values.specs.Slots.{is_reference_slot}
 use Rattle.class_world.specs.World.{World}
 use Rattle.class_program.specs.Programs.{Program}
 use Rattle.input_text.specs.declared.fault.DescFault.TheVariants.{EmptyInterval, UnknownType, BadPair}
@@ -17,7 +18,7 @@ use Rattle.input_text.specs.declared.texts.DescText.{DescText}
 use Rattle.input_desc.specs.declared.desc.Input.{Input}
 use Rattle.input_desc.specs.declared.desc.Desc.{Desc}
 use Rattle.input_desc.specs.Given.{params_of, statics_of, field_slot, argument_slot, slots_of}
-use Rattle.input_desc.specs.Pairs.{is_reference_slot, is_reference_at, is_pair, is_no_pair, IsPairBelow}
+use Rattle.input_desc.specs.Pairs.{is_reference_at, is_pair, is_no_pair, IsPairBelow}
 use Rattle.input_desc.specs.Typed.{first_unfit}
 use Rattle.input_desc.specs.Descs.{inputs_from, has_ints, has_a_type, found_fault, later_fault, desc_fault, Finds, IsMade, IsGoodDesc}
 use Rattle.input_desc.proofs.Faultless.{neither, not_mapped}

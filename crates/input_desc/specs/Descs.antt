@@ -8,6 +8,7 @@ use Rattle.jvm_values.specs.declared.types.Ty.{Ty}
 use Rattle.jvm_values.specs.declared.types.Slot.{Slot}
 use Rattle.jvm_values.specs.declared.types.Slot.TheVariants as slots
 use Rattle.jvm_values.specs.Kinds.{least_of, greatest_of}
+use Rattle.jvm_values.specs.Slots.{is_reference_slot}
 use Rattle.class_world.specs.World.{World, is_static}
 use Rattle.class_world.specs.Types.{is_sub, erase}
 use Rattle.class_world.specs.Resolve.{method_at}
@@ -17,12 +18,13 @@ use Rattle.input_text.specs.declared.fault.DescFault.TheVariants.{ParamCount, St
 use Rattle.input_text.specs.declared.texts.DescText.{DescText}
 use Rattle.input_text.specs.declared.texts.InputText.{InputText}
 use Rattle.input_text.specs.declared.texts.InputText.TheVariants as texts
+use Rattle.abs_cells.specs.Limits.{most_ids}
 use Rattle.input_desc.specs.declared.desc.Input.{Input}
 use Rattle.input_desc.specs.declared.desc.Input.TheVariants.{Int, Ref}
 use Rattle.input_desc.specs.declared.desc.Desc.{Desc}
-use Rattle.input_desc.specs.Due.{IsDue, fault_if}
+use Rattle.input_desc.specs.Due.{IsFault, is_memory, fault_if}
 use Rattle.input_desc.specs.Given.{params_of, statics_of, slots_of}
-use Rattle.input_desc.specs.Pairs.{is_no_pair, is_reference_slot, IsPairBelow}
+use Rattle.input_desc.specs.Pairs.{is_no_pair, IsPairBelow}
 use Rattle.input_desc.specs.TypeNames.{type_named}
 use Rattle.input_desc.specs.Typed.{first_unfit}
 
@@ -108,19 +110,19 @@ desc_fault p text =
 -- what is found for inputs without a fault, or the first fault
 abbrev pub Finds : Program → List InputText → List (ℕ × ℕ) → Result (List (Option Input)) DescFault → Type 0
 Finds p texts' pairs (Ok found) = (later_fault p texts' pairs ≡ None) × (found ≡ inputs_from p.world (slots_of p) texts')
-Finds p texts' pairs (Err fault) = IsDue fault (later_fault p texts' pairs)
+Finds p texts' pairs (Err fault) = IsFault is_memory fault (later_fault p texts' pairs)
 
--- a description of at most 512 inputs, each of which is there
+-- a description of at most `most_ids` inputs, each of which is there
 pub record IsMade (found : List (Option Input)) (same share : List (ℕ × ℕ)) (desc : Desc) : Type 0 where
   pub inputs_are : map Some desc.inputs ≡ found
   pub same_is : desc.same ≡ same
   pub share_is : desc.share ≡ share
-  pub few : length desc.inputs ≤ 512
+  pub few : length desc.inputs ≤ most_ids
 
 -- what is made of texts and pairs without a fault, or the first fault
 abbrev pub Fitted : Program → List InputText → List (ℕ × ℕ) → List (ℕ × ℕ) → Result Desc DescFault → Type 0
 Fitted p texts' same share (Ok desc) = (later_fault p texts' (same ++ share) ≡ None) × IsMade (inputs_from p.world (slots_of p) texts') same share desc
-Fitted p texts' same share (Err fault) = IsDue fault (later_fault p texts' (same ++ share))
+Fitted p texts' same share (Err fault) = IsFault is_memory fault (later_fault p texts' (same ++ share))
 
 -- a description of inputs of the program
 pub record IsDescribed (p : Program) (text : DescText) (desc : Desc) : Type 0 where
@@ -131,12 +133,12 @@ pub record IsDescribed (p : Program) (text : DescText) (desc : Desc) : Type 0 wh
 -- what is described where there is no fault, or the first fault
 abbrev pub Describes : Program → DescText → Result Desc DescFault → Type 0
 Describes p text (Ok desc) = (desc_fault p text ≡ None) × IsDescribed p text desc
-Describes p text (Err fault) = IsDue fault (desc_fault p text)
+Describes p text (Err fault) = IsFault is_memory fault (desc_fault p text)
 
--- As many inputs as the program has, at most 512; and pairs of two different ones.
+-- As many inputs as the program has, at most `most_ids`, since each is an id of abstract states; and pairs of two different ones.
 pub record IsGoodDesc (p : Program) (desc : Desc) : Type 0 where
   pub count : length desc.inputs ≡ length (slots_of p)
-  pub few : length desc.inputs ≤ 512
+  pub few : length desc.inputs ≤ most_ids
   pub pairs : All (IsPairBelow (length desc.inputs)) (desc.same ++ desc.share)
 
 -- The description is this program's method's: a text that has no fault against the program describes it.

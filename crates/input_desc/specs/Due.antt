@@ -1,12 +1,13 @@
 -- Faults that are due.
-use Rattle.std.specs.Prelude.{◌≡◌, Bool, if◌then◌else◌, Option, Some, None, Result, Ok, Err}
+use Rattle.std.specs.Prelude.{◌≡◌, Bool, true, false, if◌then◌else◌, Option, Some, None, Result, Ok, Err}
+pub use Rattle.list_views.specs.Results.{IsFault}
 use Rattle.input_text.specs.declared.fault.DescFault.{DescFault}
 use Rattle.input_text.specs.declared.fault.DescFault.TheVariants.{Memory}
 
--- a fault is the one that is due; want of memory may come at any time
-abbrev pub IsDue : DescFault → Option DescFault → Type 0
-IsDue Memory due = Unit {0}
-IsDue fault due = due ≡ Some fault
+-- want of memory
+abbrev pub is_memory : DescFault → Bool
+is_memory Memory = true
+is_memory fault = false
 
 abbrev pub fault_if : Bool → DescFault → Option DescFault
 fault_if test fault = if test then Some fault else None

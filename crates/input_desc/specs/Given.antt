@@ -1,11 +1,11 @@
 -- What a program asks for: a value for each parameter of its entry method and for each of its static fields. These are its inputs.
-use Rattle.std.specs.Prelude.{ℕ, pos, List, [], ◌++◌, slice_get, map, Option, Some, None}
+use Rattle.std.specs.Prelude.{ℕ, List, [], ◌++◌, slice_get, map, Option, Some, None}
 use Rattle.std.specs.Option.{option_map_or}
 use Rattle.jvm_values.specs.declared.types.Kind.TheVariants as kinds
 use Rattle.jvm_values.specs.declared.types.Slot.{Slot}
 use Rattle.jvm_values.specs.declared.types.Slot.TheVariants as slots
 use Rattle.jvm_values.specs.declared.heap.Value.{Value}
-use Rattle.jvm_values.specs.declared.heap.Value.TheVariants.{Int, Null}
+use Rattle.jvm_values.specs.Slots.{initial_value}
 use Rattle.class_program.specs.declared.program.StaticField.{StaticField}
 use Rattle.class_program.specs.Programs.{Program}
 
@@ -33,11 +33,6 @@ inputs_of params fields = map argument_slot params ++ fields
 -- what the inputs of a program are
 abbrev pub slots_of : Program → List Slot
 slots_of p = inputs_of (params_of p) (statics_of p)
-
--- what a static field holds that nothing was said of (JVM specification, SE 8, sections 2.3 and 2.4)
-abbrev pub initial_value : Slot → Value
-initial_value (slots.Num kind) = Int (pos 0)
-initial_value (slots.Ref t) = Null
 
 -- the values of static fields: those that are given, or the initial ones
 abbrev pub static_values : List Slot → Option (List Value) → List Value

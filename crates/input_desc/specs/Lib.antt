@@ -1,10 +1,10 @@
-pub mod Descs
-pub mod Due
 pub mod Entries
-pub mod Fitting
 pub mod Given
-pub mod Initial
-pub mod Pairs
-pub mod States
+pub mod Due
 pub mod TypeNames
 pub mod Typed
+pub mod Pairs
+pub mod Descs
+pub mod Initial
+pub mod Fitting
+pub mod States

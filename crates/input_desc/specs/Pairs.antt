@@ -1,12 +1,8 @@
 -- Pairs of inputs.
-use Rattle.std.specs.Prelude.{◌≢◌, ℕ, ◌<◌, ◌==◌, ◌&&◌, not, Bool, true, false, List, slice_get}
+use Rattle.std.specs.Prelude.{◌≢◌, ℕ, ◌<◌, ◌==◌, ◌&&◌, not, Bool, false, List, slice_get}
 use Rattle.std.specs.Option.{option_map_or}
 use Rattle.jvm_values.specs.declared.types.Slot.{Slot}
-use Rattle.jvm_values.specs.declared.types.Slot.TheVariants as slots
-
-abbrev pub is_reference_slot : Slot → Bool
-is_reference_slot (slots.Num kind) = false
-is_reference_slot (slots.Ref t) = true
+use Rattle.jvm_values.specs.Slots.{is_reference_slot}
 
 -- the input of a number is a reference
 abbrev pub is_reference_at : List Slot → ℕ → Bool

@@ -12,7 +12,7 @@ use Rattle.input_text.specs.declared.fault.DescFault.{DescFault}
 use Rattle.input_text.specs.declared.fault.DescFault.TheVariants.{ParamCount, StaticCount, ParamKind, BadObject}
 use Rattle.input_text.specs.declared.texts.StateText.{StateText}
 use Rattle.input_desc.specs.declared.states.StateInput.{StateInput}
-use Rattle.input_desc.specs.Due.{IsDue, fault_if}
+use Rattle.input_desc.specs.Due.{IsFault, is_memory, fault_if}
 use Rattle.input_desc.specs.Given.{params_of, statics_of, argument_slot, inputs_of, static_values}
 use Rattle.input_desc.specs.Typed.{Objects, object_of, first_unfit, is_held, is_bad}
 
@@ -52,7 +52,7 @@ pub record IsGiven (objects : Objects) (args statics : List Value) (given : Stat
 -- What is given where it has no fault, or its first fault.
 abbrev pub Gives : Program → Objects → List Value → List Value → Result StateInput DescFault → Type 0
 Gives p objects args statics (Ok given) = (fault_of p objects args statics ≡ None) × IsGiven objects args statics given
-Gives p objects args statics (Err fault) = IsDue fault (fault_of p objects args statics)
+Gives p objects args statics (Err fault) = IsFault is_memory fault (fault_of p objects args statics)
 
 -- what a state gives to a program, or its first fault
 abbrev pub GivesState : Program → StateText → Result StateInput DescFault → Type 0

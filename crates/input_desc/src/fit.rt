@@ -6,13 +6,14 @@ ghost use Rattle.class_program.specs.Views.{program_of};
 ghost use Rattle.input_desc.specs.Due.{IsMemoryOr};
 ghost use Rattle.input_desc.specs.Given.{slots_of};
 ghost use Rattle.input_desc.specs.Typed.{first_unfit};
-ghost use Rattle.input_desc.specs.Pairs.{is_reference_slot, is_reference_at, is_no_pair};
+ghost use Rattle.input_desc.specs.Pairs.{is_reference_at, is_no_pair};
 ghost use Rattle.input_desc.specs.Descs.{has_receiver, is_alike, begins_null, first_of_other_kind, ints_of, erased_below, type_for, input_of, inputs_from, has_ints, has_a_type, found_fault, Finds, IsMade, Fitted, IsGoodDesc, IsOwnDesc, Describes};
 
 use crate::desc::{Desc, Input};
 use crate::given::inputs;
 use crate::names::type_named;
 use crate::there::all_there;
+use abs_cells::MOST_IDS;
 use class_base::{STATIC, has_flag};
 use class_program::Program;
 use class_world::World;
@@ -155,27 +156,18 @@ fn inputs_from(
     Ok(found)
 }
 
-fn is_reference_slot(slot: Slot) -> bool
-    ensures { result ≡ is_reference_slot slot }
-{
-    match slot {
-        Slot::Num(_) => false,
-        Slot::Ref(_) => true,
-    }
-}
-
 /// Whether an input isn't a number without an int.
 fn has_ints(slot: Slot, input: &Option<Input>) -> bool
     ensures { result ≡ has_ints slot input.now }
 {
-    is_reference_slot(slot) || input.is_some()
+    slot.is_reference() || input.is_some()
 }
 
 /// Whether an input isn't a reference without a type.
 fn has_a_type(slot: Slot, input: &Option<Input>) -> bool
     ensures { result ≡ has_a_type slot input.now }
 {
-    !is_reference_slot(slot) || input.is_some()
+    !slot.is_reference() || input.is_some()
 }
 
 /// The number of the first number without an int.
@@ -209,7 +201,7 @@ fn is_reference_at(wanted: &[Slot], n: u32) -> bool
     ensures { result ≡ is_reference_at wanted.now n }
 {
     match wanted.get(n as usize) {
-        Some(slot) => is_reference_slot(*slot),
+        Some(slot) => slot.is_reference(),
         None => false,
     }
 }
@@ -309,10 +301,7 @@ fn described(
     }
 }
 
-/// The most inputs that a description speaks of: each is an id of abstract states, which have at most as many.
-const MOST_INPUTS: usize = 512;
-
-/// A description of inputs all of which are there.
+/// A description of inputs all of which are there. Each is an id of abstract states, so there are at most `MOST_IDS`.
 #[tactic(auto, using(crate::proofs::GoodDescs::few_made))]
 fn made(
     alloc: Global,
@@ -323,7 +312,7 @@ fn made(
     requires { IsTrue (list_all is_some found) }
     ensures { IsMemoryOr result (λ desc. IsMade found same share desc) }
 {
-    if found.len() > MOST_INPUTS {
+    if found.len() > MOST_IDS {
         return Err(DescFault::Memory);
     }
     Ok(Desc {

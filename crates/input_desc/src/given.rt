@@ -1,10 +1,10 @@
 //! What a program asks for.
 ghost use Rattle.std.specs.Prelude.{◌≡◌, IfOk, map};
 ghost use Rattle.class_program.specs.Views.{program_of};
-ghost use Rattle.input_desc.specs.Given.{argument_slot, field_slot, initial_value, slots_of, statics_of, static_values};
+ghost use Rattle.input_desc.specs.Given.{argument_slot, field_slot, slots_of, statics_of, static_values};
 
 use class_program::{Program, StaticField};
-use jvm_values::{Kind, Slot, Value};
+use jvm_values::{Kind, Slot, Value, initial_values};
 use list_views::Seq;
 use std::alloc::{AllocError, Global};
 
@@ -53,27 +53,6 @@ pub fn inputs(alloc: Global, program: &Program<'_>) -> Result<Seq<Slot>, AllocEr
     let fields = field_slots(alloc, program.statics.as_slice())?;
     slots.extend_from_slice(fields.as_slice())?;
     Ok(slots)
-}
-
-/// What a static field holds that nothing was said of.
-fn initial_value(slot: Slot) -> Value
-    ensures { result ≡ initial_value slot }
-{
-    match slot {
-        Slot::Num(_) => Value::Int(0),
-        Slot::Ref(_) => Value::Null,
-    }
-}
-
-/// The values of static fields of which nothing was said.
-fn initial_values(alloc: Global, slots: &[Slot]) -> Result<Seq<Value>, AllocError>
-    ensures { IfOk result (λ values. values ≡ map initial_value slots.now) }
-{
-    let mut values = Seq::new(alloc);
-    for slot in slots {
-        values.push(initial_value(*slot))?;
-    }
-    Ok(values)
 }
 
 /// The values of the static fields: those that are given, or the initial ones.

@@ -17,6 +17,7 @@ use Rattle.jvm_values.specs.declared.shape.Shape.{Shape}
 use Rattle.jvm_values.specs.declared.types.Kind.{Kind}
 use Rattle.jvm_values.specs.declared.types.Kind.TheVariants as kinds
 use Rattle.jvm_values.specs.Kinds.{least_of, greatest_of, IsOfKind}
+use Rattle.jvm_values.specs.Slots.{is_reference_slot}
 use Rattle.jvm_values.specs.Subtyping.{IsReference, IsErased}
 use Rattle.jvm_values.proofs.Ranges.{kind_ints}
 use Rattle.class_world.specs.World.{World}
@@ -34,7 +35,7 @@ use Rattle.input_desc.specs.declared.desc.Input.{Input}
 use Rattle.input_desc.specs.declared.desc.Input.TheVariants.{Int, Ref}
 use Rattle.input_desc.specs.declared.desc.Desc.{Desc}
 use Rattle.input_desc.specs.Given.{params_of, statics_of, argument_slot, slots_of}
-use Rattle.input_desc.specs.Pairs.{is_reference_slot, is_reference_at, is_pair}
+use Rattle.input_desc.specs.Pairs.{is_reference_at, is_pair}
 use Rattle.input_desc.specs.Descs.{input_of, inputs_from, IsGoodDesc, IsOwnDesc}
 use Rattle.input_desc.specs.Initial.{cell_of, cells_from, are_alike, locals_of, given_from, initial_locals, initial_of}
 use Rattle.input_desc.proofs.GoodDescs.{pairs_are}

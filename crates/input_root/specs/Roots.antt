@@ -8,6 +8,7 @@ use Rattle.class_world.specs.WorldTypes.{types_of}
 use Rattle.class_program.specs.Programs.{Program, IsClosed}
 use Rattle.abs_cells.specs.Fits.{Meaning, Fits}
 use Rattle.abs_cells.specs.Sound.{IsSound}
+use Rattle.abs_cells.specs.Limits.{most_ids}
 use Rattle.frame_types.specs.Tables.{CodeTypes}
 use Rattle.code_verify.specs.Typings.{IsTypingOf}
 use Rattle.code_verify.specs.TypedStates.{IsTypedState}
@@ -41,4 +42,4 @@ RootsAreSound = (p : Program) (desc : Desc) → IsClosed p → IsOwnDesc p desc 
 
 -- It has at most as many ids as an abstract state may have.
 abbrev pub RootsHaveFewIds : Type 0
-RootsHaveFewIds = (p : Program) (desc : Desc) → IsOwnDesc p desc → length (initial_of p desc).cells ≤ 512
+RootsHaveFewIds = (p : Program) (desc : Desc) → IsOwnDesc p desc → length (initial_of p desc).cells ≤ most_ids

@@ -1,5 +1,5 @@
-pub mod Classes
-pub mod Lines
-pub mod Programs
 pub mod Steps
 pub mod Texts
+pub mod Classes
+pub mod Programs
+pub mod Lines

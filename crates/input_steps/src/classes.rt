@@ -4,6 +4,7 @@ ghost use Rattle.std.specs.List.{AllByRecursion};
 ghost use Rattle.class_read.specs.Rules.{Spells};
 ghost use Rattle.class_world.specs.Worlds.{classes_of};
 ghost use Rattle.class_world.specs.Linking.{CanBeRead};
+ghost use Rattle.class_base.specs.Limits.{most_classes};
 ghost use Rattle.input_steps.specs.Steps.{IsCaused};
 ghost use Rattle.input_steps.specs.Classes.{AllSpell, RefusesClasses, IsWorldOf, RefusesWorld, RefusesFile, class_refusal};
 
@@ -42,7 +43,7 @@ fn read_class(alloc: Global, number: u32, file: &[u8]) -> Result<ClassView<'_>, 
 ///
 /// The first file that spells no class, with its first fault; want of memory.
 pub fn read_classes<'a>(alloc: Global, files: &'a [Vec<u8>]) -> Result<Vec<ClassView<'a>>, Refused>
-    requires { length files.now ≤ 256 }
+    requires { length files.now ≤ most_classes }
     ensures classes { IfOk result (λ classes. AllSpell (map (λ file. file.items) files.now) classes.items) }
     ensures refused { IfErr result (IsCaused (RefusesClasses (map (λ file. file.items) files.now))) }
 {
@@ -63,7 +64,7 @@ pub fn read_classes<'a>(alloc: Global, files: &'a [Vec<u8>]) -> Result<Vec<Class
 /// At `Link` the first rule that they break as a world; want of memory.
 #[tactic(auto, using(crate::proofs::Causes::at_world))]
 pub fn link<'a>(alloc: Global, classes: Vec<ClassView<'a>>) -> Result<World<'a>, Refused>
-    requires few { length classes.items ≤ 256 }
+    requires few { length classes.items ≤ most_classes }
     requires read { AllByRecursion CanBeRead classes.items }
     ensures world { IfOk result (λ world. IsWorldOf classes.entry.items (classes_of world)) }
     ensures refused { IfErr result (IsCaused (RefusesWorld classes.entry.items)) }

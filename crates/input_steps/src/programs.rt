@@ -1,20 +1,18 @@
 //! The program of an entry, its calls and its types.
-ghost use Rattle.std.specs.Prelude.{◌≡◌, ◌<◌, length, IfOk, IfErr, IsTrue};
+ghost use Rattle.std.specs.Prelude.{IfOk, IfErr, IsTrue};
 ghost use Rattle.class_world.specs.Resolve.{has_body};
 ghost use Rattle.class_world.specs.Worlds.{classes_of};
 ghost use Rattle.class_program.specs.Views.{program_of};
-ghost use Rattle.call_graph.specs.Calls.{IsNameOf};
 ghost use Rattle.code_verify.specs.Typings.{IsTypingOf, typing_at};
 ghost use Rattle.input_steps.specs.Steps.{IsCaused};
 ghost use Rattle.input_steps.specs.Programs.{IsProgramOf, RefusesProgram, IsAcyclic, RefusesCalls, RefusesTypes};
 
 use crate::refused::{Fault, Place, Refused};
-use call_graph::{CallFault, acyclic};
+use call_graph::{CallFault, acyclic, method_name};
 use class_program::Program;
-use class_world::{LinkFault, MethodName, MethodRef, World};
+use class_world::{LinkFault, MethodRef, World};
 use code_verify::{Typing, VerifyFault, verify};
-use list_views::Seq;
-use std::alloc::{AllocError, Global};
+use std::alloc::Global;
 
 /// The program of an entry that has a body.
 ///
@@ -58,19 +56,6 @@ pub fn test_calls(alloc: Global, program: &Program<'_>) -> Result<(), Refused>
             fault: Fault::Call(CallFault::Recursive { method }),
         }),
     }
-}
-
-/// The name of the method of a number.
-fn method_name(alloc: Global, program: &Program<'_>, number: u32) -> Result<MethodName, AllocError>
-    requires { number < length program.now.methods }
-    ensures { IfOk result (λ name. IsNameOf (program_of program.now) number name) }
-{
-    program.is_good();
-    let method = program.methods.at(number as usize);
-    let class = Seq::from_slice(alloc, program.world.name_of(method.class))?;
-    let name = Seq::from_slice(alloc, method.name.as_slice())?;
-    let desc = Seq::from_slice(alloc, method.desc.as_slice())?;
-    Ok(MethodName { class, name, desc })
 }
 
 /// The least typing of each method of a program.

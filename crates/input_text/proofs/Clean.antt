@@ -52,15 +52,11 @@ firsts place (Some a) b = tt
 firsts place None (Some b) = tt
 firsts place None None = tt
 
-only_by : (names place : List ℕ) (found : Option Members) → IsClean (ok_or found (WrongKind place) >>= λ members. first_fault (option_map (unknown_field place) (least_unlisted names members)) (option_map (missing_field place) (first_missing names members)))
-only_by names place (Some members) = firsts place (least_unlisted names members) (first_missing names members)
-only_by names place None = tt
-
 only : (names : List ℕ) (here : Located) → IsClean (only_of names here)
 unfolding only_of
 only names here = at (as_object here.value)
   where
-    at : (found : Option Members) → IsClean (Rattle.json_view.specs.Reading.result_and_then (λ members. first_fault (option_map (unknown_field here.place) (least_unlisted names members)) (option_map (missing_field here.place) (first_missing names members))) (ok_or found (WrongKind here.place)))
+    at : (found : Option Members) → IsClean (ok_or found (WrongKind here.place) >>= λ members. first_fault (option_map (unknown_field here.place) (least_unlisted names members)) (option_map (missing_field here.place) (first_missing names members)))
     at (Some members) = firsts here.place (least_unlisted names members) (first_missing names members)
     at None = tt
 
@@ -68,7 +64,7 @@ field_is : (name : List ℕ) (here : Located) → IsClean (field_of name here)
 unfolding field_of
 field_is name here = at (as_object here.value)
   where
-    at : (found : Option Members) → IsClean (Rattle.json_view.specs.Reading.result_and_then (λ members. ok_or (option_map (at_member here.place name) (get_member name members)) (missing_field here.place name)) (ok_or found (WrongKind here.place)))
+    at : (found : Option Members) → IsClean (ok_or found (WrongKind here.place) >>= λ members. ok_or (option_map (at_member here.place name) (get_member name members)) (missing_field here.place name))
     at (Some members) = kinds (option_map (at_member here.place name) (get_member name members)) (missing_field here.place name) tt
     at None = tt
 
@@ -80,7 +76,7 @@ int : (low high : ℤ) (here : Located) → IsClean (int_of low high here)
 unfolding int_of
 int low high here = at (whole_number_of here.value)
   where
-    at : (found : Option ℤ) → IsClean (Rattle.json_view.specs.Reading.result_and_then (within here.place low high) (ok_or found (WrongKind here.place)))
+    at : (found : Option ℤ) → IsClean (ok_or found (WrongKind here.place) >>= within here.place low high)
     at (Some n) = choice (int_le low n && int_le n high) (Ok n) (Err (OutOfRange here.place)) tt tt
     at None = tt
 

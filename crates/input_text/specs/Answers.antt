@@ -1,5 +1,6 @@
 -- What a reader of a JSON text answers: what the text says, or the first fault, or want of memory.
-use Rattle.std.specs.Prelude.{◌≡◌, ℕ, List, Result, Ok, Err}
+use Rattle.std.specs.Prelude.{◌≡◌, ℕ, Bool, true, false, List, Result, Ok, Err}
+use Rattle.list_views.specs.Results as results
 use Rattle.serde_json.specs.Data.{Data}
 use Rattle.json_view.specs.Answers.{Reads}
 use Rattle.json_view.specs.Located.{Located, root_of}
@@ -12,11 +13,14 @@ use Rattle.input_text.specs.declared.fault.DescFault.TheVariants.{Json, Memory}
 abbrev pub Reader : Type 0 → Type 0
 Reader A = Located → Result A JsonFault
 
+-- want of memory
+abbrev pub is_memory : JsonFault → Bool
+is_memory json.Memory = true
+is_memory fault = false
+
 -- the answer is what is said; want of memory may stand in its place
 abbrev pub Says : {A : Type 0} → Result A JsonFault → Result A JsonFault → Type 0
-Says (Ok value) said = said ≡ Ok value
-Says (Err json.Memory) said = Unit {0}
-Says (Err fault) said = said ≡ Err fault
+Says answer said = results.Gives is_memory (λ value. value) answer said
 
 -- a fault of JSON as a fault of descriptions
 abbrev pub described : JsonFault → DescFault

@@ -1,16 +1,12 @@
 -- Readers of JSON values, one after another: the first fault stands for all.
-use Rattle.std.specs.Prelude.{ℕ, suc, ℤ, pos, negsuc, nat_abs, List, [], ◌∷◌, codes, Result, Ok, Err}
+use Rattle.std.specs.Prelude.{ℕ, suc, ℤ, pos, negsuc, nat_abs, List, [], ◌∷◌, codes, Result, Ok}
+pub use Rattle.list_views.specs.Results.{◌>>=◌}
 use Rattle.serde_json.specs.Data.{Items, no_items, item}
 use Rattle.serde_json.specs.Find.{as_array}
 use Rattle.json_view.specs.Reading.{of_kind, field_of, at_item, int_of, text_of}
 use Rattle.json_view.specs.declared.fault.JsonFault.{JsonFault}
 use Rattle.input_text.specs.Answers.{Reader}
 use Rattle.input_text.specs.declared.texts.EntryName.{EntryName}
-
-infixl 10 ◌>>=◌
-abbrev pub ◌>>=◌ : {A B : Type 0} → Result A JsonFault → (A → Result B JsonFault) → Result B JsonFault
-(Ok value) >>= next = next value
-(Err fault) >>= next = Err fault
 
 -- what a reader says of an object's field
 unfoldable pub field : {A : Type 0} → List ℕ → Reader A → Reader A

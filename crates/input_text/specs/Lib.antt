@@ -1,8 +1,8 @@
 pub mod Answers
-pub mod Descriptions
 pub mod Fields
-pub mod Faults
 pub mod Inputs
+pub mod Descriptions
+pub mod Values
 pub mod Objects
 pub mod States
-pub mod Values
+pub mod Faults

@@ -1,2 +1,2 @@
-pub mod Increments
 pub mod Laws
+pub mod Increments

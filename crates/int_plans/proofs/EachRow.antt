@@ -17,7 +17,7 @@ use Rattle.abs_ints.specs.Comparing.{standing_so, exchanged, row_of, related, bo
 use Rattle.abs_ints.specs.Divisions.{divisors_of, are_positive, zero_case, quotients_of, single_divisor_rows, quotient_rows, remainders_of, dividend_rows, remainder_rows}
 use Rattle.abs_ints.specs.Narrowings.{are_of_kind}
 use Rattle.abs_ints.specs.Operating.{single_case, single_or, operated}
-use Rattle.abs_ints.specs.Parts.{all_ints, just, is_single, meet_of, sum_of, difference_of, hull_of, multiples_of, are_ints, ints_or_all}
+use Rattle.abs_ints.specs.IntIntervals.{all_ints, just, is_single, meet_of, sum_of, difference_of, hull_of, multiples_of, are_ints, ints_or_all}
 use Rattle.abs_ints.specs.Products.{times_left, times_right, factor_rows, product_rows}
 use Rattle.abs_ints.specs.Shifts.{power_of, shifted_left_rows, shifted_right_by, shifted_right, shifted_right_rows, shift_right_case, zeros_case, shift_zeros_case}
 use Rattle.abs_ints.specs.Sums.{reached_by, wrapped_by, sum_row, difference_row, sum_case, difference_case}

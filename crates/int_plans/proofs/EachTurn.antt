@@ -14,7 +14,7 @@ use Rattle.jvm_values.specs.States.{PlaceTypes}
 use Rattle.abs_cells.specs.declared.cells.Cell.{Cell}
 use Rattle.abs_cells.specs.declared.cells.Cell.TheVariants as cells
 use Rattle.abs_cells.specs.AbstractStates.{AbstractFrame, AbstractState}
-use Rattle.abs_ints.specs.Parts.{meet_of}
+use Rattle.abs_ints.specs.IntIntervals.{meet_of}
 use Rattle.abs_ints.specs.Comparing.{compared}
 use Rattle.abs_ints.specs.Operating.{operated}
 use Rattle.abs_ints.specs.declared.cases.IntCase.{IntCase}

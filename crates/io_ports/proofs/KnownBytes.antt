@@ -5,19 +5,6 @@ use Rattle.std.proofs.KnownBytes.{Appends-trans}
 use Rattle.std.specs.declared.option.Option.{Option}
 use Rattle.std.specs.Io.KnownBytes.{Appends, Consumes, IsAtEnd}
 
--- a reader at its end gave all that it had
-pub all_consumed : (a b : Option (List ℕ)) (bytes : List ℕ) → Consumes a b bytes → IsAtEnd b → IfSome a (λ all. bytes ≡ all)
-all_consumed None b bytes consumed end = tt
-all_consumed (Some all) None bytes consumed end = absurd consumed
-all_consumed (Some all) (Some rest) bytes consumed end = sym (consumed ∙ ap (λ l. bytes ++ l) end ∙ append-nil bytes)
-
--- what it had is no shorter than what it gave
-pub no_shorter : (a b : Option (List ℕ)) (bytes : List ℕ) (limit : ℕ) → Consumes a b bytes → limit < length bytes → IfSome a (λ all. limit < length all)
-no_shorter None b bytes limit consumed longer = tt
-no_shorter (Some all) None bytes limit consumed longer = absurd consumed
-no_shorter (Some all) (Some rest) bytes limit consumed longer =
-    omega (arith, ap length consumed, length-append bytes rest)
-
 -- a writer that had taken the first bytes took so many of the rest
 pub more_taken : (a b c : Option (List ℕ)) (bytes : List ℕ) (done count : ℕ) → Appends a b (take done bytes)
     → Appends b c (take count (take (length bytes - done) (drop done bytes))) → Appends a c (take (done + count) bytes)

@@ -1,5 +1,5 @@
--- How a read ends.
-use Rattle.std.specs.Prelude.{Bool, true, false, Result, Ok, Err}
+-- How a read ends, and the names of faults.
+use Rattle.std.specs.Prelude.{ℕ, List, Bool, true, false, Result, Ok, Err, codes}
 use Rattle.io_ports.specs.declared.files.FileFault.{FileFault}
 use Rattle.io_ports.specs.declared.files.FileFault.TheVariants.{Failed, TooLong, Missing, Memory}
 
@@ -10,3 +10,10 @@ has_failed (Err Failed) = true
 has_failed (Err TooLong) = false
 has_failed (Err Missing) = false
 has_failed (Err Memory) = false
+
+-- the fault's name, by which a line of errors says it
+abbrev pub fault_name : FileFault → List ℕ
+fault_name Failed = codes "Failed"
+fault_name TooLong = codes "TooLong"
+fault_name Missing = codes "Missing"
+fault_name Memory = codes "Memory"

@@ -1,6 +1,6 @@
 pub mod Count
 pub mod FileFault
+pub mod Told
+pub mod Taken
 pub mod MemoryFiles
 pub mod MemorySink
-pub mod Taken
-pub mod Told

@@ -1,6 +1,7 @@
 //! Files that are read whole, by name.
 ghost use Rattle.std.specs.Prelude.{◌≡◌, ◌≤◌, ◌^◌, ℕ, List, length, IfOk, IsOk, IsErrOf};
 ghost use Rattle.io_ports.specs.Count.{Rose};
+ghost use Rattle.io_ports.specs.FileFault.{fault_name};
 ghost use Rattle.io_ports.specs.Told.{Told, IsContent, IsPastLimit, IsNotHeld};
 ghost use Rattle.io_ports.specs.declared.files.FileFault.TheVariants.{Memory};
 
@@ -22,6 +23,20 @@ pub enum FileFault {
     /// Memory ran out.
     #[error("out of memory")]
     Memory,
+}
+
+impl FileFault {
+    /// The fault's name, by which a line of errors says it.
+    pub fn name(&self) -> &'static [u8]
+        ensures { result.now ≡ fault_name self.now }
+    {
+        match self {
+            FileFault::Failed => b"Failed",
+            FileFault::TooLong => b"TooLong",
+            FileFault::Missing => b"Missing",
+            FileFault::Memory => b"Memory",
+        }
+    }
 }
 
 impl From<AllocError> for FileFault {

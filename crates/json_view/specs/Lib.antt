@@ -1,7 +1,7 @@
-pub mod Answers
-pub mod Leads
+pub mod Place
 pub mod Located
 pub mod Names
-pub mod Place
 pub mod Reading
+pub mod Answers
+pub mod Leads
 pub mod Faults

@@ -4,6 +4,7 @@ use Rattle.std.specs.Option.{ok_or, option_map_or}
 use Rattle.serde_json.specs.Data.{Data}
 use Rattle.serde_json.specs.Events.{items_len}
 use Rattle.serde_json.specs.Find.{get_member, at, as_object, as_array, as_number, as_integer, as_str, as_bool}
+use Rattle.list_views.specs.Results.{◌>>=◌}
 use Rattle.json_view.specs.Located.{Located}
 use Rattle.json_view.specs.Names.{least_unlisted, first_missing}
 use Rattle.json_view.specs.Place.{member_pointer, item_pointer}
@@ -13,10 +14,6 @@ use Rattle.json_view.specs.declared.fault.JsonFault.TheVariants.{WrongKind, Miss
 -- the value, if it is of the kind asked for
 abbrev pub of_kind : {A : Type 0} → (Data → Option A) → Located → Result A JsonFault
 of_kind as_kind here = ok_or (as_kind here.value) (WrongKind here.place)
-
-abbrev pub result_and_then : {A B E : Type 0} → (A → Result B E) → Result A E → Result B E
-result_and_then f (Ok a) = f a
-result_and_then f (Err e) = Err e
 
 -- the first of two faults that is there, or a good answer
 abbrev pub first_fault : Option JsonFault → Option JsonFault → Result (Unit {0}) JsonFault
@@ -32,7 +29,7 @@ missing_field place name = MissingField (member_pointer place name)
 
 -- An object with exactly the listed members: the least unlisted name is a fault, and then the first missing one.
 unfoldable pub only_of : List ℕ → Located → Result (Unit {0}) JsonFault
-only_of names here = result_and_then (λ members. first_fault (option_map (unknown_field here.place) (least_unlisted names members)) (option_map (missing_field here.place) (first_missing names members))) (of_kind as_object here)
+only_of names here = of_kind as_object here >>= λ members. first_fault (option_map (unknown_field here.place) (least_unlisted names members)) (option_map (missing_field here.place) (first_missing names members))
 
 -- a member's value with its place
 abbrev pub at_member : List ℕ → List ℕ → Data → Located
@@ -40,7 +37,7 @@ at_member place name value = record { value = value; place = member_pointer plac
 
 -- the value of an object's member
 unfoldable pub field_of : List ℕ → Located → Result Located JsonFault
-field_of name here = result_and_then (λ members. ok_or (option_map (at_member here.place name) (get_member name members)) (missing_field here.place name)) (of_kind as_object here)
+field_of name here = of_kind as_object here >>= λ members. ok_or (option_map (at_member here.place name) (get_member name members)) (missing_field here.place name)
 
 -- whether the value is an object that has the member
 abbrev pub has_field : List ℕ → Located → Bool
@@ -72,7 +69,7 @@ within place low high number = if int_le low number && int_le number high then O
 
 -- a whole number from `low` to `high`
 unfoldable pub int_of : ℤ → ℤ → Located → Result ℤ JsonFault
-int_of low high here = result_and_then (within here.place low high) (of_kind whole_number_of here)
+int_of low high here = of_kind whole_number_of here >>= within here.place low high
 
 -- the bytes of a string's text
 unfoldable pub text_of : Located → Result (List ℕ) JsonFault

@@ -6,12 +6,12 @@ use Rattle.jterm.specs.declared.verdict.Verdict.{Verdict}
 use Rattle.input_steps.specs.declared.refused.Place.{Place}
 use Rattle.input_steps.specs.declared.refused.Fault.{Fault}
 use Rattle.input_steps.specs.declared.refused.Refused.TheVariants.{At}
-use Rattle.jterm.specs.declared.inputs.Stop.TheVariants.{Broken}
+use Rattle.jterm.specs.declared.inputs.Failure.TheVariants.{Broken}
 use Rattle.jterm.specs.declared.verdict.Request.TheVariants.{Prove, Check, Run, Asm}
 use Rattle.jterm.specs.Decision.{Takes, IsAnswer}
 use Rattle.jterm.specs.Outside.{AreContents}
 use Rattle.jterm.specs.Words.{Limits, IsCommand}
-use Rattle.jterm.specs.Stop.{AreOfCommand, IsTrueProof, IsTrueCheck, IsAnswered, HasCause}
+use Rattle.jterm.specs.Failure.{AreOfCommand, IsTrueProof, IsTrueCheck, IsAnswered, HasCause}
 use Rattle.jterm.proofs.ReadingOrder.{contents_length}
 use Rattle.jterm.proofs.Checking.{judged_low}
 use Rattle.jterm.proofs.Proving.{proved_low}

@@ -14,8 +14,8 @@ use Rattle.check_call.specs.Lines.{accepted_line}
 use Rattle.jterm.specs.declared.verdict.Request.{Request}
 use Rattle.jterm.specs.declared.verdict.Request.TheVariants.{Prove, Check, Run, Asm}
 use Rattle.jterm.specs.declared.verdict.Verdict.{Verdict}
-use Rattle.jterm.specs.Decision.{Takes, Says, verdict_of_prove, Proved, done_of, Done, verdict_of, IsAnswer}
-use Rattle.jterm.proofs.Proving.{proved_true}
+use Rattle.jterm.specs.Decision.{Takes, Says, Proved, done_of, Done, verdict_of, IsAnswer}
+use Rattle.jterm.proofs.Proving.{verdict_of_prove, proved_true}
 use Rattle.jterm.proofs.Checking.{judged_with, accepted_true}
 
 -- ---- outputs

@@ -9,8 +9,8 @@ use Rattle.io_ports.specs.Told.{Told, IsContent, IsPastLimit, IsNotHeld}
 use Rattle.io_ports.specs.Told.Told.{Content}
 use Rattle.io_ports.specs.declared.files.FileFault.{FileFault}
 use Rattle.io_ports.specs.declared.files.FileFault.TheVariants.{Failed, TooLong, Missing, Memory}
-use Rattle.jterm.specs.declared.inputs.Stop.{Stop}
-use Rattle.jterm.specs.declared.inputs.Stop.TheVariants.{Unread, Broken, NoMemory}
+use Rattle.jterm.specs.declared.inputs.Failure.{Failure}
+use Rattle.jterm.specs.declared.inputs.Failure.TheVariants.{Unread, Broken, NoMemory}
 use Rattle.jterm.specs.declared.verdict.Request.{Request}
 use Rattle.jterm.specs.declared.verdict.Request.TheVariants.{Prove, Check, Run, Asm}
 use Rattle.jterm.specs.declared.verdict.Verdict.{Verdict}
@@ -30,7 +30,7 @@ use Rattle.jterm.specs.Decision.{Says, not_proved_for, accepted, refused_at, IsA
 use Rattle.jterm.specs.Laws.{AreAlike}
 use Rattle.desc_steps.specs.Headline.{AllEnd}
 use Rattle.jterm.specs.Outside.{AreTold, AreContents, AreWithin, AreHanded, IsUnread, ReadFails, Decided, Claims, IsWritten, file_limits, behind}
-use Rattle.jterm.specs.Stop.{IsAnswered, HasCause, HasLine, status_of, line_of}
+use Rattle.jterm.specs.Failure.{IsAnswered, HasCause, HasLine, status_of, line_of}
 use Rattle.jterm.proofs.OneAnswer.{answers_one}
 use Rattle.jterm.proofs.Checking.{judged_refused, judged_not_one}
 use Rattle.jterm.proofs.Proving.{proved_low, unproved, reason_kept, certifies}
@@ -44,47 +44,47 @@ unclaimed line taken sink status some more claims = elim claims [
       omega (arith, some, ap length e, length-append (put.0 ++ line) put.1, length-append put.0 line)
 ]
 
--- what `report` says of a stop
-abbrev pub Reports : (List ℕ → Type 0) → Stop → ℕ → Type 0
-Reports Puts stop status = ((status ≡ status_of stop) × HasLine stop × Puts (line_of stop)) ⊎ ((status ≡ 7) × Puts memory_line)
+-- what `report` says of a failure
+abbrev pub Reports : (List ℕ → Type 0) → Failure → ℕ → Type 0
+Reports Puts failure status = ((status ≡ status_of failure) × HasLine failure × Puts (line_of failure)) ⊎ ((status ≡ 7) × Puts memory_line)
 
 -- status 3 comes where the input is refused
-pub refused : {F : Type 0} (held : F → List ℕ → Told) (faults : F → ℕ) (leaves : F → List ℕ → F → Type 0) (words : List (List ℕ)) (request : Request) (names : List (List ℕ)) (old new : F) (stop : Stop) (status : ℕ) (Puts : List ℕ → Type 0)
-    → IsCommand words request names → HasCause held faults leaves (file_limits request) request names old new stop → Reports Puts stop status
+pub refused : {F : Type 0} (held : F → List ℕ → Told) (faults : F → ℕ) (leaves : F → List ℕ → F → Type 0) (words : List (List ℕ)) (request : Request) (names : List (List ℕ)) (old new : F) (failure : Failure) (status : ℕ) (Puts : List ℕ → Type 0)
+    → IsCommand words request names → HasCause held faults leaves (file_limits request) request names old new failure → Reports Puts failure status
     → status ≡ 3 → (place : Place) × (fault : Fault) × Decided words (held old) (Err (At place fault)) × Puts (refusal_line place fault)
 refused held faults leaves words request names old new (Unread name fault) status Puts command cause (inl said) three = absurd (omega (arith, said.0, three))
 refused held faults leaves words request names old new (Broken place fault) status Puts command cause (inl said) three =
     (place, fault, record { request = request; names = names; is_command = command; contents = cause.0; read = cause.1; answer = cause.2 }, said.2)
 refused held faults leaves words request names old new NoMemory status Puts command cause (inl said) three = absurd said.1
-refused held faults leaves words request names old new stop status Puts command cause (inr said) three = absurd (omega (arith, said.0, three))
+refused held faults leaves words request names old new failure status Puts command cause (inr said) three = absurd (omega (arith, said.0, three))
 
 -- status 5 comes where a file was not read
-pub unread : {F : Type 0} (held : F → List ℕ → Told) (faults : F → ℕ) (leaves : F → List ℕ → F → Type 0) (words : List (List ℕ)) (request : Request) (names : List (List ℕ)) (old new : F) (stop : Stop) (status : ℕ) (Puts : List ℕ → Type 0)
-    → IsCommand words request names → HasCause held faults leaves (file_limits request) request names old new stop → Reports Puts stop status
+pub unread : {F : Type 0} (held : F → List ℕ → Told) (faults : F → ℕ) (leaves : F → List ℕ → F → Type 0) (words : List (List ℕ)) (request : Request) (names : List (List ℕ)) (old new : F) (failure : Failure) (status : ℕ) (Puts : List ℕ → Type 0)
+    → IsCommand words request names → HasCause held faults leaves (file_limits request) request names old new failure → Reports Puts failure status
     → status ≡ 5 → (request : Request) × (names : List (List ℕ)) × (name : List ℕ) × (fault : FileFault) × IsCommand words request names
     × IsUnread held faults leaves (file_limits request) names old new name fault × Puts (read_line name fault)
 unread held faults leaves words request names old new (Unread name fault) status Puts command cause (inl said) five = (request, names, name, fault, command, cause, said.2)
 unread held faults leaves words request names old new (Broken place fault) status Puts command cause (inl said) five = absurd (omega (arith, said.0, five))
 unread held faults leaves words request names old new NoMemory status Puts command cause (inl said) five = absurd said.1
-unread held faults leaves words request names old new stop status Puts command cause (inr said) five = absurd (omega (arith, said.0, five))
+unread held faults leaves words request names old new failure status Puts command cause (inr said) five = absurd (omega (arith, said.0, five))
 
 -- want of memory is said with status 7
-pub says_memory : (stop : Stop) (status : ℕ) (Puts : List ℕ → Type 0) → Reports Puts stop status → status ≡ 7 → Puts memory_line
+pub says_memory : (failure : Failure) (status : ℕ) (Puts : List ℕ → Type 0) → Reports Puts failure status → status ≡ 7 → Puts memory_line
 says_memory (Unread name fault) status Puts (inl said) seven = absurd (omega (arith, said.0, seven))
 says_memory (Broken place fault) status Puts (inl said) seven = absurd (omega (arith, said.0, seven))
 says_memory NoMemory status Puts (inl said) seven = absurd said.1
-says_memory stop status Puts (inr said) seven = said.1
+says_memory failure status Puts (inr said) seven = said.1
 
 -- a call whose words are a command does not end with 4
-pub not_four : (words : List (List ℕ)) (r : Request) (m : List (List ℕ)) (stop : Stop) (status : ℕ) (Puts : List ℕ → Type 0) → IsCommand words r m → Reports Puts stop status
+pub not_four : (words : List (List ℕ)) (r : Request) (m : List (List ℕ)) (failure : Failure) (status : ℕ) (Puts : List ℕ → Type 0) → IsCommand words r m → Reports Puts failure status
     → (status ≡ 4) ↔ ((request : Request) (names : List (List ℕ)) → IsCommand words request names → ⊥)
-not_four words r m stop status Puts command says = (λ four. absurd (never stop says four), λ none. absurd (none r m command))
+not_four words r m failure status Puts command says = (λ four. absurd (never failure says four), λ none. absurd (none r m command))
   where
-    never : (stop : Stop) → Reports Puts stop status → status ≡ 4 → ⊥
+    never : (failure : Failure) → Reports Puts failure status → status ≡ 4 → ⊥
     never (Unread name fault) (inl said) four = omega (arith, said.0, four)
     never (Broken place fault) (inl said) four = omega (arith, said.0, four)
     never NoMemory (inl said) four = said.1
-    never stop (inr said) four = omega (arith, said.0, four)
+    never failure (inr said) four = omega (arith, said.0, four)
 
 -- nor does one with a verdict
 pub done_is_no_usage : {P Q : Type 0} (words : List (List ℕ)) (r : Request) (m : List (List ℕ)) (own status : ℕ) → IsCommand words r m → own ≤ 2 → ((status ≡ own) × P) ⊎ ((status ≡ 6) × Q)
@@ -96,7 +96,7 @@ done_is_no_usage {P = P} {Q = Q} words r m own status command low line = (λ fou
     never (inr said) four = omega (arith, said.0, four)
 
 -- a call without a verdict ends with no status of a verdict
-pub not_low : (stop : Stop) (status : ℕ) (P Q R : Type 0) → ((status ≡ status_of stop) × P × Q) ⊎ ((status ≡ 7) × R) → status ≤ 2 → ⊥
+pub not_low : (failure : Failure) (status : ℕ) (P Q R : Type 0) → ((status ≡ status_of failure) × P × Q) ⊎ ((status ≡ 7) × R) → status ≤ 2 → ⊥
 not_low (Unread name fault) status P Q R says low = elim says [ inl said ↦ omega arith | inr said ↦ omega arith ]
 not_low (Broken place fault) status P Q R says low = elim says [ inl said ↦ omega arith | inr said ↦ omega arith ]
 not_low NoMemory status P Q R says low = elim says [ inl said ↦ omega arith | inr said ↦ omega arith ]
@@ -247,8 +247,8 @@ answered_written faults taken old new words r s m n told held given said status 
 answered_written faults taken old new words r s m n told held given said status command answered is (inr failed) handed none = absurd (none failed.1)
 
 -- and a call without a verdict for it wants memory
-pub unanswered : {F : Type 0} (held : F → List ℕ → Told) (faults : F → ℕ) (leaves : F → List ℕ → F → Type 0) (words : List (List ℕ)) (r s : Request) (m n told : List (List ℕ)) (old new : F) (stop : Stop) (status : ℕ) (Puts : List ℕ → Type 0) (R : Type 0)
-    → IsCommand words r m → HasCause held faults leaves (file_limits r) r m old new stop → Reports Puts stop status → AreHanded words (held old) s n told → IsUnrefused s told
+pub unanswered : {F : Type 0} (held : F → List ℕ → Told) (faults : F → ℕ) (leaves : F → List ℕ → F → Type 0) (words : List (List ℕ)) (r s : Request) (m n told : List (List ℕ)) (old new : F) (failure : Failure) (status : ℕ) (Puts : List ℕ → Type 0) (R : Type 0)
+    → IsCommand words r m → HasCause held faults leaves (file_limits r) r m old new failure → Reports Puts failure status → AreHanded words (held old) s n told → IsUnrefused s told
     → (Rose (faults old) (faults new) → ⊥) → R ⊎ (status ≡ 7)
 unanswered held faults leaves words r s m n told old new (Unread name fault) status Puts R command cause says handed good none =
     absurd (all_read held faults leaves words r s m n told old new name fault command cause handed none)
@@ -269,8 +269,8 @@ complete_written faults taken old new words r s m n told held given verdict stat
 complete_written faults taken old new words r s m n told held given verdict status command answered (inr failed) handed answer none = absurd (none failed.1)
 
 -- where the contents have a verdict, a call without one wants memory
-pub complete : {F : Type 0} (held : F → List ℕ → Told) (faults : F → ℕ) (leaves : F → List ℕ → F → Type 0) (words : List (List ℕ)) (r s : Request) (m n told : List (List ℕ)) (old new : F) (stop : Stop) (status : ℕ) (verdict : Verdict) (Puts : List ℕ → Type 0) (R : Type 0)
-    → IsCommand words r m → HasCause held faults leaves (file_limits r) r m old new stop → Reports Puts stop status → AreHanded words (held old) s n told → IsAnswer s told (Ok verdict)
+pub complete : {F : Type 0} (held : F → List ℕ → Told) (faults : F → ℕ) (leaves : F → List ℕ → F → Type 0) (words : List (List ℕ)) (r s : Request) (m n told : List (List ℕ)) (old new : F) (failure : Failure) (status : ℕ) (verdict : Verdict) (Puts : List ℕ → Type 0) (R : Type 0)
+    → IsCommand words r m → HasCause held faults leaves (file_limits r) r m old new failure → Reports Puts failure status → AreHanded words (held old) s n told → IsAnswer s told (Ok verdict)
     → (Rose (faults old) (faults new) → ⊥) → R ⊎ (status ≡ 7)
 complete held faults leaves words r s m n told old new (Unread name fault) status verdict Puts R command cause says handed answer none =
     absurd (all_read held faults leaves words r s m n told old new name fault command cause handed none)
@@ -291,8 +291,8 @@ at_is : (place : Place) (fault : Fault) (p : Place) (f : Fault) → At place fau
 at_is place fault p f e = (cc, cc)
 
 -- and is refused for it, or memory is wanting
-pub refuses : {F : Type 0} (held : F → List ℕ → Told) (faults : F → ℕ) (leaves : F → List ℕ → F → Type 0) (words : List (List ℕ)) (r s : Request) (m n told : List (List ℕ)) (old new : F) (stop : Stop) (status : ℕ) (p : Place) (f : Fault) (Puts : List ℕ → Type 0)
-    → IsCommand words r m → HasCause held faults leaves (file_limits r) r m old new stop → Reports Puts stop status → AreHanded words (held old) s n told → IsAnswer s told (Err (At p f))
+pub refuses : {F : Type 0} (held : F → List ℕ → Told) (faults : F → ℕ) (leaves : F → List ℕ → F → Type 0) (words : List (List ℕ)) (r s : Request) (m n told : List (List ℕ)) (old new : F) (failure : Failure) (status : ℕ) (p : Place) (f : Fault) (Puts : List ℕ → Type 0)
+    → IsCommand words r m → HasCause held faults leaves (file_limits r) r m old new failure → Reports Puts failure status → AreHanded words (held old) s n told → IsAnswer s told (Err (At p f))
     → (Rose (faults old) (faults new) → ⊥) → ((status ≡ 3) × Puts (refusal_line p f)) ⊎ (status ≡ 7)
 refuses held faults leaves words r s m n told old new (Unread name fault) status p f Puts command cause says handed answer none =
     absurd (all_read held faults leaves words r s m n told old new name fault command cause handed none)

@@ -6,7 +6,7 @@ use Rattle.std.specs.Str.Parse.{AllDigits, digits_value, ParsesUnsigned}
 use Rattle.std.proofs.lemmas.Bool.Decides.{nat_tests}
 use Rattle.std.proofs.lemmas.Fmt.{decimal_digit, first_decimal, parse-decimal, decimal-digits_value}
 use Rattle.std.proofs.lemmas.Str.Parse.{IsNumeralModel, numerals_by_value, tells_digits, parse_plain}
-use Rattle.jterm.specs.Stop.{is_plain}
+use Rattle.jterm.specs.Failure.{is_plain}
 use Rattle.jterm.specs.Words.{IsNumber}
 
 own : IsNumeralModel (AllDigits 10) (digits_value 10)

@@ -18,7 +18,7 @@ use Rattle.check_call.specs.Answers as check
 use Rattle.check_call.specs.Lines as lines
 use Rattle.check_call.specs.declared.outcome.Outcome.{Outcome}
 use Rattle.jterm.specs.declared.verdict.Verdict.{Verdict}
-use Rattle.jterm.specs.Decision.{Says, not_proved_for, verdict_of_prove, Proved}
+use Rattle.jterm.specs.Decision.{Says, not_proved_for, Proved}
 use Rattle.jterm.specs.Laws.{CertificatesAreAccepted}
 
 -- ---- the steps from files and a description to a program
@@ -150,6 +150,11 @@ pub certificate_accepted : CertificatesAreAccepted
 certificate_accepted nodes desc files verdict answer none =
     let is = certifies nodes desc files verdict answer none in
     (is.cert, is.out_is, (refl, is.accepted))
+
+-- the answer of `prove` as a verdict; or its refusal
+abbrev pub verdict_of_prove : Result Answer Refused → Result Verdict Refused
+verdict_of_prove (Ok answer) = Ok (record { status = answer.status; out = answer.out; reason = answer.reason })
+verdict_of_prove (Err refused) = Err refused
 
 -- what YES says
 pub proved_true : (nodes : ℕ) (desc : List ℕ) (files : List (List ℕ)) (answer : Result Answer Refused) (result : Result Verdict Refused) → result ≡ verdict_of_prove answer → prove.Answers nodes desc files answer → AllEndIfYes files desc answer

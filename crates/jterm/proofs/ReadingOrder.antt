@@ -7,7 +7,7 @@ use Rattle.io_ports.specs.declared.files.FileFault.{FileFault}
 use Rattle.io_ports.specs.declared.files.FileFault.TheVariants.{Failed, TooLong, Missing, Memory}
 use Rattle.jterm.specs.declared.verdict.Request.{Request}
 use Rattle.jterm.specs.Outside.{AreContents, AreRead, behind}
-use Rattle.jterm.specs.Stop.{HasCause, stopped_at}
+use Rattle.jterm.specs.Failure.{HasCause, failure_at}
 
 -- the first k + 1 words
 pub take_words_more : {A : Type 0} (f : A → List ℕ) (xs : List A) (k : ℕ) (x : A) (y : List ℕ) → k < length xs → x ≡ get_or xs k x → y ≡ f x
@@ -82,7 +82,7 @@ pub has_cause : {T F : Type 0} (held : F → List ℕ → Told) (faults : F → 
     → (IsErrOf {T = T} (Err fault) Missing → IsNotHeld (held between name))
     → (IsErrOf {T = T} (Err fault) TooLong → faults new ≡ faults between)
     → (IsErrOf {T = T} (Err fault) Missing → faults new ≡ faults between)
-    → HasCause held faults leaves limits request names old new (stopped_at name fault)
+    → HasCause held faults leaves limits request names old new (failure_at name fault)
 has_cause held faults leaves limits request names old between new place name contents Failed same stood named earlier led last failed too_long missing long_still missing_still =
     record { place = place; is_named = named; contents = contents; earlier = earlier; between = between; led = led; still = stood; last = last; cause = failed refl }
 has_cause held faults leaves limits request names old between new place name contents TooLong same stood named earlier led last failed too_long missing long_still missing_still =

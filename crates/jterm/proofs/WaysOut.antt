@@ -1,17 +1,17 @@
--- How a call ends, by its way out: words that are no command, a verdict, a stop.
+-- How a call ends, by its way out: words that are no command, a verdict, a failure.
 use Rattle.std.proofs.Common.{◌≡◌, ◌⊎◌, ◌≤◌, ℕ, List, Option, Some, None, refl, sym, ◌∙◌, subst, arith, inl, inr, IfSome}
 use Rattle.std.specs.Prelude.{IfNone}
 use Rattle.io_ports.specs.Told.{Told}
 use Rattle.jterm.specs.declared.top.Done.{Done}
-use Rattle.jterm.specs.declared.inputs.Stop.{Stop}
-use Rattle.jterm.specs.declared.inputs.Stop.TheVariants.{Unread, Broken, NoMemory}
+use Rattle.jterm.specs.declared.inputs.Failure.{Failure}
+use Rattle.jterm.specs.declared.inputs.Failure.TheVariants.{Unread, Broken, NoMemory}
 use Rattle.jterm.specs.declared.verdict.Request.{Request}
 use Rattle.jterm.specs.declared.verdict.Verdict.{Verdict}
 use Rattle.jterm.specs.Words.{IsCommand}
 use Rattle.jterm.specs.Lines.{usage_lines, write_line}
 use Rattle.jterm.specs.Outside.{FirstAreRead, Puts, IsWithoutVerdict, IsWritten, file_limits}
 use Rattle.jterm.specs.CallEnds.{Change, CallEnds}
-use Rattle.jterm.specs.Stop.{IsAnswered, HasCause}
+use Rattle.jterm.specs.Failure.{IsAnswered, HasCause}
 use Rattle.jterm.proofs.WordsLemmas.{commands_one}
 use Rattle.jterm.proofs.Endings as endings
 use Rattle.jterm.proofs.Endings.{Reports, not_low, not_four, done_is_no_usage}
@@ -95,58 +95,58 @@ with_verdict held faults leaves out_faults out_taken err_faults err_taken words 
       reads_nothing = λ four. absurd (done_is_not own.status result.status 4 answered.low line (omega arith) (λ e. omega (arith, e)) four);
     }
 
--- ---- a stop
+-- ---- a failure
 
 -- the statuses of a call that stopped
-abbrev IsOfStop : ℕ → Type 0
-IsOfStop status = (status ≡ 3) ⊎ (status ≡ 5) ⊎ (status ≡ 7)
+abbrev IsOfFailure : ℕ → Type 0
+IsOfFailure status = (status ≡ 3) ⊎ (status ≡ 5) ⊎ (status ≡ 7)
 
-of_stop : (stop : Stop) (status : ℕ) (Puts : List ℕ → Type 0) → Reports Puts stop status → IsOfStop status
-of_stop (Unread name fault) status Puts (inl said) = inr (inl said.0)
-of_stop (Broken place fault) status Puts (inl said) = inl said.0
-of_stop NoMemory status Puts (inl said) = absurd said.1
-of_stop stop status Puts (inr said) = inr (inr said.0)
+of_failure : (failure : Failure) (status : ℕ) (Puts : List ℕ → Type 0) → Reports Puts failure status → IsOfFailure status
+of_failure (Unread name fault) status Puts (inl said) = inr (inl said.0)
+of_failure (Broken place fault) status Puts (inl said) = inl said.0
+of_failure NoMemory status Puts (inl said) = absurd said.1
+of_failure failure status Puts (inr said) = inr (inr said.0)
 
 -- they are those of a call without a verdict
-stop_is_without : (status : ℕ) → IsOfStop status → IsWithoutVerdict status
-stop_is_without status (inl three) = inl three
-stop_is_without status (inr (inl five)) = inr (inr (inl five))
-stop_is_without status (inr (inr seven)) = inr (inr (inr seven))
+failure_is_without : (status : ℕ) → IsOfFailure status → IsWithoutVerdict status
+failure_is_without status (inl three) = inl three
+failure_is_without status (inr (inl five)) = inr (inr (inl five))
+failure_is_without status (inr (inr seven)) = inr (inr (inr seven))
 
 -- but for 4; and 6 is none
-stop_is_not : (status other : ℕ) → IsOfStop status → (other ≡ 3 → ⊥) → (other ≡ 5 → ⊥) → (other ≡ 7 → ⊥) → status ≡ other → ⊥
-stop_is_not status other (inl three) a b c is = a (sym is ∙ three)
-stop_is_not status other (inr (inl five)) a b c is = b (sym is ∙ five)
-stop_is_not status other (inr (inr seven)) a b c is = c (sym is ∙ seven)
+failure_is_not : (status other : ℕ) → IsOfFailure status → (other ≡ 3 → ⊥) → (other ≡ 5 → ⊥) → (other ≡ 7 → ⊥) → status ≡ other → ⊥
+failure_is_not status other (inl three) a b c is = a (sym is ∙ three)
+failure_is_not status other (inr (inl five)) a b c is = b (sym is ∙ five)
+failure_is_not status other (inr (inr seven)) a b c is = c (sym is ∙ seven)
 
 -- nothing is put but the line that says why
-pub stopped : {F O E : Type 0} (held : F → List ℕ → Told) (faults : F → ℕ) (leaves : F → List ℕ → F → Type 0) (out_faults : O → ℕ) (out_taken : O → Option (List ℕ)) (err_faults : E → ℕ) (err_taken : E → Option (List ℕ)) (words : List (List ℕ)) (files : Change F) (out : O) (err : Change E) (status : ℕ) (request : Request) (names : List (List ℕ)) (stop : Stop)
-    → IsCommand words request names → HasCause held faults leaves (file_limits request) request names files.old files.new stop → FirstAreRead leaves names files.old files.new
-    → Reports (Puts err_faults err_taken err.old err.new) stop status
+pub stopped : {F O E : Type 0} (held : F → List ℕ → Told) (faults : F → ℕ) (leaves : F → List ℕ → F → Type 0) (out_faults : O → ℕ) (out_taken : O → Option (List ℕ)) (err_faults : E → ℕ) (err_taken : E → Option (List ℕ)) (words : List (List ℕ)) (files : Change F) (out : O) (err : Change E) (status : ℕ) (request : Request) (names : List (List ℕ)) (failure : Failure)
+    → IsCommand words request names → HasCause held faults leaves (file_limits request) request names files.old files.new failure → FirstAreRead leaves names files.old files.new
+    → Reports (Puts err_faults err_taken err.old err.new) failure status
     → CallEnds held faults leaves out_faults out_taken err_faults err_taken words files (record { old = out; new = out }) err (record { status = status; verdict = None })
-stopped held faults leaves out_faults out_taken err_faults err_taken words files out err status request names stop command cause reads says =
+stopped held faults leaves out_faults out_taken err_faults err_taken words files out err status request names failure command cause reads says =
     let Says : List ℕ → Type 0 = Puts err_faults err_taken err.old err.new in
-    let of : IsOfStop status = of_stop stop status Says says in
+    let of : IsOfFailure status = of_failure failure status Says says in
     record {
-      certificate = λ d cs desc classes prove told none. absurd (not_low stop status _ _ _ says (omega (arith, none)));
+      certificate = λ d cs desc classes prove told none. absurd (not_low failure status _ _ _ says (omega (arith, none)));
       verdict = tt;
       written = tt;
-      silent = (stop_is_without status of, refl);
-      not_proved = λ one. absurd (not_low stop status _ _ _ says (omega (arith, one)));
-      not_accepted = λ two. absurd (not_low stop status _ _ _ says (omega (arith, two)));
-      refused = endings.refused held faults leaves words request names files.old files.new stop status Says command cause says;
-      usage = not_four words request names stop status Says command says;
-      says_usage = λ four. absurd (stop_is_not status 4 of (λ e. omega (arith, e)) (λ e. omega (arith, e)) (λ e. omega (arith, e)) four);
-      read = endings.unread held faults leaves words request names files.old files.new stop status Says command cause says;
-      write = λ six. absurd (stop_is_not status 6 of (λ e. omega (arith, e)) (λ e. omega (arith, e)) (λ e. omega (arith, e)) six);
-      says_memory = endings.says_memory stop status Says says;
-      says_nothing = λ low. absurd (not_low stop status _ _ _ says low);
+      silent = (failure_is_without status of, refl);
+      not_proved = λ one. absurd (not_low failure status _ _ _ says (omega (arith, one)));
+      not_accepted = λ two. absurd (not_low failure status _ _ _ says (omega (arith, two)));
+      refused = endings.refused held faults leaves words request names files.old files.new failure status Says command cause says;
+      usage = not_four words request names failure status Says command says;
+      says_usage = λ four. absurd (failure_is_not status 4 of (λ e. omega (arith, e)) (λ e. omega (arith, e)) (λ e. omega (arith, e)) four);
+      read = endings.unread held faults leaves words request names files.old files.new failure status Says command cause says;
+      write = λ six. absurd (failure_is_not status 6 of (λ e. omega (arith, e)) (λ e. omega (arith, e)) (λ e. omega (arith, e)) six);
+      says_memory = endings.says_memory failure status Says says;
+      says_nothing = λ low. absurd (not_low failure status _ _ _ says low);
       answered = λ s n told handed good read put.
-          endings.unanswered held faults leaves words request s names n told files.old files.new stop status Says _ command cause says handed good read;
+          endings.unanswered held faults leaves words request s names n told files.old files.new failure status Says _ command cause says handed good read;
       complete = λ s n told verdict handed answer read put.
-          endings.complete held faults leaves words request s names n told files.old files.new stop status verdict Says _ command cause says handed answer read;
+          endings.complete held faults leaves words request s names n told files.old files.new failure status verdict Says _ command cause says handed answer read;
       refuses = λ s n told place fault handed answer read.
-          endings.refuses held faults leaves words request s names n told files.old files.new stop status place fault Says command cause says handed answer read;
+          endings.refuses held faults leaves words request s names n told files.old files.new failure status place fault Says command cause says handed answer read;
       reads = λ s n there. names_read leaves words request s names n files.old files.new command reads there;
-      reads_nothing = λ four. absurd (stop_is_not status 4 of (λ e. omega (arith, e)) (λ e. omega (arith, e)) (λ e. omega (arith, e)) four);
+      reads_nothing = λ four. absurd (failure_is_not status 4 of (λ e. omega (arith, e)) (λ e. omega (arith, e)) (λ e. omega (arith, e)) four);
     }

@@ -5,7 +5,7 @@ use Rattle.std.specs.Prelude.{◌↔◌, not, codes, Option, Some, None, MatchOp
 use Rattle.std.specs.List.{list_all}
 use Rattle.jterm.specs.declared.verdict.Request.{Request}
 use Rattle.jterm.specs.declared.verdict.Request.TheVariants.{Prove, Check, Run, Asm}
-use Rattle.jterm.specs.Stop.{NamesLimit}
+use Rattle.jterm.specs.Failure.{NamesLimit}
 use Rattle.jterm.specs.Words.{is_file_word, AreFiles, AreCheckFiles, IsListing, IsNumber, IsLimit, Limits, IsFuel, IsProveRow, IsCheckRow, IsRunRow, IsAsmRow, IsCommand}
 use Rattle.std.specs.Cmp.Lexicographic.{bytes_decides}
 use Rattle.std.specs.Str.{bytes_eq}

@@ -4,6 +4,7 @@ use Rattle.std.specs.Io.KnownBytes.{Appends}
 use Rattle.io_ports.specs.Count.{Rose}
 use Rattle.io_ports.specs.Told.{Told}
 use Rattle.io_ports.specs.declared.files.FileFault.{FileFault}
+use Rattle.cert_form.specs.Limits.{most_certificate_bytes}
 use Rattle.jterm.specs.declared.top.Done.{Done}
 use Rattle.jterm.specs.declared.verdict.Request.{Request}
 use Rattle.jterm.specs.declared.verdict.Request.TheVariants.{Check}
@@ -34,7 +35,7 @@ pub record CallEnds {F O E : Type 0} (held : F → List ℕ → Told) (faults : 
   -- Where YES is said, a certificate stands behind it, which `check` accepts for the same files.
   pub certificate : (d : List ℕ) (cs : List (List ℕ)) (desc : List ℕ) (classes : List (List ℕ))
       → IsProve words d cs → AreTold (held files.old) (d ∷ cs) (desc ∷ classes) → result.status ≡ 0
-      → (cert : List ℕ) × (length cert ≤ 16777216) × IsAnswer Check (cert ∷ desc ∷ classes) (Ok accepted) × Appends (out_taken out.old) (out_taken out.new) (yes_text cert)
+      → (cert : List ℕ) × (length cert ≤ most_certificate_bytes) × IsAnswer Check (cert ∷ desc ∷ classes) (Ok accepted) × Appends (out_taken out.old) (out_taken out.new) (yes_text cert)
   -- A verdict is the answer for the contents of the files. Its output is written, or writing failed.
   pub verdict : IfSome result.verdict (λ v. Decided words (held files.old) (Ok v))
   pub written : IfSome result.verdict (λ v. IsWritten out_faults out_taken out.old out.new v result.status)

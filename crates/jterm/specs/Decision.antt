@@ -1,5 +1,5 @@
 -- What `decide` answers, and why.
-use Rattle.std.specs.Prelude.{◌≡◌, ◌⊎◌, ℕ, ◌≤◌, List, [], ◌∷◌, ◌++◌, length, Option, Some, None, Result, Ok, Err}
+use Rattle.std.specs.Prelude.{◌≡◌, ◌⊎◌, ℕ, ◌+◌, ◌≤◌, List, [], ◌∷◌, ◌++◌, length, Option, Some, None, Result, Ok, Err}
 use Rattle.abs_cells.specs.declared.packed.PackedPairs.{PackedPairs}
 use Rattle.asm_lines.specs.declared.fault.AsmFault.{AsmFault}
 use Rattle.asm_lines.specs.declared.fault.AsmFault.TheVariants as listings
@@ -18,15 +18,17 @@ use Rattle.prove_core.specs.declared.found.Reason.{Reason}
 use Rattle.prove_call.specs.declared.answer.Answer.{Answer}
 use Rattle.prove_call.specs.Answers as prove
 use Rattle.run_call.specs.Answers as run
+use Rattle.term_graph.specs.Limits.{most_nodes}
+use Rattle.class_base.specs.Limits.{most_classes}
 use Rattle.jterm.specs.declared.verdict.Request.{Request}
 use Rattle.jterm.specs.declared.verdict.Request.TheVariants.{Prove, Check, Run, Asm}
 use Rattle.jterm.specs.declared.verdict.Verdict.{Verdict}
 
 -- the request's number is in its range, and there are as many files as its command has file words
 abbrev pub Takes : Request → List (List ℕ) → Type 0
-Takes (Prove nodes) files = (1 ≤ nodes) × (nodes ≤ 20000) × (2 ≤ length files) × (length files ≤ 257)
-Takes Check files = (3 ≤ length files) × (length files ≤ 258)
-Takes (Run fuel) files = (fuel ≤ 1000000000) × (2 ≤ length files) × (length files ≤ 257)
+Takes (Prove nodes) files = (1 ≤ nodes) × (nodes ≤ most_nodes) × (2 ≤ length files) × (length files ≤ most_classes + 1)
+Takes Check files = (3 ≤ length files) × (length files ≤ most_classes + 2)
+Takes (Run fuel) files = (fuel ≤ 1000000000) × (2 ≤ length files) × (length files ≤ most_classes + 1)
 Takes Asm files = length files ≡ 1
 
 -- a line is said: the status is 0, or the output begins with it
@@ -51,11 +53,6 @@ listing_refusal listings.Memory = Memory
 listing_refusal fault = At places.Listing (faults.Listing fault)
 
 -- ---- verdicts
-
--- the answer of `prove` as a verdict; or its refusal
-abbrev pub verdict_of_prove : Result Answer Refused → Result Verdict Refused
-verdict_of_prove (Ok answer) = Ok (record { status = answer.status; out = answer.out; reason = answer.reason })
-verdict_of_prove (Err refused) = Err refused
 
 -- a verdict with the parts of an answer of `prove` of which this holds; or a refusal of which it does
 abbrev pub Proved : (Result Answer Refused → Type 0) → Result Verdict Refused → Type 0

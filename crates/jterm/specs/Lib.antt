@@ -4,4 +4,4 @@ pub mod Words
 pub mod Lines
 pub mod Outside
 pub mod CallEnds
-pub mod Stop
+pub mod Failure

@@ -2,13 +2,7 @@
 use Rattle.std.specs.Prelude.{ℕ, List, [], ◌∷◌, codes}
 use Rattle.list_views.specs.FaultWords.{joined}
 use Rattle.io_ports.specs.declared.files.FileFault.{FileFault}
-use Rattle.io_ports.specs.declared.files.FileFault.TheVariants.{Failed, TooLong, Missing, Memory}
-
-abbrev pub file_fault_text : FileFault → List ℕ
-file_fault_text Failed = codes "Failed"
-file_fault_text TooLong = codes "TooLong"
-file_fault_text Missing = codes "Missing"
-file_fault_text Memory = codes "Memory"
+use Rattle.io_ports.specs.FileFault.{fault_name}
 
 -- the words are no command; each command that is built follows, with its words
 abbrev pub usage_lines : List ℕ
@@ -27,4 +21,4 @@ abbrev pub file_line : List ℕ → List ℕ → List ℕ
 file_line name cause = joined (codes "jterm: read " ∷ name ∷ codes ": " ∷ cause ∷ codes "\n" ∷ [])
 
 abbrev pub read_line : List ℕ → FileFault → List ℕ
-read_line name fault = file_line name (file_fault_text fault)
+read_line name fault = file_line name (fault_name fault)

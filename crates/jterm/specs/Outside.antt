@@ -7,6 +7,8 @@ use Rattle.io_ports.specs.Told.{Told, IsContent, IsPastLimit, IsNotHeld}
 use Rattle.io_ports.specs.Told.Told.{Content}
 use Rattle.io_ports.specs.declared.files.FileFault.{FileFault}
 use Rattle.io_ports.specs.declared.files.FileFault.TheVariants.{Failed, TooLong, Missing, Memory}
+use Rattle.cert_form.specs.Limits.{most_certificate_bytes}
+use Rattle.class_base.specs.Limits.{most_file_bytes}
 use Rattle.jterm.specs.declared.verdict.Request.{Request}
 use Rattle.jterm.specs.declared.verdict.Request.TheVariants.{Check}
 use Rattle.jterm.specs.declared.verdict.Verdict.{Verdict}
@@ -27,7 +29,7 @@ limit_at certificate other request place = other
 
 -- a certificate may have 16 MiB, each other file 1 MiB
 abbrev pub file_limits : Request → ℕ → ℕ
-file_limits = limit_at 16777216 1048576
+file_limits = limit_at most_certificate_bytes most_file_bytes
 
 -- the limits at the places behind the first one
 abbrev pub behind : (ℕ → ℕ) → ℕ → ℕ

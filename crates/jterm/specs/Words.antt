@@ -1,7 +1,10 @@
 -- The words of the command line.
-use Rattle.std.specs.Prelude.{◌≡◌, ◌⊎◌, ℕ, ◌≤◌, ◌==◌, not, Bool, true, List, [], ◌∷◌, ◌++◌, length, codes, IsTrue}
+use Rattle.std.specs.Prelude.{◌≡◌, ◌⊎◌, ℕ, ◌+◌, ◌≤◌, ◌==◌, not, Bool, true, List, [], ◌∷◌, ◌++◌, length, codes, IsTrue}
 use Rattle.std.specs.Fmt.{decimal}
 use Rattle.std.specs.List.{list_all}
+use Rattle.class_base.specs.Limits.{most_classes}
+use Rattle.term_graph.specs.Limits.{most_nodes}
+use Rattle.prove_call.specs.Limits.{default_nodes}
 use Rattle.jterm.specs.declared.verdict.Request.{Request}
 use Rattle.jterm.specs.declared.verdict.Request.TheVariants.{Prove, Check, Run, Asm}
 
@@ -13,7 +16,7 @@ is_file_word (first ∷ rest) = not (first == 45)
 -- words that name a description or a state and 1 to 256 classes
 pub record AreFiles (files : List (List ℕ)) : Type 0 where
   pub some : 2 ≤ length files
-  pub few : length files ≤ 257
+  pub few : length files ≤ most_classes + 1
   pub each : IsTrue (list_all is_file_word files)
 
 -- a number that is at most so great, in digits without a sign or a leading zero
@@ -25,11 +28,11 @@ pub record IsNumber (greatest : ℕ) (word : List ℕ) (number : ℕ) : Type 0 w
 
 -- a limit on the nodes of a graph, from 1 to 20,000
 abbrev pub IsLimit : List ℕ → ℕ → Type 0
-IsLimit word nodes = IsNumber 20000 word nodes × (1 ≤ nodes)
+IsLimit word nodes = IsNumber most_nodes word nodes × (1 ≤ nodes)
 
 -- the words before the files of a `prove`: none, which is a limit of 4,000 nodes; or `--nodes N`
 abbrev pub Limits : List (List ℕ) → ℕ → Type 0
-Limits [] nodes = nodes ≡ 4000
+Limits [] nodes = nodes ≡ default_nodes
 Limits (option ∷ number ∷ []) nodes = (option ≡ codes "--nodes") × IsLimit number nodes
 Limits words nodes = ⊥
 

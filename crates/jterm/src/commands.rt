@@ -4,18 +4,21 @@ ghost use Rattle.std.specs.List.{list_all};
 ghost use Rattle.jterm.specs.declared.verdict.Request.{Request};
 ghost use Rattle.jterm.specs.declared.verdict.Request.TheVariants.{Check, Asm};
 ghost use Rattle.jterm.specs.Words.{is_file_word, AreFiles, AreCheckFiles, IsListing, IsNumber, IsLimit, IsProveRow, IsCheckRow, IsRunRow, IsAsmRow, IsCommand};
-ghost use Rattle.jterm.specs.Stop.{is_plain, NamesLimit};
+ghost use Rattle.jterm.specs.Failure.{is_plain, NamesLimit};
 
 use crate::Request;
+use class_base::MOST_CLASSES;
+use prove_call::DEFAULT_NODES;
+use term_graph::MOST_NODES;
 
-/// The limit on the nodes of a graph where the words name none.
-pub const DEFAULT_NODES: u32 = 4000;
+/// The most files of a command beside a certificate: a description or a state, and the classes.
+const MOST_FILES: usize = MOST_CLASSES + 1;
 
-/// The greatest such limit that words name.
-pub const GREATEST_NODES: u64 = 20_000;
+/// The greatest limit on the nodes of a graph that words name.
+const GREATEST_NODES: u64 = MOST_NODES as u64;
 
 /// The greatest number of steps that `run` is asked for.
-pub const GREATEST_FUEL: u64 = 1_000_000_000;
+const GREATEST_FUEL: u64 = 1_000_000_000;
 
 /// What the words of a command ask for.
 #[derive(Drop)]
@@ -208,7 +211,7 @@ fn are_check_files(words: &[String]) -> bool
 fn are_files(words: &[String]) -> bool
     ensures { IsTrue result ↔ AreFiles (map string_bytes words.now) }
 {
-    words.len() >= 2 && words.len() <= 257 && are_file_words(words)
+    words.len() >= 2 && words.len() <= MOST_FILES && are_file_words(words)
 }
 
 // Each word can name a file.

@@ -1,8 +1,8 @@
 //! The files that a command names, read in the order of its words.
 ghost use Rattle.std.specs.Prelude.{◌≡◌, ◌≤◌, ◌^◌, map, string_bytes, IfOk, IfErr};
 ghost use Rattle.jterm.specs.Outside.{AreContents, FirstAreRead, limit_at};
-ghost use Rattle.jterm.specs.Stop.{HasCause, stopped_at};
-ghost use Rattle.jterm.specs.declared.inputs.Stop.TheVariants.{NoMemory};
+ghost use Rattle.jterm.specs.Failure.{HasCause, failure_at};
+ghost use Rattle.jterm.specs.declared.inputs.Failure.TheVariants.{NoMemory};
 
 use crate::Request;
 use crate::commands::Command;
@@ -13,7 +13,7 @@ use std::alloc::{AllocError, AllocFailed, Global};
 
 /// Why a call ends without a verdict.
 #[derive(Drop)]
-pub(crate) enum Stop<'a> {
+pub(crate) enum Failure<'a> {
     /// The file of this name was not read.
     Unread {
         /// The word that names it.
@@ -32,29 +32,29 @@ pub(crate) enum Stop<'a> {
     NoMemory,
 }
 
-impl<'a> From<AllocError> for Stop<'a> {
-    ghost from_gives = { λ _ stop. stop ≡ NoMemory };
+impl<'a> From<AllocError> for Failure<'a> {
+    ghost from_gives = { λ _ failure. failure ≡ NoMemory };
 
-    fn from(_error: AllocError) -> Stop<'a> {
-        Stop::NoMemory
+    fn from(_error: AllocError) -> Failure<'a> {
+        Failure::NoMemory
     }
 }
 
-impl<'a, T: Drop> From<AllocFailed<T>> for Stop<'a> {
-    ghost from_gives = { λ _ stop. stop ≡ NoMemory };
+impl<'a, T: Drop> From<AllocFailed<T>> for Failure<'a> {
+    ghost from_gives = { λ _ failure. failure ≡ NoMemory };
 
-    fn from(_failed: AllocFailed<T>) -> Stop<'a> {
-        Stop::NoMemory
+    fn from(_failed: AllocFailed<T>) -> Failure<'a> {
+        Failure::NoMemory
     }
 }
 
-// The call stops where the file of this name was not read.
-fn stop_at(name: &str, fault: FileFault) -> Stop<'_>
-    ensures { result ≡ stopped_at name.now fault }
+// Why a call fails that could not read the file of this name.
+fn failure_at(name: &str, fault: FileFault) -> Failure<'_>
+    ensures { result ≡ failure_at name.now fault }
 {
     match fault {
-        FileFault::Memory => Stop::NoMemory,
-        fault => Stop::Unread {
+        FileFault::Memory => Failure::NoMemory,
+        fault => Failure::Unread {
             name: Bytes::new(name.as_bytes()),
             fault,
         },
@@ -82,13 +82,13 @@ pub(crate) fn read_inputs<'a, F: Files>(
     files: &mut F,
     certificate: usize,
     other: usize,
-) -> Result<Vec<Vec<u8>>, Stop<'a>>
+) -> Result<Vec<Vec<u8>>, Failure<'a>>
     requires certificate { certificate ≤ 2 ^ 31 }
     requires other { other ≤ 2 ^ 31 }
     ensures contents { IfOk result (λ inputs. AreContents (limit_at certificate other command.now.request) (F.held files.old)
         (map string_bytes command.now.files.now) (map (λ file. file.items) inputs.items)) }
-    ensures cause { IfErr result (λ stop. HasCause F.held F.faults F.leaves (limit_at certificate other command.now.request) command.now.request
-        (map string_bytes command.now.files.now) files.old files.new stop) }
+    ensures cause { IfErr result (λ failure. HasCause F.held F.faults F.leaves (limit_at certificate other command.now.request) command.now.request
+        (map string_bytes command.now.files.now) files.old files.new failure) }
     ensures reads { FirstAreRead F.leaves (map string_bytes command.now.files.now) files.old files.new }
 {
     let mut inputs = Vec::new(alloc);
@@ -97,7 +97,7 @@ pub(crate) fn read_inputs<'a, F: Files>(
         let limit = limit_at(&command.request, inputs.len(), certificate, other);
         match files.read(alloc, name, limit) {
             Ok(content) => inputs.push(content)?,
-            Err(fault) => return Err(stop_at(name, fault)),
+            Err(fault) => return Err(failure_at(name, fault)),
         }
     }
     Ok(inputs)

@@ -1,6 +1,6 @@
 //! The lines that say why a call has no output.
 ghost use Rattle.std.specs.Prelude.{◌≡◌, IfOk};
-ghost use Rattle.jterm.specs.Lines.{usage_lines, memory_line, write_line, file_line, read_line, file_fault_text};
+ghost use Rattle.jterm.specs.Lines.{usage_lines, memory_line, write_line, file_line, read_line};
 
 use io_ports::FileFault;
 use list_views::Seq;
@@ -32,22 +32,11 @@ pub(crate) fn write_text() -> &'static [u8]
 pub(crate) fn read_text(alloc: Global, name: &[u8], fault: FileFault) -> Result<Seq<u8>, AllocError>
     ensures { IfOk result (λ line. line ≡ read_line name.now fault) }
 {
-    file_line(alloc, name, file_fault_name(fault))
+    file_line(alloc, name, fault.name())
 }
 
 fn file_line(alloc: Global, name: &[u8], cause: &[u8]) -> Result<Seq<u8>, AllocError>
     ensures { IfOk result (λ line. line ≡ file_line name.now cause.now) }
 {
     joined(alloc, &[b"jterm: read ", name, b": ", cause, b"\n"])
-}
-
-fn file_fault_name(fault: FileFault) -> &'static [u8]
-    ensures { result.now ≡ file_fault_text fault }
-{
-    match fault {
-        FileFault::Failed => b"Failed",
-        FileFault::TooLong => b"TooLong",
-        FileFault::Missing => b"Missing",
-        FileFault::Memory => b"Memory",
-    }
 }

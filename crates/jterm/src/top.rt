@@ -7,12 +7,14 @@ ghost use Rattle.desc_steps.specs.Headline.{AllEnd};
 ghost use Rattle.jterm.specs.Lines.{memory_line, write_line};
 ghost use Rattle.jterm.specs.Outside.{AreTold, FirstAreRead, Puts, Claims, IsWritten, limit_at};
 ghost use Rattle.jterm.specs.CallEnds.{CallEnds};
-ghost use Rattle.jterm.specs.Stop.{HasCause, AreOfCommand, IsAnswered, HasLine, status_of, line_of};
+ghost use Rattle.jterm.specs.Failure.{HasCause, AreOfCommand, IsAnswered, HasLine, status_of, line_of};
 
 use crate::commands::Command;
-use crate::inputs::{Stop, read_inputs};
+use crate::inputs::{Failure, read_inputs};
 use crate::lines::{memory_text, read_text, usage_text, write_text};
 use crate::{Verdict, decide};
+use cert_form::MOST_CERTIFICATE_BYTES;
+use class_base::MOST_FILE_BYTES;
 use input_steps::{Refused, refusal_text};
 use io_ports::{Files, Sink};
 use list_views::Seq;
@@ -35,20 +37,20 @@ fn answer<'a, F: Files>(
     files: &mut F,
     certificate: usize,
     other: usize,
-) -> Result<Verdict, Stop<'a>>
+) -> Result<Verdict, Failure<'a>>
     requires certificate { certificate ≤ 2 ^ 31 }
     requires other { other ≤ 2 ^ 31 }
     requires command { AreOfCommand command.now.request (map string_bytes command.now.files.now) }
     ensures answered { IfOk result (λ verdict. IsAnswered (limit_at certificate other command.now.request) command.now.request (map string_bytes command.now.files.now) (F.held files.old) verdict) }
-    ensures cause { IfErr result (λ stop. HasCause F.held F.faults F.leaves (limit_at certificate other command.now.request) command.now.request
-        (map string_bytes command.now.files.now) files.old files.new stop) }
+    ensures cause { IfErr result (λ failure. HasCause F.held F.faults F.leaves (limit_at certificate other command.now.request) command.now.request
+        (map string_bytes command.now.files.now) files.old files.new failure) }
     ensures reads { FirstAreRead F.leaves (map string_bytes command.now.files.now) files.old files.new }
 {
     let inputs = read_inputs(alloc, command, files, certificate, other)?;
     match decide(alloc, &command.request, &inputs) {
         Ok(verdict) => Ok(verdict),
-        Err(Refused::At { place, fault }) => Err(Stop::Broken { place, fault }),
-        Err(Refused::Memory) => Err(Stop::NoMemory),
+        Err(Refused::At { place, fault }) => Err(Failure::Broken { place, fault }),
+        Err(Refused::Memory) => Err(Failure::NoMemory),
     }
 }
 
@@ -60,36 +62,36 @@ fn put_line<E: Sink>(err: &mut E, line: &[u8])
 }
 
 // The line that says why a call has no verdict. Want of memory has none of its own.
-fn line(alloc: Global, stop: &Stop<'_>) -> Result<Seq<u8>, AllocError>
-    ensures text { IfOk result (λ line. line ≡ line_of stop.now) }
-    ensures has_line { IfOk result (λ line. HasLine stop.now) }
+fn line(alloc: Global, failure: &Failure<'_>) -> Result<Seq<u8>, AllocError>
+    ensures text { IfOk result (λ line. line ≡ line_of failure.now) }
+    ensures has_line { IfOk result (λ line. HasLine failure.now) }
 {
-    match stop {
-        Stop::Unread { name, fault } => read_text(alloc, name.as_slice(), *fault),
-        Stop::Broken { place, fault } => refusal_text(alloc, *place, fault),
-        Stop::NoMemory => Err(AllocError),
+    match failure {
+        Failure::Unread { name, fault } => read_text(alloc, name.as_slice(), *fault),
+        Failure::Broken { place, fault } => refusal_text(alloc, *place, fault),
+        Failure::NoMemory => Err(AllocError),
     }
 }
 
-fn status(stop: &Stop<'_>) -> u8
-    ensures { result ≡ status_of stop.now }
+fn status(failure: &Failure<'_>) -> u8
+    ensures { result ≡ status_of failure.now }
 {
-    match stop {
-        Stop::Unread { .. } => 5,
-        Stop::Broken { .. } => 3,
-        Stop::NoMemory => 7,
+    match failure {
+        Failure::Unread { .. } => 5,
+        Failure::Broken { .. } => 3,
+        Failure::NoMemory => 7,
     }
 }
 
 // Says why there is no verdict, and gives the exit status.
-fn report<E: Sink>(alloc: Global, stop: &Stop<'_>, err: &mut E) -> u8
-    ensures { ((result ≡ status_of stop.now) × HasLine stop.now × Puts E.faults E.taken err.old err.new (line_of stop.now))
+fn report<E: Sink>(alloc: Global, failure: &Failure<'_>, err: &mut E) -> u8
+    ensures { ((result ≡ status_of failure.now) × HasLine failure.now × Puts E.faults E.taken err.old err.new (line_of failure.now))
         ⊎ ((result ≡ 7) × Puts E.faults E.taken err.old err.new memory_line) }
 {
-    match line(alloc, stop) {
+    match line(alloc, failure) {
         Ok(line) => {
             put_line(err, line.as_slice());
-            status(stop)
+            status(failure)
         }
         Err(_) => {
             put_line(err, memory_text());
@@ -159,10 +161,16 @@ pub fn jterm<F: Files, O: Sink, E: Sink>(
             verdict: None,
         };
     };
-    match answer(alloc, &command, files, 16_777_216, 1_048_576) {
+    match answer(
+        alloc,
+        &command,
+        files,
+        MOST_CERTIFICATE_BYTES,
+        MOST_FILE_BYTES,
+    ) {
         Ok(verdict) => write_out(verdict, out, err),
-        Err(stop) => Done {
-            status: report(alloc, &stop, err),
+        Err(failure) => Done {
+            status: report(alloc, &failure, err),
             verdict: None,
         },
     }

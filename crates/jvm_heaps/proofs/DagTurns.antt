@@ -21,7 +21,8 @@ use Rattle.jvm_heaps.specs.declared.dags.Turn.TheVariants.{Enter, Leave}
 use Rattle.jvm_heaps.specs.Marks.{IsMarked}
 use Rattle.jvm_heaps.specs.Searches.{place_of, enter_after, all_enter, values_in, Search, entering, turned, goes_on}
 use Rattle.jvm_heaps.proofs.InLists.{IsIn}
-use Rattle.jvm_heaps.proofs.MarkLaws.{open_count, set_only, set_keeps}
+use Rattle.list_views.specs.Lists.{open_count}
+use Rattle.jvm_heaps.proofs.MarkLaws.{set_only, set_keeps}
 use Rattle.jvm_heaps.proofs.MarkTurns.{below_heap, step_at, none_marked}
 use Rattle.jvm_heaps.proofs.TermLaws.{ComesTo, one_step, step_more, no_return, fewer_open}
 use Rattle.jvm_heaps.proofs.DagPaths.{dag_at}

@@ -5,6 +5,7 @@ use Rattle.std.proofs.Math.ListN.{length-set}
 use Rattle.std.proofs.lemmas.List.{get_or-set_same, get_or-set_other, get_or_past}
 use Rattle.std.proofs.lemmas.List.Sums.{sum_by-set}
 use Rattle.std.proofs.lemmas.Bool.{false≢true, cases_lt}
+use Rattle.list_views.specs.Lists.{open_count}
 use Rattle.jvm_values.specs.declared.heap.Value.{Value}
 use Rattle.jvm_values.specs.declared.heap.Value.TheVariants.{Int, Null, Ref}
 use Rattle.jvm_values.specs.Heaps.{target, IsInHeap}
@@ -12,10 +13,6 @@ use Rattle.jvm_values.proofs.Options.{some_is, none_is_not_some}
 use Rattle.jvm_values.proofs.Lists.{same_or_not}
 use Rattle.jvm_heaps.specs.Marks.{IsMarked, marks_after, todo_after, all_marks, all_todo}
 use Rattle.jvm_heaps.proofs.InLists.{IsIn, In-left, In-last, In-push}
-
--- how many are not marked
-abbrev pub open_count : List Bool → ℕ
-open_count marks = sum_by (λ m. cond m 0 1) marks
 
 pub marked_within : (marks : List Bool) (x : ℕ) → IsMarked marks x → x < length marks
 marked_within marks x e = elim (cases_lt x (length marks)) [

@@ -15,7 +15,8 @@ use Rattle.jvm_values.proofs.Options.{given, some_is}
 use Rattle.jvm_values.proofs.PathLaws.{here, joined}
 use Rattle.jvm_heaps.specs.Marks.{IsMarked, marks_after, todo_after, all_marks, all_todo}
 use Rattle.jvm_heaps.proofs.InLists.{IsIn, In-left, In-last, In-push, all_at}
-use Rattle.jvm_heaps.proofs.MarkLaws.{AreBelow, open_count, marked_within, only_one, new_one, only_todo_one, marked_one, length_one, length_all, keep_all, marked_all, only_all, keep_todo_all, new_all, only_todo_all, work_all}
+use Rattle.list_views.specs.Lists.{open_count}
+use Rattle.jvm_heaps.proofs.MarkLaws.{AreBelow, marked_within, only_one, new_one, only_todo_one, marked_one, length_one, length_all, keep_all, marked_all, only_all, keep_todo_all, new_all, only_todo_all, work_all}
 
 pub record IsMarking (heap : Heap) (value : Value) (marks : List Bool) (todo : List ℕ) : Type 0 where
   pub size : length marks ≡ length heap.objects

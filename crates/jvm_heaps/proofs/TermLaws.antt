@@ -20,7 +20,8 @@ use Rattle.jvm_values.proofs.PathLaws.{here, onward, one_more}
 use Rattle.jvm_values.proofs.Typed as typed_heaps
 use Rattle.jvm_heaps.specs.Marks.{IsMarked}
 use Rattle.jvm_heaps.specs.AcyclicTerms.{IsNoInt, AcyclicHaveTerms, TypedHaveTerms}
-use Rattle.jvm_heaps.proofs.MarkLaws.{open_count, set_only}
+use Rattle.list_views.specs.Lists.{open_count}
+use Rattle.jvm_heaps.proofs.MarkLaws.{set_only}
 use Rattle.jvm_heaps.proofs.MarkTurns.{below_heap, step_at, none_marked}
 
 -- ---- paths of at least one step

@@ -1,6 +1,6 @@
+pub mod Regions
+pub mod Shapes
 pub mod AcyclicTerms
 pub mod Marks
-pub mod Regions
-pub mod Searches
-pub mod Shapes
 pub mod Trees
+pub mod Searches

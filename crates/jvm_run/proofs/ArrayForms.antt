@@ -25,7 +25,7 @@ use Rattle.jvm_values.specs.declared.typing.PlaceType.TheVariants as places
 use Rattle.jvm_values.specs.States.{MachineFrame, PlaceTypes}
 use Rattle.jvm_values.specs.Kinds.{IsOfKind, narrowed}
 use Rattle.jvm_values.specs.Subtyping.{class_type, array_of, array_of_numbers, IsReference}
-use Rattle.jvm_values.specs.TypedHeaps.{WorldTypes, type_of, HasType, Holds, IsTypedObject, IsTypedHeap}
+use Rattle.jvm_values.specs.TypedHeaps.{WorldTypes, AreLawful, type_of, HasType, Holds, IsTypedObject, IsTypedHeap}
 use Rattle.jvm_values.specs.Writes.{with_value}
 use Rattle.jvm_values.proofs.Options.{given, some_is, none_is_not_some}
 use Rattle.class_world.specs.BuiltIns.{throwable}
@@ -49,7 +49,7 @@ use Rattle.jvm_step.specs.Effects.{Effect, with_stack, pushes, on_object, on_ite
 use Rattle.jvm_step.specs.Operands.{is_null_or_below, top_int}
 use Rattle.jvm_run.proofs.Lists.{all_get}
 use Rattle.jvm_run.proofs.Numbers.{of_int, narrowed_is, zero_is}
-use Rattle.jvm_run.proofs.Values.{Laws, Grows, grows_by, grows_set, heap_with, heap_set, own_type, type_wider}
+use Rattle.jvm_run.proofs.Values.{Grows, grows_by, grows_set, heap_with, heap_set, own_type, type_wider}
 use Rattle.jvm_run.proofs.Lists.{get_last}
 use Rattle.jvm_run.proofs.Forms.{Here, Stands, Well, FrameGood, HeapGood, Fits, types_here, acted_of, left, pushed, top_int_of, TopReference, top_reference_of, asks_any, asks_array, asks_numbers, asks_references, reference_top, rest_has, Found, on_object_well, bind_well, asked_well, fits_grown}
 use Rattle.jvm_run.proofs.IntForms.{one_int, OneInt}
@@ -311,7 +311,7 @@ storable types heap element (places.Ref t) (values.Ref r) e h = record {
   typed = λ p. own_type types heap r h.0 element h.1.0 p;
 }
 
-references_array : (types : WorldTypes) → Laws types → (heap : Heap) (object : Object) (t : Ty) → IsTypedObject types heap object → IsTrue (types.sub (type_of object) t) → is_references (places.Ref t) ≡ true → (item : Ty) × ReferenceArray types heap item object
+references_array : (types : WorldTypes) → AreLawful types → (heap : Heap) (object : Object) (t : Ty) → IsTypedObject types heap object → IsTrue (types.sub (type_of object) t) → is_references (places.Ref t) ≡ true → (item : Ty) × ReferenceArray types heap item object
 references_array types laws heap object t o sub e = go (item_of t) refl e
   where
     go : (x : Option Ty) → item_of t ≡ x → is_some x ≡ true → (item : Ty) × ReferenceArray types heap item object

@@ -1,7 +1,7 @@
 -- Forms that call methods.
 use Rattle.std.proofs.Common.{◌≡◌, ℕ, zero, suc, ◌+◌, ◌<◌, ◌≤◌, ℤ, pos, negsuc, Bool, true, false, cond, ◌&&◌, eqb, ltb, List, [], ◌∷◌, ◌++◌, length, map, set, get_or, replicate, Option, Some, None, IsTrue, refl, sym, ap, ◌∙◌, subst, ◌⊎◌, inl, inr, length-set, arith}
 use Rattle.std.specs.Prelude.{slice_get, All, IfSome, nat_lt}
-use Rattle.std.specs.List.{AllZip}
+use Rattle.std.specs.List.{AllZip, AllByRecursion}
 use Rattle.std.specs.Option.{option_and_then, option_map, option_map_or}
 use Rattle.std.proofs.lemmas.Bool.{false≢true, and_parts, and_from, lt-ltb, ltb-true}
 use Rattle.std.proofs.lemmas.Option.{slice_get_within}
@@ -25,7 +25,7 @@ use Rattle.jvm_values.specs.declared.typing.PlaceType.TheVariants as places
 use Rattle.jvm_values.specs.States.{MachineFrame, PlaceTypes}
 use Rattle.jvm_values.specs.Kinds.{IsOfKind, narrowed}
 use Rattle.jvm_values.specs.Subtyping.{class_type, array_of, array_of_numbers, IsReference}
-use Rattle.jvm_values.specs.TypedHeaps.{WorldTypes, type_of, HasType, Holds, IsTypedObject, IsTypedHeap}
+use Rattle.jvm_values.specs.TypedHeaps.{WorldTypes, AreLawful, type_of, HasType, Holds, IsTypedObject, IsTypedHeap}
 use Rattle.jvm_values.specs.Writes.{with_value}
 use Rattle.jvm_values.proofs.Options.{given, none_is_not_some}
 use Rattle.class_world.specs.BuiltIns.{throwable}
@@ -54,7 +54,7 @@ use Rattle.class_program.specs.declared.selected.Selected.{Selected}
 use Rattle.class_program.specs.declared.selected.Selected.TheVariants as answers
 use Rattle.class_program.specs.Programs.{Program, refs_of}
 use Rattle.class_program.specs.Ops.{constructor_name}
-use Rattle.class_program.specs.Good.{AllOf, Takes, IsGoodStatic, SpecialRuns, IsGoodSpecial, IsGoodAnswer, IsGoodSelecting, names_interface, IsGoodMethod}
+use Rattle.class_program.specs.Good.{Takes, IsGoodStatic, SpecialRuns, IsGoodSpecial, IsGoodAnswer, IsGoodSelecting, names_interface, IsGoodMethod}
 use Rattle.class_program.specs.Selected.{CanRun, can_receive, selection_at, selected_in}
 use Rattle.class_program.proofs.Got.{all_at}
 use Rattle.code_verify.specs.Operands.{fits, is_reference, place_of, want_of}
@@ -65,7 +65,7 @@ use Rattle.code_verify.proofs.RowLaws.{array_reference}
 use Rattle.jvm_step.specs.Effects.{Effect, on_object, are_passed, below_arguments, is_constructor, is_special_receiver, runs_or_lacks, class_of_object, answer_of, selected_effect, invokestatic_effect, invokespecial_effect, selecting_effect}
 use Rattle.jvm_step.specs.Operands.{top_reference, is_passed, is_assignable}
 use Rattle.jvm_run.proofs.Lists.{zip_drop, zip_reverse}
-use Rattle.jvm_run.proofs.Values.{Laws, own_type}
+use Rattle.jvm_run.proofs.Values.{own_type}
 use Rattle.jvm_run.proofs.Forms.{Here, Stands, Well, FrameGood, IsCalling, types_here, acted_of, TopReference, top_reference_of, AsksReference, asks_any, asks_below, asks_both, Found, on_object_well, bind_well, asked_well, if_well, passed_by, fits_slot}
 use Rattle.jvm_run.proofs.Objects.{class_same, reference_numbers, erased_class, class_below_by, below_class_by, erased_above, typed_at, numbers_root, references_root}
 use Rattle.jvm_run.proofs.ObjectForms.{top_is}
@@ -81,7 +81,7 @@ record Passed (types : WorldTypes) (heap : Heap) (params : List Slot) (more : Li
   has : HasStack types heap (drop (length params) wanted) (drop (length params) stack)
   others : taken types more (drop (length params) wanted) ≡ Some below
 
-passed_of : (types : WorldTypes) → Laws types → (heap : Heap) (params : List Slot) (more : List Want) (below wanted : List PlaceType) (stack : List Value) → HasStack types heap wanted stack → taken types (map want_of params ++ more) wanted ≡ Some below → Passed types heap params more below wanted stack
+passed_of : (types : WorldTypes) → AreLawful types → (heap : Heap) (params : List Slot) (more : List Want) (below wanted : List PlaceType) (stack : List Value) → HasStack types heap wanted stack → taken types (map want_of params ++ more) wanted ≡ Some below → Passed types heap params more below wanted stack
 passed_of types laws heap [] more below wanted stack h e = record { typed = tt; has = h; others = e }
 passed_of types laws heap (slot ∷ params) more below [] stack h e = absurd (none_is_not_some below e)
 passed_of types laws heap (slot ∷ params) more below (place ∷ wanted) [] h e = absurd h
@@ -163,7 +163,7 @@ turned_next n stack value rest e =
 receiver_there : (here : Here) → Stands here → (over : ℕ) (call : Call) (number : ℕ) → Takes here.program.methods (class_slot 0 over ∷ []) call number → over < length here.program.world
 receiver_there here s over call number takes =
     let m : IsGoodMethod here.program takes.method = all_at (IsGoodMethod here.program) here.program.methods number takes.method s.good.methods takes.there in
-    let all : AllOf (IsSlot (length here.program.world)) (class_slot 0 over ∷ call.params) = subst (AllOf (IsSlot (length here.program.world))) takes.params m.params in
+    let all : AllByRecursion (IsSlot (length here.program.world)) (class_slot 0 over ∷ call.params) = subst (AllByRecursion (IsSlot (length here.program.world))) takes.params m.params in
     all.0.1
 
 calling : (here : Here) → Stands here → (call : Call) (more : List Want) (below : List PlaceType) (rest : List Value) (r number over : ℕ) → Arguments here call.params more below → drop (length call.params) here.work.frame.stack ≡ values.Ref r ∷ rest → Takes here.program.methods (class_slot 0 over ∷ []) call number → HasType (types_here here) here.work.heap (values.Ref r) ((types_here here).erase (class_type over)) → length call.params + 1 ≡ argument_count here.op → CanRun here.program here.op number → IsCalling here number (length call.params + 1)

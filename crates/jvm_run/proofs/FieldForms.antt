@@ -26,7 +26,7 @@ use Rattle.jvm_values.specs.declared.typing.PlaceType.TheVariants as places
 use Rattle.jvm_values.specs.States.{MachineFrame, PlaceTypes}
 use Rattle.jvm_values.specs.Kinds.{IsOfKind, narrowed}
 use Rattle.jvm_values.specs.Subtyping.{class_type, array_of, array_of_numbers, IsReference}
-use Rattle.jvm_values.specs.TypedHeaps.{WorldTypes, type_of, HasType, Holds, IsTypedObject, IsTypedHeap}
+use Rattle.jvm_values.specs.TypedHeaps.{WorldTypes, AreLawful, type_of, HasType, Holds, IsTypedObject, IsTypedHeap}
 use Rattle.jvm_values.specs.Writes.{with_value}
 use Rattle.jvm_values.proofs.Options.{given, some_is, none_is_not_some}
 use Rattle.class_world.specs.BuiltIns.{throwable}
@@ -47,7 +47,7 @@ use Rattle.jvm_step.specs.Effects.{Effect, with_stack, pushes, on_object, fields
 use Rattle.jvm_step.specs.Operands.{kept, is_assignable, is_passed}
 use Rattle.jvm_run.proofs.Lists.{zip_get, zip_set_right}
 use Rattle.jvm_run.proofs.Numbers.{narrowed_is}
-use Rattle.jvm_run.proofs.Values.{Laws, Grows, grows_set, held, heap_set, holds_grown}
+use Rattle.jvm_run.proofs.Values.{Grows, grows_set, held, heap_set, holds_grown}
 use Rattle.jvm_run.proofs.Forms.{Here, Stands, Well, FrameGood, HeapGood, StaticsGood, Fits, types_here, acted_of, left, pushed, TopReference, top_reference_of, asks_below, rest_has, Found, on_object_well, bind_well, asked_well, fits_grown, passed_by, TopPassed, top_passed_of}
 use Rattle.jvm_run.proofs.Objects.{erased_class, class_below_by, IsInstance, instance_or_root, typed_at}
 
@@ -144,7 +144,7 @@ has_field here s used good object typed e =
       | inr z ↦ absurd (no_field here s used good z)
     ]
 
-found_assignable : (types : WorldTypes) → Laws types → (heap : Heap) (t : Ty) (place : PlaceType) (r : ℕ) (object : Object) → Found types heap (wants.Below t) place r object → is_assignable types object t ≡ true
+found_assignable : (types : WorldTypes) → AreLawful types → (heap : Heap) (t : Ty) (place : PlaceType) (r : ℕ) (object : Object) → Found types heap (wants.Below t) place r object → is_assignable types object t ≡ true
 found_assignable types laws heap t place r object found = laws.transitive (type_of object) found.t (types.erase t) found.below found.fit
 
 pub getfield_well : (here : Here) → Stands here → IsTrue (falls here.form) → (used : FieldUse) → IsGoodField here.program.world used → (after : PlaceTypes) → acted (types_here here) (wants.Below (class_type used.class) ∷ []) (Some (place_of (types_here here) used.slot)) here.before ≡ Some after → Well here (FrameGood here after) (getfield_effect (types_here here) used here.work.heap here.work.frame)

@@ -20,7 +20,7 @@ use Rattle.jvm_values.specs.States.{MachineFrame, PlaceTypes}
 use Rattle.jvm_values.specs.Heaps.{IsInHeap}
 use Rattle.jvm_values.specs.Kinds.{IsOfKind}
 use Rattle.jvm_values.specs.Subtyping.{class_type}
-use Rattle.jvm_values.specs.TypedHeaps.{WorldTypes, type_of, HasType, Holds, IsTypedHeap}
+use Rattle.jvm_values.specs.TypedHeaps.{WorldTypes, AreLawful, type_of, HasType, Holds, IsTypedHeap}
 use Rattle.jvm_values.proofs.Options.{given, some_is, none_is_not_some}
 use Rattle.class_world.specs.BuiltIns.{HasBuiltIns, throwable}
 use Rattle.class_world.specs.Linking.{is_linked}
@@ -43,7 +43,7 @@ use Rattle.jvm_step.specs.Effects.{Effect, effect_on, with_stack, on_object}
 use Rattle.jvm_step.specs.Operands.{top, top_int, top_reference, object_at, is_of_type, is_passed}
 use Rattle.jvm_step.specs.Table.{Work, on_frame, on_heap, on_statics}
 use Rattle.jvm_run.proofs.Lists.{zip_map}
-use Rattle.jvm_run.proofs.Values.{Laws, Grows, grows_same, holds_grown, place_grown, local_grown, type_wider}
+use Rattle.jvm_run.proofs.Values.{Grows, grows_same, holds_grown, place_grown, local_grown, type_wider}
 
 -- ---- where a form stands
 
@@ -59,15 +59,12 @@ pub record Here : Type 0 where
 abbrev pub types_here : Here → WorldTypes
 types_here here = types_of here.program.world
 
-abbrev pub heap_here : Here → Heap
-heap_here here = here.work.heap
-
 -- what it works on has these types
 pub record Stands (here : Here) : Type 0 where
   pub good : IsGood here.program
   pub current : here.method.class < length here.program.world
   pub linked : IsTrue (is_linked here.program.world)
-  pub laws : Laws (types_here here)
+  pub laws : AreLawful (types_here here)
   pub built_ins : HasBuiltIns here.program.world
   pub heap : IsTypedHeap (types_here here) here.work.heap
   pub statics : AllZip (λ field value. Holds (types_here here) here.work.heap field.slot value) here.program.statics here.work.statics
@@ -364,7 +361,7 @@ passed_by types heap (slots.Num kind) values.Null h = absurd h
 passed_by types heap (slots.Num kind) (values.Ref r) h = absurd h
 passed_by types heap (slots.Ref t) value h = of_type_by types heap t value h
 
-pub fits_slot : (types : WorldTypes) → Laws types → (heap : Heap) (slot : Slot) (place : PlaceType) (value : Value) → fits types (want_of slot) place ≡ true → HasPlaceType types heap place (Some value) → HasPlaceType types heap (place_of types slot) (Some value)
+pub fits_slot : (types : WorldTypes) → AreLawful types → (heap : Heap) (slot : Slot) (place : PlaceType) (value : Value) → fits types (want_of slot) place ≡ true → HasPlaceType types heap place (Some value) → HasPlaceType types heap (place_of types slot) (Some value)
 fits_slot types laws heap (slots.Num kind) places.Unset value f h = absurd (false≢true f)
 fits_slot types laws heap (slots.Num kind) places.Int value f h = h
 fits_slot types laws heap (slots.Num kind) places.Null value f h = absurd (false≢true f)
@@ -386,7 +383,7 @@ pub record TopPassed (types : WorldTypes) (heap : Heap) (slot : Slot) (more : Li
   pub has : HasStack types heap under rest
   pub others : taken types more under ≡ Some below
 
-pub top_passed_of : (types : WorldTypes) → Laws types → (heap : Heap) (slot : Slot) (more : List Want) (below wanted : List PlaceType) (stack : List Value) → HasStack types heap wanted stack → taken types (want_of slot ∷ more) wanted ≡ Some below → TopPassed types heap slot more below stack
+pub top_passed_of : (types : WorldTypes) → AreLawful types → (heap : Heap) (slot : Slot) (more : List Want) (below wanted : List PlaceType) (stack : List Value) → HasStack types heap wanted stack → taken types (want_of slot ∷ more) wanted ≡ Some below → TopPassed types heap slot more below stack
 top_passed_of types laws heap slot more below [] stack h e = absurd (none_is_not_some below e)
 top_passed_of types laws heap slot more below (place ∷ under) [] h e = absurd h
 top_passed_of types laws heap slot more below (place ∷ under) (value ∷ rest) h e =

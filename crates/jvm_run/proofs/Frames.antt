@@ -13,7 +13,7 @@ use Rattle.jvm_values.specs.declared.typing.PlaceType.{PlaceType}
 use Rattle.jvm_values.specs.declared.typing.PlaceType.TheVariants as places
 use Rattle.jvm_values.specs.States.{MachineFrame, PlaceTypes}
 use Rattle.jvm_values.specs.Heaps.{IsInHeap}
-use Rattle.jvm_values.specs.TypedHeaps.{WorldTypes}
+use Rattle.jvm_values.specs.TypedHeaps.{WorldTypes, AreLawful}
 use Rattle.class_world.specs.WorldTypes.{types_of}
 use Rattle.class_program.specs.declared.program.Method.{Method}
 use Rattle.class_program.specs.Programs.{Program}
@@ -24,7 +24,7 @@ use Rattle.code_verify.specs.Typings.{IsTyping, IsTypingOf, entry_frame, entry_f
 use Rattle.code_verify.specs.TypedStates.{HasPlaceType, HasStack, IsTypedFrame, IsRunning, IsUnwinding, IsCaller, AreCallers}
 use Rattle.jvm_step.specs.Running.{new_frame}
 use Rattle.jvm_run.proofs.Lists.{zip_append, zip_through}
-use Rattle.jvm_run.proofs.Values.{Laws, Grows, place_wider, placed_in_heap, in_heap_grown}
+use Rattle.jvm_run.proofs.Values.{Grows, place_wider, placed_in_heap, in_heap_grown}
 use Rattle.jvm_run.proofs.Forms.{Fits, stack_grown, locals_grown, references_grown}
 
 -- ---- references of a stack
@@ -38,16 +38,16 @@ stack_in_heap types heap (place ∷ wanted) (value ∷ rest) set_ h =
 
 -- ---- wider types
 
-pub locals_wider : (types : WorldTypes) → Laws types → (heap : Heap) (narrow wide : List PlaceType) (locals : List (Option Value)) → AllZip (IsWithin types) narrow wide → AllZip (HasPlaceType types heap) narrow locals → AllZip (HasPlaceType types heap) wide locals
+pub locals_wider : (types : WorldTypes) → AreLawful types → (heap : Heap) (narrow wide : List PlaceType) (locals : List (Option Value)) → AllZip (IsWithin types) narrow wide → AllZip (HasPlaceType types heap) narrow locals → AllZip (HasPlaceType types heap) wide locals
 locals_wider types laws heap narrow wide locals w h = zip_through (IsWithin types) (HasPlaceType types heap) (HasPlaceType types heap) (place_wider types laws heap) narrow wide locals w h
 
-pub stack_wider : (types : WorldTypes) → Laws types → (heap : Heap) (narrow wide : List PlaceType) (stack : List Value) → AllZip (IsWithin types) narrow wide → HasStack types heap narrow stack → HasStack types heap wide stack
+pub stack_wider : (types : WorldTypes) → AreLawful types → (heap : Heap) (narrow wide : List PlaceType) (stack : List Value) → AllZip (IsWithin types) narrow wide → HasStack types heap narrow stack → HasStack types heap wide stack
 stack_wider types laws heap narrow wide stack w h = zip_through (IsWithin types) (λ place value. HasPlaceType types heap place (Some value)) (λ place value. HasPlaceType types heap place (Some value)) (λ a b value. place_wider types laws heap a b (Some value)) narrow wide stack w h
 
 -- ---- a frame that goes on at a place that takes its types
 
 -- a frame of the same method, with as many locals, has the types that come to a place
-pub running_at : (p : Program) (typing : ℕ → CodeTypes) → Laws (types_of p.world) → (heap : Heap) (m : Method) (number place : ℕ) (after : PlaceTypes) (locals : List (Option Value)) (stack : List Value)
+pub running_at : (p : Program) (typing : ℕ → CodeTypes) → AreLawful (types_of p.world) → (heap : Heap) (m : Method) (number place : ℕ) (after : PlaceTypes) (locals : List (Option Value)) (stack : List Value)
     → slice_get p.methods number ≡ Some m → IsTyping p m (typing number) → length locals ≡ m.max_locals → Takes (types_of p.world) (typing number) (record { to = place; frame = after })
     → AllZip (HasPlaceType (types_of p.world) heap) after.locals locals → All (λ local. IfSome local (IsInHeap (length heap.objects))) locals → HasStack (types_of p.world) heap after.stack stack
     → IsRunning p typing heap (record { method = number; pc = place; locals = locals; stack = stack })
@@ -136,7 +136,7 @@ entered_references types heap (slot ∷ params) (value ∷ rest) h =
     All-cons (λ local. IfSome local (IsInHeap (length heap.objects))) (Some value) (map Some rest) (placed_in_heap types heap (place_of types slot) value (slot_is_set types slot) h.0) (entered_references types heap params rest h.1)
 
 -- the frame of a method that begins with arguments of its parameters' types
-pub entered_running : (p : Program) (typing : ℕ → CodeTypes) → Laws (types_of p.world) → (heap : Heap) (m : Method) (number : ℕ) (arguments : List Value) → slice_get p.methods number ≡ Some m → IsTyping p m (typing number) → AllZip (λ slot value. HasPlaceType (types_of p.world) heap (place_of (types_of p.world) slot) (Some value)) m.params arguments → IsRunning p typing heap (new_frame number m arguments)
+pub entered_running : (p : Program) (typing : ℕ → CodeTypes) → AreLawful (types_of p.world) → (heap : Heap) (m : Method) (number : ℕ) (arguments : List Value) → slice_get p.methods number ≡ Some m → IsTyping p m (typing number) → AllZip (λ slot value. HasPlaceType (types_of p.world) heap (place_of (types_of p.world) slot) (Some value)) m.params arguments → IsRunning p typing heap (new_frame number m arguments)
 entered_running p typing laws heap m number arguments is_m typed h =
     let types = types_of p.world in
     let P : Option Value → Type 0 = λ local. IfSome local (IsInHeap (length heap.objects)) in

@@ -25,7 +25,7 @@ use Rattle.jvm_values.specs.declared.typing.PlaceType.TheVariants as places
 use Rattle.jvm_values.specs.States.{MachineFrame, PlaceTypes}
 use Rattle.jvm_values.specs.Kinds.{IsOfKind, narrowed}
 use Rattle.jvm_values.specs.Subtyping.{class_type, array_of, array_of_numbers, IsReference}
-use Rattle.jvm_values.specs.TypedHeaps.{WorldTypes, type_of, HasType, Holds, IsTypedObject, IsTypedHeap}
+use Rattle.jvm_values.specs.TypedHeaps.{WorldTypes, AreLawful, type_of, HasType, Holds, IsTypedObject, IsTypedHeap}
 use Rattle.jvm_values.specs.Writes.{with_value}
 use Rattle.jvm_values.proofs.Options.{given, some_is, none_is_not_some}
 use Rattle.class_world.specs.BuiltIns.{throwable}
@@ -44,7 +44,7 @@ use Rattle.code_verify.specs.Flows.{falls}
 use Rattle.code_verify.specs.TypedStates.{HasPlaceType, HasStack}
 use Rattle.jvm_step.specs.Effects.{Effect, with_stack, pushes, on_object, makes, new_instance, instance_of, new_effect, checkcast_effect, instanceof_effect, athrow_effect, ireturn_effect, areturn_effect, return_effect, is_number_slot, is_returned}
 use Rattle.jvm_step.specs.Operands.{is_null_or_below, is_below, is_assignable, top_reference, top_int}
-use Rattle.jvm_run.proofs.Values.{Laws, own_type, type_wider}
+use Rattle.jvm_run.proofs.Values.{own_type, type_wider}
 use Rattle.jvm_run.proofs.Forms.{Here, Stands, Well, FrameGood, HeapGood, IsResult, types_here, acted_of, left, pushed, TopReference, top_reference_of, asks_any, asks_below, rest_has, Found, on_object_well, bind_well, if_well, of_type_by, fits_slot}
 use Rattle.jvm_run.proofs.IntForms.{one_int}
 use Rattle.jvm_run.proofs.ArrayForms.{made_good}
@@ -80,7 +80,7 @@ record Cast (types : WorldTypes) (heap : Heap) (t : Ty) (value : Value) : Type 0
   is : is_null_or_below types heap t value ≡ Some passes
   typed : passes ≡ true → HasType types heap value (types.erase t)
 
-cast : (types : WorldTypes) → Laws types → (heap : Heap) (t : Ty) → IsReference types.classes t → (place : PlaceType) (value : Value) → is_reference place ≡ true → HasPlaceType types heap place (Some value) → Cast types heap t value
+cast : (types : WorldTypes) → AreLawful types → (heap : Heap) (t : Ty) → IsReference types.classes t → (place : PlaceType) (value : Value) → is_reference place ≡ true → HasPlaceType types heap place (Some value) → Cast types heap t value
 cast types laws heap t r places.Unset value e h = absurd (false≢true e)
 cast types laws heap t r places.Int value e h = absurd (false≢true e)
 cast types laws heap t r places.Null (values.Int n) e h = absurd h

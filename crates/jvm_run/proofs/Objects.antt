@@ -18,7 +18,7 @@ use Rattle.jvm_values.specs.declared.types.Slot.{Slot}
 use Rattle.jvm_values.specs.declared.types.Slot.TheVariants as slots
 use Rattle.jvm_values.specs.declared.typing.PlaceType.TheVariants as places
 use Rattle.jvm_values.specs.Subtyping.{class_type, object_type, array_of, array_of_numbers, IsReference, IsReferenceBase, IsArrayAbove}
-use Rattle.jvm_values.specs.TypedHeaps.{WorldTypes, type_of, HasType, Holds, IsTypedObject, IsTypedHeap}
+use Rattle.jvm_values.specs.TypedHeaps.{WorldTypes, AreLawful, type_of, HasType, Holds, IsTypedObject, IsTypedHeap}
 use Rattle.jvm_values.specs.Joins.{item_of, item_under}
 use Rattle.jvm_values.proofs.Options.{some_is, none_is_not_some}
 use Rattle.jvm_values.proofs.Joining.{array_of_item, same_type}
@@ -34,10 +34,9 @@ use Rattle.op_forms.specs.declared.form.ItemKind.{ItemKind}
 use Rattle.op_forms.specs.declared.form.ItemKind.TheVariants as items
 use Rattle.code_verify.specs.Operands.{is_numbers, is_base_for, is_for as typed_for, is_array}
 use Rattle.jvm_step.specs.Effects.{is_for, numbers_in, references_in, length_of}
-use Rattle.jvm_step.specs.Operands.{default_of}
+use Rattle.jvm_values.specs.Slots.{initial_value}
 use Rattle.jvm_run.proofs.Lists.{all_get}
 use Rattle.jvm_run.proofs.Numbers.{zero_is}
-use Rattle.jvm_run.proofs.Values.{Laws}
 
 -- ---- types
 
@@ -114,7 +113,7 @@ above_root world linked a b e i o = elim (or_cases (eqb b 0 || eqb a b) (leads_u
 ]
 
 -- what a class is below, it is below as assignments see it, though they see an interface as Object
-pub erased_above : (world : World) → is_linked world ≡ true → Laws (types_of world) → (t : Ty) (a b : ℕ) → a < length world → b < length world → is_class_below world a b ≡ true → is_sub world t (erase world (class_type a)) ≡ true → is_sub world t (erase world (class_type b)) ≡ true
+pub erased_above : (world : World) → is_linked world ≡ true → AreLawful (types_of world) → (t : Ty) (a b : ℕ) → a < length world → b < length world → is_class_below world a b ≡ true → is_sub world t (erase world (class_type a)) ≡ true → is_sub world t (erase world (class_type b)) ≡ true
 erased_above world linked laws t a b l k below e = by (is_interface_class world a) refl (is_interface_class world b) refl
   where
     up : erase world (class_type a) ≡ class_type a → is_sub world t (erase world (class_type b)) ≡ true
@@ -141,20 +140,20 @@ pub record IsInstance (types : WorldTypes) (heap : Heap) (object : Object) : Typ
   pub typed : IsTypedObject types heap (Instance own fields)
 
 -- an array is below no class but Object
-pub numbers_root : (types : WorldTypes) → Laws types → (kind : Kind) (class : ℕ) → IsTrue (types.sub (array_of_numbers kind) (class_type class)) → class ≡ 0
+pub numbers_root : (types : WorldTypes) → AreLawful types → (kind : Kind) (class : ℕ) → IsTrue (types.sub (array_of_numbers kind) (class_type class)) → class ≡ 0
 numbers_root types laws kind class s = elim (laws.numbers_below kind (class_type class) s) [
   | inl e ↦ class_same class 0 e
   | inr e ↦ let d : 0 ≡ 1 = ap dims_of e in absurd (omega (arith, d))
 ]
 
-pub references_root : (types : WorldTypes) → Laws types → (element : Ty) (class : ℕ) → IsReference types.classes element → IsTrue (types.sub (array_of element) (class_type class)) → class ≡ 0
+pub references_root : (types : WorldTypes) → AreLawful types → (element : Ty) (class : ℕ) → IsReference types.classes element → IsTrue (types.sub (array_of element) (class_type class)) → class ≡ 0
 references_root types laws element class r s = elim (laws.array_below element (class_type class) r s) [
   | inl e ↦ class_same class 0 e
   | inr above ↦ let d : 0 ≡ above.0.dims + 1 = ap dims_of above.3 in absurd (omega (arith, d))
 ]
 
 -- below a class is an instance, or an array, and then the class is Object
-pub instance_or_root : (types : WorldTypes) → Laws types → (heap : Heap) (object : Object) (class : ℕ) → IsTypedObject types heap object → IsTrue (types.sub (type_of object) (class_type class)) → IsInstance types heap object ⊎ (class ≡ 0)
+pub instance_or_root : (types : WorldTypes) → AreLawful types → (heap : Heap) (object : Object) (class : ℕ) → IsTypedObject types heap object → IsTrue (types.sub (type_of object) (class_type class)) → IsInstance types heap object ⊎ (class ≡ 0)
 instance_or_root types laws heap (Instance own fields) class h s = inl (record { own = own; fields = fields; object_is = refl; typed = h })
 instance_or_root types laws heap (Nums kind items) class h s = inr (numbers_root types laws kind class s)
 instance_or_root types laws heap (Refs element items) class h s = inr (references_root types laws element class h.1.1.0 s)
@@ -199,7 +198,7 @@ no_class_for : (for : ItemKind) (classes : ℕ) (x : Base) → is_base_for for x
 no_class_for for classes (bases.Class class) e r = false≢true e
 no_class_for for classes (bases.Num kind) e r = omega (arith, r)
 
-pub number_array : (types : WorldTypes) → Laws types → (heap : Heap) (for : ItemKind) (object : Object) (t : Ty) → IsTypedObject types heap object → IsTrue (types.sub (type_of object) t) → is_numbers for (places.Ref t) ≡ true → NumberArray types heap for object
+pub number_array : (types : WorldTypes) → AreLawful types → (heap : Heap) (for : ItemKind) (object : Object) (t : Ty) → IsTypedObject types heap object → IsTrue (types.sub (type_of object) t) → is_numbers for (places.Ref t) ≡ true → NumberArray types heap for object
 number_array types laws heap for (Instance class fields) t h s e =
     let one = eqb-true t.dims 1 (and_parts (eqb t.dims 1) (is_base_for for t.base) e).0 in
     absurd (omega (arith, one, laws.class_below class t s))
@@ -244,7 +243,7 @@ item_deep (suc dims) base item e = omega arith
 item_of_numbers : (kind : Kind) (item : Ty) → item_of (array_of_numbers kind) ≡ Some item → ⊥
 item_of_numbers kind item e = none_is_not_some item e
 
-pub reference_array_of : (types : WorldTypes) → Laws types → (heap : Heap) (object : Object) (t item : Ty) → IsTypedObject types heap object → IsTrue (types.sub (type_of object) t) → item_of t ≡ Some item → ReferenceArray types heap item object
+pub reference_array_of : (types : WorldTypes) → AreLawful types → (heap : Heap) (object : Object) (t item : Ty) → IsTypedObject types heap object → IsTrue (types.sub (type_of object) t) → item_of t ≡ Some item → ReferenceArray types heap item object
 reference_array_of types laws heap (Instance class fields) t item h s e = absurd (omega (arith, item_deep t.dims t.base item e, laws.class_below class t s))
 reference_array_of types laws heap (Nums kind list) t item h s e = elim (laws.numbers_below kind t s) [
   | inl o ↦ let d : t.dims ≡ 0 = ap dims_of o in absurd (omega (arith, item_deep t.dims t.base item e, d))
@@ -266,14 +265,14 @@ pub record SomeArray (object : Object) : Type 0 where
   pub count_is : length_of object ≡ Some count
   pub small : count ≤ 2147483647
 
-pub some_array : (types : WorldTypes) → Laws types → (heap : Heap) (object : Object) (t : Ty) → IsTypedObject types heap object → IsTrue (types.sub (type_of object) t) → 0 < t.dims → SomeArray object
+pub some_array : (types : WorldTypes) → AreLawful types → (heap : Heap) (object : Object) (t : Ty) → IsTypedObject types heap object → IsTrue (types.sub (type_of object) t) → 0 < t.dims → SomeArray object
 some_array types laws heap (Instance class fields) t h s l = absurd (omega (arith, l, laws.class_below class t s))
 some_array types laws heap (Nums kind list) t h s l = record { count = length list; count_is = refl; small = h.0 }
 some_array types laws heap (Refs element list) t h s l = record { count = length list; count_is = refl; small = h.0 }
 
 -- ---- new objects
 
-pub defaults_held : (types : WorldTypes) (heap : Heap) (fields : List Slot) → AllZip (Holds types heap) fields (map default_of fields)
+pub defaults_held : (types : WorldTypes) (heap : Heap) (fields : List Slot) → AllZip (Holds types heap) fields (map initial_value fields)
 defaults_held types heap [] = tt
 defaults_held types heap (slots.Num kind ∷ fields) = (zero_is kind, defaults_held types heap fields)
 defaults_held types heap (slots.Ref t ∷ fields) = (tt, defaults_held types heap fields)

@@ -1,7 +1,7 @@
 -- What a typing says of a place where a frame stands.
 use Rattle.std.proofs.Common.{◌≡◌, ℕ, Bool, true, false, cond, ◌||◌, not, eqb, List, [], ◌∷◌, ◌++◌, map, filter, length, Option, Some, None, IsTrue, refl, sym, ap, ◌∙◌, subst, eq-eqb}
 use Rattle.std.specs.Prelude.{slice_get, All, IfSome, find}
-use Rattle.std.specs.List.{list_any}
+use Rattle.std.specs.List.{list_any, AllByRecursion}
 use Rattle.std.specs.Option.{option_and_then, option_to_list, is_some}
 use Rattle.std.proofs.lemmas.Bool.{false≢true, or_left, or_right}
 use Rattle.std.proofs.lemmas.List.Elements.{All-head, All-tail}
@@ -15,7 +15,6 @@ use Rattle.class_program.specs.declared.program.CatchRange.{CatchRange}
 use Rattle.class_program.specs.declared.program.Method.{Method}
 use Rattle.class_program.specs.Instructions.{instruction_at, first_place}
 use Rattle.class_program.specs.Programs.{Program}
-use Rattle.class_program.specs.Good.{AllOf}
 use Rattle.op_forms.specs.Forms.{Form, form_of}
 use Rattle.frame_types.specs.Tables.{CodeTypes, Flow, Takes}
 use Rattle.code_verify.specs.Rows.{types_after}
@@ -103,7 +102,7 @@ handler_taken p m typing place frame h test range k e =
 -- ---- instructions
 
 -- what stands at some place has what all of the instructions have
-pub at_has : {A : Type 0} (P : A → Type 0) (xs : List (ℕ × A)) (pc : ℕ) (x : A × Option ℕ) → AllOf (λ (y : ℕ × A). P y.1) xs → instruction_at xs pc ≡ Some x → P x.0
+pub at_has : {A : Type 0} (P : A → Type 0) (xs : List (ℕ × A)) (pc : ℕ) (x : A × Option ℕ) → AllByRecursion (λ (y : ℕ × A). P y.1) xs → instruction_at xs pc ≡ Some x → P x.0
 at_has P [] pc x h e = absurd (none_is_not_some x e)
 at_has {A} P (y ∷ ys) pc x h e = go (eqb y.0 pc) e (at_has P ys pc x h.1)
   where

@@ -19,7 +19,7 @@ use Rattle.jvm_values.specs.declared.state.Mode.TheVariants.{Normal, Throwing}
 use Rattle.jvm_values.specs.States.{MachineFrame, MachineState, PlaceTypes}
 use Rattle.jvm_values.specs.Heaps.{IsInHeap}
 use Rattle.jvm_values.specs.Subtyping.{class_type}
-use Rattle.jvm_values.specs.TypedHeaps.{WorldTypes, type_of, HasType, Holds, IsTypedObject, IsTypedHeap}
+use Rattle.jvm_values.specs.TypedHeaps.{WorldTypes, AreLawful, type_of, HasType, Holds, IsTypedObject, IsTypedHeap}
 use Rattle.jvm_values.proofs.Options.{given, some_is, none_is_not_some}
 use Rattle.class_world.specs.BuiltIns.{HasBuiltIns, throwable}
 use Rattle.class_world.specs.Linking.{is_linked}
@@ -30,7 +30,7 @@ use Rattle.class_program.specs.declared.program.CatchRange.{CatchRange}
 use Rattle.class_program.specs.declared.program.Method.{Method}
 use Rattle.class_program.specs.Instructions.{instruction_at}
 use Rattle.class_program.specs.Programs.{Program, insn_at, op_at}
-use Rattle.class_program.specs.Good.{AllOf, IsGood, IsGoodOp, IsGoodMethod}
+use Rattle.class_program.specs.Good.{IsGood, IsGoodOp, IsGoodMethod}
 use Rattle.class_program.proofs.Got.{all_at}
 use Rattle.class_program.specs.Selected.{CanRun}
 use Rattle.op_forms.specs.Forms.{Form, form_of}
@@ -46,7 +46,7 @@ use Rattle.jvm_step.specs.Table.{Work, effect_of}
 use Rattle.jvm_step.specs.Running.{Step, goes_on, throws, with_object, entered, new_frame, invokes, with_result, returns, applied, work_of, normal_step, takes, unwound, handled, throwing_step, step_in}
 use Rattle.jvm_run.specs.Laws.{GoesTyped, HasInts, IsIntForm}
 use Rattle.jvm_run.proofs.Lists.{zip_map, get_last, all_get}
-use Rattle.jvm_run.proofs.Values.{Laws, Grows, grows_same, grows_by, holds_grown, heap_with, own_type}
+use Rattle.jvm_run.proofs.Values.{Grows, grows_same, grows_by, holds_grown, heap_with, own_type}
 use Rattle.jvm_run.proofs.Forms.{Here, Stands, Well, WorkGood, Fits, IsCalling, IsResult, types_here}
 use Rattle.jvm_run.proofs.Objects.{defaults_held}
 use Rattle.jvm_run.proofs.Named.{named_of, some_then}
@@ -58,7 +58,7 @@ use Rattle.jvm_run.proofs.Returning.{CallAfter, call_after}
 -- what is known of a program
 pub record Known (p : Program) (typing : ℕ → CodeTypes) : Type 0 where
   pub linked : IsTrue (is_linked p.world)
-  pub laws : Laws (types_of p.world)
+  pub laws : AreLawful (types_of p.world)
   pub built_ins : HasBuiltIns p.world
   pub good : IsGood p
   pub ints : HasInts p
@@ -272,7 +272,7 @@ normal_typed p typing k frame below heap statics r =
 -- ---- throwing mode
 
 -- the object is below the class that a handler takes
-caught_below : (p : Program) → Laws (types_of p.world) → (t : Ty) (range : CatchRange) → is_sub p.world t (class_type throwable) ≡ true → option_map_or (λ (class : ℕ). is_sub p.world t (class_type class)) range.catch true ≡ true → is_sub p.world t (erase p.world (caught_class range)) ≡ true
+caught_below : (p : Program) → AreLawful (types_of p.world) → (t : Ty) (range : CatchRange) → is_sub p.world t (class_type throwable) ≡ true → option_map_or (λ (class : ℕ). is_sub p.world t (class_type class)) range.catch true ≡ true → is_sub p.world t (erase p.world (caught_class range)) ≡ true
 caught_below p laws t range thrown takes_ = laws.transitive t (caught_class range) (erase p.world (caught_class range)) sub (laws.erase_up (caught_class range) (laws.of_world t (caught_class range) sub).1)
   where
     by : (catch : Option ℕ) → option_map_or (λ (class : ℕ). is_sub p.world t (class_type class)) catch true ≡ true → is_sub p.world t (class_type (unwrap_or catch throwable)) ≡ true

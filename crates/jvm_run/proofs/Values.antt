@@ -18,8 +18,7 @@ use Rattle.jvm_values.specs.declared.typing.PlaceType.{PlaceType}
 use Rattle.jvm_values.specs.declared.typing.PlaceType.TheVariants as places
 use Rattle.jvm_values.specs.Heaps.{target, IsInHeap}
 use Rattle.jvm_values.specs.Kinds.{IsOfKind}
-use Rattle.jvm_values.specs.Subtyping.{SubtypeLaws}
-use Rattle.jvm_values.specs.TypedHeaps.{WorldTypes, type_of, HasType, Holds, IsTypedObject, IsTypedHeap}
+use Rattle.jvm_values.specs.TypedHeaps.{WorldTypes, AreLawful, type_of, HasType, Holds, IsTypedObject, IsTypedHeap}
 use Rattle.jvm_values.proofs.Options.{some_is, none_is_not_some}
 use Rattle.jvm_values.proofs.Typed.{value_in_heap}
 use Rattle.frame_types.specs.Places.{IsWithin}
@@ -27,10 +26,6 @@ use Rattle.code_verify.specs.Operands.{place_of, is_reference}
 use Rattle.code_verify.specs.TypedStates.{HasPlaceType, HasStack}
 use Rattle.jvm_run.proofs.Lists.{zip_map, get_append, get_last, get_set_same, all_get}
 use Rattle.jvm_run.proofs.Numbers.{of_int}
-
--- the laws of a world's types
-abbrev pub Laws : WorldTypes → Type 0
-Laws types = SubtypeLaws types.sub types.erase types.classes types.fields types.can_be_made
 
 -- ---- heaps that grow
 
@@ -120,12 +115,12 @@ heap_set types heap r object new e t h k =
 
 -- ---- wider types
 
-pub type_wider : (types : WorldTypes) → Laws types → (heap : Heap) (value : Value) (s t : Ty) → IsTrue (types.sub s t) → HasType types heap value s → HasType types heap value t
+pub type_wider : (types : WorldTypes) → AreLawful types → (heap : Heap) (value : Value) (s t : Ty) → IsTrue (types.sub s t) → HasType types heap value s → HasType types heap value t
 type_wider types laws heap (values.Int n) s t w h = absurd h
 type_wider types laws heap values.Null s t w h = tt
 type_wider types laws heap (values.Ref r) s t w h = (h.0, (h.1.0, laws.transitive (type_of h.0) s t h.1.1 w))
 
-pub place_wider : (types : WorldTypes) → Laws types → (heap : Heap) (a b : PlaceType) (local : Option Value) → IsWithin types a b → HasPlaceType types heap a local → HasPlaceType types heap b local
+pub place_wider : (types : WorldTypes) → AreLawful types → (heap : Heap) (a b : PlaceType) (local : Option Value) → IsWithin types a b → HasPlaceType types heap a local → HasPlaceType types heap b local
 place_wider types laws heap a places.Unset local w h = tt
 place_wider types laws heap places.Int places.Int local w h = h
 place_wider types laws heap places.Null places.Null local w h = h

@@ -1,3 +1,3 @@
-pub mod Constants
 pub mod Laws
 pub mod Runs
+pub mod Constants

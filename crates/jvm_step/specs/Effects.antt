@@ -49,7 +49,8 @@ use Rattle.op_forms.specs.declared.form.ItemKind.{ItemKind}
 use Rattle.op_forms.specs.declared.form.ItemKind.TheVariants as item_kinds
 use Rattle.op_forms.specs.declared.form.Shuffle.{Shuffle}
 use Rattle.op_forms.specs.Forms.{shuffled}
-use Rattle.jvm_step.specs.Operands.{int_of, reference_of, same_reference, is_null, top, top_int, top_reference, object_at, is_assignable, is_of_type, is_passed, is_null_or_below, is_below, kept, default_of}
+use Rattle.jvm_values.specs.Slots.{initial_value}
+use Rattle.jvm_step.specs.Operands.{int_of, reference_of, same_reference, is_null, top, top_int, top_reference, object_at, is_assignable, is_of_type, is_passed, is_null_or_below, is_below, kept}
 
 -- ---- effects
 
@@ -408,7 +409,7 @@ makes object below frame heap =
 
 -- an instance of a class whose fields are 0 or null
 abbrev pub new_instance : WorldTypes → ℕ → Object
-new_instance types class = Instance class (map default_of (types.fields class))
+new_instance types class = Instance class (map initial_value (types.fields class))
 
 -- an instance of a class that can be made; none of another type
 abbrev pub instance_of : WorldTypes → ℕ → Base → Option Object

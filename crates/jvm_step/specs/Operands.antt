@@ -1,6 +1,6 @@
 -- The operands of instructions: values on a stack and in locals, the objects that references name, and the types that are
 -- asked of them. Stacks are lists, the top first.
-use Rattle.std.specs.Prelude.{ℕ, ◌==◌, Bool, true, false, List, [], ◌∷◌, slice_get, Option, Some, None, ℤ, pos}
+use Rattle.std.specs.Prelude.{ℕ, ◌==◌, Bool, true, false, List, [], ◌∷◌, slice_get, Option, Some, None, ℤ}
 use Rattle.std.specs.Option.{option_map, option_map_or}
 use Rattle.jvm_values.specs.declared.heap.Value.{Value}
 use Rattle.jvm_values.specs.declared.heap.Value.TheVariants as values
@@ -93,8 +93,3 @@ is_below types heap t (values.Ref r) = option_map (λ object. types.sub (type_of
 abbrev pub kept : Slot → Value → Value
 kept (slots.Num kind) (values.Int n) = values.Int (narrowed kind n)
 kept _ value = value
-
--- what a field holds before anything is put into it (section 2.5.1)
-abbrev pub default_of : Slot → Value
-default_of (slots.Num kind) = values.Int (pos 0)
-default_of (slots.Ref t) = values.Null

@@ -13,12 +13,12 @@ ghost use Rattle.jvm_step.specs.Steps.{Does, HasRoom, MayFail, applied_in, going
 
 use crate::after::After;
 use crate::entries::called_frame;
-use crate::objects::{defaults, next_number};
+use crate::objects::next_number;
 use crate::outcome::Outcome;
 use crate::tops::{drop_top, empty_top, give_to_caller, set_top_place, take_from_caller};
 use class_program::{Method, Program};
 use class_world::World;
-use jvm_values::{Frame, Mode, Object, State, Types, Value};
+use jvm_values::{Frame, Mode, Object, State, Types, Value, initial_values};
 use list_views::Seq;
 use std::alloc::{AllocError, Global};
 
@@ -48,7 +48,7 @@ fn new_object_of(alloc: Global, world: &World<'_>, class: u32) -> Result<Object,
     ensures { IfOk result (λ object. object ≡ new_instance (types_of (classes_of world.now)) class) }
 {
     let fields = if class < world.classes() {
-        defaults(alloc, world.fields(class))?
+        initial_values(alloc, world.fields(class))?
     } else {
         Seq::new(alloc)
     };

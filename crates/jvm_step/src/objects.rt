@@ -1,41 +1,19 @@
 //! Instructions that make objects.
-ghost use Rattle.std.specs.Prelude.{◌≡◌, ◌+◌, ◌<◌, ◌≤◌, ◌^◌, ◌++◌, ◌∷◌, [], length, map, replicate, drop, pos, OnErr, IfOk, Some};
+ghost use Rattle.std.specs.Prelude.{◌≡◌, ◌+◌, ◌<◌, ◌≤◌, ◌^◌, ◌++◌, ◌∷◌, [], length, replicate, drop, pos, OnErr, IfOk, Some};
 ghost use Rattle.jvm_values.specs.States.{frame_of};
 ghost use Rattle.jvm_values.specs.declared.heap.Value.TheVariants as values;
 ghost use Rattle.jvm_values.specs.declared.types.Base.TheVariants as bases;
 ghost use Rattle.class_world.specs.Worlds.{classes_of};
 ghost use Rattle.jvm_step.specs.Acts.{Tries};
-ghost use Rattle.jvm_step.specs.Operands.{default_of};
 ghost use Rattle.jvm_step.specs.Effects.{types_of, instance_of, new_effect, zeros, nulls, makes, newarray_effect, anewarray_effect};
 
 use crate::after::After;
 use crate::built_ins::NEGATIVE_ARRAY_SIZE_EXCEPTION;
 use crate::operands::{int_at, replace};
 use class_world::World;
-use jvm_values::{Base, Frame, Heap, Kind, Object, Slot, Ty, Types, Value};
+use jvm_values::{Base, Frame, Heap, Kind, Object, Ty, Types, Value, initial_values};
 use list_views::Seq;
 use std::alloc::{AllocError, Global};
-
-/// What a field holds before anything is put into it.
-fn default_of(slot: Slot) -> Value
-    ensures { result ≡ default_of slot }
-{
-    match slot {
-        Slot::Num(_) => Value::Int(0),
-        Slot::Ref(_) => Value::Null,
-    }
-}
-
-/// What the fields of a new object hold.
-pub(crate) fn defaults(alloc: Global, slots: &[Slot]) -> Result<Seq<Value>, AllocError>
-    ensures { IfOk result (λ values. values ≡ map default_of slots.now) }
-{
-    let mut values = Seq::with_capacity(alloc, slots.len())?;
-    for slot in slots {
-        values.push(default_of(*slot))?;
-    }
-    Ok(values)
-}
 
 /// So many zeros.
 fn zero_items(alloc: Global, count: usize) -> Result<Seq<i32>, AllocError>
@@ -162,7 +140,7 @@ fn made(alloc: Global, world: &World<'_>, class: u32) -> Result<Option<Object>, 
     if class >= world.classes() || !world.can_be_made(class) {
         return Ok(None);
     }
-    let fields = defaults(alloc, world.fields(class))?;
+    let fields = initial_values(alloc, world.fields(class))?;
     Ok(Some(Object::Instance { class, fields }))
 }
 

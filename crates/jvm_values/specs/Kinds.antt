@@ -16,6 +16,16 @@ kind_code Int = 10
 abbrev pub kind_of_code : ℕ → Option Kind
 kind_of_code code = if code == 4 then Some Boolean else if code == 5 then Some Char else if code == 8 then Some Byte else if code == 9 then Some Short else if code == 10 then Some Int else None
 
+-- the kind of a primitive type's letter in a descriptor: `Z`, `C`, `B`, `S` and `I`; the machine has no long, float and double
+abbrev pub kind_of_letter : ℕ → Option Kind
+kind_of_letter letter =
+    if letter == 90 then Some Boolean
+    else if letter == 67 then Some Char
+    else if letter == 66 then Some Byte
+    else if letter == 83 then Some Short
+    else if letter == 73 then Some Int
+    else None
+
 -- the least and the greatest number of a kind (JVM specification, section 2.3)
 abbrev pub least_of : Kind → ℤ
 least_of Boolean = pos 0

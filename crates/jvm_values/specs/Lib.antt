@@ -1,10 +1,11 @@
-pub mod Heaps
-pub mod Ints
-pub mod Joins
 pub mod Kinds
-pub mod Paths
-pub mod States
+pub mod Ints
 pub mod Subtyping
+pub mod Joins
+pub mod Slots
+pub mod Paths
+pub mod Heaps
 pub mod Terms
 pub mod TypedHeaps
 pub mod Writes
+pub mod States

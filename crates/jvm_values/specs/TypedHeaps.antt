@@ -11,7 +11,7 @@ use Rattle.jvm_values.specs.declared.heap.Object.TheVariants.{Instance, Nums, Re
 use Rattle.jvm_values.specs.declared.heap.Heap.{Heap}
 use Rattle.jvm_values.specs.Kinds.{IsOfKind}
 use Rattle.jvm_values.specs.Heaps.{IsClosed}
-use Rattle.jvm_values.specs.Subtyping.{class_type, array_of, array_of_numbers, IsReference}
+use Rattle.jvm_values.specs.Subtyping.{class_type, array_of, array_of_numbers, IsReference, SubtypeLaws}
 
 -- what a world tells of its types
 pub record WorldTypes : Type 0 where
@@ -20,6 +20,10 @@ pub record WorldTypes : Type 0 where
   pub classes : ℕ
   pub fields : ℕ → List Slot
   pub can_be_made : ℕ → Bool
+
+-- the laws of subtypes hold for them
+abbrev pub AreLawful : WorldTypes → Type 0
+AreLawful types = SubtypeLaws types.sub types.erase types.classes types.fields types.can_be_made
 
 abbrev pub world_types : (Ty → Ty → Bool) → (Ty → Ty) → ℕ → (ℕ → List Slot) → (ℕ → Bool) → WorldTypes
 world_types sub erase classes fields can_be_made = record { sub = sub; erase = erase; classes = classes; fields = fields; can_be_made = can_be_made }

@@ -1,6 +1,10 @@
 //! Values and the objects that references name (JVM specification, sections 2.4 and 2.5.3).
-use crate::types::{Kind, Ty};
+ghost use Rattle.std.specs.Prelude.{◌≡◌, map, IfOk};
+ghost use Rattle.jvm_values.specs.Slots.{initial_value};
+
+use crate::types::{Kind, Slot, Ty};
 use list_views::Seq;
+use std::alloc::{AllocError, Global};
 
 /// A value on a stack, in a local, a field or an array of references.
 #[derive(Clone, Copy, PartialEq, Eq)]
@@ -44,4 +48,29 @@ pub enum Object {
 pub struct Heap {
     /// The objects.
     pub objects: Seq<Object>,
+}
+
+/// What a field holds before anything is put into it.
+fn initial_value(slot: Slot) -> Value
+    ensures { result ≡ initial_value slot }
+{
+    match slot {
+        Slot::Num(_) => Value::Int(0),
+        Slot::Ref(_) => Value::Null,
+    }
+}
+
+/// What fields hold before anything is put into them (JVM specification, sections 2.3 and 2.4).
+///
+/// # Errors
+///
+/// Want of memory.
+pub fn initial_values(alloc: Global, slots: &[Slot]) -> Result<Seq<Value>, AllocError>
+    ensures { IfOk result (λ values. values ≡ map initial_value slots.now) }
+{
+    let mut values = Seq::with_capacity(alloc, slots.len())?;
+    for slot in slots {
+        values.push(initial_value(*slot))?;
+    }
+    Ok(values)
 }

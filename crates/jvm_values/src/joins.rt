@@ -7,7 +7,7 @@ use crate::types::{Base, Ty};
 use crate::world_types::Types;
 
 /// The type of the items of an array of references, or None where the type is no such array.
-fn item_of(t: Ty) -> Option<Ty>
+pub fn item_of(t: Ty) -> Option<Ty>
     ensures { result ≡ item_of t }
 {
     match t.base {

@@ -17,14 +17,14 @@ mod typing;
 mod world_types;
 mod writes;
 
-pub use heap::{Heap, Object, Value};
+pub use heap::{Heap, Object, Value, initial_values};
 pub use ints::{Cond, IntOp};
-pub use joins::join;
+pub use joins::{item_of, join};
 pub use laws::typed_heaps_are_closed;
 pub use object_types::is_object_below;
 pub use shape::{Shape, Term};
 pub use state::{Frame, Mode, State};
-pub use types::{Base, Kind, Slot, Ty};
+pub use types::{Base, Kind, Slot, Ty, array_of, array_of_numbers, class_type};
 pub use typing::{FrameType, PlaceType};
 pub use world_types::Types;
 pub use writes::{null_keeps_shapes, path_splits, write_gains, write_keeps, write_makes_no_cycle};

@@ -1,7 +1,9 @@
 //! The types of fields, array items and references (JVM specification, sections 2.2 to 2.4).
-ghost use Rattle.std.specs.Prelude.{◌≡◌};
+ghost use Rattle.std.specs.Prelude.{◌≡◌, ◌<◌};
 ghost use Rattle.std.specs.Int.{w8, w16, int_wrap};
-ghost use Rattle.jvm_values.specs.Kinds.{kind_code, kind_of_code, least_of, greatest_of, narrowed, IsOfKind};
+ghost use Rattle.jvm_values.specs.Kinds.{kind_code, kind_of_code, kind_of_letter, least_of, greatest_of, narrowed, IsOfKind};
+ghost use Rattle.jvm_values.specs.Slots.{is_reference_slot};
+ghost use Rattle.jvm_values.specs.Subtyping.{class_type, array_of, array_of_numbers};
 
 /// The kinds of whole numbers that fields and arrays hold (JVM specification, section 2.3).
 ///
@@ -44,6 +46,20 @@ impl Kind {
             8 => Some(Kind::Byte),
             9 => Some(Kind::Short),
             10 => Some(Kind::Int),
+            _ => None,
+        }
+    }
+
+    /// The kind of a primitive type's letter in a descriptor (JVM specification, section 4.3.2), or None exactly where it is the letter of none of these.
+    pub fn of_letter(letter: u8) -> Option<Kind>
+        ensures { result ≡ kind_of_letter letter }
+    {
+        match letter {
+            b'Z' => Some(Kind::Boolean),
+            b'C' => Some(Kind::Char),
+            b'B' => Some(Kind::Byte),
+            b'S' => Some(Kind::Short),
+            b'I' => Some(Kind::Int),
             _ => None,
         }
     }
@@ -127,6 +143,37 @@ pub struct Ty {
     pub base: Base,
 }
 
+/// A class as a type.
+pub fn class_type(class: u32) -> Ty
+    ensures { result ≡ class_type class }
+{
+    Ty {
+        dims: 0,
+        base: Base::Class(class),
+    }
+}
+
+/// An array of numbers of a kind, as a type.
+pub fn array_of_numbers(kind: Kind) -> Ty
+    ensures { result ≡ array_of_numbers kind }
+{
+    Ty {
+        dims: 1,
+        base: Base::Num(kind),
+    }
+}
+
+/// An array whose items are of a type with fewer than 255 dimensions, as a type.
+pub fn array_of(t: Ty) -> Ty
+    requires { t.dims < 255 }
+    ensures { result ≡ array_of t }
+{
+    Ty {
+        dims: t.dims + 1,
+        base: t.base,
+    }
+}
+
 /// What a field, a parameter or an array item holds.
 #[derive(Clone, Copy, PartialEq, Eq)]
 pub enum Slot {
@@ -134,4 +181,16 @@ pub enum Slot {
     Num(Kind),
     /// A reference of this type, or null.
     Ref(Ty),
+}
+
+impl Slot {
+    /// Whether the slot holds references.
+    pub fn is_reference(self) -> bool
+        ensures { result ≡ is_reference_slot self }
+    {
+        match self {
+            Slot::Num(_) => false,
+            Slot::Ref(_) => true,
+        }
+    }
 }

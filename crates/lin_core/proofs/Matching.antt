@@ -24,17 +24,6 @@ pub record IsMatched (all rest : List (ℕ × ℤ)) (sum : Sum) (found : ℕ) : 
   pub parts : (x : ℕ) → coefficient_in sum x +ℤ coefficient_of x rest ≡ get_or others x (pos 0) +ℤ coefficient_of x all
   pub nonzero : found + count_by is_nonzero others ≡ count_by is_nonzero sum.coefficients
 
-pub matched_first : (all : List (ℕ × ℤ)) (sum : Sum) → Rise (variables sum) all → IsMatched all all sum 0
-matched_first all sum rise = record {
-  others = sum.coefficients;
-  count = refl;
-  low = 0;
-  rise = rise;
-  untouched = λ x h. refl;
-  parts = λ x. refl;
-  nonzero = omega arith;
-}
-
 one_part : (here : Bool) (was is k whole rest all : ℤ) → is ≡ cond here (pos 0) was → (here ≡ true → was ≡ k) → whole +ℤ (cond here k (pos 0) +ℤ rest) ≡ was +ℤ all → whole +ℤ rest ≡ is +ℤ all
 one_part true was is k whole rest all e same h =
     let w = same refl in

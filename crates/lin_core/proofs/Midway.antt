@@ -20,17 +20,6 @@ pub record IsMidway (all rest : List (ℕ × ℤ)) (by : ℤ) (old now : Sum) : 
   pub sum : (x : ℕ) → coefficient_in now x +ℤ by *ℤ coefficient_of x rest ≡ coefficient_in old x +ℤ by *ℤ coefficient_of x all
   pub growth : (x : ℕ) → unsigned_abs (coefficient_in now x) ≤ unsigned_abs (coefficient_in old x) + 2 ^ 94
 
-pub midway_first : (all : List (ℕ × ℤ)) (by : ℤ) (old : Sum) → RiseFrom 0 (variables old) all → IsMidway all all by old old
-midway_first all by old rise = record {
-  count = refl;
-  constant = refl;
-  low = 0;
-  rise = rise;
-  untouched = λ x h. refl;
-  sum = λ x. refl;
-  growth = λ x. omega arith;
-}
-
 pub written_at : (numbers : List ℤ) (y x : ℕ) (v : ℤ) (t : Bool) → y < length numbers → eqb y x ≡ t → get_or (set numbers y v) x (pos 0) ≡ cond t v (get_or numbers x (pos 0))
 written_at numbers y x v true h e = subst (λ (z : ℕ). get_or (set numbers y v) z (pos 0) ≡ v) (eqb-true y x e) (get_or-set_same numbers y v (pos 0) h)
 written_at numbers y x v false h e = get_or-set_other numbers y x v (pos 0) (λ same. cc (eq-eqb y x (sym same)))

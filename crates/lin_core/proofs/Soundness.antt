@@ -47,9 +47,6 @@ span_mul numbers by f k (suc n) = mul_both by _ _ _ _ (times_assoc by (f k) (num
 abbrev only : ℕ → ℤ → ℕ → ℤ
 only y v x = cond (eqb y x) v (pos 0)
 
-only_at : (y : ℕ) (v : ℤ) → only y v y ≡ v
-only_at y v = ap (λ (t : Bool). cond t v (pos 0)) (eq-eqb y y refl)
-
 only_off : (y x : ℕ) (v : ℤ) (t : Bool) → eqb y x ≡ t → y ≢ x → cond t v (pos 0) ≡ pos 0
 only_off y x v true e far = absurd (far (eqb-true y x e))
 only_off y x v false e far = refl

@@ -86,9 +86,6 @@ pub record IsWeighed (weigh : ℕ → ℤ) (all rest : List (ℕ × ℤ)) (sum :
   pub size : unsigned_abs sum + 65535 * total_size rest ≤ 65535 * 2 ^ 40
   pub small : total_size rest ≤ 2 ^ 40
 
-pub weighed_first : (weigh : ℕ → ℤ) (all : List (ℕ × ℤ)) → total_size all ≤ 2 ^ 40 → IsWeighed weigh all all (pos 0)
-weighed_first weigh all h = record { value = omega (arith, ints); size = omega arith; small = h }
-
 weighed_step : (weigh : ℕ → ℤ) (all rest : List (ℕ × ℤ)) (entry : ℕ × ℤ) (sum p : ℤ) → IsWeighed weigh all (entry ∷ rest) sum → p ≡ entry.1 *ℤ weigh entry.0 → unsigned_abs p ≤ 65535 * unsigned_abs entry.1 → IsWeighed weigh all rest (sum +ℤ p)
 weighed_step weigh all rest entry sum p h e small = record {
   value = let v = h.value in omega (arith, ints);
@@ -96,21 +93,7 @@ weighed_step weigh all rest entry sum p h e small = record {
   small = let s = h.small in omega arith;
 }
 
-pub weighed_entry : (weigh : ℕ → ℤ) (all items : List (ℕ × ℤ)) (i : ℕ) (sum : ℤ) → i < length items → IsWeighed weigh all (drop i items) sum → unsigned_abs (get_or items i (0, pos 0)).1 ≤ 2 ^ 40
-weighed_entry weigh all items i sum in' h =
-    let split = at_drop_more (λ (xs : List (ℕ × ℤ)). xs) items i (0, pos 0) in' in
-    let m = subst (λ (xs : List (ℕ × ℤ)). IsWeighed weigh all xs sum) split h in
-    let s = m.small in omega arith
-
 pub weighed_more : (weigh : ℕ → ℤ) (all items : List (ℕ × ℤ)) (i : ℕ) (sum p : ℤ) → i < length items → IsWeighed weigh all (drop i items) sum → p ≡ (get_or items i (0, pos 0)).1 *ℤ weigh (get_or items i (0, pos 0)).0 → unsigned_abs p ≤ 65535 * unsigned_abs (get_or items i (0, pos 0)).1 → IsWeighed weigh all (drop (i + 1) items) (sum +ℤ p)
 weighed_more weigh all items i sum p in' h e small =
     let split = at_drop_more (λ (xs : List (ℕ × ℤ)). xs) items i (0, pos 0) in' in
     weighed_step weigh all (drop (i + 1) items) (get_or items i (0, pos 0)) sum p (subst (λ (xs : List (ℕ × ℤ)). IsWeighed weigh all xs sum) split h) e small
-
-pub weighed_last : (weigh : ℕ → ℤ) (all items : List (ℕ × ℤ)) (i : ℕ) (sum : ℤ) → length items ≤ i → IsWeighed weigh all (drop i items) sum → (sum ≡ value_of_terms weigh all) × (unsigned_abs sum ≤ 2 ^ 56)
-weighed_last weigh all items i sum past h =
-    let none = at_drop_all (λ (xs : List (ℕ × ℤ)). xs) items i past in
-    let m = subst (λ (xs : List (ℕ × ℤ)). IsWeighed weigh all xs sum) none h in
-    let v = m.value in
-    let s = m.size in
-    (omega (arith, ints), omega arith)

@@ -1,10 +1,10 @@
-pub mod Combination
-pub mod FaultText
-pub mod Intervals
-pub mod Laws
-pub mod Rounds
 pub mod Rows
-pub mod Steps
-pub mod Sums
 pub mod Weights
+pub mod Sums
+pub mod Combination
+pub mod Laws
+pub mod Intervals
 pub mod Wrapping
+pub mod FaultText
+pub mod Steps
+pub mod Rounds

@@ -1,8 +1,8 @@
 -- Laws of steps that may have a fault, and of what a call answers to them.
-use Rattle.std.proofs.Common.{◌≡◌, ℕ, ◌+◌, ◌<◌, ◌≤◌, Bool, true, false, cond, List, [], ◌∷◌, ◌++◌, length, get_or, take, drop, Result, Ok, Err, refl, sym, ap, ◌∙◌, add-one, take-append-drop, take_all, drop-cons}
+use Rattle.std.proofs.Common.{◌≡◌, ℕ, ◌+◌, ◌<◌, ◌≤◌, Bool, true, false, cond, Option, Some, List, [], ◌∷◌, ◌++◌, length, get_or, take, drop, Result, Ok, Err, refl, sym, ap, ◌∙◌, add-one, take-append-drop, take_all, drop-cons}
 use Rattle.std.specs.Prelude.{MatchBool}
 use Rattle.std.proofs.lemmas.List.{take_more}
-use Rattle.list_views.specs.Results.{◌>>=◌, each, IsDue}
+use Rattle.list_views.specs.Results.{◌>>=◌, each, IsDue, IsFault}
 
 -- ---- steps
 
@@ -17,11 +17,6 @@ ok_is x y e = cc
 pub bind_ok : {A B E : Type 0} (r : Result A E) (f : A → Result B E) (y : B) → (r >>= f) ≡ Ok y → (x : A) × (r ≡ Ok x) × (f x ≡ Ok y)
 bind_ok (Ok x) f y e = (x, refl, e)
 bind_ok (Err d) f y e = absurd cc
-
--- steps one after another, in any grouping
-pub bind_bind : {A B C E : Type 0} (r : Result A E) (f : A → Result B E) (g : B → Result C E) → ((r >>= f) >>= g) ≡ (r >>= λ x. f x >>= g)
-bind_bind (Ok x) f g = refl
-bind_bind (Err d) f g = refl
 
 -- a test that found no fault
 pub guard_ok : {A E : Type 0} (b : Bool) (d : E) (x y : A) → cond b (Err d) (Ok x) ≡ Ok y → (b ≡ false) × (x ≡ y)
@@ -68,10 +63,12 @@ each_append {B = B} {E = E} step (x ∷ xs) zs =
     by (Ok y) (Err fault) u = refl
     by (Err fault) t u = refl
 
-each_more : {A B E : Type 0} (step : A → Result B E) (xs : List A) (x : A) (ys : List B) (y : B) → each step xs ≡ Ok ys → step x ≡ Ok y → each step (xs ++ x ∷ []) ≡ Ok (ys ++ y ∷ [])
+-- one more item
+pub each_more : {A B E : Type 0} (step : A → Result B E) (xs : List A) (x : A) (ys : List B) (y : B) → each step xs ≡ Ok ys → step x ≡ Ok y → each step (xs ++ x ∷ []) ≡ Ok (ys ++ y ∷ [])
 each_more step xs x ys y e f = each_append step xs (x ∷ []) ∙ ap (λ s. both s (each step (x ∷ []))) e ∙ ap (both (Ok ys)) (each_one step x [] ∙ ap (λ s. one s (Ok [])) f)
 
-each_broken : {A B E : Type 0} (step : A → Result B E) (xs rest : List A) (x : A) (ys : List B) (fault : E) → each step xs ≡ Ok ys → step x ≡ Err fault → each step (xs ++ x ∷ rest) ≡ Err fault
+-- the first fault
+pub each_broken : {A B E : Type 0} (step : A → Result B E) (xs rest : List A) (x : A) (ys : List B) (fault : E) → each step xs ≡ Ok ys → step x ≡ Err fault → each step (xs ++ x ∷ rest) ≡ Err fault
 each_broken step xs rest x ys fault e f = each_append step xs (x ∷ rest) ∙ ap (λ s. both s (each step (x ∷ rest))) e ∙ ap (both (Ok ys)) (each_one step x rest ∙ ap (λ s. one s (each step rest)) f)
 
 -- a list at one of its items
@@ -82,23 +79,24 @@ at_item xs i d l = sym (take-append-drop i xs) ∙ ap (λ ys. take i xs ++ ys) (
 pub each_so_far : {A B E : Type 0} (step : A → Result B E) (xs : List A) (i : ℕ) (d : A) (ys more : List B) (y : B) → i < length xs → each step (take i xs) ≡ Ok ys → step (get_or xs i d) ≡ Ok y → more ≡ ys ++ y ∷ [] → each step (take (i + 1) xs) ≡ Ok more
 each_so_far step xs i d ys more y l h s m = ap (each step) (take_more xs i d l) ∙ each_more step (take i xs) (get_or xs i d) ys y h s ∙ ap Ok (sym m)
 
--- the first fault: a loop's early end
-pub each_refused : {A B E : Type 0} (step : A → Result B E) (xs : List A) (i : ℕ) (d : A) (ys : List B) (fault : E) → i < length xs → each step (take i xs) ≡ Ok ys → step (get_or xs i d) ≡ Err fault → each step xs ≡ Err fault
-each_refused step xs i d ys fault l h f = ap (each step) (at_item xs i d l) ∙ each_broken step (take i xs) (drop (i + 1) xs) (get_or xs i d) ys fault h f
-
 -- all items: a loop's end
 pub each_all : {A B E : Type 0} (step : A → Result B E) (xs : List A) (i : ℕ) (ys : List B) → length xs ≤ i → each step (take i xs) ≡ Ok ys → each step xs ≡ Ok ys
 each_all step xs i ys l h = ap (each step) (sym (take_all i xs l)) ∙ h
 
 -- ---- answers
 
+-- what holds but for want of memory, handed on
+told_on : {P Q : Type 0} (b : Bool) → (P → Q) → MatchBool b (Unit {0}) P → MatchBool b (Unit {0}) Q
+told_on true more h = tt
+told_on false more h = more h
+
 -- a fault that is due for one thing is due for another, where each fault of the first is one of the second
 pub handed_on : {X Y E : Type 0} (is_memory : E → Bool) (fault : E) (due : Result X E) (other : Result Y E) → (due ≡ Err fault → other ≡ Err fault) → IsDue is_memory fault due → IsDue is_memory fault other
-handed_on {X} {Y} {E} is_memory fault due other same h = by (is_memory fault) h
-  where
-    by : (b : Bool) → MatchBool b (Unit {0}) (due ≡ Err fault) → MatchBool b (Unit {0}) (other ≡ Err fault)
-    by true h = tt
-    by false h = same h
+handed_on is_memory fault due other same h = told_on (is_memory fault) same h
+
+-- a fault that one test finds is one that another finds
+pub found_by : {E : Type 0} (is_memory : E → Bool) (fault : E) (one other : Option E) → (one ≡ Some fault → other ≡ Some fault) → IsFault is_memory fault one → IsFault is_memory fault other
+found_by is_memory fault one other same h = told_on (is_memory fault) same h
 
 -- a fault that is due
 pub is_due : {Y E : Type 0} (is_memory : E → Bool) (fault : E) (due : Result Y E) → due ≡ Err fault → IsDue is_memory fault due
@@ -107,11 +105,3 @@ is_due {Y} {E} is_memory fault due e = by (is_memory fault)
     by : (b : Bool) → MatchBool b (Unit {0}) (due ≡ Err fault)
     by true = tt
     by false = e
-
--- a fault that isn't want of memory is due
-pub due_is : {Y E : Type 0} (is_memory : E → Bool) (fault : E) (due : Result Y E) → is_memory fault ≡ false → IsDue is_memory fault due → due ≡ Err fault
-due_is {Y} {E} is_memory fault due told h = by (is_memory fault) told h
-  where
-    by : (b : Bool) → b ≡ false → MatchBool b (Unit {0}) (due ≡ Err fault) → due ≡ Err fault
-    by true told h = absurd cc
-    by false told h = h

@@ -52,3 +52,12 @@ IsDue is_memory fault due = MatchBool (is_memory fault) (Unit {0}) (due ≡ Err 
 abbrev pub Gives : {X Y E : Type 0} → (E → Bool) → (X → Y) → Result X E → Result Y E → Type 0
 Gives is_memory view (Ok x) due = due ≡ Ok (view x)
 Gives is_memory view (Err fault) due = IsDue is_memory fault due
+
+-- This fault is there, or it is want of memory, which `is_memory` tells.
+abbrev pub IsFault : {E : Type 0} → (E → Bool) → E → Option E → Type 0
+IsFault is_memory found fault = MatchBool (is_memory found) (Unit {0}) (fault ≡ Some found)
+
+-- What a test answers is the fault that is there, if any, unless memory ran out.
+abbrev pub Refuses : {X E : Type 0} → (E → Bool) → Result X E → Option E → Type 0
+Refuses is_memory (Ok x) fault = fault ≡ None
+Refuses is_memory (Err found) fault = IsFault is_memory found fault

@@ -73,13 +73,6 @@ pub record AreRanked (graph : List (List ℕ)) (ranks : List ℕ) (n : ℕ) : Ty
   pub ranked : (a : ℕ) → a < n → IsRank graph a (get_or ranks a 0)
   pub off : (a : ℕ) → a < n → IsOnCycle (Edge graph) a → ⊥
 
-pub none_ranked : (graph : List (List ℕ)) → AreRanked graph [] 0
-none_ranked graph = record {
-  count = refl;
-  ranked = λ a l. absurd (omega (arith, l));
-  off = λ a l on. omega (arith, l);
-}
-
 off_next : (graph : List (List ℕ)) (n : ℕ) (marks : List Bool) → n < length graph → AreReached graph n marks → get_or marks n false ≡ false → IsOnCycle (Edge graph) n → ⊥
 off_next graph n marks l reached isnt on = false≢true (sym isnt ∙ reached.whole n l on)
 

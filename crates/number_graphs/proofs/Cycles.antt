@@ -5,9 +5,10 @@ use Rattle.std.specs.Option.{option_map_or}
 use Rattle.std.proofs.lemmas.Bool.{false≢true, cases_eq, cases_lt}
 use Rattle.std.proofs.lemmas.List.{get_or_past, get_or-replicate, length-replicate}
 use Rattle.std.proofs.lemmas.Option.{slice_get_within}
+use Rattle.list_views.specs.Lists.{open_count}
 use Rattle.number_graphs.specs.Graphs.{IsWay, Leads, IsOnCycle}
 use Rattle.number_graphs.specs.Lists.{Has, row_at, Edge}
-use Rattle.number_graphs.specs.Marking.{Front, AreReached, visit, open_count}
+use Rattle.number_graphs.specs.Marking.{Front, AreReached, visit}
 use Rattle.number_graphs.proofs.Marked.{Marked, Grows, visited, has_end, end_has_old, end_has}
 
 -- ---- ways
@@ -134,14 +135,3 @@ pub ends : (graph : List (List ℕ)) (start : ℕ) (marks : List Bool) (todo : L
 ends graph start marks todo s t =
     let done : Spreads graph start marks [] = subst (λ (x : List ℕ). Spreads graph start marks x) t s in
     record { count = done.count; sound = done.sound; whole = λ b l leads. marked_along graph start marks leads.0 start b done (inl refl) leads.1 l }
-
--- none of all is on a cycle
-pub none_on : (graph : List (List ℕ)) (n : ℕ) → length graph ≤ n → ((b : ℕ) → b < n → IsOnCycle (Edge graph) b → ⊥) → (a : ℕ) → IsOnCycle (Edge graph) a → ⊥
-none_on graph n l none a on = let k = cycle_within graph a on in none a (omega (arith, k, l)) on
-
--- one more isn't
-pub one_more_off : (graph : List (List ℕ)) (n : ℕ) → ((b : ℕ) → b < n → IsOnCycle (Edge graph) b → ⊥) → (IsOnCycle (Edge graph) n → ⊥) → (b : ℕ) → b < n + 1 → IsOnCycle (Edge graph) b → ⊥
-one_more_off graph n none off b l on = elim (cases_eq b n) as (λ o. ⊥) [
-  | inl s ↦ off (subst (λ (x : ℕ). IsOnCycle (Edge graph) x) s on)
-  | inr d ↦ none b (omega (arith, l, d)) on
-]

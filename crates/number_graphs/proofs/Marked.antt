@@ -5,8 +5,9 @@ use Rattle.std.proofs.Math.ListN.{length-set}
 use Rattle.std.proofs.lemmas.Bool.{false≢true, true≢false, cases_eq, and_parts, and_cases, cases_lt, ltb-true, ltb-false}
 use Rattle.std.proofs.lemmas.List.{get_or-set_same, get_or-set_other, get_or_past}
 use Rattle.std.proofs.lemmas.List.Sums.{sum_by-set}
+use Rattle.list_views.specs.Lists.{open_count}
 use Rattle.number_graphs.specs.Lists.{Has}
-use Rattle.number_graphs.specs.Marking.{Front, is_open, come, visit, open_count}
+use Rattle.number_graphs.specs.Marking.{Front, is_open, come, visit}
 
 abbrev pub Marked : List Bool → ℕ → Type 0
 Marked marks x = get_or marks x false ≡ true

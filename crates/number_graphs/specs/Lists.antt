@@ -1,14 +1,10 @@
 -- Graphs as lists of successors: each number has the list at its place.
-use Rattle.std.specs.Prelude.{◌≡◌, ◌⊎◌, ◌<◌, ℕ, List, [], ◌∷◌, slice_get, slice_index_or}
+use Rattle.std.specs.Prelude.{◌<◌, ℕ, List, [], slice_get, slice_index_or}
 use Rattle.std.specs.Option.{option_map_or}
+pub use Rattle.list_views.specs.Lists.{Has}
 use Rattle.number_graphs.specs.Graphs.{IsLeastOnCycle}
 use Rattle.number_graphs.specs.declared.ranking.Ranking.{Ranking}
 use Rattle.number_graphs.specs.declared.ranking.Ranking.TheVariants.{Ranks, Cycle}
-
--- a number is in a list
-abbrev pub Has : List ℕ → ℕ → Type 0
-Has [] b = ⊥
-Has (x ∷ xs) b = (x ≡ b) ⊎ Has xs b
 
 -- the list of a number; numbers past the end have the empty one
 abbrev pub row_at : List (List ℕ) → ℕ → List ℕ

@@ -21,11 +21,7 @@ abbrev pub visit : List ℕ → Front → Front
 visit [] front = front
 visit (b ∷ row) front = visit row (come b front)
 
--- how many marks aren't set
-abbrev pub open_count : List Bool → ℕ
-open_count marks = sum_by (λ mark. if mark then 0 else 1) marks
-
--- how many are
+-- how many marks are set
 abbrev pub marked_count : List Bool → ℕ
 marked_count marks = sum_by (λ mark. if mark then 1 else 0) marks
 

@@ -1,6 +1,7 @@
 -- The instructions of closed programs have forms.
 use Rattle.std.proofs.Common.{◌≡◌, ℕ, Bool, true, List, [], ◌∷◌, Option, Some, None, refl}
 use Rattle.std.specs.Option.{option_map, is_some}
+use Rattle.std.specs.List.{AllByRecursion}
 use Rattle.code_forms.specs.declared.insn.Insn.{Insn}
 use Rattle.code_forms.specs.declared.insn.Insn.TheVariants as insns
 use Rattle.jvm_values.specs.declared.types.Kind.{Kind}
@@ -10,7 +11,7 @@ use Rattle.class_program.specs.declared.op.Op.TheVariants.{Plain, Constant, Gets
 use Rattle.class_program.specs.declared.program.Method.{Method}
 use Rattle.class_program.specs.Operands.{operand_of}
 use Rattle.class_program.specs.Programs.{Program}
-use Rattle.class_program.specs.Good.{AllOf, IsGoodPlain, IsGoodName, IsGoodOp, IsGoodMethod, IsGood}
+use Rattle.class_program.specs.Good.{IsGoodPlain, IsGoodName, IsGoodOp, IsGoodMethod, IsGood}
 use Rattle.op_forms.specs.Forms.{form_of, form_of_insn}
 use Rattle.op_forms.specs.Forms.Form.{Newarray as ArrayForm}
 
@@ -56,13 +57,13 @@ op_formed p current (Instanceof t) h = refl
 pub good_formed : (p : Program) (m : Method) (op : Op) → IsGoodOp p m op → is_some (form_of op) ≡ true
 good_formed p m op h = op_formed p m.class op h.named
 
-insns_formed : (p : Program) (m : Method) (xs : List (ℕ × Op)) → AllOf (λ x. IsGoodOp p m x.1) xs → AllOf (λ x. is_some (form_of x.1) ≡ true) xs
+insns_formed : (p : Program) (m : Method) (xs : List (ℕ × Op)) → AllByRecursion (λ x. IsGoodOp p m x.1) xs → AllByRecursion (λ x. is_some (form_of x.1) ≡ true) xs
 insns_formed p m [] h = tt
 insns_formed p m (x ∷ xs) h = (good_formed p m x.1 h.0, insns_formed p m xs h.1)
 
-methods_formed : (p : Program) (ms : List Method) → AllOf (IsGoodMethod p) ms → AllOf (λ m. AllOf (λ x. is_some (form_of x.1) ≡ true) m.insns) ms
+methods_formed : (p : Program) (ms : List Method) → AllByRecursion (IsGoodMethod p) ms → AllByRecursion (λ m. AllByRecursion (λ x. is_some (form_of x.1) ≡ true) m.insns) ms
 methods_formed p [] h = tt
 methods_formed p (m ∷ ms) h = (insns_formed p m m.insns h.0.insns, methods_formed p ms h.1)
 
-pub all_formed : (p : Program) → IsGood p → AllOf (λ m. AllOf (λ x. is_some (form_of x.1) ≡ true) m.insns) p.methods
+pub all_formed : (p : Program) → IsGood p → AllByRecursion (λ m. AllByRecursion (λ x. is_some (form_of x.1) ≡ true) m.insns) p.methods
 all_formed p h = methods_formed p p.methods h.methods

@@ -5,6 +5,7 @@ use Rattle.descent.specs.declared.rules.PathRule.{PathRule}
 use Rattle.abs_cells.specs.Patterns.{Pattern}
 use Rattle.term_graph.specs.declared.links.Link.{Link}
 use Rattle.term_graph.specs.Graphs.{GraphNode}
+use Rattle.path_rules.specs.Limits.{most_paths, most_rule_rows, most_rows}
 use Rattle.path_rules.specs.Paths.{Path, AreAllPaths, IsLeastUncut, IsCut, HasTooManyPaths}
 use Rattle.path_rules.specs.Stops.{AreSizes}
 use Rattle.path_rules.specs.Rules.{IsRuleOf}
@@ -17,25 +18,25 @@ pub record AreRulesOf (graph : List GraphNode) (links : List (List Link)) (cuts 
   pub are_sizes : AllZip (λ (n : GraphNode) (s : List (ℕ × Pattern)). AreSizes n.state s) graph sizes
   pub are : AllZip (IsRuleOf (record { graph = graph; links = links; sizes = sizes }) cuts) (take (length rules) paths) rules
 
--- each rule has at most 65,536 rows, and all of them together have at most 16,777,216
+-- neither a rule has too many rows, nor all of them together
 pub record HaveFewRows (rules : List PathRule) : Type 0 where
-  pub each : All (λ (rule : PathRule). length rule.rows ≤ 65536) rules
-  pub all : sum_by (λ (rule : PathRule). length rule.rows) rules ≤ 16777216
+  pub each : All (λ (rule : PathRule). length rule.rows ≤ most_rule_rows) rules
+  pub all : sum_by (λ (rule : PathRule). length rule.rows) rules ≤ most_rows
 
--- the rules of all paths, of which there are at most 4,096
+-- the rules of all paths, of which there are not too many
 pub record HasRules (graph : List GraphNode) (links : List (List Link)) (cuts : List ℕ) (rules : List PathRule) : Type 0 where
   pub paths : List Path
   pub all : AreAllPaths graph cuts paths
-  pub few : length paths ≤ 4096
+  pub few : length paths ≤ most_paths
   pub are : AreRulesOf graph links cuts paths rules
   pub whole : length rules ≡ length paths
   pub rows : HaveFewRows rules
 
--- there are at most 4,096 paths, and this is the number of the first one with whose rule the rules have too many rows
+-- there are not too many paths, and this is the number of the first one with whose rule the rules have too many rows
 pub record IsFirstTooLong (graph : List GraphNode) (links : List (List Link)) (cuts : List ℕ) (path : ℕ) : Type 0 where
   pub paths : List Path
   pub all : AreAllPaths graph cuts paths
-  pub few : length paths ≤ 4096
+  pub few : length paths ≤ most_paths
   pub rules : List PathRule
   pub are : AreRulesOf graph links cuts paths rules
   pub last : length rules ≡ suc path

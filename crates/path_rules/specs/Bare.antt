@@ -15,6 +15,7 @@ use Rattle.term_graph.specs.declared.links.Link.{Link}
 use Rattle.term_graph.specs.Graphs.{GraphNode}
 use Rattle.path_rules.specs.declared.fault.PathFault.{PathFault}
 use Rattle.path_rules.specs.declared.fault.PathFault.TheVariants.{Uncut, TooManyPaths, TooManyRows, Memory}
+use Rattle.path_rules.specs.Limits.{most_rule_rows}
 use Rattle.path_rules.specs.Paths.{Path, edges}
 use Rattle.path_rules.specs.Stops.{Stop, Leg, LinkedGraph, stop_at, ride_at, rides_from}
 use Rattle.path_rules.specs.Rules.{variable_of, variable_at, rows_of_leg, rows_of_stop, rows_along, rule_over, variables_after, IsRuleOf}
@@ -76,8 +77,8 @@ pub record AreGood (graph : List GraphNode) (links : List (List Link)) : Type 0 
 
 -- the rule of a path, with at most 65,536 rows, the intervals of whose stops are bounded, or none where it has more rows
 abbrev pub IsRuleAlong : LinkedGraph → ℕ → ℕ → List ℕ → Option PathRule → Type 0
-IsRuleAlong linked from to places None = (start : Stop) (rides : List (Leg × Stop)) → stop_at linked from ≡ Some start → rides_from linked from places ≡ Some rides → 65536 < length (rows_along 0 start rides)
-IsRuleAlong linked from to places (Some rule) = (start : Stop) (rides : List (Leg × Stop)) → stop_at linked from ≡ Some start → rides_from linked from places ≡ Some rides → (rule ≡ rule_over from to start rides) × ((length rule.rows ≤ 65536) × (AreBounded start.state × AllBounded rides))
+IsRuleAlong linked from to places None = (start : Stop) (rides : List (Leg × Stop)) → stop_at linked from ≡ Some start → rides_from linked from places ≡ Some rides → most_rule_rows < length (rows_along 0 start rides)
+IsRuleAlong linked from to places (Some rule) = (start : Stop) (rides : List (Leg × Stop)) → stop_at linked from ≡ Some start → rides_from linked from places ≡ Some rides → (rule ≡ rule_over from to start rides) × ((length rule.rows ≤ most_rule_rows) × (AreBounded start.state × AllBounded rides))
 
 -- the building of a rule has begun at a node
 pub record IsBegun (graph : List GraphNode) (from : ℕ) (node : GraphNode) (first : ℕ) (rows : List WRow) : Type 0 where
@@ -111,8 +112,8 @@ links_at links node = option_map_or (λ (list : List Link). list) (slice_get lin
 
 -- the rule of a path, with at most 65,536 rows, or none where it has more
 abbrev pub IsRuleFor : LinkedGraph → List ℕ → Path → Option PathRule → Type 0
-IsRuleFor linked cuts path None = (rule : PathRule) × (IsRuleOf linked cuts path rule × (65536 < length rule.rows))
-IsRuleFor linked cuts path (Some rule) = IsRuleOf linked cuts path rule × ((length rule.rows ≤ 65536) × IsRule rule)
+IsRuleFor linked cuts path None = (rule : PathRule) × (IsRuleOf linked cuts path rule × (most_rule_rows < length rule.rows))
+IsRuleFor linked cuts path (Some rule) = IsRuleOf linked cuts path rule × ((length rule.rows ≤ most_rule_rows) × IsRule rule)
 
 abbrev pub IsRuleOfNumber : LinkedGraph → List ℕ → List Path → ℕ → Option PathRule → Type 0
 IsRuleOfNumber linked cuts paths number rule = (path : Path) → slice_get paths number ≡ Some path → IsRuleFor linked cuts path rule

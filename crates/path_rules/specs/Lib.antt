@@ -1,8 +1,9 @@
-pub mod Answers
-pub mod Bare
-pub mod Conditions
+pub mod Limits
 pub mod Paths
-pub mod Rules
 pub mod Stops
+pub mod Rules
+pub mod Answers
+pub mod Conditions
 pub mod Walks
 pub mod Ways
+pub mod Bare

@@ -4,6 +4,7 @@ use Rattle.std.specs.List.{list_any}
 use Rattle.std.specs.Option.{option_and_then}
 use Rattle.jvm_values.specs.Paths.{Steps, follow}
 use Rattle.term_graph.specs.Graphs.{GraphNode, successors}
+use Rattle.path_rules.specs.Limits.{most_paths}
 
 -- ---- edges
 
@@ -84,9 +85,9 @@ pub record IsLeastUncut (graph : List GraphNode) (cuts : List ℕ) (node : ℕ) 
 abbrev pub IsCut : List GraphNode → List ℕ → Type 0
 IsCut graph cuts = (node : ℕ) → IsUncut graph cuts node → ⊥
 
--- there are more than 4,096 paths
+-- there are too many paths
 pub record HasTooManyPaths (graph : List GraphNode) (cuts : List ℕ) : Type 0 where
   pub paths : List Path
   pub each : All (IsPath graph cuts) paths
   pub rise : Rise paths
-  pub many : 4096 < length paths
+  pub many : most_paths < length paths

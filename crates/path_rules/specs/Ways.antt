@@ -8,6 +8,7 @@ use Rattle.term_graph.specs.Graphs.{GraphNode, successors}
 use Rattle.path_rules.specs.declared.fault.PathFault.{PathFault}
 use Rattle.path_rules.specs.declared.fault.PathFault.TheVariants.{Uncut, TooManyPaths, TooManyRows, Memory}
 use Rattle.path_rules.specs.declared.ways.Ways.{Ways}
+use Rattle.path_rules.specs.Limits.{most_paths}
 use Rattle.path_rules.specs.Paths.{Path, IsLeastUncut, is_cut, only_last}
 
 -- ---- cuts
@@ -55,9 +56,9 @@ paths_by ways cuts = flat_map (λ (cut : ℕ). map (λ (way : List ℕ). record 
 
 -- ---- numbers of ways
 
--- numbers are counted up to 4,097: then there are too many
+-- numbers are counted up to one more than `most_paths`: then there are too many
 abbrev pub counted : ℕ → ℕ
-counted n = if nat_lt n 4097 then n else 4097
+counted n = if nat_lt n (suc most_paths) then n else suc most_paths
 
 -- how many ways go on over an edge to a node, where each node has a count
 abbrev pub count_over : List Bool → List ℕ → ℕ → ℕ

@@ -4,10 +4,12 @@ ghost use Rattle.descent.specs.Conditions.{AreRules};
 ghost use Rattle.path_rules.specs.Answers.{Answers};
 ghost use Rattle.path_rules.specs.Bare.{bare_graph, AreRulesOr, IsRuleOfNumber};
 ghost use Rattle.path_rules.specs.Conditions.{IsReady};
+ghost use Rattle.path_rules.specs.Limits.{most_paths};
 ghost use Rattle.path_rules.specs.Ways.{paths_of, AreWaysOf, IsMapped, IsRanked};
 
 use crate::counts::{TOO_MANY, counts};
 use crate::fault::PathFault;
+use crate::limits::MOST_ROWS;
 use crate::successors::{cut_marks, inner_lists, successor_lists};
 use crate::walks::rule_along;
 use crate::ways::{Ways, way_of};
@@ -17,9 +19,6 @@ use list_views::Seq;
 use number_graphs::{Ranking, rank};
 use std::alloc::{AllocError, Global};
 use term_graph::{Links, NodeSource};
-
-/// How many rows all rules have together at most.
-const MOST_ROWS: u64 = 16_777_216;
 
 /// Ranks that fall along all edges, or the least node on a cycle.
 fn ranked(alloc: Global, inner: &[Seq<u32>]) -> Result<Seq<u32>, PathFault>
@@ -70,7 +69,7 @@ fn rule_of<P: Pairs, S: NodeSource<P>>(
     requires ready { IsReady (S.graph source.old) links.now.nodes cuts.now }
     requires mapped { AreWaysOf (S.graph source.old) cuts.now ways.now }
     requires there { number < length (paths_of ways.now cuts.now) }
-    requires few { number < 4097 }
+    requires few { number < most_paths + 1 }
     ensures rule { IfOk result (IsRuleOfNumber (bare_graph (S.graph source.old) links.now.nodes) cuts.now (paths_of ways.now cuts.now) number) }
     ensures same { S.graph source.new ≡ S.graph source.old }
 {
@@ -95,7 +94,7 @@ fn rules_of<P: Pairs, S: NodeSource<P>>(
     requires ready { IsReady (S.graph source.old) links.now.nodes cuts.now }
     requires mapped { AreWaysOf (S.graph source.old) cuts.now ways.now }
     requires all { count ≡ length (paths_of ways.now cuts.now) }
-    requires few { count ≤ 4096 }
+    requires few { count ≤ most_paths }
     ensures rules { AreRulesOr (S.graph source.old) links.now.nodes cuts.now result }
     ensures fit { IfOk result AreRules }
     ensures same { S.graph source.new ≡ S.graph source.old }

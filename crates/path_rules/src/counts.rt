@@ -3,12 +3,13 @@ ghost use Rattle.std.specs.Prelude.{◌≡◌, ◌+◌, map, IfOk, IsTrue, slice
 ghost use Rattle.number_graphs.specs.Lists.{Fall};
 ghost use Rattle.path_rules.specs.Ways.{counted, count_over, count_row, inner_row, most_of, AreCounts};
 
+use crate::limits::MOST_PATHS;
 use crate::successors::has_mark;
 use list_views::Seq;
 use std::alloc::{AllocError, Global};
 
 /// One more than the paths that there may be. Numbers of ways are counted up to it.
-pub(crate) const TOO_MANY: u32 = 4_097;
+pub(crate) const TOO_MANY: u32 = MOST_PATHS + 1;
 
 /// The sum of two numbers, counted up to `TOO_MANY`.
 pub(crate) fn added(count: u32, more: u32) -> u32

@@ -6,6 +6,7 @@ mod counts;
 mod fault;
 mod laws;
 mod legs;
+mod limits;
 mod slots;
 mod stops;
 mod successors;

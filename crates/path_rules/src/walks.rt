@@ -8,6 +8,7 @@ ghost use Rattle.path_rules.specs.Rules.{rows_of_leg, rows_of_stop, slots_of, va
 ghost use Rattle.path_rules.specs.Bare.{bare, bare_graph, links_at, AreBounded, AreGood, HasRides, IsBegun, IsGone, IsRuleAlong, IsSmall};
 
 use crate::legs::push_leg;
+use crate::limits::MOST_RULE_ROWS;
 use crate::slots::int_slots;
 use crate::stops::{push_stop, variable_count};
 use crate::ways::Way;
@@ -17,9 +18,6 @@ use lin_core::WRow;
 use list_views::Seq;
 use std::alloc::{AllocError, Global};
 use term_graph::{By, Link, Links, Node, NodeSource};
-
-/// How many rows a rule has at most.
-const MOST_ROWS: usize = 65_536;
 
 /// Where the building of a rule has come to.
 #[derive(Drop)]
@@ -205,12 +203,12 @@ pub(crate) fn rule_along<P: Pairs, S: NodeSource<P>>(
     let mut walk = Walk::begin(alloc, source, from)?;
     let first = int_slots(alloc, 0, walk.node.state())?;
     for place in way.places.as_slice() {
-        if walk.rows.len() > MOST_ROWS {
+        if walk.rows.len() > MOST_RULE_ROWS {
             return Ok(None);
         }
         walk = walk.over(alloc, source, links, *place)?;
     }
-    if walk.rows.len() > MOST_ROWS {
+    if walk.rows.len() > MOST_RULE_ROWS {
         return Ok(None);
     }
     let rule = walk.rule(alloc, from, way.to, first)?;

@@ -1,6 +1,7 @@
 //! Paths by their numbers.
-ghost use Rattle.std.specs.Prelude.{◌≡◌, ◌<◌, ◌≤◌, map, slice_index_or, IfOk};
+ghost use Rattle.std.specs.Prelude.{◌≡◌, ◌+◌, ◌<◌, ◌≤◌, map, slice_index_or, IfOk};
 ghost use Rattle.number_graphs.specs.Lists.{Fall, row_at};
+ghost use Rattle.path_rules.specs.Limits.{most_paths};
 ghost use Rattle.path_rules.specs.Ways.{has_mark, count_over, counted_on, inner_row, picked, AreCounts, IsWayOf};
 
 use crate::counts::{added, count_at, count_over};
@@ -128,7 +129,7 @@ impl Ways {
 pub(crate) fn way_of(alloc: Global, ways: &Ways, from: u32, number: u32) -> Result<Way, AllocError>
     requires ranks { Fall (map (inner_row ways.now.marks) ways.now.lists) ways.now.ranks }
     requires counts { AreCounts ways.now.lists ways.now.marks ways.now.counts }
-    requires number { number < 4097 }
+    requires number { number < most_paths + 1 }
     ensures { IfOk result (λ way. IsWayOf ways.now.lists ways.now.marks from number way.places way.to) }
 {
     let mut places = Seq::new(alloc);

@@ -5,19 +5,20 @@ use Rattle.std.proofs.lemmas.List.{length-reverse, get_or-reverse}
 use Rattle.std.proofs.lemmas.Option.{slice_get_past}
 use Rattle.class_read.specs.Content.{ClassContent}
 use Rattle.class_world.specs.World.{World}
+use Rattle.class_program.specs.Methods.{class_name}
 use Rattle.class_program.specs.Programs.{Program}
 use Rattle.abs_cells.specs.AbstractStates.{AbstractFrame}
 use Rattle.term_graph.specs.Graphs.{GraphNode}
 use Rattle.prove_core.specs.declared.found.Reason.{Reason}
 use Rattle.prove_core.specs.declared.found.Reason.TheVariants.{Nodes, Ids, Paths, Bytes, Component}
-use Rattle.prove_call.specs.Lines.{class_text, frame_text, running_text, node_text, reason_text}
+use Rattle.prove_call.specs.Lines.{frame_text, running_text, node_text, reason_text}
 
 -- ---- classes
 
-pub no_class : (world : World) (class : ℕ) → length world ≤ class → [] ≡ class_text world class
+pub no_class : (world : World) (class : ℕ) → length world ≤ class → [] ≡ class_name world class
 no_class world class l = ap (λ (o : Option ClassContent). option_map_or (λ (c : ClassContent). c.name) o []) (sym (slice_get_past world class l))
 
-pub at_class : (world : World) (class : ℕ) (found : ClassContent) → slice_get world class ≡ Some found → found.name ≡ class_text world class
+pub at_class : (world : World) (class : ℕ) (found : ClassContent) → slice_get world class ≡ Some found → found.name ≡ class_name world class
 at_class world class found e = ap (λ (o : Option ClassContent). option_map_or (λ (c : ClassContent). c.name) o []) (sym e)
 
 -- ---- frames and nodes
@@ -44,11 +45,3 @@ pub at_node : (p : Program) (nodes : List GraphNode) (n : ℕ) (node : GraphNode
 at_node p nodes n node e = ap (λ (o : Option GraphNode). option_map_or (λ (node : GraphNode). running_text p node.state.frames) o []) (sym e)
 
 -- ---- how texts begin
-
--- that of a reason with `M`
-pub begins_maybe : {P : Type 0} (p : Program) (reason : Reason P) → reason_text p reason ≡ 77 ∷ drop 1 (reason_text p reason)
-begins_maybe p (Nodes nodes) = refl
-begins_maybe p (Ids nodes) = refl
-begins_maybe p (Paths nodes) = refl
-begins_maybe p (Bytes cert size) = refl
-begins_maybe p (Component cert left) = refl

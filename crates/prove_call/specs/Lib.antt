@@ -1,5 +1,6 @@
+pub mod Lines
 pub mod Answers
 pub mod Headline
 pub mod Laws
-pub mod Lines
+pub mod Limits
 pub mod Said

@@ -7,6 +7,7 @@ use Rattle.list_views.specs.FaultWords.{joined}
 use Rattle.class_world.specs.Faults.{method_pieces}
 use Rattle.class_world.specs.World.{World}
 use Rattle.class_program.specs.declared.program.Method.{Method}
+use Rattle.class_program.specs.Methods.{class_name}
 use Rattle.class_program.specs.Programs.{Program}
 use Rattle.abs_cells.specs.AbstractStates.{AbstractFrame}
 use Rattle.term_graph.specs.Graphs.{GraphNode}
@@ -26,17 +27,13 @@ yes_text cert = joined (yes_line ∷ cert ∷ codes "\n" ∷ [])
 
 -- ---- maybe
 
--- the name of the class of a number, and nothing where there is none
-abbrev pub class_text : World → ℕ → List ℕ
-class_text world class = option_map_or (λ c. c.name) (slice_get world class) []
-
 -- `CLASS.NAMEDESC`
-abbrev pub method_text : World → Method → List ℕ
-method_text world m = joined (method_pieces (class_text world m.class) m.name m.desc [])
+abbrev pub method_words : World → Method → List ℕ
+method_words world m = joined (method_pieces (class_name world m.class) m.name m.desc [])
 
 -- where a frame is: `CLASS.NAMEDESC@PC`
 abbrev pub frame_text : Program → AbstractFrame → List ℕ
-frame_text p frame = option_map_or (λ (m : Method). joined (method_text p.world m ∷ codes "@" ∷ decimal frame.pc ∷ [])) (slice_get p.methods frame.method) []
+frame_text p frame = option_map_or (λ (m : Method). joined (method_words p.world m ∷ codes "@" ∷ decimal frame.pc ∷ [])) (slice_get p.methods frame.method) []
 
 -- where the running one of frames is, which is the first
 abbrev pub running_text : Program → List AbstractFrame → List ℕ

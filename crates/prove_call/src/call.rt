@@ -2,12 +2,14 @@
 ghost use Rattle.std.specs.Prelude.{◌≤◌, length, map, IsTrue};
 ghost use Rattle.std.specs.List.{list_all};
 ghost use Rattle.class_base.specs.ClassNames.{is_class_name};
+ghost use Rattle.class_base.specs.Limits.{most_classes};
 ghost use Rattle.class_world.specs.Worlds.{classes_of};
 ghost use Rattle.class_program.specs.Views.{program_of};
 ghost use Rattle.code_verify.specs.Typings.{typing_at};
 ghost use Rattle.desc_steps.specs.Given.{IsReady};
 ghost use Rattle.desc_steps.specs.Headline.{AllFittingEnd};
 ghost use Rattle.desc_steps.specs.Names.{names_of};
+ghost use Rattle.term_graph.specs.Limits.{most_nodes};
 ghost use Rattle.prove_call.specs.Answers.{SaysOf, Answers};
 ghost use Rattle.prove_call.specs.Headline.{IsProved, AllEndIfYes};
 
@@ -25,7 +27,7 @@ fn prove_given(alloc: Global, given: &DescribedProgram<'_>, nodes: u32) -> Resul
     requires ready { IsReady given.now }
     requires names { IsTrue (list_all is_class_name (names_of (classes_of given.now.program.world))) }
     requires positive { 1 ≤ nodes }
-    requires small { nodes ≤ 20000 }
+    requires small { nodes ≤ most_nodes }
     ensures says { SaysOf nodes (program_of given.now.program) (typing_at given.now.typing) given.now.desc result }
     ensures ends { IsProved result → AllFittingEnd (program_of given.now.program) given.now.desc }
 {
@@ -62,9 +64,9 @@ pub fn prove_line(
     files: &[Vec<u8>],
     nodes: u32,
 ) -> Result<Answer, Refused>
-    requires few { length files.now ≤ 256 }
+    requires few { length files.now ≤ most_classes }
     requires positive { 1 ≤ nodes }
-    requires small { nodes ≤ 20000 }
+    requires small { nodes ≤ most_nodes }
     ensures answers { Answers nodes desc.now (map (λ file. file.items) files.now) result }
     ensures headline { AllEndIfYes (map (λ file. file.items) files.now) desc.now result }
 {

@@ -4,8 +4,9 @@ ghost use Rattle.std.specs.Fmt.{decimal};
 ghost use Rattle.std.specs.List.{flat_map};
 ghost use Rattle.list_views.specs.FaultWords.{joined};
 ghost use Rattle.class_world.specs.Worlds.{classes_of};
+ghost use Rattle.class_program.specs.Methods.{class_name};
 ghost use Rattle.class_program.specs.Views.{program_of};
-ghost use Rattle.prove_call.specs.Lines.{class_text, method_text, frame_text, running_text, node_text, rule_line, reason_text};
+ghost use Rattle.prove_call.specs.Lines.{method_words, frame_text, running_text, node_text, rule_line, reason_text};
 
 use abs_cells::{AbsFrame, AbsState, Pairs};
 use class_program::{Method, Program};
@@ -17,8 +18,8 @@ use term_graph::Graph;
 
 /// The name of the class of a number, and nothing where there is none.
 #[tactic(auto, using(crate::proofs::Texts::no_class, crate::proofs::Texts::at_class))]
-fn class_text<'w>(world: &'w World<'_>, class: u32) -> &'w [u8]
-    ensures { result.now ≡ class_text (classes_of world.now) class }
+fn class_name<'w>(world: &'w World<'_>, class: u32) -> &'w [u8]
+    ensures { result.now ≡ class_name (classes_of world.now) class }
 {
     if (class as usize) < world.len() {
         world.view(class).name
@@ -43,9 +44,9 @@ fn put_number(
 
 /// Adds a method as `CLASS.NAMEDESC`.
 fn put_method(text: &mut Seq<u8>, world: &World<'_>, method: &Method<'_>) -> Result<(), AllocError>
-    ensures { OnOk result (text.new ≡ text.old ++ method_text (classes_of world.now) method.now) }
+    ensures { OnOk result (text.new ≡ text.old ++ method_words (classes_of world.now) method.now) }
 {
-    text.extend_from_slice(class_text(world, method.class))?;
+    text.extend_from_slice(class_name(world, method.class))?;
     text.extend_from_slice(b".")?;
     text.extend_from_slice(method.name.as_slice())?;
     text.extend_from_slice(method.desc.as_slice())

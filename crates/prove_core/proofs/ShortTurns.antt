@@ -24,7 +24,7 @@ use Rattle.abs_cells.specs.Cells.{cell_at}
 use Rattle.abs_cells.specs.PairLists.{has}
 use Rattle.abs_ints.specs.Comparing.{related, compared}
 use Rattle.abs_ints.specs.Operating.{operated}
-use Rattle.abs_ints.specs.Parts.{meet_of}
+use Rattle.abs_ints.specs.IntIntervals.{meet_of}
 use Rattle.abs_ints.specs.declared.cases.IntCase.{IntCase}
 use Rattle.abs_ints.specs.declared.cases.ShortRow.{ShortRow}
 use Rattle.abs_ints.specs.declared.cases.Way.TheVariants.{Taken}

@@ -2,6 +2,7 @@
 use Rattle.std.specs.Prelude.{◌≡◌, ℕ, ◌≤◌, List, length, Result, Ok, Err}
 use Rattle.serde_json.specs.Written.{compact_text}
 use Rattle.cert_form.specs.Certificates.{CertContent, cert_of, SaysOf}
+use Rattle.cert_form.specs.Limits.{most_certificate_bytes}
 use Rattle.cert_write.specs.Data.{certificate}
 use Rattle.cert_check.specs.Certified.{IsCertified}
 use Rattle.cert_check.specs.Valid.{IsValid}
@@ -33,7 +34,7 @@ pub record SaysValid (aim : Aim) (names : List (List ℕ)) (bytes : List ℕ) : 
 
 -- a valid certificate of form 2, of at most 16 MiB
 pub record IsCertificate (aim : Aim) (names : List (List ℕ)) (bytes : List ℕ) : Type 0 where
-  pub short : length bytes ≤ 16777216
+  pub short : length bytes ≤ most_certificate_bytes
   pub form : IsWritten names bytes
   pub says : SaysValid aim names bytes
 

@@ -4,5 +4,5 @@ pub mod Cuts
 pub mod Reasons
 pub mod Answers
 pub mod Words
-pub mod PlainRules
 pub mod ShortLinks
+pub mod PlainRules

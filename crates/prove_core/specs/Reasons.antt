@@ -20,6 +20,7 @@ use Rattle.cert_check.specs.Valid.{IsValid}
 use Rattle.cert_check.specs.Parts.{case_of}
 use Rattle.chain_proofs.specs.declared.proving.LeftRule.{LeftRule}
 use Rattle.chain_proofs.specs.Answers.{LeavesStuck}
+use Rattle.cert_form.specs.Limits.{most_certificate_bytes}
 use Rattle.prove_core.specs.Cuts.{AreTargets}
 use Rattle.prove_core.specs.Growth.{growth_of}
 
@@ -85,7 +86,7 @@ pub record IsTooLong (aim : Aim) (limit : ℕ) (names : List (List ℕ)) (nodes 
   -- its steps are within the limits of proofs: a split has a step, or -1, for each part
   pub limits : AreSteps steps
   pub size_is : size ≡ length (written names nodes cuts steps)
-  pub many : 16777216 < size
+  pub many : most_certificate_bytes < size
 
 -- ---- rules that no form ranks
 

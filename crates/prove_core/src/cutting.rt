@@ -1,5 +1,6 @@
 //! The cuts of a graph.
 ghost use Rattle.std.specs.Prelude.{◌≡◌, ◌≤◌, ℕ, ◌<◌, length, false, IfOk, get_or};
+ghost use Rattle.term_graph.specs.Limits.{most_nodes};
 ghost use Rattle.prove_core.specs.Cuts.{is_target, AreTargets};
 ghost use Rattle.prove_core.specs.Words.{cuts_from, marked_by};
 
@@ -22,7 +23,7 @@ fn mark(by: &By, marks: &mut Vec<bool>)
 /// A mark for each node: whether it is the target of an instance.
 #[tactic(auto, using(crate::proofs::Targets::marked_first, crate::proofs::Targets::marked_all))]
 fn marks_of<P: Pairs>(alloc: Global, graph: &Graph<P>) -> Result<Vec<bool>, AllocError>
-    requires few { length graph.now ≤ 20000 }
+    requires few { length graph.now ≤ most_nodes }
     ensures count { IfOk result (λ marks. length marks.items ≡ length graph.now) }
     ensures marks { IfOk result (λ marks. (n : ℕ) → n < length graph.now → get_or marks.items n false ≡ is_target graph.now n) }
 {
@@ -54,7 +55,7 @@ fn numbers_of(alloc: Global, marks: &[bool]) -> Result<Seq<u32>, AllocError>
 /// Want of memory.
 #[tactic(auto, using(crate::proofs::Targets::cuts_are))]
 pub(crate) fn cuts_of<P: Pairs>(alloc: Global, graph: &Graph<P>) -> Result<Seq<u32>, AllocError>
-    requires few { length graph.now ≤ 20000 }
+    requires few { length graph.now ≤ most_nodes }
     ensures { IfOk result (AreTargets graph.now) }
 {
     let marks = marks_of(alloc, graph)?;

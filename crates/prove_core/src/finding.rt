@@ -10,6 +10,7 @@ ghost use Rattle.cert_check.specs.Certified.{IsCertified};
 ghost use Rattle.cert_check.specs.Valid.{IsValid};
 ghost use Rattle.cert_check.specs.Parts.{case_of};
 ghost use Rattle.graph_check.specs.Conditions.{HasIntStates};
+ghost use Rattle.term_graph.specs.Limits.{most_nodes};
 ghost use Rattle.prove_core.specs.Reasons.{IsWholeWithSome};
 ghost use Rattle.prove_core.specs.Answers.{SaysValid, SearchesOr};
 ghost use Rattle.prove_core.specs.Words.{aim_of};
@@ -17,7 +18,7 @@ ghost use Rattle.prove_core.specs.Words.{aim_of};
 use crate::found::{Cert, Found, Reason, SearchFault};
 use abs_cells::{AbsState, Pairs};
 use cert_check::check_cert;
-use cert_form::{CertText, ClassNames};
+use cert_form::{CertText, ClassNames, MOST_CERTIFICATE_BYTES};
 use cert_write::encode;
 use class_program::Program;
 use code_verify::Typing;
@@ -38,7 +39,7 @@ fn is_valid<P: Pairs>(
 ) -> bool
     requires forms { HasIntForms (program_of program.now) }
     requires ints { HasIntStates (program_of program.now) (typing_at typing.now) graph.old }
-    requires few { length graph.old ≤ 20000 }
+    requires few { length graph.old ≤ most_nodes }
     requires steps { AreSteps proof.now.steps }
     ensures valid { IsTrue result → IsValid (case_of (program_of program.now) (typing_at typing.now) root.now graph.old cuts.now proof.now.steps) }
     ensures certified { IsTrue result → IsCertified (program_of program.now) (typing_at typing.now) graph.old cuts.now root.now }
@@ -99,14 +100,14 @@ pub(crate) fn given<P: Pairs>(
     requires names { IsTrue (list_all is_class_name names.now) }
     requires whole { IsWholeWithSome (aim_of (program_of program.now) (typing_at typing.now) root.now) cert.graph cert.cuts }
     requires ints { HasIntStates (program_of program.now) (typing_at typing.now) cert.graph }
-    requires few { length cert.graph ≤ 20000 }
+    requires few { length cert.graph ≤ most_nodes }
     requires steps { AreSteps cert.proof.steps }
     ensures { (limit : ℕ) → length cert.graph ≤ limit → SearchesOr (aim_of (program_of program.now) (typing_at typing.now) root.now) names.now limit result }
 {
     let Cert { graph, cuts, proof } = cert;
     let mut graph = graph;
     let bytes = encode(alloc, &mut graph, cuts.as_slice(), &proof, names)?;
-    if bytes.len() > 16_777_216 {
+    if bytes.len() > MOST_CERTIFICATE_BYTES {
         if !is_valid(
             alloc,
             program,

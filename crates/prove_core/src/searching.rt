@@ -14,6 +14,7 @@ ghost use Rattle.graph_check.specs.Conditions.{HasIntStates};
 ghost use Rattle.graph_check.specs.Good.{GraphOk};
 ghost use Rattle.rank_search.specs.Graphs.{ArePlainRules};
 ghost use Rattle.path_rules.specs.Answers.{Answers as PathAnswers};
+ghost use Rattle.term_graph.specs.Limits.{most_nodes};
 ghost use Rattle.prove_core.specs.Growth.{growth_of};
 ghost use Rattle.prove_core.specs.Reasons.{IsWhole};
 ghost use Rattle.prove_core.specs.Answers.{SearchesOr};
@@ -44,7 +45,7 @@ use term_graph::{Graph, Links};
 
 /// Whether each state of a graph is one of ints.
 fn has_int_states<P: Pairs>(graph: &Graph<P>) -> bool
-    requires { length graph.now ≤ 20000 }
+    requires { length graph.now ≤ most_nodes }
     ensures { IsTrue result → (p : Closed) (typing : ℕ → CodeTypes) → HasIntStates p typing graph.now }
 {
     for n in 0..graph.len() as u32 {
@@ -72,7 +73,7 @@ fn of_rules<P: Pairs>(
     requires names { IsTrue (list_all is_class_name names.now) }
     requires whole { IsWhole (aim_of (program_of program.now) (typing_at typing.now) root.now) graph links.now.nodes cuts }
     requires ints { HasIntStates (program_of program.now) (typing_at typing.now) graph }
-    requires few { length graph ≤ 20000 }
+    requires few { length graph ≤ most_nodes }
     requires paths { PathAnswers graph links.now.nodes cuts (Ok rules.now) }
     requires plain { ArePlainRules rules.now }
     ensures { (limit : ℕ) → length graph ≤ limit → SearchesOr (aim_of (program_of program.now) (typing_at typing.now) root.now) names.now limit result }
@@ -104,7 +105,7 @@ fn of_links<P: Pairs>(
     requires names { IsTrue (list_all is_class_name names.now) }
     requires grown { IsGrownGraph (aim_of (program_of program.now) (typing_at typing.now) root.now) graph }
     requires ints { HasIntStates (program_of program.now) (typing_at typing.now) graph }
-    requires few { length graph ≤ 20000 }
+    requires few { length graph ≤ most_nodes }
     requires good { GraphOk (program_of program.now) (typing_at typing.now) graph root.now links.now.nodes }
     ensures { (limit : ℕ) → length graph ≤ limit → SearchesOr (aim_of (program_of program.now) (typing_at typing.now) root.now) names.now limit result }
 {
@@ -138,7 +139,7 @@ fn of_graph<P: Pairs>(
     requires forms { HasIntForms (program_of program.now) }
     requires names { IsTrue (list_all is_class_name names.now) }
     requires grown { IsGrownGraph (aim_of (program_of program.now) (typing_at typing.now) root.now) graph }
-    requires few { length graph ≤ 20000 }
+    requires few { length graph ≤ most_nodes }
     ensures { (limit : ℕ) → length graph ≤ limit → SearchesOr (aim_of (program_of program.now) (typing_at typing.now) root.now) names.now limit result }
 {
     if !has_int_states(&graph) {
@@ -164,7 +165,7 @@ fn of_closed<P: Pairs>(
     requires good { IsGoodDesc (program_of program.now) desc.now }
     requires names { IsTrue (list_all is_class_name names.now) }
     requires grown { IsGrownGraph (aim_of (program_of program.now) (typing_at typing.now) (initial_of (program_of program.now) desc.now)) graph }
-    requires few { length graph ≤ 20000 }
+    requires few { length graph ≤ most_nodes }
     ensures { (limit : ℕ) → length graph ≤ limit → SearchesOr (aim_of (program_of program.now) (typing_at typing.now) (initial_of (program_of program.now) desc.now)) names.now limit result }
 {
     let root = initial(alloc, desc, program)?;
@@ -181,7 +182,7 @@ fn grown<P: Pairs>(
 ) -> Result<Built<P>, BuildFault>
     requires forms { HasIntForms (program_of program.now) }
     requires positive { 1 ≤ limit }
-    requires small { limit ≤ 20000 }
+    requires small { limit ≤ most_nodes }
     ensures { BuildsOr (growth_of (program_of program.now) (typing_at typing.now)) first limit result }
 {
     if !is_growing(program, typing, &first) {
@@ -214,7 +215,7 @@ pub fn search<P: Pairs>(
     requires good { IsGoodDesc (program_of program.now) desc.now }
     requires names { IsTrue (list_all is_class_name names.now) }
     requires positive { 1 ≤ limit }
-    requires small { limit ≤ 20000 }
+    requires small { limit ≤ most_nodes }
     ensures { SearchesOr (aim_of (program_of program.now) (typing_at typing.now) (initial_of (program_of program.now) desc.now)) names.now limit result }
 {
     let first = initial(alloc, desc, program)?;

@@ -52,12 +52,6 @@ ways_told size ties rule place start finish fall s f long = record {
   says = λ c e. (start, finish, record { first = stands_at rule.first size place start s; last = stands_at rule.last size place finish f }, long.says c e);
 }
 
-pub no_start_way : (size : Bool) (ties : List Tie) (rule : PathRule) (place : Place) → variable_at rule.first size place ≡ None → TellsWays size ties rule place None
-no_start_way size ties rule place e = record { told = λ start finish links ends way. absurd (no_number start (sym e ∙ stands_is rule.first size place start ends.first)); says = λ c m. absurd (no_int c m) }
-
-pub no_finish_way : (size : Bool) (ties : List Tie) (rule : PathRule) (place : Place) → variable_at rule.last size place ≡ None → TellsWays size ties rule place None
-no_finish_way size ties rule place e = record { told = λ start finish links ends way. absurd (no_number finish (sym e ∙ stands_is rule.last size place finish ends.last)); says = λ c m. absurd (no_int c m) }
-
 -- links of the definitions are ties
 way_map : (kind other : Link → Type 0) (u v : ℕ) (links : List Link) → ((link : Link) → kind link → other link) → IsWay kind u links v → IsWay other u links v
 way_map kind other u v [] f way = way

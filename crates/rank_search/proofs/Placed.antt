@@ -79,12 +79,6 @@ one_rule a b e = cc
 pub first_places : (rules : List PathRule) (size : Bool) (first : PathRule) (places : List Place) → slice_get rules 0 ≡ Some first → places ≡ places_in size first.first → ArePlacesOf rules size places
 first_places rules size first places at e rule is = subst (λ (l : List Place). ArePlaces rule.first size l) (sym (e ∙ ap (λ (r : PathRule). places_in size r.first) (one_rule first rule (sym at ∙ is)))) (are_places rule.first size)
 
-pub no_places : (rules : List PathRule) (size : Bool) → slice_get rules 0 ≡ None → ArePlacesOf rules size []
-no_places rules size e rule is = absurd (not_rule rule (sym e ∙ is))
-  where
-    not_rule : (a : PathRule) → ◌≡◌ {A = Option PathRule} None (Some a) → ⊥
-    not_rule a e = absurd (cc)
-
 pub if_ok_then : (A E : Type 0) (r : Result A E) (P Q : A → Type 0) → IfOk r P → ((x : A) → P x → Q x) → IfOk r Q
 if_ok_then A E (Ok x) P Q h f = f x h
 if_ok_then A E (Err e) P Q h f = tt

@@ -120,16 +120,6 @@ trail_next known from n count tie low e =
     let s : count - n ≡ suc (count - (n + 1)) = omega arith in
     ap (λ (k : ℕ). trail_from k known from) s ∙ ap (λ (o : Option Tie). trail_by o (trail_from (count - (n + 1)) known)) e
 
-pub trail_done : (known : Known) (from n count : ℕ) → n < count → last_of (get_or known from None) ≡ None → trail_from (count - n) known from ≡ []
-trail_done known from n count low e =
-    let s : count - n ≡ suc (count - (n + 1)) = omega arith in
-    ap (λ (k : ℕ). trail_from k known from) s ∙ ap (λ (o : Option Tie). trail_by o (trail_from (count - (n + 1)) known)) e
-
-pub trail_spent : (known : Known) (from n count : ℕ) → count ≤ n → trail_from (count - n) known from ≡ []
-trail_spent known from n count low =
-    let s : count - n ≡ 0 = omega arith in
-    ap (λ (k : ℕ). trail_from k known from) s
-
 pub more_trail : (known : Known) (from n count : ℕ) (tie : Tie) (old new all : List Tie) → n < count → last_of (get_or known from None) ≡ Some tie → new ≡ old ++ tie ∷ [] → old ++ trail_from (count - n) known from ≡ all → new ++ trail_from (count - (n + 1)) known tie.link.from ≡ all
 more_trail known from n count tie old new all low e pushed h =
     ap (λ (l : List Tie). l ++ trail_from (count - (n + 1)) known tie.link.from) pushed ∙ append_assoc old (tie ∷ []) (trail_from (count - (n + 1)) known tie.link.from) ∙ ap (λ (l : List Tie). old ++ l) (sym (trail_next known from n count tie low e)) ∙ h

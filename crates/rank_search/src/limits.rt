@@ -3,12 +3,12 @@ ghost use Rattle.std.specs.Prelude.{◌≡◌, ◌≤◌, ◌^◌, [], All, IsTr
 ghost use Rattle.lin_core.specs.Rows.{RiseFrom};
 ghost use Rattle.lin_core.specs.Weights.{AreWeights, IsWeight};
 ghost use Rattle.descent.specs.Conditions.{AreFew, AreForms, AreMultiples, AreRules, IsForm, IsListed, IsRanked};
-ghost use Rattle.descent.specs.Handing.{AreOver};
 ghost use Rattle.descent.specs.Steps.{numbers_from, ranking_fault, ranking_of};
 ghost use Rattle.rank_search.specs.RankSteps.{CutsRise, HaveNoSizes, IsLinear, IsRankStep, has_strict, is_strict};
 
-use descent::{CutForm, PathRule, RankRule, RankStep, Scratch, check_rank_step};
-use list_views::Seq;
+use descent::{
+    CutForm, PathRule, RankRule, RankStep, Scratch, all_rules, check_rank_step, most_variables,
+};
 use std::alloc::{AllocError, Global};
 
 /// Whether the ids rise.
@@ -192,30 +192,6 @@ fn has_strict(listed: &[RankRule]) -> bool
         }
     }
     false
-}
-
-/// The numbers of all rules.
-fn all_rules(alloc: Global, count: u32) -> Result<Seq<u32>, AllocError>
-    ensures { IfOk result (λ set. set ≡ numbers_from 0 count) }
-{
-    let mut set = Seq::new(alloc);
-    for rule in 0..count {
-        set.push(rule)?;
-    }
-    Ok(set)
-}
-
-/// The number of variables of the rule that has most.
-fn most_variables(rules: &[PathRule]) -> u32
-    ensures { AreOver result rules.now }
-{
-    let mut most = 0;
-    for rule in rules {
-        if rule.vars > most {
-            most = rule.vars;
-        }
-    }
-    most
 }
 
 /// Whether the check of a step takes it.

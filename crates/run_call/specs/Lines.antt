@@ -14,14 +14,11 @@ use Rattle.jvm_values.specs.declared.heap.Object.{Object}
 use Rattle.jvm_values.specs.declared.heap.Object.TheVariants.{Instance, Nums, Refs}
 use Rattle.jvm_values.specs.declared.heap.Heap.{Heap}
 use Rattle.class_world.specs.World.{World}
+use Rattle.class_program.specs.Methods.{class_name}
 use Rattle.jvm_run.specs.declared.ended.Ended.{Ended}
 use Rattle.jvm_run.specs.declared.ended.Ended.TheVariants as ends
 
 -- ---- objects
-
--- the name of the class of a number; past the last class there is none
-abbrev pub class_name : World → ℕ → List ℕ
-class_name world class = option_map_or (λ c. c.name) (slice_get world class) []
 
 -- the letters of kinds, and descriptors (JVM specification, section 4.3.2)
 abbrev pub kind_letter : Kind → List ℕ

@@ -5,6 +5,7 @@ ghost use Rattle.class_world.specs.Linking.{CanBeRead};
 ghost use Rattle.class_world.specs.Resolve.{has_body};
 ghost use Rattle.class_world.specs.Worlds.{classes_of};
 ghost use Rattle.class_program.specs.Views.{program_of};
+ghost use Rattle.class_base.specs.Limits.{most_classes};
 ghost use Rattle.run_call.specs.Answers.{AnswersProgram, AnswersEntry, AnswersNamed, Answers};
 
 use crate::running::answer;
@@ -64,7 +65,7 @@ fn run_named(
     text: StateText,
     classes: Vec<ClassView<'_>>,
 ) -> Result<Seq<u8>, Refused>
-    requires few { length classes.items ≤ 256 }
+    requires few { length classes.items ≤ most_classes }
     requires read { AllByRecursion CanBeRead classes.items }
     ensures { AnswersNamed fuel text classes.entry.items result }
 {
@@ -91,7 +92,7 @@ pub fn run_line(
     state: &[u8],
     files: &[Vec<u8>],
 ) -> Result<Seq<u8>, Refused>
-    requires { length files.now ≤ 256 }
+    requires { length files.now ≤ most_classes }
     ensures { Answers fuel state.now (map (λ file. file.items) files.now) result }
 {
     let classes = match read_classes(alloc, files) {

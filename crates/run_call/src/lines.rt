@@ -2,6 +2,7 @@
 ghost use Rattle.std.specs.Prelude.{◌≡◌, IfOk, string_bytes};
 ghost use Rattle.std.specs.Fmt.{signed_decimal};
 ghost use Rattle.class_world.specs.Worlds.{classes_of};
+ghost use Rattle.class_program.specs.Methods.{class_name};
 ghost use Rattle.run_call.specs.Lines as lines;
 
 use class_world::World;
@@ -13,7 +14,7 @@ use std::alloc::{AllocError, Global};
 
 /// The name of the class of a number.
 fn class_name<'a>(world: &World<'a>, class: u32) -> &'a [u8]
-    ensures { result.now ≡ lines.class_name (classes_of world.now) class }
+    ensures { result.now ≡ class_name (classes_of world.now) class }
 {
     if class < world.classes() {
         world.name_of(class)

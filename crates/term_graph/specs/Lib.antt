@@ -1,2 +1,3 @@
-pub mod Edges
 pub mod Graphs
+pub mod Limits
+pub mod Edges

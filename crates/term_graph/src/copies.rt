@@ -2,29 +2,9 @@
 ghost use Rattle.std.specs.Prelude.{◌≡◌, IfOk};
 
 use crate::nodes::{By, Node};
-use abs_cells::{AbsFrame, AbsState, Pairs, copied_cells};
+use abs_cells::{AbsState, Pairs, copied_cells, copied_frames};
 use list_views::Seq;
 use std::alloc::{AllocError, AllocFailed, Global};
-
-/// The same frame once more.
-fn copied_frame(alloc: Global, frame: &AbsFrame) -> Result<AbsFrame, AllocError>
-    ensures { IfOk result (λ copy. copy ≡ frame.now) }
-{
-    let locals = Seq::from_slice(alloc, frame.locals())?;
-    let stack = Seq::from_slice(alloc, frame.stack())?;
-    Ok(AbsFrame::new(frame.method(), frame.pc(), locals, stack))
-}
-
-/// The same frames once more.
-fn copied_frames(alloc: Global, frames: &[AbsFrame]) -> Result<Seq<AbsFrame>, AllocError>
-    ensures { IfOk result (λ copy. copy ≡ frames.now) }
-{
-    let mut copy = Seq::with_capacity(alloc, frames.len())?;
-    for frame in frames {
-        copy.push(copied_frame(alloc, frame)?)?;
-    }
-    Ok(copy)
-}
 
 /// The same state once more, in as much time as the state is long.
 ///

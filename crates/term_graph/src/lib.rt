@@ -7,6 +7,7 @@
 
 mod copies;
 mod graphs;
+mod limits;
 mod links;
 mod nodes;
 mod parts;
@@ -14,6 +15,7 @@ mod sources;
 
 pub use copies::{copied_node, copied_state};
 pub use graphs::Graph;
+pub use limits::MOST_NODES;
 pub use links::{Link, LinkRow, Links, Side};
 pub use nodes::{By, Child, Node};
 pub use parts::PartSource;

@@ -1,7 +1,7 @@
 use Rattle.std.proofs.Common.{◌∙◌, ap, refl, arith}
 use Rattle.std.specs.Option.{option_and_then}
 use Rattle.std.proofs.lemmas.Int.{ints}
-use Rattle.abs_ints.specs.Parts.{meet_of}
+use Rattle.abs_ints.specs.IntIntervals.{meet_of}
 use Rattle.abs_ints.proofs.Making.{none_is, some_is}
 use Rattle.abs_expand.proofs.switches.between.Goals as goal
 

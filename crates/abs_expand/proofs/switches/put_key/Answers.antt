@@ -3,7 +3,7 @@ use Rattle.std.proofs.lemmas.Int.{ints}
 use Rattle.std.specs.Option.{option_to_list}
 use Rattle.std.specs.List.{cons_option}
 use Rattle.lin_core.specs.Intervals.{interval_of}
-use Rattle.abs_ints.specs.Parts.{just}
+use Rattle.abs_ints.specs.IntIntervals.{just}
 use Rattle.abs_expand.specs.Turns.{switch_turn}
 use Rattle.abs_expand.specs.PlansSeen.{turn_seen}
 use Rattle.abs_expand.proofs.SwitchLists.{two_put}

@@ -1,6 +1,6 @@
 use Rattle.std.proofs.Common.{◌-◌, take}
 use Rattle.jvm_values.specs.TypedHeaps.{world_types}
-use Rattle.abs_heap.specs.Refining.{numbers_from}
+use Rattle.list_views.specs.Lists.{numbers_from}
 use Rattle.abs_heap.specs.Splitting.{instances_among, AddsCases}
 use Rattle.abs_heap.proofs.cases.put_instances.Given as goal
 

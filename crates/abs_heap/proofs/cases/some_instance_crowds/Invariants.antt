@@ -1,7 +1,7 @@
 use Rattle.std.proofs.Common.{◌≡◌, ◌-◌, false, take}
 use Rattle.std.specs.List.{list_any}
 use Rattle.jvm_values.specs.TypedHeaps.{world_types}
-use Rattle.abs_heap.specs.Refining.{numbers_from}
+use Rattle.list_views.specs.Lists.{numbers_from}
 use Rattle.abs_heap.specs.Splitting.{instances_among, crowds}
 use Rattle.abs_heap.proofs.cases.some_instance_crowds.Given as goal
 

@@ -13,7 +13,7 @@ only-requires g c = has_cell_low c.args.state.now.cells c.args.k c.requires.good
 pub returns : goal.returns
 returns g c =
     let hazy_is : (n : ℕ) → has_id c.hazy_among-hazy.result n ≡ (has_id c.walk-found.result.met n && is_of_sort is_hazy (cell_in c.args.state.now.cells n)) = λ n. c.hazy_among-hazy.ensures n ∙ ap (λ (cs : List (ℕ × Cell)). has_id c.walk-found.result.met n && is_of_sort is_hazy (cell_in cs n)) c.cells-2.ensures in
-    let counts : is_of_sort is_reference (cell_in c.args.state.now.cells c.args.k) ≡ true = ap (λ (cs : List (ℕ × Cell)). is_of_sort is_reference (cell_in cs c.args.k)) (sym c.cells.ensures) ∙ sym c.counts.ensures ∙ c.if-not-counts.false in (
+    let counts : is_of_sort is_reference (cell_in c.args.state.now.cells c.args.k) ≡ true = ap (λ (cs : List (ℕ × Cell)). is_of_sort is_reference (cell_in cs c.args.k)) (sym c.cells.ensures) ∙ sym c.is_reference_in.ensures ∙ c.if-not-is_reference_in.false in (
       λ h. record {
         counts = has_cell_from is_reference c.args.state.now c.args.k counts;
         there = inr (shares_there c.args.state.now c.requires.good c.args.x c.walk-found.result.met c.walk-found.ensures.met c.args.k c.only.result c.hazy_among-hazy.result c.only.ensures hazy_is (touch_of c.only.result c.hazy_among-hazy.result (g.P.Pairs.pairs c.share.result.now) c.args.state.now.share c.touches.result c.share.ensures c.touches.ensures.rising c.touches.ensures.value h));

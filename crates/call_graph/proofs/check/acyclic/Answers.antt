@@ -6,8 +6,8 @@ use Rattle.call_graph.proofs.check.acyclic.Goals as goal
 pub rank-requires : goal.rank-requires
 rank-requires c = few_rows c.in_ok-graph.graph c.as_slice.result.now c.as_slice.ensures c.in_ok-graph.ensures.few
 
-pub name_of-requires : goal.name_of-requires
-name_of-requires c =
+pub method_name-requires : goal.method_name-requires
+method_name-requires c =
     let least = cycle_least c.as_slice.result.now c.in_ok-rank.field-0 c.in-Cycle.number c.in_ok-rank.ensures c.in-Cycle.is in
     number_within c.cycles_are_listed.ensures (program_of c.args.program.now) c.as_slice.result.now c.in-Cycle.number (c.as_slice.ensures ∙ c.in_ok-graph.ensures.graph) least
 

@@ -4,7 +4,7 @@ use Rattle.code_verify.specs.Typings.{typing_at}
 use Rattle.descent.specs.declared.rules.PathRule.{PathRule}
 use Rattle.descent.specs.Chains.{ChainsEnd}
 use Rattle.descent.specs.Conditions.{AreRules}
-use Rattle.descent.specs.Steps.{proof_fault, Answers as ProofAnswers}
+use Rattle.descent.specs.Steps.{proof_fault, Refuses as ProofRefuses}
 use Rattle.term_graph.specs.Graphs.{GraphNode}
 use Rattle.graph_check.specs.Good.{GraphOk}
 use Rattle.cert_check.specs.Valid.{Tells}
@@ -66,4 +66,4 @@ returns-clause-tells g c =
     (c.count-nodes.ensures ∙ ap (λ (ns : List GraphNode). length ns) (c.in-Ok-rules_between.ensures.same ∙ c.in-Ok.ensures.same))
     steps c.in-Ok-rules_between.rules c.in-Err-check_proof.fault _
     (subst (λ (ns : List GraphNode). RulesOr (case_of p typing c.args.root.now ns cuts steps) c.in-Ok.links.nodes (Ok c.in-Ok-rules_between.rules)) c.in-Ok.ensures.same (c.in-Ok-rules_between.ensures.rules steps))
-    (subst (λ (rs : List PathRule). ProofAnswers (Err c.in-Err-check_proof.fault) (proof_fault rs steps)) c.as_slice.ensures c.in-Err-check_proof.ensures.answer) c.proof_refusal.ensures
+    (subst (λ (rs : List PathRule). ProofRefuses (Err c.in-Err-check_proof.fault) (proof_fault rs steps)) c.as_slice.ensures c.in-Err-check_proof.ensures.answer) c.proof_refusal.ensures

@@ -3,7 +3,7 @@ use Rattle.std.specs.Prelude.{slice_get}
 use Rattle.class_world.specs.Worlds.{classes_of}
 use Rattle.class_program.specs.Reached.{with_one, method_count}
 use Rattle.class_program.proofs.Room.{body_at}
-use Rattle.class_program.proofs.Saying.{handed_on}
+use Rattle.class_program.proofs.Saying.{answered}
 use Rattle.class_program.proofs.GoingThrough.{reach_start, next_body, reach_more, reach_broken, reach_end, reach_found, reach_less, reach_smaller}
 use Rattle.class_program.proofs.Closed.{reach_closed}
 use Rattle.class_program.proofs.Made.{reach_numbers}
@@ -25,7 +25,7 @@ returns-in_err-method-clause-methods c =
     let world = (classes_of c.args.world.now) in
     let at : slice_get c.loop-next.refs (length c.loop-next.methods) ≡ Some c.in-Some.next = ap (slice_get c.loop-next.refs) (sym c.len.ensures) ∙ sym c.in-Some.ensures in
     let content = body_at world c.in-Some.next (next_body world c.args.entry c.loop-next.refs c.loop-next.methods c.in-Some.next c.loop-next.invariant.0 at) in
-    handed_on _ _ _ _ c.from_residual-in_err-method.ensures.1
+    answered _ _ _ _ c.from_residual-in_err-method.ensures.1
     (reach_broken world c.args.entry c.loop-next.refs c.loop-next.methods c.in-Some.next content.0 _ c.loop-next.invariant.0 at content.1 (c.in_err-method.ensures content.0 content.1))
 
 pub loop-next-smaller : goal.loop-next-smaller

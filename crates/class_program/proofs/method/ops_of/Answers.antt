@@ -3,7 +3,8 @@ use Rattle.std.specs.Vec.Iter.{into_iter_items}
 use Rattle.class_world.specs.Worlds.{classes_of}
 use Rattle.class_program.specs.Said.{each}
 use Rattle.class_program.specs.Methods.{op_said, ops_of}
-use Rattle.class_program.proofs.Saying.{handed_on, first_broken, each_more, nothing_left}
+use Rattle.class_program.proofs.Saying.{answered, first_broken, nothing_left}
+use Rattle.list_views.proofs.Steps.{each_more}
 use Rattle.class_program.proofs.method.ops_of.Goals as goal
 
 pub returns-in_err-op_said : goal.returns-in_err-op_said
@@ -12,7 +13,7 @@ returns-in_err-op_said c =
     let at = c.loop-insn in
     let x = c.in-Some.insn in
     let steps : into_iter_items at.insn-iterator ≡ x ∷ into_iter_items c.next.new.self = c.in-Some.ensures.steps.0 in
-    handed_on _ _ _ _ c.from_residual-in_err-op_said.ensures.1
+    answered _ _ _ _ c.from_residual-in_err-op_said.ensures.1
     (first_broken (op_said (classes_of c.args.world.now) c.args.class c.args.name.now) c.args.insns.items at.yielded (into_iter_items c.next.new.self) x at.ops _
     (sym c.into_iter-insn-iterator.ensures.into_iter_gives.0 ∙ sym at.invariant.0 ∙ ap (λ ys. at.yielded ++ ys) steps) at.invariant.1 c.in_err-op_said.ensures)
 

@@ -1,13 +1,14 @@
 use Rattle.class_world.specs.Worlds.{classes_of}
 use Rattle.class_program.specs.Methods.{range_of, table_of}
-use Rattle.class_program.proofs.Saying.{handed_on, each_refused, each_all, each_so_far}
+use Rattle.class_program.proofs.Saying.{answered, fault_of_item}
+use Rattle.list_views.proofs.Steps.{each_all, each_so_far}
 use Rattle.class_program.proofs.method.table_of.Goals as goal
 
 pub returns-in_err-range_of : goal.returns-in_err-range_of
 unfolding table_of
 returns-in_err-range_of c =
-    handed_on _ _ _ _ c.from_residual-in_err-range_of.ensures.1
-    (each_refused (range_of (classes_of c.args.world.now) c.args.pool.now) c.args.table.now c.loop-entry.entry-index _ c.loop-entry.ranges _ c.loop-entry-test.true c.loop-entry.invariant c.in_err-range_of.ensures)
+    answered _ _ _ _ c.from_residual-in_err-range_of.ensures.1
+    (fault_of_item (range_of (classes_of c.args.world.now) c.args.pool.now) c.args.table.now c.loop-entry.entry-index _ c.loop-entry.ranges _ c.loop-entry-test.true c.loop-entry.invariant c.in_err-range_of.ensures)
 
 pub loop-entry-preserved : goal.loop-entry-preserved
 loop-entry-preserved c =

@@ -1,5 +1,5 @@
 use Rattle.std.proofs.Common.{◌+◌, length}
-use Rattle.descent.specs.Spreading.{open_count}
+use Rattle.list_views.specs.Lists.{open_count}
 use Rattle.descent.proofs.Spread.{IsMarking}
 use Rattle.descent.proofs.reaching.row.Given as goal
 

@@ -1,5 +1,5 @@
 use Rattle.std.proofs.Common.{ℕ, ◌<◌, ◌^◌, ap, sym, ◌∙◌, arith}
-use Rattle.jterm.specs.Stop.{is_plain}
+use Rattle.jterm.specs.Failure.{is_plain}
 use Rattle.jterm.proofs.Numbers.{not_plain, not_read, too_great, is_number}
 use Rattle.jterm.proofs.commands.number_of.Goals as goal
 

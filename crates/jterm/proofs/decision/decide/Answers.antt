@@ -1,5 +1,5 @@
 use Rattle.std.proofs.Common.{map, sym, ap}
-use Rattle.jterm.specs.Decision.{verdict_of_prove}
+use Rattle.jterm.proofs.Proving.{verdict_of_prove}
 use Rattle.jterm.proofs.Deciding.{some_inputs, inputs_are, inputs_are_two, three_inputs, prove_answer, check_answer, run_answer, proved_at, accepted_at}
 use Rattle.jterm.proofs.decision.decide.Goals as goal
 

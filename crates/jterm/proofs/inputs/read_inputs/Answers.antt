@@ -1,7 +1,7 @@
 use Rattle.std.proofs.Common.{◌≤◌, ℕ, suc, map, length, add-one, string_bytes, sym, subst, ◌∙◌, refl, arith}
 use Rattle.io_ports.specs.Told.{IsPastLimit}
 use Rattle.jterm.specs.Outside.{limit_at}
-use Rattle.jterm.specs.Stop.{HasCause}
+use Rattle.jterm.specs.Failure.{HasCause}
 use Rattle.jterm.proofs.ReadingOrder.{next_limit, take_words_more, get_word, first_read_more, first_contents_more, map_more, has_cause}
 use Rattle.jterm.proofs.inputs.read_inputs.Goals as goal
 
@@ -24,7 +24,7 @@ returns-in-Err g c =
     c.in-Err.ensures.failed (λ long. subst (IsPastLimit _) limit.0 (c.in-Err.ensures.too_long long)) c.in-Err.ensures.missing c.in-Err.ensures.too_long_is_no_fault c.in-Err.ensures.missing_is_no_fault in
     record {
       contents = tt;
-      cause = subst (HasCause _ _ _ _ _ _ _ _) (sym c.stop_at.ensures) cause;
+      cause = subst (HasCause _ _ _ _ _ _ _ _) (sym c.failure_at.ensures) cause;
       reads = (suc c.loop-word.word-index, first_read_more _ _ _ _ _ _ _ more c.loop-word.invariant.reads c.read.ensures.leaves);
     }
 

@@ -1,5 +1,5 @@
 use Rattle.std.proofs.Common.{◌+◌, length}
-use Rattle.jvm_heaps.proofs.MarkLaws.{open_count}
+use Rattle.list_views.specs.Lists.{open_count}
 use Rattle.jvm_heaps.proofs.MarkTurns.{IsMarking}
 use Rattle.jvm_heaps.proofs.marking.marked.Given as goal
 

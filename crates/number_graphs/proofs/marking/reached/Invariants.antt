@@ -1,5 +1,5 @@
 use Rattle.std.proofs.Common.{◌+◌, length}
-use Rattle.number_graphs.specs.Marking.{open_count}
+use Rattle.list_views.specs.Lists.{open_count}
 use Rattle.number_graphs.proofs.Cycles.{Spreads}
 use Rattle.number_graphs.proofs.marking.reached.Given as goal
 

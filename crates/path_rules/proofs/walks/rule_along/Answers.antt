@@ -21,8 +21,8 @@ loop-place-init g c = record {
       (path_begins (g.S.NodeSource.graph c.args.source.now) c.args.links.now.nodes c.args.from c.args.way.now.places c.in_ok-walk.walk.node c.in_ok-walk.walk.first c.in_ok-walk.walk.rows c.in_ok-walk.ensures.begun.1));
 }
 
-pub returns-then-len-gt-MOST_ROWS-clause-rule : goal.returns-then-len-gt-MOST_ROWS-clause-rule
-returns-then-len-gt-MOST_ROWS-clause-rule g c = too_long (g.S.NodeSource.graph c.args.source.now) c.args.links.now.nodes c.args.from c.args.way.now.to c.args.way.now.places _ c.loop-place.walk.at c.loop-place.walk.node c.loop-place.walk.first c.loop-place.walk.rows (moved c.in_ok-walk.ensures.same c.loop-place.invariant.on) (search rules)
+pub returns-then-len-gt-MOST_RULE_ROWS-clause-rule : goal.returns-then-len-gt-MOST_RULE_ROWS-clause-rule
+returns-then-len-gt-MOST_RULE_ROWS-clause-rule g c = too_long (g.S.NodeSource.graph c.args.source.now) c.args.links.now.nodes c.args.from c.args.way.now.to c.args.way.now.places _ c.loop-place.walk.at c.loop-place.walk.node c.loop-place.walk.first c.loop-place.walk.rows (moved c.in_ok-walk.ensures.same c.loop-place.invariant.on) (search rules)
 
 pub loop-place-preserved : goal.loop-place-preserved
 loop-place-preserved g c = record {
@@ -34,8 +34,8 @@ loop-place-preserved g c = record {
       (moved c.in_ok-walk.ensures.same c.loop-place.invariant.on));
 }
 
-pub returns-then-len-gt-MOST_ROWS-2-clause-rule : goal.returns-then-len-gt-MOST_ROWS-2-clause-rule
-returns-then-len-gt-MOST_ROWS-2-clause-rule g c = too_long (g.S.NodeSource.graph c.args.source.now) c.args.links.now.nodes c.args.from c.args.way.now.to c.args.way.now.places _ c.loop-place.walk.at c.loop-place.walk.node c.loop-place.walk.first c.loop-place.walk.rows (moved c.in_ok-walk.ensures.same c.loop-place.invariant.on) (search rules)
+pub returns-then-len-gt-MOST_RULE_ROWS-2-clause-rule : goal.returns-then-len-gt-MOST_RULE_ROWS-2-clause-rule
+returns-then-len-gt-MOST_RULE_ROWS-2-clause-rule g c = too_long (g.S.NodeSource.graph c.args.source.now) c.args.links.now.nodes c.args.from c.args.way.now.to c.args.way.now.places _ c.loop-place.walk.at c.loop-place.walk.node c.loop-place.walk.first c.loop-place.walk.rows (moved c.in_ok-walk.ensures.same c.loop-place.invariant.on) (search rules)
 
 pub rule-requires-clause-state : goal.rule-requires-clause-state
 rule-requires-clause-state g c = path_well (g.S.NodeSource.graph c.args.source.now) c.args.links.now.nodes c.args.from c.args.way.now.places _ c.loop-place.walk.at c.loop-place.walk.node c.loop-place.walk.first c.loop-place.walk.rows c.requires.good (moved c.in_ok-walk.ensures.same c.loop-place.invariant.on)

@@ -1,4 +1,4 @@
-use Rattle.std.proofs.Common.{ap, sym, ◌∙◌, inr, Some, ◌≡◌, ◌||◌, true, false}
+use Rattle.std.proofs.Common.{ap, sym, ◌∙◌, Some, ◌≡◌, ◌||◌, true, false}
 use Rattle.std.specs.Option.{option_map_or}
 use Rattle.std.proofs.lemmas.Bool.{or_left, or_right, or_from}
 use Rattle.class_world.specs.declared.fault.LinkFault.TheVariants.{BadSuper}
@@ -19,7 +19,7 @@ returns-then-bad_superclass c =
       | then-bad_superclass-via-then-bad_superclass w ↦ or_left a b w.if-bad_superclass.true
       | then-bad_superclass-via-else-bad_superclass+then-bad_interface w ↦ or_right a b w.if-bad_interface.true
     ] in
-    inr (says_yes _ _ _ e both ∙ ap (λ x. Some (BadSuper x)) (sym c.in_ok-from_slice.ensures))
+    says_yes _ _ _ e both ∙ ap (λ x. Some (BadSuper x)) (sym c.in_ok-from_slice.ensures)
 
 pub returns : goal.returns
 returns c =

@@ -1,4 +1,4 @@
-use Rattle.std.proofs.Common.{ap, sym, ◌∙◌, inr, Some}
+use Rattle.std.proofs.Common.{ap, sym, ◌∙◌, Some}
 use Rattle.std.specs.Prelude.{map}
 use Rattle.std.specs.List.{list_any}
 use Rattle.std.proofs.lemmas.Bool.{and_from, and_left, and_right}
@@ -15,7 +15,7 @@ returns-then-has_default c =
     let e = default_at c.args.self.now.roster.now.classes c.args.class c.at-view.result.now c.view.inside.flags c.view.inside.name.now (map method_content c.view.inside.methods) c.requires c.at-view.ensures (ap (λ x. x.flags) c.view.view_is) (ap (λ x. x.name) c.view.view_is) (ap (λ x. x.methods) c.view.view_is) in
     let some = sym (c.has_default.ensures ∙ ap (λ ms. list_any is_default (map method_content ms)) c.as_slice.ensures) ∙ c.if-has_default.true in
     let both = and_from (is_interface c.view.inside.flags) _ (sym c.has_flag.ensures ∙ c.if-has_flag.true) some in
-    inr (says_yes _ _ _ e both ∙ ap (λ x. Some (DefaultMethod x)) (sym c.in_ok-from_slice.ensures))
+    says_yes _ _ _ e both ∙ ap (λ x. Some (DefaultMethod x)) (sym c.in_ok-from_slice.ensures)
 
 pub returns : goal.returns
 returns c =

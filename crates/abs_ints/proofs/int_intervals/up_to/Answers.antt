@@ -1,0 +1,8 @@
+use Rattle.std.proofs.Common.{arith}
+use Rattle.std.specs.Int.{int_min}
+use Rattle.std.proofs.lemmas.Int.{ints, clamps}
+use Rattle.abs_ints.proofs.Making.{made}
+use Rattle.abs_ints.proofs.int_intervals.up_to.Goals as goal
+
+pub returns : goal.returns
+returns c = made c.new.result c.lo.result c.min.result c.args.a.lo (int_min c.args.a.hi c.args.b.hi) c.new.ensures (omega (arith, ints, clamps)) (omega (arith, ints, clamps))

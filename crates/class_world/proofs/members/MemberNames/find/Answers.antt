@@ -1,7 +1,0 @@
-use Rattle.std.proofs.Common.{◌∙◌, sym}
-use Rattle.class_read.specs.Rules.{same_key}
-use Rattle.class_world.proofs.Maps.{position-map}
-use Rattle.class_world.proofs.members.MemberNames.find.Goals as goal
-
-pub returns : goal.returns
-returns c = rw (← c.self.view_is) (c.get_index_of.ensures.index ∙ sym (position-map (same_key (c.args.name.now, c.args.desc.now)) (λ k. (k.0.now, k.1.now)) c.self.inside.names.keys))
