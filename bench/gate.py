@@ -28,8 +28,8 @@ TESTS_OF = {
     'low_calls': 'class_pool code_forms code_decode jvm_values jvm_heaps abs_cells lin_core list_views',
     'state_cases': 'abs_reach abs_heap abs_match abs_widen abs_expand',
     'state_tables': 'abs_reach abs_heap abs_match abs_widen abs_expand',
-    'rule_cases': 'descent rank_search',
-    'proof_tables': 'descent rank_search',
+    'rule_cases': 'descent rule_links rank_forms rank_search',
+    'proof_tables': 'descent rule_links rank_forms rank_search',
     'cert_tables': 'cert_form cert_write cert_check path_rules',
     'line_cases': 'input_steps run_call prove_call check_call',
     'command_tables': 'input_steps run_call desc_steps prove_core prove_call cert_check check_call',
@@ -47,7 +47,7 @@ LAYER = {
         'machine': 'jvm_values jvm_heaps frame_types jvm_step code_verify jvm_run',
         'abstract states': 'abs_cells abs_reach abs_sound abs_equal abs_heap abs_match abs_widen term_graph abs_ints abs_expand',
         'certificates': 'input_root descent plain_steps expand_laws int_plans graph_check graph_fill int_links cert_check '
-                        'cert_form cert_write path_rules graph_build rank_search chain_proofs prove_core',
+                        'cert_form cert_write path_rules graph_build rule_links rank_forms rank_search chain_proofs prove_core',
         'program': 'input_steps run_call describe desc_steps prove_call check_call jterm',
     }.items() for crate in crates_of.split()
 }

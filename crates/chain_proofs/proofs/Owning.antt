@@ -7,7 +7,7 @@ use Rattle.descent.specs.declared.proof.RankStep.{RankStep}
 use Rattle.descent.specs.declared.rules.PathRule.{PathRule}
 use Rattle.rank_search.specs.Plain.{NoPlainForm}
 use Rattle.rank_search.specs.Stepwise.{NoStepwiseForm}
-use Rattle.rank_search.specs.RankSteps.{IsRankStep}
+use Rattle.rank_forms.specs.RankSteps.{IsRankStep}
 use Rattle.descent.specs.Conditions.{IsRule, AreRules}
 use Rattle.chain_proofs.specs.Sets.{AreOwn, RanksOwn}
 

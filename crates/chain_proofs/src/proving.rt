@@ -1,7 +1,7 @@
 //! Proofs that no chain of rules is infinite, class by class.
 ghost use Rattle.std.specs.Prelude.{◌≡◌, Some, IfOk, IsTrue, slice_get};
 ghost use Rattle.descent.specs.Components.{AreClasses};
-ghost use Rattle.rank_search.specs.Graphs.{ArePlainRules};
+ghost use Rattle.rank_forms.specs.Graphs.{ArePlainRules};
 ghost use Rattle.descent.specs.Steps.{set_of, weak_ones, if_weak};
 ghost use Rattle.chain_proofs.specs.Answers.{ProvesOr};
 ghost use Rattle.chain_proofs.specs.Sets.{Rises, AreOwn, AreJoined, Follows, TurnsOr};

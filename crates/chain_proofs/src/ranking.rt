@@ -2,7 +2,7 @@
 ghost use Rattle.std.specs.Prelude.{◌≡◌, IfOk};
 ghost use Rattle.std.specs.List.{All};
 ghost use Rattle.descent.specs.Conditions.{AreRules, IsRanked, IsListed};
-ghost use Rattle.rank_search.specs.Graphs.{ArePlainRules};
+ghost use Rattle.rank_forms.specs.Graphs.{ArePlainRules};
 ghost use Rattle.chain_proofs.specs.Sets.{Rises, AreOwn, IsRankOf, RanksOr, RanksOwn};
 
 use descent::{PathRule, RankRule, RankStep, Scratch, check_rank_step, most_variables};

@@ -3,8 +3,8 @@ ghost use Rattle.std.specs.Prelude.{IsTrue};
 ghost use Rattle.descent.specs.Conditions.{AreSteps, IsStep};
 
 use descent::ProofStep;
-use rank_search::is_ranked;
-pub use rank_search::{are_few, are_forms};
+use rank_forms::is_ranked;
+pub use rank_forms::{are_few, are_forms};
 
 fn is_step(step: &ProofStep) -> bool
     ensures { IsTrue result → IsStep step.now }

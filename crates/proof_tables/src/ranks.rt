@@ -2,7 +2,7 @@
 //! step is made too. `linear`: whether such a form does, or one over several places, by a rank step. Two more are made by hand:
 //! `plain-form` and `stepwise-form` write the form that is found. `read-rules`, which is for measuring alone, reads a case and tests its
 //! limits.
-ghost use Rattle.rank_search.specs.Graphs.{ArePlainRules};
+ghost use Rattle.rank_forms.specs.Graphs.{ArePlainRules};
 ghost use Rattle.descent.specs.Conditions.{AreRules};
 
 use anyhow::{Context, Result, bail};

@@ -14,8 +14,8 @@ use Rattle.term_graph.specs.Edges.{is_size_variable}
 use Rattle.path_rules.specs.Stops.{Stop, Leg}
 use Rattle.path_rules.specs.Rules.{at_least_zero, ids_with, variable_of, bounds_of, rows_of_stop, rows_of_leg, variables_after, rows_along, int_slot}
 use Rattle.path_rules.specs.Bare.{IsBounded, AreBounded}
-use Rattle.rank_search.specs.Links.{IsAmong}
-use Rattle.rank_search.specs.Graphs.{HasClose, IsCloseInt, IsSizeSlot}
+use Rattle.rule_links.specs.Links.{IsAmong}
+use Rattle.rank_forms.specs.Graphs.{HasClose, IsCloseInt, IsSizeSlot}
 
 -- ---- rows among others
 

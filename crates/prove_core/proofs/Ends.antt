@@ -16,7 +16,7 @@ use Rattle.path_rules.specs.Conditions.{HasIntsAlone}
 use Rattle.path_rules.proofs.Finding.{ids_in_cells}
 use Rattle.path_rules.proofs.Ready.{from_then, same_some, no_rides, ride_first}
 use Rattle.path_rules.proofs.Telling.{no_pattern}
-use Rattle.rank_search.specs.Graphs.{AreNamed, head_of, heads, ids_of}
+use Rattle.rank_forms.specs.Graphs.{AreNamed, head_of, heads, ids_of}
 
 -- ---- slots are of ints alone
 

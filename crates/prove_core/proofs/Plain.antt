@@ -17,7 +17,7 @@ use Rattle.path_rules.specs.Bare.{AreBounded}
 use Rattle.path_rules.specs.Conditions.{IsReady}
 use Rattle.path_rules.proofs.Walking.{ints_of, good_first, last_good}
 use Rattle.path_rules.proofs.Ready.{all_at, same_some, stop_is, stop_sized, good_along}
-use Rattle.rank_search.specs.Graphs.{IsPathRule, IsEndAt, heads, IsCloseInt, IsShort, IsSizeSlot, IsPlainRule}
+use Rattle.rank_forms.specs.Graphs.{IsPathRule, IsEndAt, heads, IsCloseInt, IsShort, IsSizeSlot, IsPlainRule}
 use Rattle.prove_core.specs.ShortLinks.{AreShortLinks}
 use Rattle.prove_core.specs.PlainRules.{PathRulesArePlain, SomeRulesArePlain}
 use Rattle.prove_core.proofs.RuleRows.{rows_short}

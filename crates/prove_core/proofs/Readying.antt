@@ -22,7 +22,7 @@ use Rattle.descent.specs.declared.proof.ProofStep.{ProofStep}
 use Rattle.descent.specs.declared.rules.PathRule.{PathRule}
 use Rattle.path_rules.specs.Answers.{Answers as PathAnswers}
 use Rattle.prove_core.specs.PlainRules.{GoodGraphRulesArePlain}
-use Rattle.rank_search.specs.Graphs.{ArePlainRules}
+use Rattle.rank_forms.specs.Graphs.{ArePlainRules}
 use Rattle.path_rules.specs.declared.fault.PathFault.TheVariants.{TooManyPaths, TooManyRows}
 use Rattle.prove_core.specs.Cuts.{AreTargets}
 use Rattle.prove_core.specs.Reasons.{Aim, IsWhole, IsWholeWithSome, HasLongPaths, IsComponent}

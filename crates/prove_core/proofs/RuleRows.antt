@@ -26,7 +26,7 @@ use Rattle.path_rules.specs.Conditions.{IsRowBetween, IsLinkBetween}
 use Rattle.path_rules.proofs.Finding.{no_sizes}
 use Rattle.path_rules.proofs.Walking.{both, IsOfInts, IsGoodLeg, AreGoodAlong, good_first}
 use Rattle.path_rules.proofs.Ready.{from_then, from_map, all_at, no_rides, ride_first}
-use Rattle.rank_search.specs.Graphs.{IsShort}
+use Rattle.rank_forms.specs.Graphs.{IsShort}
 use Rattle.prove_core.specs.ShortLinks.{IsShortRow, IsShortLink, AreShortLinks}
 use Rattle.prove_core.proofs.Collected.{three_collected}
 

@@ -14,7 +14,7 @@ use Rattle.graph_check.specs.Good.{GraphOk}
 use Rattle.path_rules.specs.Answers.{Answers}
 use Rattle.path_rules.specs.Bare.{AreBounded}
 use Rattle.path_rules.specs.Conditions.{IsReady}
-use Rattle.rank_search.specs.Graphs.{ArePlainRules}
+use Rattle.rank_forms.specs.Graphs.{ArePlainRules}
 use Rattle.prove_core.specs.ShortLinks.{IsShortLink, AreShortLinks}
 
 -- The links of every expansion have short equations.

@@ -12,7 +12,7 @@ ghost use Rattle.input_desc.specs.Initial.{initial_of};
 ghost use Rattle.graph_build.specs.Answers.{BuildsOr};
 ghost use Rattle.graph_check.specs.Conditions.{HasIntStates};
 ghost use Rattle.graph_check.specs.Good.{GraphOk};
-ghost use Rattle.rank_search.specs.Graphs.{ArePlainRules};
+ghost use Rattle.rank_forms.specs.Graphs.{ArePlainRules};
 ghost use Rattle.path_rules.specs.Answers.{Answers as PathAnswers};
 ghost use Rattle.term_graph.specs.Limits.{most_nodes};
 ghost use Rattle.prove_core.specs.Growth.{growth_of};

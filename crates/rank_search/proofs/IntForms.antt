@@ -11,22 +11,22 @@ use Rattle.descent.specs.Conditions.{IsRule}
 use Rattle.descent.specs.declared.rules.PathRule.{PathRule}
 use Rattle.descent.specs.declared.rules.Place.{Place}
 use Rattle.descent.specs.declared.rules.SlotForm.{SlotForm}
-use Rattle.rank_search.specs.declared.following.BoundRow.{BoundRow}
-use Rattle.rank_search.specs.declared.following.Followed.{Followed}
-use Rattle.rank_search.specs.declared.links.Come.{Come}
-use Rattle.rank_search.specs.declared.reasons.Reasons.{Reasons}
-use Rattle.rank_search.specs.Following.{IsFollowed}
-use Rattle.rank_search.specs.Graphs.{HasClose, IsCloseInt, IsPathRule, IsPlainRule}
+use Rattle.rank_forms.specs.declared.following.BoundRow.{BoundRow}
+use Rattle.rank_forms.specs.declared.following.Followed.{Followed}
+use Rattle.rule_links.specs.declared.links.Come.{Come}
+use Rattle.rank_forms.specs.declared.reasons.Reasons.{Reasons}
+use Rattle.rank_forms.specs.Following.{IsFollowed}
+use Rattle.rank_forms.specs.Graphs.{HasClose, IsCloseInt, IsPathRule, IsPlainRule}
 use Rattle.rank_search.specs.Plain.{FormMoves, IsIntForm}
-use Rattle.rank_search.specs.Positions.{AreEnds, is_at, is_place, same, slot_at}
-use Rattle.rank_search.specs.Reasons.{TellsForm, TellsIntAt, TellsInts, both_of, both_reasons, close_from, followed_by, followed_of, int_made, int_reasons_by, side}
-use Rattle.rank_search.specs.Searching.{IsMoved, Known, ties_from}
-use Rattle.rank_search.proofs.Along.{variable_low}
-use Rattle.rank_search.proofs.Changed.{stands_is}
-use Rattle.rank_search.proofs.Finished.{one_finished}
-use Rattle.rank_search.proofs.Formed.{AreAllEnds, AreParts}
-use Rattle.rank_search.proofs.IntReasons.{close_found, int_reasoned}
-use Rattle.rank_search.proofs.Reasoned.{IsReasoned, both_reasoned, reasoned_followed}
+use Rattle.rule_links.specs.Positions.{AreEnds, is_at, is_place, same, slot_at}
+use Rattle.rank_forms.specs.Reasons.{TellsForm, TellsIntAt, TellsInts, both_of, both_reasons, close_from, followed_by, followed_of, int_made, int_reasons_by, side}
+use Rattle.rule_links.specs.Searching.{IsMoved, Known, ties_from}
+use Rattle.rank_forms.proofs.Along.{variable_low}
+use Rattle.rule_links.proofs.Changed.{stands_is}
+use Rattle.rank_forms.proofs.Finished.{one_finished}
+use Rattle.rank_forms.proofs.Formed.{AreAllEnds, AreParts}
+use Rattle.rank_forms.proofs.IntReasons.{close_found, int_reasoned}
+use Rattle.rank_forms.proofs.Reasoned.{IsReasoned, both_reasoned, reasoned_followed}
 
 -- ---- what holds of all slots holds of the one at a place
 one_slot : (a b : SlotForm) → ◌≡◌ {A = Option SlotForm} (Some a) (Some b) → a ≡ b

@@ -7,13 +7,14 @@ use Rattle.std.proofs.lemmas.Option.{slice_get_within, slice_get-get_or}
 use Rattle.descent.specs.declared.rules.PathRule.{PathRule}
 use Rattle.descent.specs.declared.rules.Place.{Place}
 use Rattle.rank_search.specs.declared.candidates.Candidate.{Candidate}
-use Rattle.rank_search.specs.Plain.{FormMoves, LowersBy, LowersInts, MovesBy, RanksSize}
-use Rattle.rank_search.specs.Rising.{IsTableOf, TellAll, TellsSize, TellsSteps, falling_form}
-use Rattle.rank_search.specs.Searching.{IsMoved, IsOneFound, IsSumFound, IsTable, TellsChange, falls, form_value, is_strict, is_weak, never_rises, value_of}
+use Rattle.rank_search.specs.Plain.{FormMoves, LowersBy, LowersInts, RanksSize}
+use Rattle.rule_links.specs.Changes.{MovesBy}
+use Rattle.rule_links.specs.Rising.{IsTableOf, TellAll, TellsSize, TellsSteps}
+use Rattle.rank_search.specs.Candidates.{falling_form, IsOneFound, IsSumFound, falls, form_value, is_strict, is_weak, never_rises, value_of}
+use Rattle.rule_links.specs.Searching.{IsMoved, IsTable, TellsChange}
 use Rattle.rank_search.specs.declared.searching.PlainForm.{PlainForm}
 use Rattle.rank_search.specs.declared.searching.PlainForm.TheVariants.{Ints, Size}
-use Rattle.rank_search.specs.Found.{IsFound}
-use Rattle.rank_search.specs.Reasons.{IsTold}
+use Rattle.rank_search.specs.Found.{IsFound, IsTold}
 use Rattle.rank_search.specs.Stepwise.{StepwiseRanks}
 
 abbrev Lists : Type 0

@@ -5,17 +5,17 @@ use Rattle.std.specs.List.{All, list_any}
 use Rattle.lin_core.specs.declared.rows.WRow.{WRow}
 use Rattle.descent.specs.declared.rules.PathRule.{PathRule}
 use Rattle.descent.specs.declared.rules.SlotForm.{SlotForm}
-use Rattle.rank_search.specs.declared.following.BoundRow.{BoundRow}
-use Rattle.rank_search.specs.Graphs.{ArePathRules, ArePlainRules, AreSizeTerms, HasClose, IsCloseInt, IsOneKind, IsPlainRule, IsShort, IsSizeSlot}
+use Rattle.rank_forms.specs.declared.following.BoundRow.{BoundRow}
+use Rattle.rank_forms.specs.Graphs.{ArePathRules, ArePlainRules, AreSizeTerms, HasClose, IsCloseInt, IsOneKind, IsPlainRule, IsShort, IsSizeSlot}
 use Rattle.rank_search.specs.Heads.{AreShort, has_size, is_size}
-use Rattle.rank_search.specs.Links.{HasBound}
-use Rattle.rank_search.specs.Reasons.{close_from}
-use Rattle.rank_search.specs.Rising.{has_zero}
-use Rattle.rank_search.specs.Searching.{is_inequality, variable_of}
-use Rattle.rank_search.proofs.Changed.{variable_is}
-use Rattle.rank_search.proofs.Rests.{rest_all}
-use Rattle.rank_search.proofs.IntReasons.{close_is}
-use Rattle.rank_search.proofs.Sized.{zero_is}
+use Rattle.rule_links.specs.Links.{HasBound}
+use Rattle.rank_forms.specs.Reasons.{close_from}
+use Rattle.rule_links.specs.Rising.{has_zero}
+use Rattle.rule_links.specs.Searching.{is_inequality, variable_of}
+use Rattle.rule_links.proofs.Changed.{variable_is}
+use Rattle.rule_links.proofs.Rests.{rest_all}
+use Rattle.rank_forms.proofs.IntReasons.{close_is}
+use Rattle.rule_links.proofs.Sized.{zero_is}
 
 -- a row that is found bounds the variable
 pub close_has : (rows : List WRow) (variable : ℕ) (times : ℤ) (found : Option BoundRow) → close_from variable times 0 rows ≡ found → is_some found ≡ true → HasClose rows variable times

@@ -9,8 +9,9 @@ use Rattle.descent.specs.declared.rules.Place.{Place}
 use Rattle.rank_search.specs.declared.candidates.Candidate.{Candidate}
 use Rattle.rank_search.specs.Found.{NoInts, NoSize, NoSteps}
 use Rattle.rank_search.specs.Plain.{FormChanges, IsMultiple, RanksInts, RanksSize}
-use Rattle.rank_search.specs.Rising.{ArePlacesOf, IsFall, IsTableOf, NoFall, TellAll, TellsSize, TellsSteps, falling_form}
-use Rattle.rank_search.specs.Searching.{IsTable, NoOne, NoSum, TellsChange, falls, form_value, is_strict, is_weak, multiple_of, never_rises, value_of}
+use Rattle.rule_links.specs.Rising.{ArePlacesOf, IsFall, IsTableOf, TellAll, TellsSize, TellsSteps}
+use Rattle.rank_search.specs.Candidates.{NoFall, falling_form, NoOne, NoSum, falls, form_value, is_strict, is_weak, multiple_of, never_rises, value_of}
+use Rattle.rule_links.specs.Searching.{IsTable, TellsChange}
 use Rattle.rank_search.specs.Stepwise.{NoStepwiseForm}
 
 abbrev Lists : Type 0

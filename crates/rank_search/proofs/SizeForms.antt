@@ -11,35 +11,36 @@ use Rattle.descent.specs.declared.proof.CutForm.{CutForm}
 use Rattle.descent.specs.declared.proof.RankRule.{RankRule}
 use Rattle.descent.specs.declared.rules.PathRule.{PathRule}
 use Rattle.descent.specs.declared.rules.Place.{Place}
-use Rattle.rank_search.specs.declared.following.Bound.{Bound}
-use Rattle.rank_search.specs.declared.following.Followed.{Followed}
-use Rattle.rank_search.specs.declared.links.Come.{Come}
-use Rattle.rank_search.specs.declared.links.Link.{Link}
-use Rattle.rank_search.specs.declared.links.Tie.{Tie}
-use Rattle.rank_search.specs.Counting.{multipliers_of}
-use Rattle.rank_search.specs.Following.{IsFollowed}
-use Rattle.rank_search.specs.Forms.{AreCuts, forms_over, list_from, needed, or_zero}
-use Rattle.rank_search.specs.Graphs.{ArePlainRules, IsPathRule, IsPlainRule, IsSizeSlot}
-use Rattle.rank_search.specs.Links.{IsWay, total}
-use Rattle.rank_search.specs.Plain.{IsSizeLink, NoPlainForm, RanksSize, SizeFalls}
-use Rattle.rank_search.specs.Positions.{AreEnds}
-use Rattle.rank_search.specs.RankSteps.{IsRankStep}
-use Rattle.rank_search.specs.Reasons.{TellsEach, followed_by, followed_of, zero_from}
-use Rattle.rank_search.specs.Rising.{IsAtLeast}
-use Rattle.rank_search.specs.Searching.{InTies}
-use Rattle.rank_search.specs.SizeReasons.{TellsSizeAt, size_made, size_reasons_by}
-use Rattle.rank_search.specs.Weighing.{AreOnes}
-use Rattle.rank_search.proofs.Along.{variable_low}
-use Rattle.rank_search.proofs.Changed.{stands_is}
-use Rattle.rank_search.proofs.Formed.{rule_lines}
+use Rattle.rank_forms.specs.declared.following.Bound.{Bound}
+use Rattle.rank_forms.specs.declared.following.Followed.{Followed}
+use Rattle.rule_links.specs.declared.links.Come.{Come}
+use Rattle.rule_links.specs.declared.links.Link.{Link}
+use Rattle.rule_links.specs.declared.links.Tie.{Tie}
+use Rattle.rule_links.specs.Counting.{multipliers_of}
+use Rattle.rank_forms.specs.Following.{IsFollowed}
+use Rattle.rank_forms.specs.Forms.{AreCuts, forms_over, list_from, needed, or_zero}
+use Rattle.rank_forms.specs.Graphs.{ArePlainRules, IsPathRule, IsPlainRule, IsSizeSlot}
+use Rattle.rule_links.specs.Links.{IsWay, total}
+use Rattle.rule_links.specs.SizeLinks.{IsSizeLink, SizeFalls}
+use Rattle.rank_search.specs.Plain.{NoPlainForm, RanksSize}
+use Rattle.rule_links.specs.Positions.{AreEnds}
+use Rattle.rank_forms.specs.RankSteps.{IsRankStep}
+use Rattle.rank_forms.specs.Reasons.{TellsEach, followed_by, followed_of, zero_from}
+use Rattle.rule_links.specs.Rising.{IsAtLeast}
+use Rattle.rule_links.specs.Searching.{InTies}
+use Rattle.rank_forms.specs.SizeReasons.{TellsSizeAt, size_made, size_reasons_by}
+use Rattle.rank_forms.specs.Weighing.{AreOnes}
+use Rattle.rank_forms.proofs.Along.{variable_low}
+use Rattle.rule_links.proofs.Changed.{stands_is}
+use Rattle.rank_forms.proofs.Formed.{rule_lines}
 use Rattle.rank_search.proofs.IntForms.{is_size, slot_has}
-use Rattle.rank_search.proofs.Lined.{ranking_with}
-use Rattle.rank_search.proofs.Listed.{at}
-use Rattle.rank_search.proofs.Reasoned.{reasoned_followed}
-use Rattle.rank_search.proofs.Shown.{IsShown, follow_there, size_step}
-use Rattle.rank_search.proofs.SizeParts.{zero_row_found}
-use Rattle.rank_search.proofs.SizeShifts.{IsWeighed, size_reasoned}
-use Rattle.rank_search.proofs.Weighed.{rule_weighed}
+use Rattle.rank_forms.proofs.Lined.{ranking_with}
+use Rattle.rule_links.proofs.Listed.{at}
+use Rattle.rank_forms.proofs.Reasoned.{reasoned_followed}
+use Rattle.rank_forms.proofs.Shown.{IsShown, follow_there, size_step}
+use Rattle.rank_forms.proofs.SizeParts.{zero_row_found}
+use Rattle.rank_forms.proofs.SizeShifts.{IsWeighed, size_reasoned}
+use Rattle.rank_forms.proofs.Weighed.{rule_weighed}
 
 -- links of the definition are ties
 way_in : (rows : List WRow) (ties : List Tie) → ((link : Link) → IsSizeLink rows link → InTies ties link) → (u v : ℕ) (links : List Link) → IsWay (IsSizeLink rows) u links v → IsWay (InTies ties) u links v

@@ -4,8 +4,9 @@ use Rattle.descent.specs.declared.rules.PathRule.{PathRule}
 use Rattle.descent.specs.declared.rules.Place.{Place}
 use Rattle.rank_search.specs.declared.searching.PlainForm.{PlainForm}
 use Rattle.rank_search.specs.declared.searching.PlainForm.TheVariants.{Ints, Size}
-use Rattle.rank_search.specs.Plain.{LowersInts, RanksInts, RanksSize}
+use Rattle.rank_search.specs.Plain.{LowersInts, RanksInts, RanksSize, LowersBy}
 use Rattle.rank_search.specs.Stepwise.{StepwiseRanks}
+use Rattle.rule_links.specs.Searching.{IsMoved}
 
 -- the plain form ranks the rules
 abbrev pub IsFound : List PathRule → PlainForm → Type 0
@@ -21,3 +22,8 @@ NoSize rules = (place : Place) → RanksSize rules place → ⊥
 
 abbrev pub NoSteps : List PathRule → Bool → Type 0
 NoSteps rules negative = (place : Place) → StepwiseRanks rules negative place → ⊥
+
+-- a plain form that ranks the rules, with how its ints are found to move
+abbrev pub IsTold : List PathRule → PlainForm → Type 0
+IsTold rules (Ints form) = LowersBy IsMoved rules form
+IsTold rules (Size place) = RanksSize rules place

@@ -3,9 +3,9 @@ use Rattle.std.specs.Prelude.{ℕ, ℤ, negsuc, ◌≡◌, ◌≤◌, Bool, not,
 use Rattle.std.specs.List.{list_any}
 use Rattle.lin_core.specs.declared.rows.WRow.{WRow}
 use Rattle.descent.specs.declared.rules.PathRule.{PathRule}
-use Rattle.rank_search.specs.Forms.{slots_for}
-use Rattle.rank_search.specs.Graphs.{heads}
-use Rattle.rank_search.specs.Searching.{is_bound}
+use Rattle.rank_forms.specs.Forms.{slots_for}
+use Rattle.rank_forms.specs.Graphs.{heads}
+use Rattle.rule_links.specs.Searching.{is_bound}
 
 abbrev pub HasHeads : List PathRule → PathRule → Type 0
 HasHeads rules rule = (heads rule.first ≡ heads (slots_for rules rule.from)) × (heads rule.last ≡ heads (slots_for rules rule.to))

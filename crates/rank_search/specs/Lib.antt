@@ -1,16 +1,5 @@
-pub mod Links
-pub mod Positions
 pub mod Plain
 pub mod Stepwise
 pub mod Found
-pub mod RankSteps
-pub mod Graphs
-pub mod Searching
-pub mod Rising
-pub mod Counting
-pub mod Following
-pub mod Forms
+pub mod Candidates
 pub mod Heads
-pub mod Reasons
-pub mod SizeReasons
-pub mod Weighing

@@ -1,61 +1,8 @@
 -- Stepwise forms: an int, or its negative, that is followed step by step along a rule.
-use Rattle.std.specs.Prelude.{ℕ, ℤ, pos, negsuc, ◌≡◌, ◌⊎◌, ◌<◌, ◌+ℤ◌, ◌≤ℤ◌, Bool, true, false, List, [], ◌∷◌, Some, slice_get}
-use Rattle.lin_core.specs.declared.rows.RowKind.TheVariants.{AtLeastZero, IsZero}
-use Rattle.lin_core.specs.declared.rows.WRow.{WRow}
+use Rattle.std.specs.Prelude.{ℕ, ℤ, pos, ◌≡◌, ◌≤ℤ◌, Bool, List, Some, slice_get}
 use Rattle.descent.specs.declared.rules.PathRule.{PathRule}
 use Rattle.descent.specs.declared.rules.Place.{Place}
-use Rattle.rank_search.specs.declared.links.Link.{Link}
-use Rattle.rank_search.specs.Links.{IsAmong, IsWay, total}
-use Rattle.rank_search.specs.Positions.{AreEnds}
-
--- the variable that counts up, and the one that counts down: u - v for a form, v - u for its negative
-abbrev pub upper : Bool → Link → ℕ
-upper true link = link.to
-upper false link = link.from
-
-abbrev pub lower : Bool → Link → ℕ
-lower true link = link.from
-lower false link = link.to
-
--- the row is upper - lower - k and nothing else
-pub record SaysFall (negative : Bool) (row : WRow) (link : Link) (by : ℤ) : Type 0 where
-  pub terms : (row.terms ≡ (upper negative link, pos 1) ∷ (lower negative link, negsuc 0) ∷ []) ⊎ (row.terms ≡ (lower negative link, negsuc 0) ∷ (upper negative link, pos 1) ∷ [])
-  pub constant : row.constant +ℤ by ≡ pos 0
-  pub weights : row.weights ≡ []
-
--- an equation says so too where it is taken with -1
-pub record SaysBack (negative : Bool) (row : WRow) (link : Link) (by : ℤ) : Type 0 where
-  pub equation : row.kind ≡ IsZero
-  pub terms : (row.terms ≡ (upper negative link, negsuc 0) ∷ (lower negative link, pos 1) ∷ []) ⊎ (row.terms ≡ (lower negative link, pos 1) ∷ (upper negative link, negsuc 0) ∷ [])
-  pub constant : row.constant ≡ by
-  pub weights : row.weights ≡ []
-
--- a fall link by k leads to a variable of a greater number, where the form falls by at least k
-pub record IsFallLink (negative : Bool) (rows : List WRow) (link : Link) : Type 0 where
-  pub row : WRow
-  pub among : IsAmong rows row
-  pub greater : link.from < link.to
-  pub says : SaysFall negative row link link.by ⊎ SaysBack negative row link link.by
-
--- along a rule the int at a place falls by at least c
-pub record StepsDown (negative : Bool) (rule : PathRule) (place : Place) (c : ℤ) : Type 0 where
-  pub start : ℕ
-  pub finish : ℕ
-  pub ends : AreEnds rule false place start finish
-  pub links : List Link
-  pub way : IsWay (IsFallLink negative rule.rows) start links finish
-  pub adds : total links ≡ c
-
--- the start value is bounded on the side that counts
-abbrev pub sign : Bool → ℤ
-sign true = negsuc 0
-sign false = pos 1
-
-pub record IsBounded (negative : Bool) (rule : PathRule) (start : ℕ) : Type 0 where
-  pub row : WRow
-  pub among : IsAmong rule.rows row
-  pub inequality : row.kind ≡ AtLeastZero
-  pub alone : row.terms ≡ (start, sign negative) ∷ []
+use Rattle.rule_links.specs.FallLinks.{StepsDown, IsBounded}
 
 -- the form never rises on the rules, and falls on a rule where its start is bounded
 pub record StepwiseRanks (rules : List PathRule) (negative : Bool) (place : Place) : Type 0 where

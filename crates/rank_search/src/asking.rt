@@ -1,19 +1,18 @@
 //! The rank steps of plain forms and of linear ones.
 ghost use Rattle.std.specs.Prelude.{◌≡◌, None, IfOk, IfSome};
 ghost use Rattle.descent.specs.Conditions.{AreRules};
-ghost use Rattle.rank_search.specs.Graphs.{ArePathRules, ArePlainRules};
+ghost use Rattle.rank_forms.specs.Graphs.{ArePathRules, ArePlainRules};
 ghost use Rattle.rank_search.specs.Plain.{NoPlainForm};
-ghost use Rattle.rank_search.specs.RankSteps.{IsRankStep};
+ghost use Rattle.rank_forms.specs.RankSteps.{IsRankStep};
 ghost use Rattle.rank_search.specs.Stepwise.{NoStepwiseForm};
 
-use crate::building::build;
-use crate::limits::is_rank_step;
-use crate::parts::Part;
 use crate::plain_steps::plain_step;
 use crate::searching::{stepwise_form, told_form};
 use crate::several::several;
 use crate::stepping::step_rank;
 use descent::{PathRule, RankStep};
+use rank_forms::{build, is_rank_step};
+use rule_links::Part;
 use std::alloc::{AllocError, Global};
 
 /// The step of these parts, if it is one that a closed proof takes.

@@ -2,16 +2,13 @@
 ghost use Rattle.std.specs.Prelude.{◌≡◌, ◌≤◌, IsTrue, All, true, unsigned_abs};
 ghost use Rattle.lin_core.specs.Rows.{RiseFrom};
 ghost use Rattle.descent.specs.Conditions.{AreRules};
-ghost use Rattle.rank_search.specs.Graphs.{AreNamed, ArePathRules, ArePlainRules, AreSizeTerms, HasClose, IsCloseInt, IsOneKind, IsPathRule, IsPlainRule, IsShort, IsSizeSlot, head_of, heads, ids_of};
+ghost use Rattle.rank_forms.specs.Graphs.{AreNamed, ArePathRules, ArePlainRules, AreSizeTerms, HasClose, IsCloseInt, IsOneKind, IsPathRule, IsPlainRule, IsShort, IsSizeSlot, head_of, heads, ids_of};
 ghost use Rattle.rank_search.specs.Heads.{AreShort, HasHeads, has_size, is_size};
 
-use crate::forms::slots_for;
-use crate::int_reasons::close_row;
-use crate::positions::{is_place, same, variable_of};
-use crate::sizes::has_zero;
-use crate::ties::{is_bound, is_inequality};
 use descent::{PathRule, Place, SlotForm};
 use lin_core::WRow;
+use rank_forms::{close_row, slots_for};
+use rule_links::{has_zero, is_bound, is_inequality, is_place, same, variable_of};
 
 /// Whether the ids of a kind rise.
 fn ids_rise(slots: &[SlotForm], size: bool) -> bool

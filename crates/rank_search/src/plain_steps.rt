@@ -1,22 +1,18 @@
 //! The rank steps of plain forms.
 ghost use Rattle.std.specs.Prelude.{◌≡◌, ◌∷◌, [], None, Some, IfOk, IfSome, pos};
 ghost use Rattle.descent.specs.Conditions.{AreRules};
-ghost use Rattle.rank_search.specs.Graphs.{ArePlainRules};
+ghost use Rattle.rank_forms.specs.Graphs.{ArePlainRules};
 ghost use Rattle.rank_search.specs.Plain.{LowersBy, NoPlainForm, RanksSize};
-ghost use Rattle.rank_search.specs.RankSteps.{IsRankStep};
-ghost use Rattle.rank_search.specs.Reasons.{IsTold, TellsEach, TellsInts};
-ghost use Rattle.rank_search.specs.Searching.{IsMoved};
-ghost use Rattle.rank_search.specs.SizeReasons.{TellsSizeAt};
+ghost use Rattle.rank_forms.specs.RankSteps.{IsRankStep};
+ghost use Rattle.rank_search.specs.Found.{IsTold};
+ghost use Rattle.rank_forms.specs.Reasons.{TellsEach, TellsInts};
+ghost use Rattle.rule_links.specs.Searching.{IsMoved};
+ghost use Rattle.rank_forms.specs.SizeReasons.{TellsSizeAt};
 
-use crate::following::Followed;
-use crate::forms::forms_of;
-use crate::int_reasons::follow_ints;
-use crate::listing::{list_all, needed, or_zero};
 use crate::searching::PlainForm;
-use crate::size_reasons::follow_size;
-use crate::weights::ones;
 use descent::{PathRule, Place, RankStep};
 use list_views::Seq;
+use rank_forms::{Followed, follow_ints, follow_size, forms_of, list_all, needed, ones, or_zero};
 use std::alloc::{AllocError, Global};
 
 /// What a form of ints falls by along each of the rules.

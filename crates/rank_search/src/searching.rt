@@ -4,16 +4,15 @@ ghost use Rattle.descent.specs.Conditions.{AreRules};
 ghost use Rattle.descent.specs.declared.rules.Place.{Place};
 ghost use Rattle.rank_search.specs.Plain.{LowersBy, NoPlainForm, RanksInts, RanksSize};
 ghost use Rattle.rank_search.specs.Stepwise.{NoStepwiseForm, StepwiseRanks};
-ghost use Rattle.rank_search.specs.Reasons.{IsTold};
-ghost use Rattle.rank_search.specs.Searching.{IsMoved, IsOneFound, IsSumFound, IsTable, NoOne};
-ghost use Rattle.rank_search.specs.Found.{IsFound, NoInts, NoSize, NoSteps};
-ghost use Rattle.rank_search.specs.Rising.{ArePlacesOf, IsTableOf, TellsSize, TellsSteps};
+ghost use Rattle.rank_search.specs.Found.{IsTold, IsFound, NoInts, NoSize, NoSteps};
+ghost use Rattle.rule_links.specs.Searching.{IsMoved, IsTable};
+ghost use Rattle.rank_search.specs.Candidates.{IsOneFound, IsSumFound, NoOne};
+ghost use Rattle.rule_links.specs.Rising.{ArePlacesOf, IsTableOf, TellsSize, TellsSteps};
 
 use crate::candidates::{Candidate, first_falling, one_int, sum_of_two};
-use crate::falls::{bounded_table, change_table, size_table, step_table};
-use crate::places::first_places;
 use descent::{PathRule, Place};
 use list_views::Seq;
+use rule_links::{bounded_table, change_table, first_places, size_table, step_table};
 use std::alloc::{AllocError, Global};
 
 /// A plain form: it is the same at every cut of the rules.

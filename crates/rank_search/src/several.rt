@@ -1,17 +1,14 @@
 //! Forms over several places: multiples of what falls, by exact fractions.
 ghost use Rattle.std.specs.Prelude.{IfOk, IfSome};
 ghost use Rattle.descent.specs.Conditions.{AreRules};
-ghost use Rattle.rank_search.specs.RankSteps.{IsRankStep};
+ghost use Rattle.rank_forms.specs.RankSteps.{IsRankStep};
 
 use crate::asking::shown;
-use crate::falls::{change_table, size_table, step_table};
 use crate::fractions::Fraction;
-use crate::parts::{Course, Part};
-use crate::places::first_places;
 use crate::tableau::Tableau;
-use crate::ties::negated;
 use descent::{PathRule, Place, RankStep};
 use list_views::Seq;
+use rule_links::{Course, Part, change_table, first_places, negated, size_table, step_table};
 use std::alloc::{AllocError, Global};
 
 /// A part with what it falls by along each rule.

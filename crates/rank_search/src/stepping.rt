@@ -1,17 +1,16 @@
 //! The rank step of an int, or of its negative, that falls step by step.
 ghost use Rattle.std.specs.Prelude.{◌≡◌, ◌∷◌, [], None, IfOk, IfSome};
-ghost use Rattle.rank_search.specs.Following.{IsFew};
-ghost use Rattle.rank_search.specs.Forms.{AreFollowed, TellsAll};
-ghost use Rattle.rank_search.specs.Graphs.{ArePathRules};
-ghost use Rattle.rank_search.specs.RankSteps.{IsRankStep};
-ghost use Rattle.rank_search.specs.Stepwise.{NoStepwiseForm, StepwiseRanks, sign};
+ghost use Rattle.rank_forms.specs.Following.{IsFew};
+ghost use Rattle.rank_forms.specs.Forms.{AreFollowed, TellsAll};
+ghost use Rattle.rank_forms.specs.Graphs.{ArePathRules};
+ghost use Rattle.rank_forms.specs.RankSteps.{IsRankStep};
+ghost use Rattle.rank_search.specs.Stepwise.{NoStepwiseForm, StepwiseRanks};
+ghost use Rattle.rule_links.specs.FallLinks.{sign};
 
-use crate::following::{Followed, follow_steps};
-use crate::forms::forms_of;
-use crate::listing::{list_all, needed, or_zero};
 use crate::searching::StepwiseForm;
 use descent::{PathRule, Place, RankStep};
 use list_views::Seq;
+use rank_forms::{Followed, follow_steps, forms_of, list_all, needed, or_zero};
 use std::alloc::{AllocError, Global};
 
 /// What is followed along each of the rules; None where no steps lead along one of them.

@@ -3,7 +3,7 @@ use Rattle.class_program.specs.Views.{program_of}
 use Rattle.code_verify.specs.Typings.{typing_at}
 use Rattle.path_rules.specs.Answers.{Answers as PathAnswers}
 use Rattle.path_rules.specs.declared.fault.PathFault.{PathFault}
-use Rattle.rank_search.specs.Graphs.{ArePlainRules}
+use Rattle.rank_forms.specs.Graphs.{ArePlainRules}
 use Rattle.term_graph.specs.Graphs.{GraphNode}
 use Rattle.prove_core.specs.Cuts.{AreTargets}
 use Rattle.prove_core.specs.Reasons.{HasLongPaths}

@@ -1,6 +1,6 @@
 use Rattle.std.proofs.Common.{drop}
 use Rattle.lin_core.specs.Rows.{RiseFrom}
-use Rattle.rank_search.specs.Graphs.{ids_of}
+use Rattle.rank_forms.specs.Graphs.{ids_of}
 use Rattle.rank_search.proofs.graph_rules.ids_rise.Given as goal
 
 abbrev pub invariant-loop-slot : goal.invariant-loop-slot

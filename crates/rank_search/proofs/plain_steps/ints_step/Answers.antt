@@ -1,5 +1,5 @@
 use Rattle.std.proofs.Common.{subst}
-use Rattle.rank_search.specs.Reasons.{TellsEach, TellsInts}
+use Rattle.rank_forms.specs.Reasons.{TellsEach, TellsInts}
 use Rattle.rank_search.proofs.PlainSteps.{no_ints_step}
 use Rattle.rank_search.proofs.plain_steps.ints_step.Goals as goal
 

@@ -1,5 +1,5 @@
 use Rattle.std.proofs.Common.{◌≡◌, ◌∙◌, ap, false, ℤ, FitsSigned, to_z, of_z, to_z-of_z, w64}
-use Rattle.rank_search.specs.Forms.{forms_over, or_zero}
+use Rattle.rank_forms.specs.Forms.{forms_over, or_zero}
 use Rattle.rank_search.proofs.PlainSteps.{ints_step_is}
 use Rattle.rank_search.proofs.plain_steps.ints_step_of.Goals as goal
 

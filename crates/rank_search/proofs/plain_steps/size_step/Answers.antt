@@ -1,7 +1,7 @@
 use Rattle.std.proofs.Common.{List, Some, subst, sym}
-use Rattle.rank_search.specs.declared.following.Followed.{Followed}
-use Rattle.rank_search.specs.Reasons.{TellsEach}
-use Rattle.rank_search.specs.SizeReasons.{TellsSizeAt}
+use Rattle.rank_forms.specs.declared.following.Followed.{Followed}
+use Rattle.rank_forms.specs.Reasons.{TellsEach}
+use Rattle.rank_forms.specs.SizeReasons.{TellsSizeAt}
 use Rattle.rank_search.proofs.SizeForms.{no_size_step}
 use Rattle.rank_search.proofs.plain_steps.size_step.Goals as goal
 

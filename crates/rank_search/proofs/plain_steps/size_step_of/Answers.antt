@@ -1,6 +1,6 @@
 use Rattle.std.proofs.Common.{◌≡◌, ◌∙◌, ap, true, ℤ, List, FitsSigned, to_z, of_z, to_z-of_z, w64}
 use Rattle.descent.specs.declared.rules.Place.{Place}
-use Rattle.rank_search.specs.Forms.{forms_over, or_zero}
+use Rattle.rank_forms.specs.Forms.{forms_over, or_zero}
 use Rattle.rank_search.proofs.SizeForms.{size_step_is}
 use Rattle.rank_search.proofs.plain_steps.size_step_of.Goals as goal
 

@@ -1,6 +1,6 @@
 use Rattle.std.proofs.Common.{List, false, subst, sym}
 use Rattle.descent.specs.declared.rules.Place.{Place}
-use Rattle.rank_search.specs.Rising.{ArePlacesOf}
+use Rattle.rule_links.specs.Rising.{ArePlacesOf}
 use Rattle.rank_search.proofs.searching.int_form.Goals as goal
 
 pub ints_in-requires-clause-places : goal.ints_in-requires-clause-places

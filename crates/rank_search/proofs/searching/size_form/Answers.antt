@@ -1,6 +1,6 @@
 use Rattle.std.proofs.Common.{List, true, subst, sym}
 use Rattle.descent.specs.declared.rules.Place.{Place}
-use Rattle.rank_search.specs.Rising.{ArePlacesOf}
+use Rattle.rule_links.specs.Rising.{ArePlacesOf}
 use Rattle.rank_search.proofs.searching.size_form.Goals as goal
 
 pub size_in-requires-clause-places : goal.size_in-requires-clause-places

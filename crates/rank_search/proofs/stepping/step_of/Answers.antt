@@ -1,6 +1,6 @@
 use Rattle.std.proofs.Common.{◌≡◌, ◌∙◌, List, ap, false, ℤ, FitsSigned, to_z, of_z, to_z-of_z, w64}
 use Rattle.descent.specs.declared.rules.Place.{Place}
-use Rattle.rank_search.specs.Forms.{forms_over, or_zero}
+use Rattle.rank_forms.specs.Forms.{forms_over, or_zero}
 use Rattle.rank_search.proofs.StepRanked.{step_is}
 use Rattle.rank_search.proofs.stepping.step_of.Goals as goal
 

@@ -1,5 +1,5 @@
 use Rattle.std.proofs.Common.{subst}
-use Rattle.rank_search.specs.Forms.{TellsAll}
+use Rattle.rank_forms.specs.Forms.{TellsAll}
 use Rattle.rank_search.proofs.StepRanked.{no_rank}
 use Rattle.rank_search.proofs.stepping.step_rank.Goals as goal
 

@@ -1,0 +1,17 @@
+pub mod Along
+pub mod Bases
+pub mod Cut
+pub mod Finished
+pub mod Formed
+pub mod IntReasons
+pub mod IntRows
+pub mod Lined
+pub mod Reasoned
+pub mod RowValues
+pub mod Shown
+pub mod SizeParts
+pub mod SizeShifts
+pub mod Slotted
+pub mod Stepped
+pub mod Trailed
+pub mod Weighed

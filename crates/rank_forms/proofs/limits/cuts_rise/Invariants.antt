@@ -1,0 +1,6 @@
+use Rattle.std.proofs.Common.{drop}
+use Rattle.rank_forms.specs.RankSteps.{CutsRise}
+use Rattle.rank_forms.proofs.limits.cuts_rise.Given as goal
+
+abbrev pub invariant-loop-form : goal.invariant-loop-form
+invariant-loop-form l = CutsRise l.low (drop l.form-index l.forms) → CutsRise 0 l.forms

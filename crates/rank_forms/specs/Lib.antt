@@ -1,0 +1,7 @@
+pub mod RankSteps
+pub mod Graphs
+pub mod Following
+pub mod Forms
+pub mod Reasons
+pub mod SizeReasons
+pub mod Weighing

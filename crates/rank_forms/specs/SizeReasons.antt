@@ -1,0 +1,37 @@
+-- Words for this crate's own functions: why a size falls along a rule, and the weights of classes.
+use Rattle.std.specs.Prelude.{ℕ, pos, ◌≡◌, true, List, [], ◌∷◌, Option, Some, None, get_or, length}
+use Rattle.std.specs.List.{All}
+use Rattle.lin_core.specs.declared.rows.WRow.{WRow}
+use Rattle.descent.specs.declared.rules.PathRule.{PathRule}
+use Rattle.descent.specs.declared.rules.Place.{Place}
+use Rattle.rank_forms.specs.declared.following.Followed.{Followed}
+use Rattle.rule_links.specs.declared.links.Come.{Come}
+use Rattle.rule_links.specs.declared.links.Link.{Link}
+use Rattle.rule_links.specs.declared.links.Tie.{Tie}
+use Rattle.rank_forms.specs.declared.reasons.Reasons.{Reasons}
+use Rattle.rank_forms.specs.Following.{trail_from}
+use Rattle.rule_links.specs.SizeLinks.{IsSizeLink}
+use Rattle.rule_links.specs.Positions.{AreEnds}
+use Rattle.rank_forms.specs.Reasons.{followed_of, size_entries, zero_from}
+use Rattle.rule_links.specs.Rising.{AreRising, IsLongest, IsSizeTie}
+use Rattle.rule_links.specs.Searching.{InTies, Known}
+
+abbrev pub size_made : List WRow → Come → ℕ → Known → ℕ → Reasons
+size_made rows come row known finish = record { falls = come.by; fall = size_entries rows (trail_from (length known) known finish); base = pos 0; bound = (row, pos 1) ∷ [] }
+
+abbrev pub size_reasons_by : List WRow → Option Come → Option ℕ → Known → ℕ → Option Reasons
+size_reasons_by rows None row known finish = None
+size_reasons_by rows (Some come) None known finish = None
+size_reasons_by rows (Some come) (Some row) known finish = Some (size_made rows come row known finish)
+
+-- the ties of a path's sizes
+pub record AreSizeTies (rows : List WRow) (ties : List Tie) : Type 0 where
+  pub rising : AreRising ties
+  pub complete : (link : Link) → IsSizeLink rows link → InTies ties link
+  pub in_rows : All (IsSizeTie rows) ties
+
+abbrev pub TellsSize : List WRow → ℕ → ℕ → Option Reasons → Type 0
+TellsSize rows start finish found = (ties : List Tie) × (known : Known) × AreSizeTies rows ties × IsLongest ties start known × (found ≡ size_reasons_by rows (get_or known finish None) (zero_from start 0 rows) known finish)
+
+abbrev pub TellsSizeAt : Place → PathRule → Option Followed → Type 0
+TellsSizeAt place rule found = (start finish : ℕ) → AreEnds rule true place start finish → (reasons : Option Reasons) × TellsSize rule.rows start finish reasons × (found ≡ followed_of (length rule.rows) reasons)

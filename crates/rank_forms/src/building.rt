@@ -1,0 +1,125 @@
+//! The rank step that parts make.
+ghost use Rattle.descent.specs.Conditions.{AreRules};
+
+use crate::cut_forms::forms_of;
+use crate::gathering::{Gathered, gather};
+use crate::weights::ones;
+use descent::{PathRule, RankRule, RankStep};
+use list_views::Seq;
+use rule_links::{Part, is_size};
+use std::alloc::{AllocError, Global};
+
+/// Whether some part is a size.
+fn has_size(parts: &[Part]) -> bool {
+    for part in parts {
+        if is_size(part.course) {
+            return true;
+        }
+    }
+    false
+}
+
+/// What is gathered of each rule; None where a part isn't followed along one.
+fn gather_all(
+    alloc: Global,
+    rules: &[PathRule],
+    sizes: bool,
+    parts: &[Part],
+) -> Result<Option<Vec<Gathered>>, AllocError>
+    requires { AreRules rules.now }
+{
+    let mut all = Vec::new(alloc);
+    for rule in rules {
+        match gather(alloc, rule, sizes, parts)? {
+            Some(gathered) => all.push(gathered)?,
+            None => return Ok(None),
+        }
+    }
+    Ok(Some(all))
+}
+
+/// The greater of a number that may be there and another one.
+fn greater(one: Option<i64>, other: i64) -> i64 {
+    match one {
+        Some(number) => { if number > other { number } else { other } }
+        None => other,
+    }
+}
+
+/// The constant by which the form is at least 0 where it falls.
+fn constant_for(all: &[Gathered]) -> i64 {
+    let mut most = None;
+    for gathered in all {
+        if let Some(base) = gathered.base() {
+            most = Some(greater(most, base));
+        }
+    }
+    match most {
+        Some(constant) => constant,
+        None => 0,
+    }
+}
+
+/// The rules as they are listed; None where a multiplier was lost.
+fn list_all(alloc: Global, all: &[Gathered]) -> Result<Option<Seq<RankRule>>, AllocError> {
+    let mut listed = Seq::new(alloc);
+    for (n, gathered) in all.iter().enumerate() {
+        let Ok(rule) = u32::try_from(n) else {
+            return Ok(None);
+        };
+        match gathered.listed(alloc, rule)? {
+            Some(one) => listed.push(one)?,
+            None => return Ok(None),
+        }
+    }
+    Ok(Some(listed))
+}
+
+/// The step of these listed rules.
+fn step_of(
+    alloc: Global,
+    rules: &[PathRule],
+    size: bool,
+    parts: &[Part],
+    constant: i64,
+    listed: Seq<RankRule>,
+) -> Result<Option<RankStep>, AllocError> {
+    let Some(forms) = forms_of(alloc, rules, parts, constant)? else {
+        return Ok(None);
+    };
+    let weights = if size {
+        ones(alloc, rules)?
+    } else {
+        Seq::new(alloc)
+    };
+    Ok(Some(RankStep {
+        size,
+        weights,
+        forms,
+        rules: listed,
+    }))
+}
+
+/// The rank step whose form is the sum of these parts at every cut; None where a part isn't followed along a rule, or a
+/// number is too large.
+///
+/// # Errors
+///
+/// Want of memory, which also answers a number of more than 64 bits.
+pub fn build(
+    alloc: Global,
+    rules: &[PathRule],
+    parts: &[Part],
+) -> Result<Option<RankStep>, AllocError>
+    requires { AreRules rules.now }
+{
+    let size = has_size(parts);
+    let Some(all) = gather_all(alloc, rules, size, parts)? else {
+        return Ok(None);
+    };
+    let constant = constant_for(all.as_slice());
+    let Some(listed) = list_all(alloc, all.as_slice())? else {
+        return Ok(None);
+    };
+    step_of(alloc, rules, size, parts, constant, listed)
+}

@@ -1,7 +1,0 @@
-use Rattle.std.proofs.Common.{[]}
-use Rattle.rank_search.specs.Rising.{TellAll, TellsSize}
-use Rattle.rank_search.proofs.Told.{AreTold}
-use Rattle.rank_search.proofs.falls.size_table.Given as goal
-
-abbrev pub invariant-loop-rule : goal.invariant-loop-rule
-invariant-loop-rule l = AreTold (λ rule. TellAll (TellsSize rule) l.places) l.rules [] l.table l.rule-index

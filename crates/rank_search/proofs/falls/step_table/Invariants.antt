@@ -1,7 +1,0 @@
-use Rattle.std.proofs.Common.{[], false}
-use Rattle.rank_search.specs.Rising.{TellAll, TellsSteps}
-use Rattle.rank_search.proofs.Told.{AreTold}
-use Rattle.rank_search.proofs.falls.step_table.Given as goal
-
-abbrev pub invariant-loop-rule : goal.invariant-loop-rule
-invariant-loop-rule l = AreTold (λ rule. TellAll (TellsSteps false l.negative rule) l.places) l.rules [] l.table l.rule-index

@@ -1,6 +1,0 @@
-use Rattle.std.proofs.Common.{◌≡◌, drop}
-use Rattle.rank_search.specs.Following.{bound_from}
-use Rattle.rank_search.proofs.following.bound_of.Given as goal
-
-abbrev pub invariant-loop-n : goal.invariant-loop-n
-invariant-loop-n l = bound_from l.negative l.start l.n (drop l.n l.rows) ≡ bound_from l.negative l.start 0 l.rows

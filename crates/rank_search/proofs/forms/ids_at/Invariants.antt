@@ -1,6 +1,0 @@
-use Rattle.std.proofs.Common.{◌≡◌, ◌++◌, drop}
-use Rattle.rank_search.specs.Forms.{ids_at}
-use Rattle.rank_search.proofs.forms.ids_at.Given as goal
-
-abbrev pub invariant-loop-part : goal.invariant-loop-part
-invariant-loop-part l = l.ids ++ ids_at l.slots l.size (drop l.part-index l.parts) ≡ ids_at l.slots l.size l.parts

@@ -1,6 +1,0 @@
-use Rattle.std.proofs.Common.{◌≡◌, drop}
-use Rattle.rank_search.specs.RankSteps.{has_strict}
-use Rattle.rank_search.proofs.limits.has_strict.Given as goal
-
-abbrev pub invariant-loop-one : goal.invariant-loop-one
-invariant-loop-one l = has_strict (drop l.one-index l.listed) ≡ has_strict l.listed

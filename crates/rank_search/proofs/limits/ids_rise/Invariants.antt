@@ -1,6 +1,0 @@
-use Rattle.std.proofs.Common.{drop}
-use Rattle.lin_core.specs.Rows.{RiseFrom}
-use Rattle.rank_search.proofs.limits.ids_rise.Given as goal
-
-abbrev pub invariant-loop-id : goal.invariant-loop-id
-invariant-loop-id l = RiseFrom l.low 65536 (drop l.id-index l.entries) → RiseFrom 0 65536 l.entries

@@ -1,6 +1,0 @@
-use Rattle.std.proofs.Common.{◌≡◌, drop}
-use Rattle.rank_search.specs.Reasons.{zero_from}
-use Rattle.rank_search.proofs.size_reasons.zero_row.Given as goal
-
-abbrev pub invariant-loop-n : goal.invariant-loop-n
-invariant-loop-n l = zero_from l.variable l.n (drop l.n l.rows) ≡ zero_from l.variable 0 l.rows

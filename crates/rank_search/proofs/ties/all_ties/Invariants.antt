@@ -1,6 +1,0 @@
-use Rattle.std.proofs.Common.{◌≡◌, ◌++◌, drop}
-use Rattle.rank_search.specs.Searching.{ties_from}
-use Rattle.rank_search.proofs.ties.all_ties.Given as goal
-
-abbrev pub invariant-loop-n : goal.invariant-loop-n
-invariant-loop-n l = l.ties ++ ties_from l.rows l.n (drop l.n l.rows) ≡ ties_from l.rows 0 l.rows

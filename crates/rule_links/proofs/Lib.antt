@@ -1,0 +1,14 @@
+pub mod Changed
+pub mod Counted
+pub mod FallRows
+pub mod Fallen
+pub mod Falling
+pub mod Listed
+pub mod Placed
+pub mod Raised
+pub mod Reached
+pub mod Rests
+pub mod SizeRows
+pub mod Sized
+pub mod Tied
+pub mod Told

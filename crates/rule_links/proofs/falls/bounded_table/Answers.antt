@@ -1,0 +1,14 @@
+use Rattle.std.proofs.Common.{refl, [], true}
+use Rattle.std.proofs.lemmas.Option.{slice_get_read}
+use Rattle.rule_links.specs.Rising.{TellAll, TellsSteps}
+use Rattle.rule_links.proofs.Told.{told_first, told_more, told_all}
+use Rattle.rule_links.proofs.falls.bounded_table.Goals as goal
+
+pub loop-n-init : goal.loop-n-init
+loop-n-init c = told_first (λ rule. TellAll (TellsSteps true c.args.negative rule) c.args.places.now) c.args.rules.now [] _ c.new-bounded.ensures
+
+pub loop-n-preserved : goal.loop-n-preserved
+loop-n-preserved c = told_more (λ rule. TellAll (TellsSteps true c.args.negative rule) c.args.places.now) c.args.rules.now [] c.loop-n.bounded _ c.in_ok-bounded_of.field-0 _ c.loop-n.n c.in_ok-push.ensures.items (slice_get_read c.args.rules.now _ c.loop-n.n c.index-rules-n.result refl c.loop-n-test.true c.index-rules-n.is) c.in_ok-bounded_of.ensures c.loop-n.invariant
+
+pub returns : goal.returns
+returns c = told_all (λ rule. TellAll (TellsSteps true c.args.negative rule) c.args.places.now) c.args.rules.now [] c.loop-n.bounded c.loop-n.n c.loop-n-test.false c.loop-n.invariant

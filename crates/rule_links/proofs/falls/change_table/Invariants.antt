@@ -1,0 +1,8 @@
+use Rattle.std.proofs.Common.{[]}
+use Rattle.rule_links.specs.Rising.{TellAll}
+use Rattle.rule_links.specs.Searching.{TellsChange}
+use Rattle.rule_links.proofs.Told.{AreTold}
+use Rattle.rule_links.proofs.falls.change_table.Given as goal
+
+abbrev pub invariant-loop-rule : goal.invariant-loop-rule
+invariant-loop-rule l = AreTold (λ rule. TellAll (TellsChange rule) l.places) l.rules [] l.table l.rule-index

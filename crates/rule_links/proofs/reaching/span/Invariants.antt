@@ -1,0 +1,12 @@
+use Rattle.std.proofs.Common.{◌≡◌, ℕ, suc, ◌<◌, ◌≤◌, drop, get_or}
+use Rattle.rule_links.specs.declared.links.Tie.{Tie}
+use Rattle.rule_links.specs.Searching.{span_from}
+use Rattle.rule_links.proofs.reaching.span.Given as goal
+
+abbrev pub invariant-loop-tie : goal.invariant-loop-tie
+invariant-loop-tie l = record {
+  value : span_from l.span (drop l.tie-index l.ties) ≡ span_from (suc l.first) l.ties;
+  first : l.first < l.span;
+  ties : (k : ℕ) (d : Tie) → k < l.tie-index → (get_or l.ties k d).link.to < l.span;
+  low : l.span ≤ 4294967296;
+}
