@@ -17,7 +17,7 @@ use Rattle.class_program.specs.declared.op.Op.TheVariants as ops
 use Rattle.class_program.specs.Programs.{Program, insn_at, op_at}
 use Rattle.op_forms.specs.Forms.{Form, form_of}
 use Rattle.frame_types.specs.Tables.{CodeTypes}
-use Rattle.abs_expand.specs.Plans.{Plan, no_child}
+use Rattle.abs_expand.specs.Plans.{Plan}
 use Rattle.abs_expand.specs.Building.{HoldsIds, AreIntTurns}
 use Rattle.abs_expand.specs.Expansions.{plan_here, plan_in, plan_of}
 use Rattle.abs_expand.proofs.Grown.{first_all, second_all}

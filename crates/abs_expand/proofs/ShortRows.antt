@@ -15,7 +15,7 @@ use Rattle.abs_ints.specs.declared.cases.ShortRow.{ShortRow}
 use Rattle.abs_ints.specs.declared.cases.Way.{Way}
 use Rattle.abs_ints.specs.declared.cases.Way.TheVariants.{Inside, Over, Under, Zero, Taken, Next}
 use Rattle.abs_expand.specs.Turns.{Operand, known, id}
-use Rattle.abs_expand.specs.ShortRows.{is_small_row, are_short, have_short_rows, is_sum_or_difference, takes_operands, are_ids_if}
+use Rattle.abs_expand.specs.ShortRows.{is_small_row, are_short, have_short_rows, is_sum_or_difference, takes_operands}
 
 -- ---- rows over two ids
 

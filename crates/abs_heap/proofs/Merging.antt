@@ -6,7 +6,7 @@ use Rattle.std.proofs.lemmas.Bool.{false≢true, and_parts, and_from, or_cases, 
 use Rattle.abs_cells.specs.declared.cells.Cell.{Cell}
 use Rattle.abs_cells.specs.declared.cells.Cell.TheVariants as cells
 use Rattle.abs_cells.specs.AbstractStates.{AbstractFrame, AbstractState}
-use Rattle.abs_cells.specs.Cells.{cell_in, cell_at, HasCell, AreEqual, Share, is_known, is_reference, is_of_sort, type_of_cell, are_compatible, are_compatible_types}
+use Rattle.abs_cells.specs.Cells.{cell_in, cell_at, HasCell, AreEqual, Share, is_reference, is_of_sort, are_compatible}
 use Rattle.abs_cells.specs.PairLists.{pair_of, is_same, IsRising, has, removed}
 use Rattle.abs_cells.specs.Sound.{AreIdsRising, IsWellFormed}
 use Rattle.abs_cells.proofs.PairLaws.{cond_true, cond_false, has_swapped}

@@ -15,7 +15,7 @@ use Rattle.abs_ints.specs.Narrowings.{are_of_kind, narrow_cases}
 use Rattle.abs_ints.specs.IntIntervals.{all_ints}
 use Rattle.abs_ints.specs.declared.cases.IntCase.{IntCase}
 use Rattle.abs_ints.specs.declared.cases.Way.TheVariants.{Inside}
-use Rattle.abs_ints.proofs.Covering.{in_interval, no_rows, covers_between, any_first}
+use Rattle.abs_ints.proofs.Covering.{in_interval, no_rows, any_first}
 use Rattle.abs_ints.proofs.OperatorCases.{if_either, both_true, in_inside}
 
 bit_kept : (m : ℤ) → pos 0 ≤ℤ m → m ≤ℤ pos 1 → int_rem_euclid m (pos 2) ≡ m

@@ -5,17 +5,16 @@ use Rattle.std.specs.Int.{int_wrap}
 use Rattle.std.specs.Ordering.{int_eq}
 use Rattle.std.proofs.lemmas.Int.{ints, SFits-int_wrap, int_wrap_fits}
 use Rattle.std.proofs.lemmas.Bool.Decides.{Decides-int_eq}
-use Rattle.lin_core.specs.Intervals.{Bounds, IsIn, interval_of}
+use Rattle.lin_core.specs.Intervals.{Bounds, IsIn}
 use Rattle.jvm_values.specs.Ints.{int_result}
 use Rattle.jvm_values.specs.declared.ints.IntOp.{IntOp}
-use Rattle.abs_ints.specs.Cases.{AllTrueOf, at_least_zero, inside, case_between}
+use Rattle.abs_ints.specs.Cases.{AllTrueOf, at_least_zero, inside}
 use Rattle.abs_ints.specs.Divisions.{zero_case, dividend_rows}
 use Rattle.abs_ints.specs.Falling.{FallsUnder, IsAnswered, exact_result}
 use Rattle.abs_ints.specs.IntIntervals.{all_ints, just, is_single, meet_of, are_ints, ints_or_all}
-use Rattle.abs_ints.specs.declared.cases.IntCase.{IntCase}
 use Rattle.abs_ints.specs.declared.cases.ShortRow.{ShortRow}
 use Rattle.abs_ints.specs.declared.cases.Way.TheVariants.{Inside, Zero}
-use Rattle.abs_ints.proofs.Covering.{in_interval, in_meet, no_rows, more_rows, covers_between}
+use Rattle.abs_ints.proofs.Covering.{in_meet, no_rows, more_rows, covers_between}
 
 -- a choice, from what each side shows
 pub if_either : {A : Type 0} (P : A → Type 0) (test : Bool) (x y : A) → (test ≡ true → P x) → (test ≡ false → P y) → P (cond test x y)

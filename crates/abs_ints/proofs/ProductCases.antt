@@ -14,7 +14,6 @@ use Rattle.abs_ints.specs.Cases.{AllTrueOf, inside}
 use Rattle.abs_ints.specs.Falling.{FallsUnder}
 use Rattle.abs_ints.specs.IntIntervals.{is_single, multiples_of, join_of, hull_of, are_ints, ints_or_all}
 use Rattle.abs_ints.specs.Products.{times_left, times_right, factor_rows, product_rows, product_cases}
-use Rattle.abs_ints.specs.declared.cases.ShortRow.{ShortRow}
 use Rattle.abs_ints.proofs.Covering.{no_rows, more_rows, any_first}
 use Rattle.abs_ints.proofs.OperatorCases.{AreTrue, if_either, single_is, in_inside, in_ints_or_all, unwrapped}
 

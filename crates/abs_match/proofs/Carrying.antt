@@ -4,7 +4,6 @@ use Rattle.std.proofs.lemmas.Int.{ints}
 use Rattle.std.proofs.lemmas.Bool.{cases_eq, false≢true}
 use Rattle.std.proofs.lemmas.Slice.Zip.{AllZip-long}
 use Rattle.std.specs.List.{AllZip}
-use Rattle.lin_core.specs.Intervals.{Bounds, IsIn}
 use Rattle.jvm_values.specs.declared.heap.Value.{Value}
 use Rattle.jvm_values.specs.declared.heap.Value.TheVariants as values
 use Rattle.jvm_values.specs.declared.heap.Object.{Object}
@@ -22,12 +21,12 @@ use Rattle.jvm_values.proofs.Options.{some_is, none_is_not_some}
 use Rattle.abs_cells.specs.declared.cells.Cell.{Cell}
 use Rattle.abs_cells.specs.declared.cells.Cell.TheVariants.{Int, Null, Obj, Nums, Refs, Unk}
 use Rattle.abs_cells.specs.AbstractStates.{AbstractFrame, AbstractState}
-use Rattle.abs_cells.specs.Cells.{is_int, is_known, is_hazy, is_reference, type_of_cell, shape_of, cell_at, HasCell, AreEqual, Share, can_be_null}
+use Rattle.abs_cells.specs.Cells.{is_known, is_hazy, is_reference, shape_of, cell_at, HasCell, AreEqual, Share, can_be_null}
 use Rattle.abs_cells.specs.Sound.{IsWellFormed}
 use Rattle.abs_cells.specs.Fits.{Meaning, FitsFrame, FitsMode, with_statics, IsObject, Describes, Fits}
-use Rattle.abs_reach.specs.Instances.{image_in, IsOver, IsNullOrBelow, is_no_int, is_thrown, HasImageUnder, MayBeOne, AreMapped, HasIdShape, InstanceOf, positions, mode, cells, aliases, sharing, shapes}
+use Rattle.abs_reach.specs.Instances.{image_in, IsOver, IsNullOrBelow, is_no_int, is_thrown, HasImageUnder, MayBeOne, HasIdShape, InstanceOf, positions, mode, cells, aliases, sharing, shapes}
 use Rattle.abs_reach.proofs.Sound.{may_meet, may_be_in, finite, tree}
-use Rattle.abs_reach.proofs.Walks.{some_cell, not_one}
+use Rattle.abs_reach.proofs.Walks.{not_one}
 use Rattle.abs_match.specs.Laws.{MatchesCarryFitting, HasArraysOfWorld, value_of_image, after}
 use Rattle.abs_match.proofs.Positions.{IsFrameUnder, zipped, same_maps, as_many, frame_under}
 

@@ -2,14 +2,8 @@
 use Rattle.std.proofs.Common.{◌≡◌, ℕ, ◌≤ℤ◌, eqb, Bool, true, false, not, ◌&&◌, ◌||◌, IsTrue, List, Option, Some, None, ◌⊎◌, inl, inr, ◌↔◌, ℤ, refl, sym, ap, subst, ◌∙◌}
 use Rattle.std.proofs.lemmas.Bool.{false≢true, not-true, eqb-true, eq-eqb, and_parts, and_from, or_cases, or_left, or_right, not_from_false, cases_Bool}
 use Rattle.std.specs.Prelude.{int_le}
-use Rattle.lin_core.specs.Intervals.{Bounds}
-use Rattle.jvm_values.specs.declared.types.Ty.{Ty}
-use Rattle.jvm_values.proofs.Options.{some_is, none_is_not_some}
 use Rattle.abs_cells.specs.declared.cells.Cell.{Cell}
-use Rattle.abs_cells.specs.declared.cells.Cell.TheVariants.{Int, Null, Obj, Nums, Refs, Unk}
-use Rattle.abs_cells.specs.Cells.{type_of_cell, can_be_null, is_null}
-use Rattle.abs_reach.specs.Instances.{IsOver, IsNullOrBelow}
-use Rattle.abs_match.specs.Matching.{image_is, over_int, is_type_below, over_unknown}
+use Rattle.abs_match.specs.Matching.{image_is}
 
 pub image_is_true : (found : Option ℕ) (image : ℕ) → image_is found image ≡ true → found ≡ Some image
 image_is_true None image e = absurd (false≢true e)

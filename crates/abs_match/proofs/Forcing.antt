@@ -7,7 +7,7 @@ use Rattle.std.proofs.lemmas.Option.{get_or_from_slice_get}
 use Rattle.std.proofs.lemmas.List.{take_all, drop_all, drop_more}
 use Rattle.std.proofs.lemmas.List.Folds.{list_all-append, list_all_more}
 use Rattle.jvm_values.proofs.Options.{some_is, none_is_not_some}
-use Rattle.abs_cells.specs.AbstractStates.{AbstractFrame, AbstractState}
+use Rattle.abs_cells.specs.AbstractStates.{AbstractFrame}
 use Rattle.abs_cells.specs.Sound.{given_ids, ids_of_frame}
 use Rattle.abs_cells.proofs.Checking.{all_reversed, all_flat}
 use Rattle.abs_reach.specs.Instances.{image_in}

@@ -8,7 +8,7 @@ use Rattle.jvm_values.proofs.Options.{some_is, none_is_not_some}
 use Rattle.abs_cells.specs.declared.cells.Cell.{Cell}
 use Rattle.abs_cells.specs.AbstractStates.{AbstractFrame}
 use Rattle.abs_cells.specs.Cells.{cell_in, is_of_sort}
-use Rattle.abs_match.specs.Matching.{IsLeastOf, lower_of, HasImage, PlacesMeet, FirstMeet, FirstSame, local_at, FrameMeets, FramesMeet, EntryMeets, CellMeets}
+use Rattle.abs_match.specs.Matching.{IsLeastOf, lower_of, HasImage, PlacesMeet, FirstMeet, FirstSame, local_at, FrameMeets, FramesMeet, EntryMeets}
 
 -- the same of what holds of the same ids
 pub turned : (M N : ℕ → Type 0) (r : Option ℕ) → ((id : ℕ) → M id → N id) → ((id : ℕ) → N id → M id) → IsLeastOf M r → IsLeastOf N r

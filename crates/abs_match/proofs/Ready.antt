@@ -2,17 +2,16 @@
 use Rattle.std.proofs.Common.{◌≡◌, ◌≢◌, ℕ, ◌<◌, ◌==◌, Bool, true, false, not, List, length, get_or, map, Some, None, ◌⊎◌, inl, inr, ◌↔◌, refl, sym, ap, subst, ◌∙◌, eq-eqb}
 use Rattle.std.proofs.lemmas.Bool.{false≢true, eqb-true, cases_Bool, not_from_false, not-true}
 use Rattle.std.proofs.lemmas.Option.{slice_get-get_or}
-use Rattle.jvm_values.proofs.Options.{some_is}
 use Rattle.abs_cells.specs.declared.cells.Cell.{Cell}
 use Rattle.abs_cells.specs.AbstractStates.{AbstractState}
 use Rattle.abs_cells.specs.IdSets.{has_id, are_touched}
 use Rattle.abs_cells.specs.PairLists.{IsRising}
-use Rattle.abs_cells.specs.Cells.{is_reference, is_of_sort, cell_in, cell_at, HasCell, AreEqual}
-use Rattle.abs_cells.specs.Sound.{AreIdsRising, IsWellFormed}
+use Rattle.abs_cells.specs.Cells.{is_reference, is_of_sort, cell_at, HasCell, AreEqual}
+use Rattle.abs_cells.specs.Sound.{AreIdsRising}
 use Rattle.abs_cells.proofs.Checking.{has_cell_to}
 use Rattle.abs_reach.specs.Instances.{image_in, MayBeOne}
 use Rattle.abs_reach.proofs.Room.{has_cell_low}
-use Rattle.abs_reach.proofs.Answering.{Touch, touch_from, touch_of, touched_of}
+use Rattle.abs_reach.proofs.Answering.{touch_from, touch_of, touched_of}
 use Rattle.abs_reach.specs.Keys.{AreKeysRising}
 use Rattle.abs_match.specs.Matching.{AreMatched, IsApartImage}
 use Rattle.abs_match.proofs.Entries.{image_is_there}

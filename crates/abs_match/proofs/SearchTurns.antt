@@ -9,12 +9,12 @@ use Rattle.std.proofs.lemmas.Bool.{false≢true, eqb-true, eqb-false, and_parts,
 use Rattle.std.proofs.lemmas.List.{get_or-set_same, length-set, length-map}
 use Rattle.std.proofs.lemmas.Option.{slice_get_within, slice_get-get_or, slice_get-map}
 use Rattle.jvm_values.proofs.Options.{given, some_is, none_is_not_some}
-use Rattle.jvm_values.specs.Paths.{Reaches, follow}
+use Rattle.jvm_values.specs.Paths.{follow}
 use Rattle.jvm_values.specs.declared.types.Ty.{Ty}
 use Rattle.abs_cells.specs.declared.cells.Cell.{Cell}
 use Rattle.abs_cells.specs.AbstractStates.{AbstractState}
 use Rattle.abs_cells.specs.IdSets.{has_id}
-use Rattle.abs_cells.specs.Cells.{ids_in, is_of_sort, cell_at, cell_in, HasCell}
+use Rattle.abs_cells.specs.Cells.{ids_in, is_of_sort, cell_in, HasCell}
 use Rattle.abs_cells.specs.Sound.{AreIdsRising}
 use Rattle.abs_reach.specs.Instances.{image_in, InstanceOf, FailsAt, IsFirstFault, whole_map, mode, cells}
 use Rattle.abs_reach.specs.Instances as clauses
@@ -22,7 +22,7 @@ use Rattle.abs_reach.specs.Reached.{named_steps, positions, IsReached}
 use Rattle.abs_reach.specs.Turns.{still, IsWith}
 use Rattle.abs_reach.proofs.Room.{one_fewer, has_cell_low}
 use Rattle.abs_reach.specs.Keys.{AreKeysRising}
-use Rattle.abs_match.specs.Forced.{Gives, waits, ArePut, NoneDoes, state_asks, cell_asks, names_count, IsSearching, NoneMatches, IsOnlyMatch}
+use Rattle.abs_match.specs.Forced.{waits, ArePut, NoneDoes, state_asks, cell_asks, names_count, IsSearching, NoneMatches, IsOnlyMatch}
 use Rattle.abs_match.proofs.Entries.{entry_of, image_is_there}
 use Rattle.abs_match.proofs.Forcing.{weaker}
 use Rattle.abs_match.proofs.Keys.{stands}

@@ -10,8 +10,8 @@ use Rattle.abs_cells.specs.declared.cells.Cell.{Cell}
 use Rattle.abs_cells.specs.AbstractStates.{AbstractFrame, AbstractState}
 use Rattle.abs_cells.specs.Cells.{cell_in, is_of_sort, HasCell}
 use Rattle.abs_cells.specs.Sound.{AreIdsRising, IsWellFormed}
-use Rattle.abs_reach.specs.Instances.{image_in, Place, local, entry, frame_at, id_at, FrameHead, head_of, ListsIds, Clause, whole_map, positions, mode, cells, aliases, sharing, shapes, number_of, Agrees, Meets, HoldsClause, InstanceOf, HasImageUnder, IsLeastFailing, FailsAt, IsFirstFault}
-use Rattle.abs_match.specs.Matching.{IsLeastOf, lower_of, HasImage, FrameMeets, FramesMeet, FirstMeet, CellMeets, AllMapped, AreMatched, Tested, clause_of}
+use Rattle.abs_reach.specs.Instances.{image_in, local, entry, frame_at, FrameHead, head_of, ListsIds, Clause, whole_map, positions, mode, cells, aliases, sharing, shapes, number_of, Agrees, Meets, HoldsClause, InstanceOf, HasImageUnder, FailsAt, IsFirstFault}
+use Rattle.abs_match.specs.Matching.{IsLeastOf, lower_of, FramesMeet, FirstMeet, CellMeets, AreMatched, Tested, clause_of}
 use Rattle.abs_match.specs.declared.clauses.IdClause.{IdClause}
 use Rattle.abs_match.specs.declared.clauses.IdClause.TheVariants.{Cells, Aliases, Sharing, Shapes}
 use Rattle.abs_match.proofs.Leasts.{turned, next_asked}

@@ -7,7 +7,7 @@ use Rattle.abs_cells.specs.declared.cells.Cell.TheVariants.{Int, Null, Obj, Nums
 use Rattle.abs_cells.specs.AbstractStates.{AbstractFrame, AbstractState}
 use Rattle.abs_cells.specs.IdSets.{has_id}
 use Rattle.abs_cells.specs.Cells.{ids_in}
-use Rattle.abs_reach.specs.Instances.{image_in, IsOver, HoldsClause, InstanceOf, Clause, positions, mode}
+use Rattle.abs_reach.specs.Instances.{image_in, IsOver, HoldsClause, InstanceOf, positions, mode}
 use Rattle.abs_reach.specs.Reached as reached
 use Rattle.abs_match.specs.Matching.{PlacesMeet, FrameMeets, FramesMeet, FirstMeet, HasImage, local_at}
 

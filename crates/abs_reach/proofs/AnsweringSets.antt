@@ -6,7 +6,7 @@ use Rattle.std.proofs.lemmas.Bool.{false≢true, and_parts, and_from, eqb-true}
 use Rattle.abs_cells.specs.AbstractStates.{AbstractState}
 use Rattle.abs_cells.specs.IdSets.{has_id, are_touched}
 use Rattle.abs_cells.specs.Cells.{is_hazy, is_reference, is_of_sort, cell_at, HasCell, Share}
-use Rattle.abs_cells.specs.Closures.{KnownFrom, MayMeet, SharesThere, MayBeIn}
+use Rattle.abs_cells.specs.Closures.{KnownFrom}
 use Rattle.abs_cells.specs.Sound.{IsWellFormed}
 use Rattle.abs_cells.proofs.Checking.{has_cell_from, has_cell_to}
 use Rattle.abs_reach.specs.Known.{IsKnownFromSome, MayMeetSome, SomeMayBeIn, MayBeInSome}

@@ -8,24 +8,23 @@ use Rattle.std.proofs.lemmas.List.{reverse-append, drop_all}
 use Rattle.std.proofs.lemmas.List.Folds.{list_any-append}
 use Rattle.std.proofs.lemmas.List.Elements.{All-append}
 use Rattle.std.proofs.lemmas.Option.{slice_get-get_or}
-use Rattle.jvm_values.specs.Paths.{follow, Reaches}
 use Rattle.jvm_values.proofs.Options.{some_is, none_is_not_some}
 use Rattle.jvm_values.proofs.PathLaws.{here, one_more, onward}
 use Rattle.abs_cells.specs.declared.cells.Cell.{Cell}
 use Rattle.abs_cells.specs.AbstractStates.{AbstractFrame, AbstractState}
-use Rattle.abs_cells.specs.PairLists.{pair_of, has_pair, has}
+use Rattle.abs_cells.specs.PairLists.{pair_of, has}
 use Rattle.abs_cells.specs.IdSets.{has_id, kept}
-use Rattle.abs_cells.specs.Cells.{is_known, is_reference, ids_in, is_of_sort, cell_in, cell_at, HasCell, AreEqual, Share}
-use Rattle.abs_cells.specs.Sound.{AreIdsRising, given_ids, ids_of_frame, ids_used, IsWellFormed}
+use Rattle.abs_cells.specs.Cells.{ids_in, cell_in, cell_at, HasCell}
+use Rattle.abs_cells.specs.Sound.{AreIdsRising, given_ids, ids_of_frame, IsWellFormed}
 use Rattle.abs_cells.proofs.KeepLaws.{has_filter}
 use Rattle.abs_cells.proofs.Checking.{has_cell_from, has_cell_to}
 use Rattle.abs_reach.specs.declared.find.Names.TheVariants.{All as AllNames}
-use Rattle.abs_reach.specs.Steps.{steps_in, IsIn, IsReachedInside}
+use Rattle.abs_reach.specs.Steps.{IsIn, IsReachedInside}
 use Rattle.abs_reach.specs.Reached.{named_steps, positions, IsReached, IsDropped, IsRestricted}
 use Rattle.abs_reach.proofs.Finding.{stands}
 use Rattle.abs_reach.proofs.Room.{has_cell_low, reached_there}
 use Rattle.abs_reach.proofs.Answering.{all_named_there}
-use Rattle.abs_reach.proofs.Walks.{all_at, all_behind, all_front}
+use Rattle.abs_reach.proofs.Walks.{all_at, all_front}
 
 -- ---- ids that stand in a list
 

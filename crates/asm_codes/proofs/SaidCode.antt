@@ -6,8 +6,7 @@ use Rattle.std.proofs.Math.Path.{fun_ext}
 use Rattle.std.proofs.lemmas.Bool.{not-false, or_parts}
 use Rattle.code_decode.specs.Codes.{Spells}
 use Rattle.code_decode.specs.Encoding.{plain_text, code_of}
-use Rattle.code_decode.specs.Texts.{padding_of, zeros, Fits}
-use Rattle.code_forms.specs.Spellings.{spelling}
+use Rattle.code_decode.specs.Texts.{padding_of, zeros}
 use Rattle.code_forms.specs.declared.insn.Insn.{Insn}
 use Rattle.class_base.specs.declared.handler.Handler.{Handler}
 use Rattle.code_decode.proofs.Takes.{length-zeros}
@@ -20,11 +19,11 @@ use Rattle.asm_lines.specs.declared.fault.AsmFault.{AsmFault}
 use Rattle.asm_codes.specs.declared.code.MethodCode.{MethodCode}
 use Rattle.asm_codes.specs.declared.pooled.PoolOperand.{PoolOperand}
 use Rattle.asm_codes.specs.Pooled.{Pooled}
-use Rattle.asm_codes.specs.Instructions.{Places, nowhere, target, insn_of, item_insn, insn_in}
-use Rattle.asm_codes.specs.Places.{size_of, size_at, end_from, has_label, place_from, places_of, placed, insns_from, catch_entry, item_entry, table_of}
+use Rattle.asm_codes.specs.Instructions.{Places, nowhere, insn_of, item_insn, insn_in}
+use Rattle.asm_codes.specs.Places.{size_of, size_at, end_from, has_label, place_from, places_of, placed, insns_from, item_entry, table_of}
 use Rattle.asm_codes.specs.LineFaults.{item_labels, knows, reaches, passes, item_is_out, entries_of, line_fault, first_fault_from, first_fault}
-use Rattle.asm_codes.specs.MethodCodes.{FitsAt, IsWritable, code_at, answered, method_code}
-use Rattle.asm_codes.specs.Said.{NamedBy, IsNamed, InTurn, SaysInsn, next_place, behind, is_labelled, label_place, SaysLine, SaysLines, with_catch, catches_in, SaysEntry, SaysCode}
+use Rattle.asm_codes.specs.MethodCodes.{FitsAt, IsWritable, code_at, answered}
+use Rattle.asm_codes.specs.Said.{NamedBy, IsNamed, InTurn, SaysInsn, next_place, behind, label_place, SaysLine, SaysLines, with_catch, catches_in, SaysEntry, SaysCode}
 use Rattle.asm_codes.proofs.CodeSizes.{code_long}
 use Rattle.asm_codes.proofs.FirstFaults.{IsSound, sound}
 use Rattle.asm_codes.proofs.Operands.{Alike, alike}

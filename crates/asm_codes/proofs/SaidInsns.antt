@@ -8,7 +8,7 @@ use Rattle.code_forms.specs.declared.insn.Case.{Case}
 use Rattle.code_forms.specs.declared.insn.Insn.{Insn}
 use Rattle.code_forms.specs.declared.insn.Insn.TheVariants as insns
 use Rattle.code_forms.specs.Spellings as spellings
-use Rattle.code_forms.specs.Spellings.{Spelling, spelling}
+use Rattle.code_forms.specs.Spellings.{spelling}
 use Rattle.code_forms.specs.Cases.{is_rising}
 use Rattle.code_forms.specs.Opcodes.{opcode_of, find, plain_low, plain_high, plain, with_byte, with_pair, with_jump, wide_local, first_of}
 use Rattle.code_decode.proofs.Takes.{chosen, some_is}
@@ -18,9 +18,9 @@ use Rattle.asm_lines.specs.declared.operation.Operation.TheVariants.{Plain, Loca
 use Rattle.asm_lines.specs.Numbers.{signed_of, pair_of, int_of}
 use Rattle.asm_lines.proofs.NumberFits.{chained, guarded}
 use Rattle.asm_codes.specs.declared.pooled.PoolOperand.{PoolOperand}
-use Rattle.asm_codes.specs.Instructions.{Places, target, between, byte_value, pair_value, with_operand, local_insn, entry_insn, load_insn, interface_insn, member_insn, array_insn, increment, increment_insn, highest_fits, table_of_low, table_insn, make_case, cases_of, lookup_of, lookup_insn, insn_of}
+use Rattle.asm_codes.specs.Instructions.{Places, target, between, byte_value, pair_value, with_operand, local_insn, entry_insn, interface_insn, array_insn, increment, highest_fits, table_of_low, table_insn, make_case, cases_of, lookup_of, lookup_insn, insn_of}
 use Rattle.asm_codes.specs.LineFaults.{operation_labels, knows}
-use Rattle.asm_codes.specs.Said.{InTurn, local_spelling, load_spelling, member_spelling, increment_spelling, IsCase, IsInsn}
+use Rattle.asm_codes.specs.Said.{InTurn, IsCase, IsInsn}
 use Rattle.asm_codes.proofs.Operands.{mapped, plain_spelling, byte_rows, pair_rows, jump_rows, local_rows, operand}
 
 -- ---- labels

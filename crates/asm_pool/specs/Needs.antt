@@ -21,7 +21,7 @@ use Rattle.asm_lines.specs.declared.statement.FieldLine.{FieldLine}
 use Rattle.asm_lines.specs.declared.statement.AttributeLine.{AttributeLine}
 use Rattle.asm_lines.specs.declared.statement.ClassLine.{ClassLine}
 use Rattle.asm_lines.specs.Numbers.{unsigned_of, signed_of, int_of}
-use Rattle.asm_pool.specs.Entries.{Entry, Utf8, Integer, Float, Long, Double, Class, Str, Member, NameAndType, has_text}
+use Rattle.asm_pool.specs.Entries.{Entry, Utf8, Integer, Float, Long, Double, Class, Str, Member, has_text}
 use Rattle.asm_pool.specs.Pools.{Need, needed}
 
 -- ---- instructions

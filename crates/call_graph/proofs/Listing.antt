@@ -6,7 +6,6 @@ use Rattle.std.specs.Option.{option_map_or, option_to_list}
 use Rattle.std.proofs.lemmas.Bool.{false≢true, and_parts, eqb-true, cases_eq}
 use Rattle.class_world.specs.Fields.{can_be_made}
 use Rattle.class_world.specs.Types.{is_class_below}
-use Rattle.class_world.specs.Select.{is_receiver}
 use Rattle.class_program.specs.declared.op.Call.{Call}
 use Rattle.class_program.specs.declared.op.Op.{Op}
 use Rattle.class_program.specs.declared.op.Op.TheVariants.{Plain, Constant, Getstatic, Putstatic, Getfield, Putfield, Invokevirtual, Invokespecial, Invokestatic, Invokeinterface, New, Anewarray, Checkcast, Instanceof}
@@ -17,7 +16,7 @@ use Rattle.class_program.specs.Instructions.{instruction_at, first_place}
 use Rattle.class_program.specs.Programs.{Program, refs_of, insn_at, op_at}
 use Rattle.class_program.specs.Selected.{CanRun, selection_at, selected_in, selected_at, can_receive, can_receive_at}
 use Rattle.class_program.proofs.Closed.{made_within}
-use Rattle.number_graphs.specs.Graphs.{IsWay, Leads, IsOnCycle, IsLeastOnCycle}
+use Rattle.number_graphs.specs.Graphs.{IsWay, IsOnCycle, IsLeastOnCycle}
 use Rattle.call_graph.specs.Calls.{Calls}
 use Rattle.number_graphs.specs.Lists.{Has, row_at, Edge}
 use Rattle.call_graph.specs.Listed.{method_of, class_run, class_runs, op_runs, place_runs, method_runs, rows_from, graph_of}

@@ -9,7 +9,7 @@ use Rattle.class_read.specs.Content.{ClassContent}
 use Rattle.class_world.specs.declared.fault.MethodName.{MethodName}
 use Rattle.class_program.specs.Good.{IsGood, IsGoodMethod}
 use Rattle.number_graphs.specs.Graphs.{IsOnCycle, IsLeastOnCycle}
-use Rattle.call_graph.specs.Calls.{Calls, IsNameOf, Answers}
+use Rattle.call_graph.specs.Calls.{IsNameOf, Answers}
 use Rattle.call_graph.specs.declared.fault.CallFault.TheVariants.{Recursive}
 use Rattle.call_graph.proofs.Listing.{none_calls, least_calls}
 use Rattle.class_program.specs.Programs.{Program}

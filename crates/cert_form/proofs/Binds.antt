@@ -5,10 +5,10 @@ use Rattle.serde_json.specs.Data.{Data, null, boolean, number, string, array, ob
 use Rattle.serde_json.specs.Events.{items_len}
 use Rattle.list_views.proofs.Steps.{bind_ok}
 use Rattle.json_view.specs.Located.{Located}
-use Rattle.json_view.specs.Reading.{items_of, item_of, item_count, field_of, only_of}
+use Rattle.json_view.specs.Reading.{items_of, item_of, item_count, field_of}
 use Rattle.cert_form.specs.declared.fault.CertFault.{CertFault}
-use Rattle.cert_form.specs.Answers.{Reader, json, wrong_kind, out_of_range, past_limit}
-use Rattle.cert_form.specs.Fields.{field, at_most, of_length, nth, longer_than, there_or, in_order, number_to, an_id, id_within}
+use Rattle.cert_form.specs.Answers.{Reader, json, wrong_kind, past_limit}
+use Rattle.cert_form.specs.Fields.{field, at_most, of_length, nth, there_or, in_order, number_to, an_id, id_within}
 
 -- a test that has no fault stands where its answer is good
 pub test_ok : {A : Type 0} (test : Bool) (said other : Result A CertFault) (x : A) → ((f : A) → other ≡ Ok f → ⊥) → cond test said other ≡ Ok x → (test ≡ true) × (said ≡ Ok x)

@@ -14,7 +14,6 @@ use Rattle.json_view.specs.declared.fault.JsonFault.TheVariants as faults
 use Rattle.abs_cells.specs.declared.cells.Cell.{Cell}
 use Rattle.jvm_values.specs.Kinds.{kind_of_code}
 use Rattle.jvm_values.specs.declared.shape.Shape.TheVariants.{Tree, Dag, Any}
-use Rattle.term_graph.specs.Graphs.{GraphPart}
 use Rattle.descent.specs.declared.proof.CutForm.{CutForm}
 use Rattle.descent.specs.declared.proof.RankRule.{RankRule}
 use Rattle.cert_form.specs.declared.fault.CertFault.{CertFault}
@@ -29,7 +28,7 @@ use Rattle.cert_form.specs.declared.steps.RuleWord.{RuleWord}
 use Rattle.cert_form.specs.declared.steps.RuleWord.TheVariants as rule_words
 use Rattle.json_view.specs.Answers.{Reads}
 use Rattle.cert_form.specs.Answers.{Reader, Says, json, wrong_kind, out_of_range, past_limit}
-use Rattle.cert_form.specs.Fields.{◌>>=◌, only, field, entries_from, entries_of, at_most, of_length, nth, there_or, longer_than, word_or, a_word, in_order, key_in, number_to, a_number, a_place, id_within, an_id, an_int, maybe_to, maybe_number, maybe_within, maybe_id, long_to, a_multiple, a_constant}
+use Rattle.cert_form.specs.Fields.{◌>>=◌, only, field, entries_from, entries_of, at_most, of_length, nth, there_or, longer_than, word_or, a_word, in_order, number_to, a_number, a_place, an_id, an_int, maybe_to, maybe_number, maybe_within, maybe_id, long_to, a_multiple, a_constant}
 use Rattle.cert_form.specs.Types.{type_in, type_of_word, shape_of, shape_named, kind_of, kind_or}
 use Rattle.cert_form.specs.Cells.{cell_word, up_to, bounds_or, int_cell, ids_of, obj_cell, nums_cell, refs_cell, unk_cell, cell_of, keyed_cell, cell_in}
 use Rattle.cert_form.specs.States.{is_next_pair, two_ids, ordered_pair, pair_in, locals_of, frame_parts, frame_of, cells_of, frames_of, pairs_of, state_of}

@@ -7,10 +7,10 @@ use Rattle.std.proofs.lemmas.Bool.{and_parts}
 use Rattle.std.proofs.lemmas.Int.{ints}
 use Rattle.std.proofs.lemmas.List.Elements.{All-nil, All-push}
 use Rattle.json_view.specs.Located.{Located}
-use Rattle.json_view.specs.Reading.{items_of, int_of, item_count}
+use Rattle.json_view.specs.Reading.{items_of, int_of}
 use Rattle.lin_core.specs.Rows.{RiseFrom, Rise}
-use Rattle.lin_core.specs.Weights.{IsWeight, AreWeights}
-use Rattle.descent.specs.Conditions.{AreMultiples, IsForm, AreForms, AreFew, IsListed, IsRanked, IsStep, AreSteps}
+use Rattle.lin_core.specs.Weights.{IsWeight}
+use Rattle.descent.specs.Conditions.{AreMultiples, IsForm, AreFew, IsListed, IsRanked, IsStep, AreSteps}
 use Rattle.descent.specs.declared.proof.CutForm.{CutForm}
 use Rattle.descent.specs.declared.proof.RankRule.{RankRule}
 use Rattle.descent.specs.declared.proof.RankRule.TheVariants as listed
@@ -18,15 +18,13 @@ use Rattle.descent.specs.declared.proof.RankStep.{RankStep}
 use Rattle.descent.specs.declared.proof.ProofStep.{ProofStep}
 use Rattle.descent.specs.declared.proof.ProofStep.TheVariants as steps
 use Rattle.list_views.proofs.Steps.{bind_ok}
-use Rattle.cert_form.specs.declared.fault.CertFault.{CertFault}
 use Rattle.cert_form.specs.declared.steps.StepWord.{StepWord}
 use Rattle.cert_form.specs.declared.steps.StepWord.TheVariants.{Empty, Split, Rank, Dead}
 use Rattle.cert_form.specs.declared.steps.RuleWord.{RuleWord}
 use Rattle.cert_form.specs.declared.steps.RuleWord.TheVariants.{Weak, Strict}
 use Rattle.cert_form.specs.Answers.{Reader, json, wrong_kind, past_limit}
-use Rattle.cert_form.specs.Fields.{◌>>=◌, field, entries_of, at_most, of_length, longer_than, nth, a_word, in_order, last_of, next_key, key_in, a_number, maybe_number, an_id, a_multiple, a_constant, long_to}
+use Rattle.cert_form.specs.Fields.{◌>>=◌, field, entries_of, of_length, longer_than, nth, a_word, in_order, last_of, next_key, key_in, a_number, maybe_number, an_id, a_multiple, a_constant, long_to}
 use Rattle.cert_form.specs.Steps.{row_of, multipliers_of, a_weight, weight_parts, weight_in, multiple_parts, multiple_in, multiples_of, sized_list, form_parts, form_in, next_cut, next_rule, weak_of, strict_of, listed_of, rule_word, rule_length, rule_parts, rule_in, step_word, step_length, parts_of, steps_of, split_of, rank_parts, rank_of, order_of, dead_of, proof_step_of, step_of, proof_of}
-use Rattle.cert_form.specs.Ways.{numbers_of}
 use Rattle.cert_form.proofs.Binds.{test_ok, never, nth_ok, id_ok, order_ok, of_length_ok, field_ok, at_most_ok, items_counted, length_is}
 use Rattle.cert_form.proofs.Keeping.{entries_keep, entries_count}
 

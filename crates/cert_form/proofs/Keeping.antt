@@ -7,8 +7,7 @@ use Rattle.serde_json.specs.Find.{get_item, at}
 use Rattle.json_view.specs.Located.{Located}
 use Rattle.json_view.specs.Reading.{item_of, item_count, at_item}
 use Rattle.list_views.proofs.Steps.{bind_ok}
-use Rattle.cert_form.specs.declared.fault.CertFault.{CertFault}
-use Rattle.cert_form.specs.Answers.{Reader, json}
+use Rattle.cert_form.specs.Answers.{Reader}
 use Rattle.cert_form.specs.Fields.{entries_from, entries_of}
 
 -- ---- what each entry keeps

@@ -7,7 +7,6 @@ use Rattle.json_view.specs.Located.{Located, root_of}
 use Rattle.json_view.specs.Reading.{items_of, item_count}
 use Rattle.abs_cells.specs.AbstractStates.{AbstractState}
 use Rattle.descent.specs.Conditions.{AreSteps}
-use Rattle.descent.specs.declared.proof.ProofStep.{ProofStep}
 use Rattle.term_graph.specs.Graphs.{GraphPart, by_at, state_at}
 use Rattle.term_graph.specs.declared.nodes.By.{By}
 use Rattle.cert_form.specs.declared.certs.Kept.{Kept}

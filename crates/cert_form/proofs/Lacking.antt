@@ -3,24 +3,21 @@ use Rattle.std.proofs.Common.{◌≡◌, ℕ, zero, suc, ◌<◌, ◌≤◌, ◌
 use Rattle.std.proofs.lemmas.Bool.Decides.{nat_tests}
 use Rattle.std.proofs.lemmas.Bool.{and_parts}
 use Rattle.json_view.specs.Located.{Located}
-use Rattle.json_view.specs.Reading.{item_count}
 use Rattle.abs_cells.specs.AbstractStates.{AbstractState}
 use Rattle.descent.specs.Conditions.{AreSteps}
 use Rattle.descent.specs.declared.proof.ProofStep.{ProofStep}
 use Rattle.term_graph.specs.Graphs.{GraphPart}
-use Rattle.term_graph.specs.declared.nodes.By.{By}
 use Rattle.list_views.proofs.Steps.{bind_ok}
 use Rattle.cert_form.specs.declared.certs.Kept.{Kept}
 use Rattle.cert_form.specs.declared.fault.CertFault.{CertFault}
-use Rattle.cert_form.specs.Answers.{Reader}
-use Rattle.cert_form.specs.Fields.{◌>>=◌, only, field, entries_of}
+use Rattle.cert_form.specs.Fields.{◌>>=◌, only, field}
 use Rattle.cert_form.specs.States.{state_of}
 use Rattle.cert_form.specs.Ways.{by_of}
-use Rattle.cert_form.specs.Certificates.{CertContent, is_named, whole_node, named_node, node_with, node_in, lacks_state, cert_of, kept, kept_of, parts_or_none, LackingAreNamed}
+use Rattle.cert_form.specs.Certificates.{CertContent, is_named, whole_node, node_with, node_in, lacks_state, cert_of, kept, kept_of, parts_or_none, LackingAreNamed}
 use Rattle.cert_form.proofs.Binds.{items_counted}
 use Rattle.cert_form.proofs.GoodSteps.{field_steps_ok}
 use Rattle.cert_form.proofs.Keeping.{entries_keep, entries_count}
-use Rattle.cert_form.proofs.Parts.{HasNodes, IsCert, cert_is}
+use Rattle.cert_form.proofs.Parts.{cert_is}
 
 -- ---- lists with one more entry
 

@@ -12,23 +12,19 @@ use Rattle.serde_json.specs.Data.{Data, null, boolean, number, string, array, ob
 use Rattle.serde_json.specs.Events.{items_len}
 use Rattle.serde_json.specs.Find.{get_item, get_member, at, as_object}
 use Rattle.json_view.specs.Located.{Located}
-use Rattle.json_view.specs.Names.{least, lesser, least_unlisted, first_missing, is_listed, member_names}
+use Rattle.json_view.specs.Names.{least, least_unlisted, first_missing, is_listed, member_names}
 use Rattle.json_view.specs.Reading.{only_of, first_fault, field_of, has_field, items_of, item_of, item_count, at_item, unknown_field, missing_field}
-use Rattle.json_view.specs.declared.fault.JsonFault.{JsonFault}
 use Rattle.abs_cells.specs.AbstractStates.{AbstractState}
-use Rattle.descent.specs.declared.proof.ProofStep.{ProofStep}
 use Rattle.term_graph.specs.Graphs.{GraphPart}
-use Rattle.term_graph.specs.declared.nodes.By.{By}
 use Rattle.list_views.proofs.Steps.{bind_ok}
 use Rattle.cert_form.specs.declared.fault.CertFault.{CertFault}
 use Rattle.cert_form.specs.Answers.{Reader, json, wrong_kind}
-use Rattle.cert_form.specs.Fields.{◌>>=◌, only, field, entries_of, at_most, longer_than, nth, there_or}
+use Rattle.cert_form.specs.Fields.{◌>>=◌, only, field, entries_of, longer_than, nth, there_or}
 use Rattle.cert_form.specs.States.{state_of}
 use Rattle.cert_form.specs.Ways.{by_of, numbers_of}
 use Rattle.cert_form.specs.Steps.{proof_of}
 use Rattle.cert_form.specs.Certificates.{CertContent, whole_node, named_node, node_with, node_in, nodes_of, lacks_state, maybe_state, of_node, form_of, cert_of}
 use Rattle.cert_form.proofs.Binds.{field_ok, at_most_ok, items_counted}
-use Rattle.cert_form.proofs.Entries.{count_is}
 use Rattle.cert_form.proofs.Keeping.{IsRead, entry_read, entries_count}
 
 -- ---- whether a node has a state

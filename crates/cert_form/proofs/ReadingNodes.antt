@@ -7,10 +7,10 @@ use Rattle.json_view.specs.Reading.{items_of, item_of, item_count}
 use Rattle.term_graph.specs.Graphs.{GraphPart}
 use Rattle.cert_form.specs.declared.fault.CertFault.{CertFault}
 use Rattle.cert_form.specs.declared.fault.CertFault.TheVariants.{Json, Limit, Memory}
-use Rattle.cert_form.specs.Answers.{Reader, Says, done}
+use Rattle.cert_form.specs.Answers.{Says, done}
 use Rattle.cert_form.specs.Fields.{entries_of}
 use Rattle.cert_form.specs.Marks.{marked_by}
-use Rattle.cert_form.specs.Certificates.{node_in, node_with, is_named, lacks_state}
+use Rattle.cert_form.specs.Certificates.{node_in, node_with, is_named}
 use Rattle.cert_form.proofs.Entries.{Goes, starts, goes_on, stops, is_read}
 use Rattle.cert_form.proofs.Marking.{Marked, marked_none, marked_on, length_marked, has_is}
 

@@ -6,16 +6,15 @@ use Rattle.std.proofs.lemmas.List.{take_more}
 use Rattle.std.specs.Prelude.{IfOk}
 use Rattle.std.specs.Option.{option_map_or}
 use Rattle.json_view.specs.Located.{Located}
-use Rattle.json_view.specs.Reading.{items_of}
 use Rattle.abs_cells.specs.PairLists.{is_before, is_same, IsFirst, IsRising, pair_of, with_pair, added}
 use Rattle.abs_cells.proofs.PairLaws.{before_is, is_before_from, never_both, never_itself, not_same}
 use Rattle.abs_cells.proofs.PairLaws as laws
 use Rattle.list_views.proofs.Steps.{bind_ok}
 use Rattle.cert_form.specs.declared.fault.CertFault.{CertFault}
-use Rattle.cert_form.specs.Answers.{Reader, Says, json, past_limit, out_of_range, wrong_kind}
-use Rattle.cert_form.specs.Fields.{◌>>=◌, field, entries_of, last_of, nth, of_length, in_order, an_id}
+use Rattle.cert_form.specs.Answers.{Says}
+use Rattle.cert_form.specs.Fields.{◌>>=◌, entries_of, last_of, nth, in_order, an_id}
 use Rattle.cert_form.specs.States.{is_next_pair, two_ids, ordered_pair, pair_in, pairs_of}
-use Rattle.cert_form.proofs.Binds.{nth_ok, id_ok, order_ok, of_length_ok, field_ok}
+use Rattle.cert_form.proofs.Binds.{nth_ok, id_ok, order_ok, of_length_ok}
 use Rattle.cert_form.proofs.Keeping.{entries_keep}
 
 abbrev Bounded : ℕ × ℕ → Type 0

@@ -10,7 +10,6 @@ use Rattle.json_view.specs.Located.{Located}
 use Rattle.json_view.specs.Reading.{int_of, within, whole_number_of}
 use Rattle.json_view.specs.declared.fault.JsonFault.{JsonFault}
 use Rattle.json_view.specs.declared.fault.JsonFault.TheVariants.{OutOfRange, WrongKind}
-use Rattle.cert_form.specs.declared.fault.CertFault.{CertFault}
 use Rattle.list_views.specs.Results.{◌>>=◌}
 use Rattle.cert_form.specs.Answers.{json}
 

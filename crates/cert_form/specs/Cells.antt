@@ -6,7 +6,7 @@
 use Rattle.std.specs.Prelude.{ℕ, ℤ, pos, negsuc, ◌==◌, nat_lt, if◌then◌else◌, List, Option, Some, None, option_map, codes, Result, Ok, Err}
 use Rattle.std.specs.Str.{bytes_eq}
 use Rattle.json_view.specs.Located.{Located}
-use Rattle.json_view.specs.Reading.{items_of, int_of, flag_of}
+use Rattle.json_view.specs.Reading.{flag_of}
 use Rattle.lin_core.specs.Intervals.{interval_of}
 use Rattle.lin_core.specs.declared.intervals.Interval.{Interval as Bounds}
 use Rattle.abs_cells.specs.declared.cells.Cell.{Cell}

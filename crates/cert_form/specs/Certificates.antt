@@ -7,7 +7,7 @@ use Rattle.std.specs.Prelude.{◌≡◌, ℕ, ℤ, pos, ◌==◌, ◌||◌, ◌&
 use Rattle.std.specs.List.{list_any}
 use Rattle.std.specs.Ordering.{int_eq}
 use Rattle.json_view.specs.Answers.{Reads}
-use Rattle.json_view.specs.Located.{Located, root_of}
+use Rattle.json_view.specs.Located.{root_of}
 use Rattle.json_view.specs.Reading.{int_of, has_field}
 use Rattle.json_view.specs.declared.fault.JsonFault.TheVariants as faults
 use Rattle.serde_json.specs.Data.{Data}

@@ -18,7 +18,7 @@ use Rattle.cert_form.specs.declared.steps.StepWord.TheVariants.{Empty, Split, Ra
 use Rattle.cert_form.specs.declared.steps.RuleWord.{RuleWord}
 use Rattle.cert_form.specs.declared.steps.RuleWord.TheVariants.{Weak, Strict}
 use Rattle.cert_form.specs.Answers.{Reader, json, wrong_kind, past_limit}
-use Rattle.cert_form.specs.Fields.{◌>>=◌, entries_of, at_most, of_length, longer_than, nth, a_word, in_order, last_of, next_key, key_in, a_number, maybe_number, an_id, a_multiple, a_constant}
+use Rattle.cert_form.specs.Fields.{◌>>=◌, entries_of, at_most, of_length, longer_than, nth, a_word, in_order, last_of, key_in, a_number, maybe_number, an_id, a_multiple, a_constant}
 use Rattle.cert_form.specs.Ways.{numbers_of}
 
 -- ---- multipliers

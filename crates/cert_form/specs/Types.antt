@@ -4,7 +4,7 @@ use Rattle.std.specs.Prelude.{ℕ, ◌==◌, nat_abs, pos, if◌then◌else◌, 
 use Rattle.std.specs.List.{position_from}
 use Rattle.std.specs.Str.{bytes_eq}
 use Rattle.json_view.specs.Located.{Located}
-use Rattle.json_view.specs.Reading.{int_of, text_of, flag_of}
+use Rattle.json_view.specs.Reading.{text_of}
 use Rattle.class_base.specs.ClassNames.{is_class_name}
 use Rattle.class_base.specs.Types.{field_type}
 use Rattle.class_base.specs.declared.types.FieldType.{FieldType}

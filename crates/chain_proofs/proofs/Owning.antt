@@ -8,8 +8,7 @@ use Rattle.descent.specs.declared.rules.PathRule.{PathRule}
 use Rattle.rank_search.specs.Plain.{NoPlainForm}
 use Rattle.rank_search.specs.Stepwise.{NoStepwiseForm}
 use Rattle.rank_forms.specs.RankSteps.{IsRankStep}
-use Rattle.descent.specs.Conditions.{IsRule, AreRules}
-use Rattle.chain_proofs.specs.Sets.{AreOwn, RanksOwn}
+use Rattle.chain_proofs.specs.Sets.{RanksOwn}
 
 zip_next : {A B : Type 0} (R : A → B → Type 0) (xs : List A) (ys : List B) (i : ℕ) (x : A) (y : B) → slice_get xs i ≡ Some x → AllZip R (take i xs) ys → R x y → AllZip R (take (suc i) xs) (ys ++ y ∷ [])
 zip_next R [] ys i x y e h r = absurd (none-some x e)

@@ -6,7 +6,7 @@ use Rattle.std.proofs.lemmas.Option.{none-some, same_Some, slice_get_within, get
 use Rattle.descent.specs.declared.rules.PathRule.{PathRule}
 use Rattle.descent.specs.declared.rules.SlotForm.{SlotForm}
 use Rattle.descent.specs.Conditions.{IsRule}
-use Rattle.rank_forms.specs.Graphs.{IsPathRule, IsEndAt, ArePathRules, IsPlainRule, ArePlainRules}
+use Rattle.rank_forms.specs.Graphs.{IsPathRule, IsEndAt, IsPlainRule, ArePlainRules}
 use Rattle.chain_proofs.specs.Sets.{AreOwn, Rises}
 use Rattle.chain_proofs.proofs.Dividing.{as_long}
 

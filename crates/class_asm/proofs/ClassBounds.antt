@@ -25,7 +25,7 @@ use Rattle.asm_pool.specs.Pools.{Need, Numbered, need_faults, count_faults, pool
 use Rattle.asm_pool.specs.Entries.{Entry, Class}
 use Rattle.class_asm.specs.Rules.{past_count, seconds, field_key, method_key, fields_faults, methods_faults, attributes_faults, field_faults, method_faults, attribute_lines, attribute_faults, constant_faults, content_fits, class_is_good, rule_faults}
 use Rattle.class_asm.specs.Classes as classes
-use Rattle.class_asm.specs.Classes.{code_said, code_in, said_faults, item_attributes, code_attributes, attributes_size, code_size, code_fits, code_faults, field_text, method_attributes, method_text, class_text, all_faults}
+use Rattle.class_asm.specs.Classes.{code_said, code_in, said_faults, item_attributes, code_attributes, attributes_size, code_size, code_fits, code_faults, field_text, method_text, class_text, all_faults}
 use Rattle.class_asm.proofs.CodeBounds.{few}
 use Rattle.asm_lines.proofs.Faultless.{no_faults, left, right, each, is_good, first_of_both, second_of_both, is_less, mapped_length, all_mapped, all_both, all_one}
 use Rattle.asm_pool.proofs.PoolBounds.{places_counted}

@@ -38,11 +38,11 @@ use Rattle.asm_lines.specs.Firsts.{unless}
 use Rattle.asm_pool.specs.Pools.{Need, Numbered, needed, need_faults, count_faults, numbered, number_of, firsts_in, pool_in, pool_faults}
 use Rattle.class_asm.specs.Rules.{Key, past_count, seconds, field_key, method_key, field_flags, method_flags, field_faults, method_faults, sizes_fit, attribute_lines, fields_faults, methods_faults, attribute_faults, attributes_faults, constant_faults, content_fits, major_of, class_is_good, rule_faults}
 use Rattle.class_asm.specs.Classes as classes
-use Rattle.class_asm.specs.Classes.{make_need, no_need, entry_need, item_need, pooled, code_said, code_in, said_faults, item_attributes, code_attributes, code_size, code_fits, code_faults, field_text, size_of, method_attributes, method_text, class_flags, class_text, all_faults, unless_faulty, class_of}
+use Rattle.class_asm.specs.Classes.{make_need, no_need, entry_need, item_need, pooled, code_said, code_in, said_faults, item_attributes, code_attributes, code_size, code_fits, code_faults, field_text, size_of, method_text, class_text, all_faults}
 use Rattle.class_asm.proofs.MethodFlags.{has_sizes, flags_small}
 use Rattle.class_asm.proofs.ClassBounds.{within_count, content_size, attributes_count, each_short}
 use Rattle.asm_codes.proofs.CodeSizes.{sized}
-use Rattle.asm_lines.proofs.Faultless.{left, right, each, is_good, first_of_both, second_of_both, is_less, mapped_length, all_mapped, all_both}
+use Rattle.asm_lines.proofs.Faultless.{left, right, each, is_good, first_of_both, second_of_both, is_less, mapped_length, all_both}
 use Rattle.asm_lines.proofs.GoodListings.{has_end, GoodMethod, GoodListing}
 use Rattle.asm_pool.proofs.GoodNeeds.{needs_good}
 use Rattle.asm_lines.proofs.PlainWords.{PlainClass}

@@ -2,8 +2,7 @@
 use Rattle.std.proofs.Common.{◌≡◌, ℕ, ◌+◌, ◌<◌, ◌^◌, Bool, true, false, cond, ◌&&◌, List, [], ◌∷◌, ◌++◌, map, Option, Some, None, Ok, is_some, refl, sym, ap, subst, ◌∙◌}
 use Rattle.std.specs.List.{flat_map, list_all, AllByRecursion}
 use Rattle.std.specs.Option.{option_map_or, unwrap_or}
-use Rattle.class_read.specs.Content.{FieldContent, CodeContent}
-use Rattle.class_base.specs.ClassNames.{is_class_name}
+use Rattle.class_read.specs.Content.{FieldContent}
 use Rattle.class_base.specs.MemberKinds.{is_descriptor}
 use Rattle.class_read.specs.Rules.{name_of, field_of, method_of, codes_in, first_of, content_of}
 use Rattle.class_base.specs.declared.member_kind.MemberKind.TheVariants.{Method}
@@ -19,7 +18,7 @@ use Rattle.asm_lines.specs.Numbers.{pair_of}
 use Rattle.asm_lines.proofs.Faultless.{left, is_good, first_of_both, second_of_both}
 use Rattle.asm_codes.specs.declared.code.MethodCode.{MethodCode}
 use Rattle.asm_codes.specs.Pooled.{Pooled}
-use Rattle.asm_codes.specs.MethodCodes.{code_at, method_code}
+use Rattle.asm_codes.specs.MethodCodes.{code_at}
 use Rattle.asm_codes.specs.Places.{places_of}
 use Rattle.asm_codes.specs.Said.{InTurn, SaysCode}
 use Rattle.asm_codes.proofs.SaidCode.{code_said}
@@ -30,10 +29,10 @@ use Rattle.asm_pool.proofs.PoolBounds.{room}
 use Rattle.asm_pool.proofs.PoolEntries.{AllIn, in_file, front, back, entries_in}
 use Rattle.asm_pool.proofs.PoolRules.{class_there}
 use Rattle.class_asm.specs.Classes as classes
-use Rattle.class_asm.specs.Classes.{pooled, code_in, said_faults, code_attributes, code_fits, code_faults, field_text, size_of, method_attributes, method_text, class_flags, class_text, all_faults}
-use Rattle.class_asm.specs.Rules.{past_count, method_flags, method_faults, sizes_fit, attribute_lines, major_of, class_is_good}
+use Rattle.class_asm.specs.Classes.{pooled, code_in, said_faults, code_attributes, code_fits, code_faults, field_text, size_of, method_text, class_text, all_faults}
+use Rattle.class_asm.specs.Rules.{past_count, method_flags, method_faults, sizes_fit, attribute_lines, major_of}
 use Rattle.class_asm.specs.Said.{NamesEntry, NamesCaught, SaysBody, SaysSizes, SaysMethod, field_said, SaysClass}
-use Rattle.class_asm.proofs.KeptRules.{Found, says, InPool, in_pool, no_pool_faults, faultless, good_methods, no_fault, the_code}
+use Rattle.class_asm.proofs.KeptRules.{Found, says, in_pool, no_pool_faults, faultless, good_methods, no_fault, the_code}
 use Rattle.class_asm.proofs.SaidEntries.{lines_named}
 
 -- ---- numbers that fit

@@ -3,7 +3,7 @@ use Rattle.std.proofs.Common.{◌≡◌, ℕ, ℤ, ◌+◌, ◌<◌, ◌^◌, Bo
 use Rattle.std.specs.Prelude.{option_map, nat_lt, nat_le}
 use Rattle.std.specs.List.{flat_map, AllByRecursion}
 use Rattle.std.specs.Option.{option_map_or, option_and_then, option_to_list}
-use Rattle.class_pool.specs.Text.{value_of, class_of, pair_of, member_of, integer_at, utf8_at, class_name_at, name_and_type_at, member_at}
+use Rattle.class_pool.specs.Text.{value_of, pair_of, member_of, name_and_type_at, member_at}
 use Rattle.class_base.specs.ClassNames.{is_class_name}
 use Rattle.class_base.specs.MethodTypes.{method_words}
 use Rattle.asm_lines.specs.declared.item.CatchLine.{CatchLine}
@@ -18,7 +18,7 @@ use Rattle.asm_lines.specs.Numbers.{int_of}
 use Rattle.asm_codes.specs.declared.pooled.PoolOperand.{PoolOperand}
 use Rattle.asm_codes.specs.Said.{NamedBy, IsNamed}
 use Rattle.asm_pool.specs.Entries.{Entry, Utf8, Integer, Class, Str, Member, NameAndType, has_text}
-use Rattle.asm_pool.specs.Needs.{member_tag, counted_words, is_member_descriptor, is_class_or_array, insn_entries, catch_entries, line_needs, catch_entry}
+use Rattle.asm_pool.specs.Needs.{member_tag, is_member_descriptor, is_class_or_array, insn_entries, catch_entries, line_needs, catch_entry}
 use Rattle.asm_pool.specs.Pools.{numbered, number_of}
 use Rattle.asm_pool.proofs.PoolBounds.{room}
 use Rattle.asm_pool.proofs.PoolEntries.{AllIn, IsIn, in_file, entry_is, front, back, of_needed}

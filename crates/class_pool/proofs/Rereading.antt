@@ -4,11 +4,11 @@ use Rattle.std.proofs.lemmas.List.{append-nil}
 use Rattle.class_pool.specs.declared.entry.PoolEntry.{PoolEntry}
 use Rattle.class_pool.specs.declared.fault.PoolFault.{PoolFault}
 use Rattle.class_pool.specs.declared.fault.PoolFault.TheVariants.{Memory}
-use Rattle.class_pool.specs.Text.{HasTexts, IsPool, pool_bytes, Unread, unread, Spells}
+use Rattle.class_pool.specs.Text.{IsPool, pool_bytes, Unread, unread, Spells}
 use Rattle.list_views.specs.Results.{IsDue}
 use Rattle.class_pool.specs.Reading.{is_memory}
 use Rattle.class_pool.proofs.Fields.{done}
-use Rattle.class_pool.proofs.PoolLaws.{pool_written, same_pool}
+use Rattle.class_pool.proofs.PoolLaws.{pool_written}
 
 -- the text of entries, and nothing behind it
 whole : (text : List ℕ) (es : List PoolEntry) → text ≡ pool_bytes es → pool_bytes es ++ [] ≡ text

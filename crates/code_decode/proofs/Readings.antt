@@ -7,7 +7,7 @@ use Rattle.code_forms.specs.declared.insn.Insn.{Insn}
 use Rattle.code_forms.specs.Spellings.{spelling, Plain, Byte, Pair, Jump}
 use Rattle.code_decode.specs.Reading as reading
 use Rattle.code_forms.specs.Opcodes.{opcode_of, find, find_by, plain_low, plain_high, with_byte, with_pair, with_jump, first_of, plain}
-use Rattle.code_decode.specs.Reading.{OperandLayout, single_layout, operand_layout, layout, operands_at, insn_at}
+use Rattle.code_decode.specs.Reading.{OperandLayout, single_layout, operand_layout, operands_at, insn_at}
 use Rattle.code_decode.proofs.Fields.{IsBytes, ok_is}
 use Rattle.code_decode.proofs.Takes.{TakesSpelling, plain_takes, byte_operand_takes, pair_operand_takes, jump_operand_takes, far_jump_takes, signed_byte_takes, sipush_takes, increment_takes, array_takes, interface_takes, table_takes, lookup_takes, wide_takes, chosen, some_is, found_by}
 

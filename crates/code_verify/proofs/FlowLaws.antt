@@ -11,7 +11,7 @@ use Rattle.class_world.specs.World.{World}
 use Rattle.class_program.specs.declared.program.CatchRange.{CatchRange}
 use Rattle.code_forms.specs.declared.insn.Case.{Case}
 use Rattle.frame_types.specs.declared.table.Table.{Table}
-use Rattle.frame_types.specs.Tables.{Flow, Takes}
+use Rattle.frame_types.specs.Tables.{Flow}
 use Rattle.frame_types.specs.Growth.{IsTable, IsGrown, AreRefused}
 use Rattle.frame_types.specs.GrowthLaws.{grown_none, grown_more, refused_after, refused_first}
 use Rattle.code_verify.specs.Answers.{Comes}

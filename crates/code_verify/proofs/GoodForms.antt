@@ -4,8 +4,7 @@ use Rattle.std.specs.Prelude.{IfSome, slice_get, length}
 use Rattle.std.specs.Option.{option_map, option_map_or}
 use Rattle.std.proofs.lemmas.Bool.{false≢true}
 use Rattle.std.specs.List.{AllByRecursion}
-use Rattle.jvm_values.specs.declared.types.Slot.{Slot}
-use Rattle.jvm_values.specs.Subtyping.{class_type, IsSlot, IsReference}
+use Rattle.jvm_values.specs.Subtyping.{IsSlot, IsReference}
 use Rattle.jvm_values.specs.Kinds.{kind_of_code}
 use Rattle.jvm_values.specs.declared.types.Kind.{Kind}
 use Rattle.jvm_values.proofs.Options.{some_is, none_is_not_some}
@@ -13,13 +12,12 @@ use Rattle.code_forms.specs.declared.insn.Insn.{Insn}
 use Rattle.code_forms.specs.declared.insn.Insn.TheVariants as insns
 use Rattle.class_program.specs.declared.op.Op.{Op}
 use Rattle.class_program.specs.declared.op.Op.TheVariants as ops
-use Rattle.class_program.specs.declared.op.Call.{Call}
 use Rattle.class_program.specs.declared.program.Method.{Method}
 use Rattle.class_program.specs.declared.program.StaticField.{StaticField}
 use Rattle.class_program.specs.Instructions.{instruction_at, first_place}
 use Rattle.class_program.specs.Programs.{Program}
 use Rattle.class_program.specs.Good.{IsGood, IsGoodMethod, IsGoodOp, IsDeclaredStatic}
-use Rattle.op_forms.specs.Forms.{Form, form_of, form_of_insn, number_array}
+use Rattle.op_forms.specs.Forms.{Form, form_of, form_of_insn}
 use Rattle.op_forms.specs.Forms.Form.{Getstatic, Putstatic, Getfield, Putfield, Invokevirtual, Invokespecial, Invokestatic, Invokeinterface, New, Newarray, Anewarray, Checkcast}
 use Rattle.code_verify.specs.Rows.{static_slot}
 use Rattle.code_verify.specs.Answers.{IsGoodForm}

@@ -11,12 +11,11 @@ use Rattle.jvm_values.proofs.Options.{some_is, none_is_not_some}
 use Rattle.class_world.specs.WorldTypes.{types_of}
 use Rattle.class_program.specs.declared.program.Method.{Method}
 use Rattle.class_program.specs.Programs.{Program}
-use Rattle.frame_types.specs.Tables.{CodeTypes, Flow, Takes, IsAtMost, types_at}
+use Rattle.frame_types.specs.Tables.{CodeTypes, Flow, Takes, types_at}
 use Rattle.code_verify.specs.declared.fault.VerifyFault.{VerifyFault}
 use Rattle.code_verify.specs.declared.fault.VerifyFault.TheVariants.{NoTyping, Memory}
-use Rattle.code_verify.specs.Flows.{IsReachable}
 use Rattle.code_verify.specs.Answers.{Names}
-use Rattle.code_verify.specs.Typings.{IsTyped, IsTyping, HasTyping, IsLeastTyping, entry_flow, IsTypingOf, IsFirstUntyped, IsRefusal, typing_at}
+use Rattle.code_verify.specs.Typings.{IsTyping, HasTyping, IsLeastTyping, entry_flow, IsTypingOf, IsFirstUntyped, IsRefusal, typing_at}
 
 abbrev pub Lists : Type 0
 Lists = List (List (Option FrameType))

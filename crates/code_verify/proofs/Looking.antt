@@ -9,7 +9,6 @@ use Rattle.class_program.specs.Programs.{Program}
 use Rattle.op_forms.specs.Forms.{Form}
 use Rattle.frame_types.specs.declared.table.Table.{Table}
 use Rattle.frame_types.specs.Tables.{Flow}
-use Rattle.frame_types.specs.Places.{IsProper}
 use Rattle.frame_types.specs.Growth.{IsGrown, AreRefused}
 use Rattle.code_verify.specs.Answers.{Comes, Looks}
 use Rattle.code_verify.specs.Flows.{ways, onward, caught, runs_at, flows_from}

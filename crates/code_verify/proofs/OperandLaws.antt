@@ -13,7 +13,6 @@ use Rattle.jvm_values.specs.declared.types.Slot.{Slot}
 use Rattle.jvm_values.specs.declared.types.Slot.TheVariants as slots
 use Rattle.jvm_values.specs.declared.typing.PlaceType.{PlaceType}
 use Rattle.jvm_values.specs.declared.typing.PlaceType.TheVariants as places
-use Rattle.jvm_values.specs.States.{PlaceTypes}
 use Rattle.jvm_values.specs.Subtyping.{array_of_numbers, IsSlot}
 use Rattle.jvm_values.specs.TypedHeaps.{WorldTypes, AreLawful}
 use Rattle.jvm_values.specs.Joins.{item_of}

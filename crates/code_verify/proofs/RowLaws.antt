@@ -21,7 +21,6 @@ use Rattle.jvm_values.specs.TypedHeaps.{WorldTypes, AreLawful}
 use Rattle.jvm_values.proofs.Options.{some_is, none_is_not_some, given}
 use Rattle.class_world.specs.WorldTypes.{types_of}
 use Rattle.class_world.specs.BuiltIns.{throwable}
-use Rattle.class_program.specs.declared.op.Call.{Call}
 use Rattle.class_program.specs.declared.program.Method.{Method}
 use Rattle.class_program.specs.Programs.{Program}
 use Rattle.op_forms.specs.declared.form.Shuffle.{Shuffle as StackShuffle}

@@ -10,9 +10,8 @@ use Rattle.list_views.specs.Options.{asked}
 use Rattle.jvm_values.specs.declared.typing.PlaceType.{PlaceType}
 use Rattle.jvm_values.specs.declared.typing.PlaceType.TheVariants as places
 use Rattle.jvm_values.specs.States.{PlaceTypes}
-use Rattle.jvm_values.specs.Subtyping.{IsReference}
 use Rattle.jvm_values.specs.TypedHeaps.{WorldTypes, AreLawful}
-use Rattle.jvm_values.proofs.Options.{some_is, none_is_not_some, given}
+use Rattle.jvm_values.proofs.Options.{some_is, given}
 use Rattle.class_world.specs.World.{World}
 use Rattle.class_world.specs.Types.{erase}
 use Rattle.class_world.specs.WorldTypes.{types_of}
@@ -23,10 +22,10 @@ use Rattle.class_program.specs.Instructions.{instruction_at}
 use Rattle.class_program.specs.Programs.{Program}
 use Rattle.class_program.specs.Good.{IsGood, IsGoodMethod}
 use Rattle.op_forms.specs.Forms.{Form, form_of}
-use Rattle.frame_types.specs.Places.{IsWithin, IsFrameWithin, IsOfWorld, IsProper}
+use Rattle.frame_types.specs.Places.{IsFrameWithin, IsOfWorld, IsProper}
 use Rattle.frame_types.specs.Tables.{CodeTypes, Flow, Takes}
 use Rattle.frame_types.specs.Growth.{is_led_to}
-use Rattle.frame_types.specs.GrowthLaws.{within_refl, frame_trans, any_left, any_right}
+use Rattle.frame_types.specs.GrowthLaws.{within_refl, frame_trans}
 use Rattle.code_verify.specs.Rows.{types_after}
 use Rattle.code_verify.specs.Flows.{is_inside, ways, covers, caught_class, CanCatch, caught_frame, onward, caught, runs_at, flows_from, ways_of_op, places_from}
 use Rattle.code_verify.proofs.Basics.{was_asked}

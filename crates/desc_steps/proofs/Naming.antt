@@ -10,7 +10,7 @@ use Rattle.jvm_values.proofs.Options.{some_is, none_is_not_some}
 use Rattle.class_base.specs.ClassNames.{is_name_byte, is_class_name}
 use Rattle.class_read.specs.Content.{ClassContent}
 use Rattle.class_read.specs.Rules.{Spells}
-use Rattle.class_world.specs.World.{World, built_ins, built_in_names, world_of}
+use Rattle.class_world.specs.World.{World, built_ins, built_in_names}
 use Rattle.class_program.specs.Programs.{Program}
 use Rattle.input_desc.specs.declared.desc.Desc.{Desc}
 use Rattle.input_steps.specs.Classes.{AllSpell}

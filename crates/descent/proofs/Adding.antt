@@ -8,14 +8,12 @@ use Rattle.lin_core.specs.Steps.{AddsMultiple}
 use Rattle.lin_core.specs.Sums.{Sum, variables, coefficient_in, IsWithin, Leaves}
 use Rattle.list_views.proofs.Ring.{times_plus, times_assoc}
 use Rattle.lin_core.proofs.Signs.{mul-zero_ℤ}
-use Rattle.lin_core.specs.declared.faults.LinFault.{LinFault}
 use Rattle.lin_core.specs.declared.rows.Target.{Target}
 use Rattle.lin_core.specs.declared.rows.WRow.{WRow}
 use Rattle.lin_core.specs.Combination.{first_fault, IsSumOf, Shows}
 use Rattle.lin_core.specs.Weights.{AreRows, rows_under}
 use Rattle.lin_core.proofs.Weighs.{rise_under}
 use Rattle.descent.specs.declared.faults.DescentFault.{DescentFault}
-use Rattle.descent.specs.declared.faults.DescentFault.TheVariants.{Lin}
 use Rattle.descent.specs.declared.proof.CutForm.{CutForm}
 use Rattle.descent.specs.declared.rules.PathRule.{PathRule}
 use Rattle.descent.specs.declared.rules.SlotForm.{SlotForm}

@@ -7,18 +7,17 @@ use Rattle.std.proofs.lemmas.Option.{get_or_from_slice_get, slice_get_within}
 use Rattle.lin_core.specs.Combination.{Shows}
 use Rattle.lin_core.specs.Sums.{Sum, Leaves}
 use Rattle.descent.specs.declared.faults.DescentFault.{DescentFault}
-use Rattle.descent.specs.declared.faults.DescentFault.TheVariants.{NotCovered, BadStep}
+use Rattle.descent.specs.declared.faults.DescentFault.TheVariants.{NotCovered}
 use Rattle.descent.specs.declared.faults.StepFault.{StepFault}
-use Rattle.descent.specs.declared.faults.StepFault.TheVariants.{At, Memory}
 use Rattle.descent.specs.declared.proof.ProofStep.{ProofStep}
 use Rattle.descent.specs.declared.proof.RankRule.{RankRule}
 use Rattle.descent.specs.declared.proof.RankRule.TheVariants.{Weak, Strict}
 use Rattle.descent.specs.declared.rules.PathRule.{PathRule}
-use Rattle.descent.specs.Handing.{Gives, IsHanded, AreOver, GoesOn}
+use Rattle.descent.specs.Handing.{Gives, IsHanded, AreOver}
 use Rattle.descent.specs.Splits.{edge_fault}
 use Rattle.descent.specs.Orders.{Says}
 use Rattle.descent.specs.Rankings.{minus_one, dead_fault}
-use Rattle.descent.specs.Steps.{Given, numbers_from, rule_of, listed_fault, dead_at, give, given_first, Refuses, rank_fault, leaves, step_fault, go_on, try_step, set_of, first_fault_from, proof_fault}
+use Rattle.descent.specs.Steps.{Given, numbers_from, rule_of, listed_fault, dead_at, give, Refuses, go_on, try_step, set_of, first_fault_from}
 
 pub leaves_one : (told : Bool) (sum : Sum) → (IsTrue told ↔ Leaves sum (negsuc 0)) → (IsTrue told ↔ Shows sum minus_one)
 leaves_one told sum h = (

@@ -13,8 +13,8 @@ use Rattle.abs_expand.specs.Expansions.{plan_of, counts_of, IsFirstTooMany}
 use Rattle.abs_expand.specs.IntForms.{HasIntForms, IsIntState}
 use Rattle.int_plans.proofs.EachTurn.{int_turns}
 use Rattle.graph_check.specs.Exclusion.{IsPlain}
-use Rattle.graph_check.specs.Good.{HasChildren, HasEnded}
-use Rattle.graph_check.proofs.Excluding.{no_children, few_or_many, SameAt, same_at, not_bad, plain_same}
+use Rattle.graph_check.specs.Good.{HasChildren}
+use Rattle.graph_check.proofs.Excluding.{few_or_many, SameAt, same_at, not_bad, plain_same}
 use Rattle.graph_fill.specs.Laws.{IntGraphsArePlain}
 use Rattle.graph_fill.specs.Words.{HasChildrenOrNone}
 

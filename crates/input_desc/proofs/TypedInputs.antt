@@ -19,20 +19,20 @@ use Rattle.jvm_values.specs.declared.heap.Object.TheVariants.{Instance, Nums, Re
 use Rattle.jvm_values.specs.declared.heap.Heap.{Heap}
 use Rattle.jvm_values.specs.Kinds.{IsOfKind, least_of, greatest_of}
 use Rattle.jvm_values.specs.Subtyping.{IsReference}
-use Rattle.jvm_values.specs.TypedHeaps.{WorldTypes, type_of, HasType, Holds, IsTypedObject, IsTypedHeap}
+use Rattle.jvm_values.specs.TypedHeaps.{WorldTypes, type_of, HasType, Holds, IsTypedObject}
 use Rattle.class_world.specs.World.{World, class_of}
 use Rattle.class_world.specs.WorldTypes.{types_of}
 use Rattle.class_program.specs.Programs.{Program}
 use Rattle.input_text.specs.declared.fault.DescFault.{DescFault}
-use Rattle.input_text.specs.declared.fault.DescFault.TheVariants.{ParamCount, StaticCount, ParamKind, BadObject, Memory}
+use Rattle.input_text.specs.declared.fault.DescFault.TheVariants.{ParamCount, StaticCount, ParamKind, BadObject}
 use Rattle.input_text.specs.declared.texts.ObjectText.{ObjectText}
 use Rattle.input_text.specs.declared.texts.ObjectText.TheVariants as texts
 use Rattle.input_text.specs.declared.texts.StateText.{StateText}
 use Rattle.input_desc.specs.declared.states.StateInput.{StateInput}
 use Rattle.input_desc.specs.Given.{params_of, statics_of, argument_slot, inputs_of, slots_of, static_values}
 use Rattle.input_desc.specs.TypeNames.{type_named}
-use Rattle.input_desc.specs.Typed.{Objects, object_of, object_at, has_type, is_of_kind, is_held, first_unfit, all_fit, is_typed, is_bad}
-use Rattle.input_desc.specs.States.{IsTypedInput, IsGiven, Gives, GivesState, fault_of, value_fault, first_fault, objects_of}
+use Rattle.input_desc.specs.Typed.{Objects, object_of, has_type, is_of_kind, is_held, first_unfit, all_fit, is_typed, is_bad}
+use Rattle.input_desc.specs.States.{IsTypedInput, GivesState, fault_of, value_fault, first_fault, objects_of}
 use Rattle.input_desc.proofs.Faultless.{neither, not_mapped, counted}
 use Rattle.input_desc.proofs.NamedTypes.{named_is}
 use Rattle.input_desc.proofs.Unfit.{all_fitting}

@@ -3,7 +3,7 @@ use Rattle.std.specs.Prelude.{◌≡◌, ◌≤◌, All, ℕ, ◌==◌, ◌&&◌
 use Rattle.std.specs.List.{position_from}
 use Rattle.std.specs.Int.{int_max, int_min}
 use Rattle.std.specs.Option.{option_or, option_map_or}
-use Rattle.lin_core.specs.Intervals.{Bounds, interval_of}
+use Rattle.lin_core.specs.Intervals.{interval_of}
 use Rattle.jvm_values.specs.declared.types.Ty.{Ty}
 use Rattle.jvm_values.specs.declared.types.Slot.{Slot}
 use Rattle.jvm_values.specs.declared.types.Slot.TheVariants as slots

@@ -4,7 +4,6 @@ use Rattle.std.specs.List.{AllZip}
 use Rattle.lin_core.specs.Intervals.{IsIn}
 use Rattle.jvm_values.specs.declared.heap.Value.{Value}
 use Rattle.jvm_values.specs.declared.heap.Value.TheVariants as values
-use Rattle.jvm_values.specs.declared.heap.Object.{Object}
 use Rattle.jvm_values.specs.declared.heap.Heap.{Heap}
 use Rattle.jvm_values.specs.declared.state.Mode.TheVariants.{Normal}
 use Rattle.jvm_values.specs.States.{MachineFrame, MachineState, locals_from}

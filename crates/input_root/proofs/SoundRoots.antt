@@ -28,7 +28,7 @@ use Rattle.class_program.specs.Programs.{Program}
 use Rattle.abs_cells.specs.declared.cells.Cell.{Cell}
 use Rattle.abs_cells.specs.AbstractStates.{AbstractState}
 use Rattle.abs_cells.specs.Cells.{is_known, is_reference, ids_in, cell_in, HasCell, Share}
-use Rattle.abs_cells.specs.Sound.{AreIdsRising, given_ids, ids_used, IsSoundCell, IsWellFormed, IsSound}
+use Rattle.abs_cells.specs.Sound.{AreIdsRising, given_ids, ids_used, IsSoundCell, IsWellFormed}
 use Rattle.input_text.specs.declared.texts.InputText.{InputText}
 use Rattle.input_text.specs.declared.texts.InputText.TheVariants as texts
 use Rattle.input_desc.specs.declared.desc.Input.{Input}

@@ -16,7 +16,6 @@ use Rattle.prove_call.specs.Headline.{AllEndIfYes}
 use Rattle.prove_call.specs.Lines.{yes_line, yes_text, reason_text}
 use Rattle.check_call.specs.Answers as check
 use Rattle.check_call.specs.Lines as lines
-use Rattle.check_call.specs.declared.outcome.Outcome.{Outcome}
 use Rattle.jterm.specs.declared.verdict.Verdict.{Verdict}
 use Rattle.jterm.specs.Decision.{Says, not_proved_for, Proved}
 use Rattle.jterm.specs.Laws.{CertificatesAreAccepted}

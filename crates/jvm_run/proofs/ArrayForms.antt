@@ -8,11 +8,10 @@ use Rattle.std.proofs.lemmas.Option.{slice_get_within}
 use Rattle.std.proofs.lemmas.List.{length-replicate}
 use Rattle.std.proofs.lemmas.List.Elements.{All-set, All-replicate}
 use Rattle.std.proofs.lemmas.Int.{ints}
-use Rattle.list_views.specs.Options.{◌>>=◌, asked}
 use Rattle.jvm_values.specs.declared.heap.Value.{Value}
 use Rattle.jvm_values.specs.declared.heap.Value.TheVariants as values
 use Rattle.jvm_values.specs.declared.heap.Object.{Object}
-use Rattle.jvm_values.specs.declared.heap.Object.TheVariants.{Instance, Nums, Refs}
+use Rattle.jvm_values.specs.declared.heap.Object.TheVariants.{Nums, Refs}
 use Rattle.jvm_values.specs.declared.heap.Heap.{Heap}
 use Rattle.jvm_values.specs.declared.types.Ty.{Ty}
 use Rattle.jvm_values.specs.declared.types.Base.TheVariants as bases
@@ -24,36 +23,28 @@ use Rattle.jvm_values.specs.declared.typing.PlaceType.{PlaceType}
 use Rattle.jvm_values.specs.declared.typing.PlaceType.TheVariants as places
 use Rattle.jvm_values.specs.States.{MachineFrame, PlaceTypes}
 use Rattle.jvm_values.specs.Kinds.{IsOfKind, narrowed}
-use Rattle.jvm_values.specs.Subtyping.{class_type, array_of, array_of_numbers, IsReference}
-use Rattle.jvm_values.specs.TypedHeaps.{WorldTypes, AreLawful, type_of, HasType, Holds, IsTypedObject, IsTypedHeap}
-use Rattle.jvm_values.specs.Writes.{with_value}
+use Rattle.jvm_values.specs.Subtyping.{array_of, array_of_numbers, IsReference}
+use Rattle.jvm_values.specs.TypedHeaps.{WorldTypes, AreLawful, type_of, HasType, IsTypedObject}
 use Rattle.jvm_values.proofs.Options.{given, some_is, none_is_not_some}
-use Rattle.class_world.specs.BuiltIns.{throwable}
-use Rattle.class_world.specs.Fields.{fields_of, can_be_made}
-use Rattle.class_world.specs.Linked.{class_order}
-use Rattle.class_world.specs.Types.{is_class_below, erase}
-use Rattle.class_world.specs.WorldTypes.{types_of}
-use Rattle.class_program.specs.declared.op.FieldUse.{FieldUse}
-use Rattle.class_program.specs.declared.program.StaticField.{StaticField}
-use Rattle.class_program.specs.Good.{IsGoodField, IsGoodNew}
+use Rattle.class_world.specs.Types.{erase}
 use Rattle.code_verify.specs.declared.want.Want.{Want}
 use Rattle.code_verify.specs.declared.want.Want.TheVariants as wants
 use Rattle.op_forms.specs.declared.form.ItemKind.{ItemKind}
-use Rattle.code_verify.specs.Operands.{fits, is_reference, item_place, is_numbers, is_references}
+use Rattle.code_verify.specs.Operands.{fits, is_reference, item_place, is_references}
 use Rattle.code_verify.specs.Rows.{taken, acted, top_place, aaload_types}
 use Rattle.code_verify.specs.Flows.{falls}
 use Rattle.code_verify.specs.TypedStates.{HasPlaceType, HasStack}
 use Rattle.code_verify.proofs.RowLaws.{array_reference}
 use Rattle.jvm_values.specs.Joins.{item_of}
-use Rattle.jvm_step.specs.Effects.{Effect, with_stack, pushes, on_object, on_item, item_at, index_below, length_of, numbers_in, references_in, with_number, with_item, makes, array_made, zeros, nulls, newarray_effect, anewarray_effect, arraylength_effect, number_load_effect, aaload_effect, number_store_effect, aastore_effect}
+use Rattle.jvm_step.specs.Effects.{Effect, with_stack, pushes, on_item, item_at, index_below, length_of, numbers_in, references_in, with_number, with_item, array_made, zeros, nulls, newarray_effect, anewarray_effect, arraylength_effect, number_load_effect, aaload_effect, number_store_effect, aastore_effect}
 use Rattle.jvm_step.specs.Operands.{is_null_or_below, top_int}
 use Rattle.jvm_run.proofs.Lists.{all_get}
 use Rattle.jvm_run.proofs.Numbers.{of_int, narrowed_is, zero_is}
 use Rattle.jvm_run.proofs.Values.{Grows, grows_by, grows_set, heap_with, heap_set, own_type, type_wider}
 use Rattle.jvm_run.proofs.Lists.{get_last}
-use Rattle.jvm_run.proofs.Forms.{Here, Stands, Well, FrameGood, HeapGood, Fits, types_here, acted_of, left, pushed, top_int_of, TopReference, top_reference_of, asks_any, asks_array, asks_numbers, asks_references, reference_top, rest_has, Found, on_object_well, bind_well, asked_well, fits_grown}
-use Rattle.jvm_run.proofs.IntForms.{one_int, OneInt}
-use Rattle.jvm_run.proofs.Objects.{reference_numbers, NumberArray, number_array, ReferenceArray, reference_array_of, SomeArray, some_array, typed_at}
+use Rattle.jvm_run.proofs.Forms.{Here, Stands, Well, FrameGood, HeapGood, Fits, types_here, acted_of, left, pushed, top_int_of, top_reference_of, asks_any, asks_array, asks_numbers, asks_references, reference_top, rest_has, on_object_well, bind_well, asked_well, fits_grown}
+use Rattle.jvm_run.proofs.IntForms.{one_int}
+use Rattle.jvm_run.proofs.Objects.{reference_numbers, number_array, ReferenceArray, reference_array_of, some_array, typed_at}
 
 -- ---- new arrays
 

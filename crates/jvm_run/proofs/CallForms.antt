@@ -8,7 +8,6 @@ use Rattle.std.proofs.lemmas.Option.{slice_get_within}
 use Rattle.std.proofs.lemmas.List.{length-replicate}
 use Rattle.std.proofs.lemmas.List.Elements.{All-set, All-replicate}
 use Rattle.std.proofs.lemmas.Int.{ints}
-use Rattle.list_views.specs.Options.{◌>>=◌, asked}
 use Rattle.jvm_values.specs.declared.heap.Value.{Value}
 use Rattle.jvm_values.specs.declared.heap.Value.TheVariants as values
 use Rattle.jvm_values.specs.declared.heap.Object.{Object}
@@ -23,19 +22,12 @@ use Rattle.jvm_values.specs.declared.types.Slot.TheVariants as slots
 use Rattle.jvm_values.specs.declared.typing.PlaceType.{PlaceType}
 use Rattle.jvm_values.specs.declared.typing.PlaceType.TheVariants as places
 use Rattle.jvm_values.specs.States.{MachineFrame, PlaceTypes}
-use Rattle.jvm_values.specs.Kinds.{IsOfKind, narrowed}
 use Rattle.jvm_values.specs.Subtyping.{class_type, array_of, array_of_numbers, IsReference}
-use Rattle.jvm_values.specs.TypedHeaps.{WorldTypes, AreLawful, type_of, HasType, Holds, IsTypedObject, IsTypedHeap}
-use Rattle.jvm_values.specs.Writes.{with_value}
-use Rattle.jvm_values.proofs.Options.{given, none_is_not_some}
-use Rattle.class_world.specs.BuiltIns.{throwable}
-use Rattle.class_world.specs.Fields.{fields_of, can_be_made}
+use Rattle.jvm_values.specs.TypedHeaps.{WorldTypes, AreLawful, type_of, HasType, IsTypedObject}
+use Rattle.jvm_values.proofs.Options.{none_is_not_some}
+use Rattle.class_world.specs.Fields.{can_be_made}
 use Rattle.class_world.specs.Linked.{class_order}
 use Rattle.class_world.specs.Types.{is_class_below, erase}
-use Rattle.class_world.specs.WorldTypes.{types_of}
-use Rattle.class_program.specs.declared.op.FieldUse.{FieldUse}
-use Rattle.class_program.specs.declared.program.StaticField.{StaticField}
-use Rattle.class_program.specs.Good.{IsGoodField, IsGoodNew}
 use Rattle.code_verify.specs.declared.want.Want.{Want}
 use Rattle.code_verify.specs.declared.want.Want.TheVariants as wants
 use Rattle.std.proofs.Common.{take, drop, reverse, append-nil}
@@ -52,22 +44,22 @@ use Rattle.class_program.specs.declared.op.Call.{Call}
 use Rattle.class_program.specs.declared.program.Method.{Method}
 use Rattle.class_program.specs.declared.selected.Selected.{Selected}
 use Rattle.class_program.specs.declared.selected.Selected.TheVariants as answers
-use Rattle.class_program.specs.Programs.{Program, refs_of}
+use Rattle.class_program.specs.Programs.{refs_of}
 use Rattle.class_program.specs.Ops.{constructor_name}
-use Rattle.class_program.specs.Good.{Takes, IsGoodStatic, SpecialRuns, IsGoodSpecial, IsGoodAnswer, IsGoodSelecting, names_interface, IsGoodMethod}
+use Rattle.class_program.specs.Good.{Takes, IsGoodStatic, SpecialRuns, IsGoodSpecial, IsGoodAnswer, IsGoodSelecting, IsGoodMethod}
 use Rattle.class_program.specs.Selected.{CanRun, can_receive, selection_at, selected_in}
 use Rattle.class_program.proofs.Got.{all_at}
-use Rattle.code_verify.specs.Operands.{fits, is_reference, place_of, want_of}
-use Rattle.code_verify.specs.Rows.{taken, acted, called, argument_wants, special_receiver, is_constructor as types_constructor}
+use Rattle.code_verify.specs.Operands.{fits, place_of, want_of}
+use Rattle.code_verify.specs.Rows.{taken, acted, called, argument_wants, special_receiver}
 use Rattle.code_verify.specs.TypedStates.{HasPlaceType, HasStack, argument_count}
 use Rattle.code_verify.proofs.Basics.{chosen}
 use Rattle.code_verify.proofs.RowLaws.{array_reference}
-use Rattle.jvm_step.specs.Effects.{Effect, on_object, are_passed, below_arguments, is_constructor, is_special_receiver, runs_or_lacks, class_of_object, answer_of, selected_effect, invokestatic_effect, invokespecial_effect, selecting_effect}
+use Rattle.jvm_step.specs.Effects.{are_passed, below_arguments, is_constructor, is_special_receiver, runs_or_lacks, class_of_object, answer_of, selected_effect, invokestatic_effect, invokespecial_effect, selecting_effect}
 use Rattle.jvm_step.specs.Operands.{top_reference, is_passed, is_assignable}
 use Rattle.jvm_run.proofs.Lists.{zip_drop, zip_reverse}
 use Rattle.jvm_run.proofs.Values.{own_type}
-use Rattle.jvm_run.proofs.Forms.{Here, Stands, Well, FrameGood, IsCalling, types_here, acted_of, TopReference, top_reference_of, AsksReference, asks_any, asks_below, asks_both, Found, on_object_well, bind_well, asked_well, if_well, passed_by, fits_slot}
-use Rattle.jvm_run.proofs.Objects.{class_same, reference_numbers, erased_class, class_below_by, below_class_by, erased_above, typed_at, numbers_root, references_root}
+use Rattle.jvm_run.proofs.Forms.{Here, Stands, Well, FrameGood, IsCalling, types_here, acted_of, top_reference_of, AsksReference, asks_any, asks_below, asks_both, Found, on_object_well, bind_well, asked_well, if_well, passed_by, fits_slot}
+use Rattle.jvm_run.proofs.Objects.{reference_numbers, erased_class, class_below_by, below_class_by, erased_above, typed_at, numbers_root, references_root}
 use Rattle.jvm_run.proofs.ObjectForms.{top_is}
 
 -- ---- arguments

@@ -9,11 +9,11 @@ use Rattle.std.proofs.lemmas.List.{length-replicate}
 use Rattle.std.proofs.lemmas.List.Elements.{All-set, All-replicate}
 use Rattle.std.proofs.lemmas.Int.{ints}
 use Rattle.std.proofs.lemmas.Slice.Zip.{AllZip-long}
-use Rattle.list_views.specs.Options.{◌>>=◌, asked}
+use Rattle.list_views.specs.Options.{asked}
 use Rattle.jvm_values.specs.declared.heap.Value.{Value}
 use Rattle.jvm_values.specs.declared.heap.Value.TheVariants as values
 use Rattle.jvm_values.specs.declared.heap.Object.{Object}
-use Rattle.jvm_values.specs.declared.heap.Object.TheVariants.{Instance, Nums, Refs}
+use Rattle.jvm_values.specs.declared.heap.Object.TheVariants.{Instance}
 use Rattle.jvm_values.specs.declared.heap.Heap.{Heap}
 use Rattle.jvm_values.specs.declared.types.Ty.{Ty}
 use Rattle.jvm_values.specs.declared.types.Base.TheVariants as bases
@@ -24,32 +24,28 @@ use Rattle.jvm_values.specs.declared.types.Slot.TheVariants as slots
 use Rattle.jvm_values.specs.declared.typing.PlaceType.{PlaceType}
 use Rattle.jvm_values.specs.declared.typing.PlaceType.TheVariants as places
 use Rattle.jvm_values.specs.States.{MachineFrame, PlaceTypes}
-use Rattle.jvm_values.specs.Kinds.{IsOfKind, narrowed}
-use Rattle.jvm_values.specs.Subtyping.{class_type, array_of, array_of_numbers, IsReference}
-use Rattle.jvm_values.specs.TypedHeaps.{WorldTypes, AreLawful, type_of, HasType, Holds, IsTypedObject, IsTypedHeap}
-use Rattle.jvm_values.specs.Writes.{with_value}
+use Rattle.jvm_values.specs.Subtyping.{class_type}
+use Rattle.jvm_values.specs.TypedHeaps.{WorldTypes, AreLawful, type_of, Holds, IsTypedObject}
 use Rattle.jvm_values.proofs.Options.{given, some_is, none_is_not_some}
-use Rattle.class_world.specs.BuiltIns.{throwable}
-use Rattle.class_world.specs.Fields.{fields_of, can_be_made}
+use Rattle.class_world.specs.Fields.{fields_of}
 use Rattle.class_world.specs.Linked.{class_order}
 use Rattle.class_world.specs.Types.{is_class_below, erase}
-use Rattle.class_world.specs.WorldTypes.{types_of}
 use Rattle.class_program.specs.declared.op.FieldUse.{FieldUse}
 use Rattle.class_program.specs.declared.program.StaticField.{StaticField}
-use Rattle.class_program.specs.Good.{IsGoodField, IsGoodNew}
+use Rattle.class_program.specs.Good.{IsGoodField}
 use Rattle.code_verify.specs.declared.want.Want.{Want}
 use Rattle.code_verify.specs.declared.want.Want.TheVariants as wants
 use Rattle.code_verify.specs.Operands.{fits, place_of, want_of}
-use Rattle.code_verify.specs.Rows.{taken, acted, static_slot, getstatic_types, putstatic_types}
+use Rattle.code_verify.specs.Rows.{acted, static_slot, getstatic_types, putstatic_types}
 use Rattle.code_verify.specs.Flows.{falls}
-use Rattle.code_verify.specs.TypedStates.{HasPlaceType, HasStack}
-use Rattle.jvm_step.specs.Effects.{Effect, with_stack, pushes, on_object, fields_in, getstatic_effect, putstatic_effect, getfield_effect, putfield_effect, with_item}
+use Rattle.code_verify.specs.TypedStates.{HasPlaceType}
+use Rattle.jvm_step.specs.Effects.{Effect, with_stack, pushes, fields_in, getstatic_effect, putstatic_effect, getfield_effect, putfield_effect, with_item}
 use Rattle.jvm_step.specs.Operands.{kept, is_assignable, is_passed}
 use Rattle.jvm_run.proofs.Lists.{zip_get, zip_set_right}
 use Rattle.jvm_run.proofs.Numbers.{narrowed_is}
-use Rattle.jvm_run.proofs.Values.{Grows, grows_set, held, heap_set, holds_grown}
-use Rattle.jvm_run.proofs.Forms.{Here, Stands, Well, FrameGood, HeapGood, StaticsGood, Fits, types_here, acted_of, left, pushed, TopReference, top_reference_of, asks_below, rest_has, Found, on_object_well, bind_well, asked_well, fits_grown, passed_by, TopPassed, top_passed_of}
-use Rattle.jvm_run.proofs.Objects.{erased_class, class_below_by, IsInstance, instance_or_root, typed_at}
+use Rattle.jvm_run.proofs.Values.{Grows, grows_set, held, heap_set}
+use Rattle.jvm_run.proofs.Forms.{Here, Stands, Well, FrameGood, HeapGood, StaticsGood, types_here, acted_of, left, pushed, top_reference_of, asks_below, rest_has, Found, on_object_well, bind_well, asked_well, fits_grown, passed_by, top_passed_of}
+use Rattle.jvm_run.proofs.Objects.{erased_class, class_below_by, instance_or_root, typed_at}
 
 -- what a field keeps of a value that is put into it
 pub kept_held : (types : WorldTypes) (heap : Heap) (slot : Slot) (value : Value) → HasPlaceType types heap (place_of types slot) (Some value) → Holds types heap slot (kept slot value)

@@ -12,7 +12,7 @@ use Rattle.code_verify.specs.Flows.{falls, jumps}
 use Rattle.jvm_step.specs.Effects.{Effect}
 use Rattle.jvm_step.specs.Table.{effect_of}
 use Rattle.jvm_run.specs.Laws.{IsIntForm}
-use Rattle.jvm_run.proofs.Forms.{Here, Stands, Well, WorkGood, types_here, left, well_frame, well_heap, well_statics}
+use Rattle.jvm_run.proofs.Forms.{Here, Stands, Well, WorkGood, left, well_frame, well_heap, well_statics}
 use Rattle.jvm_run.proofs.Named.{IsNamed}
 use Rattle.jvm_run.proofs.IntForms.{constant_well, arith_well, ineg_well, narrow_well, if_int_well, if_icmp_well, goto_well, first_among, target_among, case_among, tableswitch_well, lookupswitch_well}
 use Rattle.jvm_run.proofs.LocalForms.{iload_well, aload_well, istore_well, astore_well, iinc_well}

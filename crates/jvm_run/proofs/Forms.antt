@@ -5,7 +5,7 @@ use Rattle.std.specs.List.{AllZip, list_any}
 use Rattle.std.specs.Option.{option_map, option_map_or, option_and_then}
 use Rattle.std.proofs.lemmas.Bool.{false≢true, and_parts}
 use Rattle.std.proofs.lemmas.List.Elements.{All-weaker}
-use Rattle.list_views.specs.Options.{◌>>=◌, asked}
+use Rattle.list_views.specs.Options.{asked}
 use Rattle.jvm_values.specs.declared.heap.Value.{Value}
 use Rattle.jvm_values.specs.declared.heap.Value.TheVariants as values
 use Rattle.jvm_values.specs.declared.heap.Object.{Object}
@@ -34,13 +34,13 @@ use Rattle.op_forms.specs.declared.form.ItemKind.{ItemKind}
 use Rattle.op_forms.specs.Forms.{Form}
 use Rattle.code_verify.specs.declared.want.Want.{Want}
 use Rattle.code_verify.specs.declared.want.Want.TheVariants as wants
-use Rattle.code_verify.specs.Operands.{fits, want_of, place_of, is_int, is_reference}
+use Rattle.code_verify.specs.Operands.{fits, want_of, place_of, is_reference}
 use Rattle.code_verify.specs.Rows.{taken, with_result, acted}
 use Rattle.code_verify.specs.Flows.{falls, jumps}
 use Rattle.code_verify.specs.TypedStates.{HasPlaceType, HasStack, argument_count}
 use Rattle.code_verify.proofs.Basics.{chosen}
 use Rattle.jvm_step.specs.Effects.{Effect, effect_on, with_stack, on_object}
-use Rattle.jvm_step.specs.Operands.{top, top_int, top_reference, object_at, is_of_type, is_passed}
+use Rattle.jvm_step.specs.Operands.{top, top_int, top_reference, is_of_type, is_passed}
 use Rattle.jvm_step.specs.Table.{Work, on_frame, on_heap, on_statics}
 use Rattle.jvm_run.proofs.Lists.{zip_map}
 use Rattle.jvm_run.proofs.Values.{Grows, grows_same, holds_grown, place_grown, local_grown, type_wider}

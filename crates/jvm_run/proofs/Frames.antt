@@ -17,15 +17,15 @@ use Rattle.jvm_values.specs.TypedHeaps.{WorldTypes, AreLawful}
 use Rattle.class_world.specs.WorldTypes.{types_of}
 use Rattle.class_program.specs.declared.program.Method.{Method}
 use Rattle.class_program.specs.Programs.{Program}
-use Rattle.frame_types.specs.Places.{IsWithin, IsFrameWithin, IsSet}
-use Rattle.frame_types.specs.Tables.{CodeTypes, Flow, Takes}
+use Rattle.frame_types.specs.Places.{IsWithin, IsSet}
+use Rattle.frame_types.specs.Tables.{CodeTypes, Takes}
 use Rattle.code_verify.specs.Operands.{place_of}
-use Rattle.code_verify.specs.Typings.{IsTyping, IsTypingOf, entry_frame, entry_flow}
+use Rattle.code_verify.specs.Typings.{IsTyping, entry_frame}
 use Rattle.code_verify.specs.TypedStates.{HasPlaceType, HasStack, IsTypedFrame, IsRunning, IsUnwinding, IsCaller, AreCallers}
 use Rattle.jvm_step.specs.Running.{new_frame}
 use Rattle.jvm_run.proofs.Lists.{zip_append, zip_through}
 use Rattle.jvm_run.proofs.Values.{Grows, place_wider, placed_in_heap, in_heap_grown}
-use Rattle.jvm_run.proofs.Forms.{Fits, stack_grown, locals_grown, references_grown}
+use Rattle.jvm_run.proofs.Forms.{stack_grown, locals_grown, references_grown}
 
 -- ---- references of a stack
 

@@ -8,27 +8,25 @@ use Rattle.std.proofs.lemmas.Bool.{false≢true, or_left, or_right}
 use Rattle.code_forms.specs.declared.insn.Case.{Case}
 use Rattle.jvm_values.specs.declared.heap.Value.{Value}
 use Rattle.jvm_values.specs.declared.heap.Value.TheVariants as values
-use Rattle.jvm_values.specs.declared.heap.Heap.{Heap}
 use Rattle.jvm_values.specs.declared.ints.IntOp.{IntOp}
 use Rattle.jvm_values.specs.declared.ints.Cond.{Cond}
 use Rattle.jvm_values.specs.declared.types.Kind.{Kind}
 use Rattle.jvm_values.specs.declared.types.Kind.TheVariants as kinds
 use Rattle.jvm_values.specs.declared.typing.PlaceType.{PlaceType}
 use Rattle.jvm_values.specs.declared.typing.PlaceType.TheVariants as places
-use Rattle.jvm_values.specs.States.{MachineFrame, PlaceTypes}
+use Rattle.jvm_values.specs.States.{PlaceTypes}
 use Rattle.jvm_values.specs.Ints.{int_result, cond_holds}
 use Rattle.jvm_values.specs.Kinds.{IsOfKind, narrowed}
-use Rattle.jvm_values.specs.TypedHeaps.{WorldTypes}
 use Rattle.jvm_values.proofs.Options.{some_is, none_is_not_some}
 use Rattle.code_verify.specs.declared.want.Want.{Want}
 use Rattle.code_verify.specs.declared.want.Want.TheVariants as wants
 use Rattle.code_verify.specs.Rows.{taken, acted}
 use Rattle.code_verify.specs.Flows.{falls, jumps}
 use Rattle.code_verify.specs.TypedStates.{HasPlaceType, HasStack}
-use Rattle.jvm_step.specs.Effects.{Effect, with_stack, pushes, branch, constant_effect, arith_result, arith_effect, ineg_effect, narrow_effect, if_effect, if_icmp_effect, goto_effect, target_at, tableswitch_effect, target_of, lookupswitch_effect}
+use Rattle.jvm_step.specs.Effects.{with_stack, branch, constant_effect, arith_result, arith_effect, ineg_effect, narrow_effect, if_effect, if_icmp_effect, goto_effect, target_at, tableswitch_effect, target_of, lookupswitch_effect}
 use Rattle.jvm_step.specs.Operands.{top_int}
 use Rattle.jvm_run.proofs.Numbers.{result_is, narrowed_is, of_int, wrapped_is_int}
-use Rattle.jvm_run.proofs.Forms.{Here, Stands, Well, FrameGood, types_here, acted_of, left, pushed, TopInt, top_int_of, rest_has}
+use Rattle.jvm_run.proofs.Forms.{Here, Stands, Well, FrameGood, types_here, acted_of, left, pushed, top_int_of, rest_has}
 
 -- ---- one int and two
 

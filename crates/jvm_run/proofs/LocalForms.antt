@@ -8,7 +8,7 @@ use Rattle.std.proofs.lemmas.Bool.{false≢true, ltb-true, lt-ltb}
 use Rattle.std.proofs.lemmas.List.Elements.{All-set}
 use Rattle.std.proofs.lemmas.Option.{slice_get_within}
 use Rattle.std.proofs.lemmas.Slice.Zip.{AllZip-long}
-use Rattle.list_views.specs.Options.{◌>>=◌, asked}
+use Rattle.list_views.specs.Options.{asked}
 use Rattle.jvm_values.specs.declared.heap.Value.{Value}
 use Rattle.jvm_values.specs.declared.heap.Value.TheVariants as values
 use Rattle.jvm_values.specs.declared.heap.Heap.{Heap}
@@ -26,9 +26,9 @@ use Rattle.code_verify.specs.Rows.{taken, top_place, iload_types, aload_types, i
 use Rattle.code_verify.specs.Flows.{falls}
 use Rattle.code_verify.specs.TypedStates.{HasPlaceType, HasStack}
 use Rattle.code_verify.proofs.Basics.{chosen}
-use Rattle.jvm_step.specs.Effects.{Effect, with_stack, int_of_local, reference_of_local, sets, iload_effect, aload_effect, istore_effect, astore_effect, iinc_effect}
-use Rattle.jvm_step.specs.Operands.{int_of, reference_of, top_reference}
-use Rattle.jvm_run.proofs.Lists.{zip_get, zip_set, zip_set_right, Beside}
+use Rattle.jvm_step.specs.Effects.{Effect, int_of_local, reference_of_local, sets, iload_effect, aload_effect, istore_effect, astore_effect, iinc_effect}
+use Rattle.jvm_step.specs.Operands.{reference_of, top_reference}
+use Rattle.jvm_run.proofs.Lists.{zip_get, zip_set, zip_set_right}
 use Rattle.jvm_run.proofs.Numbers.{wrapped_is_int}
 use Rattle.jvm_run.proofs.Values.{placed_in_heap}
 use Rattle.jvm_run.proofs.Forms.{Here, Stands, Well, FrameGood, Fits, types_here, pushed, reference_top}

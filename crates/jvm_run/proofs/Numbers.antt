@@ -5,7 +5,7 @@ use Rattle.std.specs.Int.{int_wrap, int_rem_euclid, int_shr, int_min, int_max}
 use Rattle.std.specs.Ordering.{int_eq}
 use Rattle.std.proofs.Math.Nat.{div-le_self, mod-le}
 use Rattle.std.proofs.lemmas.Int.{ints, clamps, SFits-int_wrap}
-use Rattle.jvm_values.specs.Kinds.{IsOfKind, least_of, greatest_of, narrowed}
+use Rattle.jvm_values.specs.Kinds.{IsOfKind, narrowed}
 use Rattle.jvm_values.specs.Ints.{int_result, shift_count}
 use Rattle.jvm_values.specs.declared.ints.IntOp.{IntOp}
 use Rattle.jvm_values.specs.declared.ints.IntOp.TheVariants.{Add, Sub, Mul, Div, Rem, Shl, Shr, Ushr, And, Or, Xor, Narrow}

@@ -8,11 +8,9 @@ use Rattle.std.proofs.lemmas.Option.{slice_get_within}
 use Rattle.std.proofs.lemmas.List.{length-replicate}
 use Rattle.std.proofs.lemmas.List.Elements.{All-set, All-replicate}
 use Rattle.std.proofs.lemmas.Int.{ints}
-use Rattle.list_views.specs.Options.{◌>>=◌, asked}
 use Rattle.jvm_values.specs.declared.heap.Value.{Value}
 use Rattle.jvm_values.specs.declared.heap.Value.TheVariants as values
 use Rattle.jvm_values.specs.declared.heap.Object.{Object}
-use Rattle.jvm_values.specs.declared.heap.Object.TheVariants.{Instance, Nums, Refs}
 use Rattle.jvm_values.specs.declared.heap.Heap.{Heap}
 use Rattle.jvm_values.specs.declared.types.Ty.{Ty}
 use Rattle.jvm_values.specs.declared.types.Base.TheVariants as bases
@@ -23,29 +21,24 @@ use Rattle.jvm_values.specs.declared.types.Slot.TheVariants as slots
 use Rattle.jvm_values.specs.declared.typing.PlaceType.{PlaceType}
 use Rattle.jvm_values.specs.declared.typing.PlaceType.TheVariants as places
 use Rattle.jvm_values.specs.States.{MachineFrame, PlaceTypes}
-use Rattle.jvm_values.specs.Kinds.{IsOfKind, narrowed}
-use Rattle.jvm_values.specs.Subtyping.{class_type, array_of, array_of_numbers, IsReference}
-use Rattle.jvm_values.specs.TypedHeaps.{WorldTypes, AreLawful, type_of, HasType, Holds, IsTypedObject, IsTypedHeap}
-use Rattle.jvm_values.specs.Writes.{with_value}
-use Rattle.jvm_values.proofs.Options.{given, some_is, none_is_not_some}
+use Rattle.jvm_values.specs.Kinds.{IsOfKind}
+use Rattle.jvm_values.specs.Subtyping.{class_type, IsReference}
+use Rattle.jvm_values.specs.TypedHeaps.{WorldTypes, AreLawful, type_of, HasType, IsTypedObject}
+use Rattle.jvm_values.proofs.Options.{some_is, none_is_not_some}
 use Rattle.class_world.specs.BuiltIns.{throwable}
-use Rattle.class_world.specs.Fields.{fields_of, can_be_made}
-use Rattle.class_world.specs.Linked.{class_order}
-use Rattle.class_world.specs.Types.{is_class_below, erase}
-use Rattle.class_world.specs.WorldTypes.{types_of}
-use Rattle.class_program.specs.declared.op.FieldUse.{FieldUse}
-use Rattle.class_program.specs.declared.program.StaticField.{StaticField}
-use Rattle.class_program.specs.Good.{IsGoodField, IsGoodNew}
+use Rattle.class_world.specs.Fields.{can_be_made}
+use Rattle.class_world.specs.Types.{erase}
+use Rattle.class_program.specs.Good.{IsGoodNew}
 use Rattle.code_verify.specs.declared.want.Want.{Want}
 use Rattle.code_verify.specs.declared.want.Want.TheVariants as wants
-use Rattle.code_verify.specs.Operands.{fits, is_reference, place_of, want_of}
-use Rattle.code_verify.specs.Rows.{taken, acted, ireturn_types, areturn_types, return_types}
+use Rattle.code_verify.specs.Operands.{is_reference}
+use Rattle.code_verify.specs.Rows.{acted, ireturn_types, areturn_types, return_types}
 use Rattle.code_verify.specs.Flows.{falls}
 use Rattle.code_verify.specs.TypedStates.{HasPlaceType, HasStack}
-use Rattle.jvm_step.specs.Effects.{Effect, with_stack, pushes, on_object, makes, new_instance, instance_of, new_effect, checkcast_effect, instanceof_effect, athrow_effect, ireturn_effect, areturn_effect, return_effect, is_number_slot, is_returned}
+use Rattle.jvm_step.specs.Effects.{Effect, with_stack, makes, new_instance, instance_of, new_effect, checkcast_effect, instanceof_effect, athrow_effect, ireturn_effect, areturn_effect, return_effect, is_number_slot, is_returned}
 use Rattle.jvm_step.specs.Operands.{is_null_or_below, is_below, is_assignable, top_reference, top_int}
-use Rattle.jvm_run.proofs.Values.{own_type, type_wider}
-use Rattle.jvm_run.proofs.Forms.{Here, Stands, Well, FrameGood, HeapGood, IsResult, types_here, acted_of, left, pushed, TopReference, top_reference_of, asks_any, asks_below, rest_has, Found, on_object_well, bind_well, if_well, of_type_by, fits_slot}
+use Rattle.jvm_run.proofs.Values.{own_type}
+use Rattle.jvm_run.proofs.Forms.{Here, Stands, Well, FrameGood, HeapGood, IsResult, types_here, acted_of, pushed, top_reference_of, asks_any, asks_below, rest_has, on_object_well, bind_well, if_well, of_type_by, fits_slot}
 use Rattle.jvm_run.proofs.IntForms.{one_int}
 use Rattle.jvm_run.proofs.ArrayForms.{made_good}
 use Rattle.jvm_run.proofs.Objects.{defaults_held}

@@ -17,10 +17,10 @@ use Rattle.jvm_values.specs.declared.types.Kind.TheVariants as kinds
 use Rattle.jvm_values.specs.declared.types.Slot.{Slot}
 use Rattle.jvm_values.specs.declared.types.Slot.TheVariants as slots
 use Rattle.jvm_values.specs.declared.typing.PlaceType.TheVariants as places
-use Rattle.jvm_values.specs.Subtyping.{class_type, object_type, array_of, array_of_numbers, IsReference, IsReferenceBase, IsArrayAbove}
-use Rattle.jvm_values.specs.TypedHeaps.{WorldTypes, AreLawful, type_of, HasType, Holds, IsTypedObject, IsTypedHeap}
+use Rattle.jvm_values.specs.Subtyping.{class_type, object_type, array_of, array_of_numbers, IsReference, IsReferenceBase}
+use Rattle.jvm_values.specs.TypedHeaps.{WorldTypes, AreLawful, type_of, Holds, IsTypedObject, IsTypedHeap}
 use Rattle.jvm_values.specs.Joins.{item_of, item_under}
-use Rattle.jvm_values.proofs.Options.{some_is, none_is_not_some}
+use Rattle.jvm_values.proofs.Options.{none_is_not_some}
 use Rattle.jvm_values.proofs.Joining.{array_of_item, same_type}
 use Rattle.class_world.specs.World.{World, is_interface_class, super_of, supers_of, leads_up, is_above}
 use Rattle.class_world.specs.Walks.{IsIn}
@@ -32,8 +32,8 @@ use Rattle.class_world.specs.Subtypes.{stands_from, stands_to}
 use Rattle.class_world.specs.Linked.{linked_from, hierarchy, class_order}
 use Rattle.op_forms.specs.declared.form.ItemKind.{ItemKind}
 use Rattle.op_forms.specs.declared.form.ItemKind.TheVariants as items
-use Rattle.code_verify.specs.Operands.{is_numbers, is_base_for, is_for as typed_for, is_array}
-use Rattle.jvm_step.specs.Effects.{is_for, numbers_in, references_in, length_of}
+use Rattle.code_verify.specs.Operands.{is_numbers, is_base_for, is_for as typed_for}
+use Rattle.jvm_step.specs.Effects.{is_for, numbers_in, length_of}
 use Rattle.jvm_values.specs.Slots.{initial_value}
 use Rattle.jvm_run.proofs.Lists.{all_get}
 use Rattle.jvm_run.proofs.Numbers.{zero_is}

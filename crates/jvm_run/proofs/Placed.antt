@@ -5,7 +5,7 @@ use Rattle.std.specs.List.{list_any, AllByRecursion}
 use Rattle.std.specs.Option.{option_and_then, option_to_list, is_some}
 use Rattle.std.proofs.lemmas.Bool.{false≢true, or_left, or_right}
 use Rattle.std.proofs.lemmas.List.Elements.{All-head, All-tail}
-use Rattle.list_views.specs.Options.{◌>>=◌, asked}
+use Rattle.list_views.specs.Options.{asked}
 use Rattle.jvm_values.specs.States.{PlaceTypes}
 use Rattle.jvm_values.specs.TypedHeaps.{WorldTypes}
 use Rattle.jvm_values.proofs.Options.{given, some_is, none_is_not_some}
@@ -19,7 +19,7 @@ use Rattle.op_forms.specs.Forms.{Form, form_of}
 use Rattle.frame_types.specs.Tables.{CodeTypes, Flow, Takes}
 use Rattle.code_verify.specs.Rows.{types_after}
 use Rattle.code_verify.specs.Flows.{falls, jumps, ways, is_inside, covers, onward, caught, caught_frame, runs_at, flows_from}
-use Rattle.code_verify.specs.Typings.{IsTyped, IsTyping}
+use Rattle.code_verify.specs.Typings.{IsTyped}
 use Rattle.jvm_run.proofs.Lists.{all_among, all_found, all_left, all_right}
 
 -- an instruction stands at the place, and what it leads to is taken

@@ -20,13 +20,13 @@ use Rattle.class_program.specs.declared.program.Method.{Method}
 use Rattle.class_program.specs.declared.selected.Selected.{Selected}
 use Rattle.class_program.specs.declared.selected.Selected.TheVariants as answers
 use Rattle.class_program.specs.Programs.{Program}
-use Rattle.class_program.specs.Good.{IsGoodName, Takes, SpecialRuns, IsGoodAnswer, IsGoodSelecting}
+use Rattle.class_program.specs.Good.{IsGoodName, Takes, SpecialRuns, IsGoodAnswer}
 use Rattle.class_program.specs.Selected.{CanRun, can_receive}
 use Rattle.op_forms.specs.Forms.{Form, form_of}
 use Rattle.code_verify.specs.declared.want.Want.{Want}
 use Rattle.code_verify.specs.declared.want.Want.TheVariants as wants
 use Rattle.code_verify.specs.Operands.{fits, place_of, want_of}
-use Rattle.code_verify.specs.Rows.{taken, with_result, acted, called, argument_wants, special_receiver, types_after}
+use Rattle.code_verify.specs.Rows.{taken, with_result, acted, argument_wants, special_receiver, types_after}
 use Rattle.code_verify.specs.Flows.{falls}
 use Rattle.code_verify.specs.TypedStates.{argument_count}
 use Rattle.code_verify.proofs.Basics.{chosen}

@@ -5,19 +5,19 @@ use Rattle.std.specs.List.{list_any}
 use Rattle.jvm_values.specs.declared.heap.Value.{Value}
 use Rattle.jvm_values.specs.declared.heap.Heap.{Heap}
 use Rattle.jvm_values.specs.declared.typing.PlaceType.{PlaceType}
-use Rattle.jvm_values.specs.States.{MachineFrame, PlaceTypes}
+use Rattle.jvm_values.specs.States.{PlaceTypes}
 use Rattle.jvm_values.specs.TypedHeaps.{WorldTypes}
 use Rattle.jvm_values.proofs.Options.{given, some_is, none_is_not_some}
 use Rattle.op_forms.specs.declared.form.Shuffle.{Shuffle}
 use Rattle.op_forms.specs.declared.form.Shuffle.TheVariants as shuffles
 use Rattle.op_forms.specs.Forms.{shuffled}
 use Rattle.code_verify.specs.declared.want.Want.TheVariants as wants
-use Rattle.code_verify.specs.Rows.{taken, acted, shuffle_types}
+use Rattle.code_verify.specs.Rows.{acted, shuffle_types}
 use Rattle.code_verify.specs.Flows.{falls, jumps}
-use Rattle.code_verify.specs.TypedStates.{HasPlaceType, HasStack}
-use Rattle.jvm_step.specs.Effects.{Effect, with_stack, is_wanted, shuffle_effect, if_acmp_effect, if_null_effect}
-use Rattle.jvm_step.specs.Operands.{same_reference, is_null, top_reference}
-use Rattle.jvm_run.proofs.Forms.{Here, Stands, Well, FrameGood, types_here, acted_of, left, TopReference, top_reference_of, asks_any, rest_has}
+use Rattle.code_verify.specs.TypedStates.{HasStack}
+use Rattle.jvm_step.specs.Effects.{with_stack, is_wanted, shuffle_effect, if_acmp_effect, if_null_effect}
+use Rattle.jvm_step.specs.Operands.{same_reference, is_null}
+use Rattle.jvm_run.proofs.Forms.{Here, Stands, Well, FrameGood, types_here, acted_of, left, top_reference_of, asks_any, rest_has}
 use Rattle.jvm_run.proofs.IntForms.{branch_well}
 
 -- ---- reordering

@@ -5,7 +5,6 @@ use Rattle.std.specs.List.{AllZip}
 use Rattle.std.specs.Option.{option_map, option_map_or, option_and_then, is_some}
 use Rattle.std.proofs.lemmas.Bool.{false≢true, and_parts}
 use Rattle.std.proofs.lemmas.List.Elements.{All-nil, All-drop}
-use Rattle.list_views.specs.Options.{◌>>=◌}
 use Rattle.jvm_values.specs.declared.heap.Value.{Value}
 use Rattle.jvm_values.specs.declared.heap.Value.TheVariants as values
 use Rattle.jvm_values.specs.declared.heap.Object.{Object}
@@ -16,11 +15,11 @@ use Rattle.jvm_values.specs.declared.typing.PlaceType.{PlaceType}
 use Rattle.jvm_values.specs.declared.typing.PlaceType.TheVariants as places
 use Rattle.jvm_values.specs.declared.state.Mode.{Mode}
 use Rattle.jvm_values.specs.declared.state.Mode.TheVariants.{Normal, Throwing}
-use Rattle.jvm_values.specs.States.{MachineFrame, MachineState, PlaceTypes}
+use Rattle.jvm_values.specs.States.{MachineFrame, PlaceTypes}
 use Rattle.jvm_values.specs.Heaps.{IsInHeap}
 use Rattle.jvm_values.specs.Subtyping.{class_type}
 use Rattle.jvm_values.specs.TypedHeaps.{WorldTypes, AreLawful, type_of, HasType, Holds, IsTypedObject, IsTypedHeap}
-use Rattle.jvm_values.proofs.Options.{given, some_is, none_is_not_some}
+use Rattle.jvm_values.proofs.Options.{some_is, none_is_not_some}
 use Rattle.class_world.specs.BuiltIns.{HasBuiltIns, throwable}
 use Rattle.class_world.specs.Linking.{is_linked}
 use Rattle.class_world.specs.Types.{is_sub, erase}
@@ -33,27 +32,27 @@ use Rattle.class_program.specs.Programs.{Program, insn_at, op_at}
 use Rattle.class_program.specs.Good.{IsGood, IsGoodOp, IsGoodMethod}
 use Rattle.class_program.proofs.Got.{all_at}
 use Rattle.class_program.specs.Selected.{CanRun}
-use Rattle.op_forms.specs.Forms.{Form, form_of}
-use Rattle.frame_types.specs.Tables.{CodeTypes, Flow, Takes}
+use Rattle.op_forms.specs.Forms.{form_of}
+use Rattle.frame_types.specs.Tables.{CodeTypes, Takes}
 use Rattle.code_verify.specs.Operands.{place_of}
 use Rattle.code_verify.specs.Rows.{with_result as types_with_result}
 use Rattle.code_verify.specs.Flows.{caught_class, caught_frame, covers, falls}
 use Rattle.code_verify.specs.Typings.{IsTyping}
-use Rattle.code_verify.specs.TypedStates.{HasPlaceType, HasStack, IsTypedFrame, IsRunning, IsUnwinding, IsCaller, AreCallers, IsTop, AreTypedFrames, IsTypedState, argument_count}
+use Rattle.code_verify.specs.TypedStates.{HasStack, IsTypedFrame, IsRunning, IsUnwinding, IsCaller, AreCallers, IsTypedState, argument_count}
 use Rattle.jvm_step.specs.Effects.{Effect, new_instance}
 use Rattle.jvm_step.specs.Operands.{object_at}
 use Rattle.jvm_step.specs.Table.{Work, effect_of}
-use Rattle.jvm_step.specs.Running.{Step, goes_on, throws, with_object, entered, new_frame, invokes, with_result, returns, applied, work_of, normal_step, takes, unwound, handled, throwing_step, step_in}
+use Rattle.jvm_step.specs.Running.{Step, goes_on, throws, with_object, entered, invokes, with_result, returns, applied, normal_step, takes, handled, throwing_step, step_in}
 use Rattle.jvm_run.specs.Laws.{GoesTyped, HasInts, IsIntForm}
 use Rattle.jvm_run.proofs.Lists.{zip_map, get_last, all_get}
 use Rattle.jvm_run.proofs.Values.{Grows, grows_same, grows_by, holds_grown, heap_with, own_type}
-use Rattle.jvm_run.proofs.Forms.{Here, Stands, Well, WorkGood, Fits, IsCalling, IsResult, types_here}
+use Rattle.jvm_run.proofs.Forms.{Here, Stands, Well, WorkGood, IsCalling, IsResult}
 use Rattle.jvm_run.proofs.Objects.{defaults_held}
 use Rattle.jvm_run.proofs.Named.{named_of, some_then}
 use Rattle.jvm_run.proofs.FormTable.{effect_well}
-use Rattle.jvm_run.proofs.Placed.{Placed, placed, jump_taken, HasNext, next_taken, handler_taken, at_has, at_has_all}
+use Rattle.jvm_run.proofs.Placed.{Placed, placed, jump_taken, next_taken, handler_taken, at_has, at_has_all}
 use Rattle.jvm_run.proofs.Frames.{running_at, frame_grown, callers_grown, emptied_frame, entered_running}
-use Rattle.jvm_run.proofs.Returning.{CallAfter, call_after}
+use Rattle.jvm_run.proofs.Returning.{call_after}
 
 -- what is known of a program
 pub record Known (p : Program) (typing : ℕ → CodeTypes) : Type 0 where

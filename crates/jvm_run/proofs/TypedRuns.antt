@@ -15,7 +15,7 @@ use Rattle.frame_types.specs.Tables.{CodeTypes}
 use Rattle.code_verify.specs.Typings.{IsTypingOf}
 use Rattle.code_verify.specs.TypedStates.{IsTypedState}
 use Rattle.jvm_step.specs.Running.{Step, new_frame, entered, step, step_on, run, start}
-use Rattle.jvm_run.specs.Laws.{GoesTyped, HasInts, AreInputs, StepsAreTyped, RunsAreTyped, RunsAreNeverStuck, StartsAreTyped}
+use Rattle.jvm_run.specs.Laws.{GoesTyped, HasInts, StepsAreTyped, RunsAreTyped, RunsAreNeverStuck, StartsAreTyped}
 use Rattle.jvm_run.proofs.Frames.{entered_running}
 use Rattle.jvm_run.proofs.Stepping.{Known, step_typed}
 

@@ -16,15 +16,14 @@ use Rattle.jvm_values.specs.declared.types.Slot.{Slot}
 use Rattle.jvm_values.specs.declared.types.Slot.TheVariants as slots
 use Rattle.jvm_values.specs.declared.typing.PlaceType.{PlaceType}
 use Rattle.jvm_values.specs.declared.typing.PlaceType.TheVariants as places
-use Rattle.jvm_values.specs.Heaps.{target, IsInHeap}
-use Rattle.jvm_values.specs.Kinds.{IsOfKind}
+use Rattle.jvm_values.specs.Heaps.{IsInHeap}
 use Rattle.jvm_values.specs.TypedHeaps.{WorldTypes, AreLawful, type_of, HasType, Holds, IsTypedObject, IsTypedHeap}
 use Rattle.jvm_values.proofs.Options.{some_is, none_is_not_some}
 use Rattle.jvm_values.proofs.Typed.{value_in_heap}
 use Rattle.frame_types.specs.Places.{IsWithin}
-use Rattle.code_verify.specs.Operands.{place_of, is_reference}
-use Rattle.code_verify.specs.TypedStates.{HasPlaceType, HasStack}
-use Rattle.jvm_run.proofs.Lists.{zip_map, get_append, get_last, get_set_same, all_get}
+use Rattle.code_verify.specs.Operands.{place_of}
+use Rattle.code_verify.specs.TypedStates.{HasPlaceType}
+use Rattle.jvm_run.proofs.Lists.{zip_map, get_append}
 use Rattle.jvm_run.proofs.Numbers.{of_int}
 
 -- ---- heaps that grow

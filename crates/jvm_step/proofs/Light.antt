@@ -10,7 +10,7 @@ use Rattle.jvm_values.specs.declared.state.Frame.{Frame}
 use Rattle.jvm_values.specs.declared.state.Mode.{Mode}
 use Rattle.jvm_values.specs.declared.state.Mode.TheVariants.{Normal}
 use Rattle.jvm_values.specs.States.{MachineFrame, MachineState, frame_of}
-use Rattle.jvm_values.proofs.Options.{given, none_is_not_some}
+use Rattle.jvm_values.proofs.Options.{given}
 use Rattle.class_program.specs.declared.op.Op.{Op}
 use Rattle.class_program.specs.declared.program.CatchRange.{CatchRange}
 use Rattle.class_program.specs.declared.program.Method.{Method}

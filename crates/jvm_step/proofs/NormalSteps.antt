@@ -22,7 +22,7 @@ use Rattle.jvm_step.specs.Acts.{Did, Acts, Tries}
 use Rattle.jvm_step.specs.Effects.{Effect, effect_on}
 use Rattle.jvm_step.specs.Table.{Work, effect_of}
 use Rattle.jvm_step.specs.Running.{Step, work_of, applied, normal_step, throwing_step, step_in, step, goes_on}
-use Rattle.jvm_step.specs.Steps.{Stepped, Does, Steps, MayFail, work_seen, form_at, with_work, effect_in, applied_in, left_to_do, form_here, form_in, IsRunning}
+use Rattle.jvm_step.specs.Steps.{Does, Steps, MayFail, work_seen, form_at, with_work, effect_in, applied_in, left_to_do, form_here, form_in, IsRunning}
 use Rattle.jvm_step.proofs.Doing.{tries_on}
 
 -- ---- what the definitions have in common

@@ -7,7 +7,7 @@ use Rattle.jvm_values.specs.declared.types.Kind.{Kind}
 use Rattle.jvm_values.specs.declared.types.Base.{Base}
 use Rattle.jvm_values.specs.declared.types.Base.TheVariants.{Class, Num}
 use Rattle.jvm_values.specs.declared.types.Slot.{Slot}
-use Rattle.jvm_values.specs.Subtyping.{class_type, object_type, array_of, array_of_numbers, IsReference, IsReferenceBase, IsErased, SubtypeLaws}
+use Rattle.jvm_values.specs.Subtyping.{class_type, object_type, array_of, array_of_numbers, IsReference, IsReferenceBase, SubtypeLaws}
 use Rattle.jvm_values.specs.Joins.{IsErasedAbove, IsJoin, item_under, item_of, AreApart}
 use Rattle.jvm_values.proofs.Options.{some_is, none_is_not_some}
 

@@ -12,8 +12,8 @@ use Rattle.jvm_values.specs.declared.heap.Value.TheVariants as values
 use Rattle.jvm_values.specs.declared.heap.Object.{Object}
 use Rattle.jvm_values.specs.declared.heap.Object.TheVariants.{Instance, Nums, Refs}
 use Rattle.jvm_values.specs.declared.heap.Heap.{Heap}
-use Rattle.jvm_values.specs.Heaps.{target, values_of, IsInHeap, IsClosed}
-use Rattle.jvm_values.specs.TypedHeaps.{WorldTypes, HasType, Holds, IsTypedObject, IsTypedHeap, TypedHeapsAreClosed}
+use Rattle.jvm_values.specs.Heaps.{values_of, IsInHeap}
+use Rattle.jvm_values.specs.TypedHeaps.{WorldTypes, HasType, Holds, IsTypedObject, TypedHeapsAreClosed}
 use Rattle.jvm_values.proofs.Options.{some_is, none_is_not_some}
 
 pub value_in_heap : (types : WorldTypes) (heap : Heap) (value : Value) (t : Ty) → HasType types heap value t → IsInHeap (length heap.objects) value

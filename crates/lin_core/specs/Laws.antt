@@ -3,7 +3,7 @@ use Rattle.std.specs.Prelude.{ℕ, ℤ, pos, ◌≡◌, ◌≤◌, ◌^◌, ◌�
 use Rattle.std.specs.List.{AllByRecursion}
 use Rattle.lin_core.specs.declared.rows.Target.{Target}
 use Rattle.lin_core.specs.Combination.{IsSumOf, Shows, Shown, AllAllowed, first_fault}
-use Rattle.lin_core.specs.Rows.{Row, AllHold, AllRise, Rise, value_of_target}
+use Rattle.lin_core.specs.Rows.{Row, AllHold, AllRise, value_of_target}
 use Rattle.lin_core.specs.Sums.{Sum}
 
 -- a target that is shown is at least 0 wherever the rows hold

@@ -17,8 +17,7 @@ use Rattle.jvm_values.proofs.Options.{some_is}
 use Rattle.abs_cells.specs.declared.cells.Cell.{Cell}
 use Rattle.abs_cells.specs.declared.cells.Cell.TheVariants.{Int, Null, Obj, Nums, Refs, Unk}
 use Rattle.abs_cells.specs.AbstractStates.{AbstractState}
-use Rattle.abs_cells.specs.Cells.{is_int, is_of_sort, cell_at, HasCell}
-use Rattle.abs_cells.specs.Patterns.{Pattern}
+use Rattle.abs_cells.specs.Cells.{is_int, cell_at, HasCell}
 use Rattle.abs_reach.specs.Instances.{image_in}
 use Rattle.term_graph.specs.declared.links.Side.{Side}
 use Rattle.term_graph.specs.declared.links.Side.TheVariants.{Before, After}
@@ -26,10 +25,10 @@ use Rattle.term_graph.specs.declared.links.LinkRow.{LinkRow}
 use Rattle.term_graph.specs.declared.links.Link.{Link}
 use Rattle.term_graph.specs.Graphs.{GraphNode}
 use Rattle.path_rules.specs.Stops.{Stop, Leg, child, instance, stop_at}
-use Rattle.path_rules.specs.Rules.{unless_zero, with_term, collected, tie, ids_with, variables, place_of, variable_of, bounds_of, rows_of_stop, has_int, variable_at, link_row, rows_of_child, image_row, rows_of_instance, rows_of_leg, variables_after, rows_along, last_along, int_slot, slots_of, rule_over}
+use Rattle.path_rules.specs.Rules.{unless_zero, with_term, collected, tie, ids_with, variables, variable_of, bounds_of, rows_of_stop, has_int, variable_at, link_row, rows_of_child, image_row, rows_of_instance, rows_of_leg, variables_after, rows_along, last_along, int_slot, slots_of, rule_over}
 use Rattle.path_rules.specs.Conditions.{IsTermBetween, IsRowBetween, IsLinkBetween, IsMapBetween, IsReady}
 use Rattle.path_rules.specs.Bare.{IsBounded, AreBounded, AllBounded, bare_graph, HasRides}
-use Rattle.path_rules.proofs.Finding.{ids_in_cells, int_within, IsSuffix, whole_suffix, suffix_int, suffix_rest, no_sizes}
+use Rattle.path_rules.proofs.Finding.{int_within, IsSuffix, whole_suffix, suffix_int, suffix_rest, no_sizes}
 use Rattle.path_rules.proofs.Walking.{both, IsOfInts, ints_of, of_sort, IsGoodLeg, AreGoodAlong, good_first, last_good}
 use Rattle.path_rules.proofs.Ready.{stop_is, same_some, good_along, last_stop}
 

@@ -16,7 +16,6 @@ use Rattle.jvm_values.specs.declared.shape.Shape.TheVariants.{Tree, Dag, Any}
 use Rattle.abs_cells.specs.declared.cells.Cell.{Cell}
 use Rattle.abs_cells.specs.declared.cells.Cell.TheVariants.{Int, Null, Obj, Nums, Refs, Unk}
 use Rattle.abs_cells.specs.AbstractStates.{AbstractState}
-use Rattle.abs_cells.specs.Cells.{is_int}
 use Rattle.abs_cells.specs.Patterns.{Pattern}
 use Rattle.abs_cells.specs.Sound.{IsWellFormed, AreIdsRising}
 use Rattle.term_graph.specs.declared.nodes.By.{By}
@@ -29,11 +28,11 @@ use Rattle.term_graph.specs.Edges.{is_size_variable}
 use Rattle.term_graph.specs.Graphs.{GraphNode, successors}
 use Rattle.path_rules.specs.Paths.{edges, end_of, only_last, is_cut}
 use Rattle.path_rules.specs.Stops.{Stop, Leg, child, instance, LinkedGraph, leg_by, leg_at, stop_at, ride_at, rides_from}
-use Rattle.path_rules.specs.Rules.{is_variable, variables, variable_of, bounds_of, rows_of_stop, rows_of_leg, rows_along, last_along, variables_after, slots_of, rule_over, at_least_zero}
-use Rattle.path_rules.specs.Conditions.{IsTermBetween, IsRowBetween, IsLinkBetween, IsGoodChild, IsGoodBy}
-use Rattle.path_rules.specs.Bare.{bare, bare_graph, size_of_terms, AreBounded, AllBounded, IsSmall, AreGood, IsBegun, IsOver, IsGone, IsRuleAlong, HasRides, links_at}
+use Rattle.path_rules.specs.Rules.{is_variable, variables, variable_of, bounds_of, rows_of_stop, rows_of_leg, rows_along, last_along, variables_after, slots_of, at_least_zero}
+use Rattle.path_rules.specs.Conditions.{IsTermBetween, IsRowBetween, IsGoodChild, IsGoodBy}
+use Rattle.path_rules.specs.Bare.{bare, bare_graph, size_of_terms, AreBounded, AllBounded, IsSmall, AreGood, IsBegun, IsGone, IsRuleAlong, HasRides, links_at}
 use Rattle.path_rules.proofs.Finding.{ids_in_cells}
-use Rattle.path_rules.proofs.Ready.{from_then, from_map, all_at, zip_at, same_some}
+use Rattle.path_rules.proofs.Ready.{from_then, from_map, all_at, same_some}
 
 -- ---- states are short
 

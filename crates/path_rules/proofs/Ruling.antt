@@ -9,28 +9,25 @@ use Rattle.std.proofs.lemmas.List.{length-append, length-map}
 use Rattle.std.proofs.lemmas.List.Sums.{sum_by_push}
 use Rattle.std.proofs.lemmas.List.Elements.{All-from_recursion, recursion_from_All}
 use Rattle.std.proofs.lemmas.Option.{slice_get-map}
-use Rattle.number_graphs.specs.Lists.{Has, Fall}
+use Rattle.number_graphs.specs.Lists.{Fall}
 use Rattle.descent.specs.declared.rules.PathRule.{PathRule}
 use Rattle.descent.specs.Conditions.{IsRule, AreRules}
-use Rattle.abs_cells.specs.declared.cells.Cell.{Cell}
 use Rattle.abs_cells.specs.AbstractStates.{AbstractState}
-use Rattle.abs_cells.specs.Cells.{is_int, HasCell}
-use Rattle.abs_cells.specs.Patterns.{Pattern, IsSized}
+use Rattle.abs_cells.specs.Patterns.{Pattern}
 use Rattle.term_graph.specs.declared.links.Link.{Link}
 use Rattle.term_graph.specs.Graphs.{GraphNode}
-use Rattle.path_rules.specs.Paths.{Path, IsPath, AreAllPaths, HasTooManyPaths, is_cut, end_of}
-use Rattle.path_rules.specs.Stops.{Stop, Leg, LinkedGraph, AreSizes}
-use Rattle.path_rules.specs.Rules.{IsRuleOf, rule_over, rows_along}
+use Rattle.path_rules.specs.Paths.{Path, AreAllPaths, HasTooManyPaths, end_of}
+use Rattle.path_rules.specs.Stops.{AreSizes}
+use Rattle.path_rules.specs.Rules.{IsRuleOf, rule_over}
 use Rattle.path_rules.specs.Answers.{AreRulesOf, HaveFewRows, HasRules, IsFirstTooLong}
 use Rattle.path_rules.specs.Conditions.{HasIntsAlone, IsReady, CutsRise}
-use Rattle.path_rules.specs.Ways.{has_mark, AreMarks, inner_row, AreWays, end_over, paths_by, counted, counted_on, picked, AreCounts, IsWayOf, lists_of, ways_of, AreWaysOf, paths_of}
+use Rattle.path_rules.specs.Ways.{inner_row, AreWays, end_over, paths_by, counted, counted_on, picked, IsWayOf, ways_of, AreWaysOf, paths_of}
 use Rattle.path_rules.specs.declared.ways.Ways.{Ways}
 use Rattle.path_rules.specs.Bare.{bare_graph, AreGood, IsRuleAlong, HasRides, IsRuleFor, IsRuleOfNumber}
-use Rattle.path_rules.proofs.Counted.{AreAlike, counted_few, counted_many, counted_all, count_alike, added_up}
+use Rattle.path_rules.proofs.Counted.{AreAlike, counted_many, counted_all, count_alike, added_up}
 use Rattle.path_rules.proofs.Picking.{get_front, get_back, from_map, one_of, IsNear}
 use Rattle.path_rules.proofs.Existing.{ways_are}
 use Rattle.path_rules.proofs.Finding.{all_ints}
-use Rattle.path_rules.proofs.Listed.{ends_over}
 use Rattle.path_rules.proofs.Whole.{path_from, all_paths, end_is}
 use Rattle.path_rules.proofs.Ready.{all_at}
 use Rattle.path_rules.proofs.Riding.{has_rides}

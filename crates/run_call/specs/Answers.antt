@@ -22,7 +22,7 @@ use Rattle.input_steps.specs.declared.refused.Place.{Place}
 use Rattle.input_steps.specs.declared.refused.Place.TheVariants as places
 use Rattle.input_steps.specs.declared.refused.Fault.{Fault}
 use Rattle.input_steps.specs.declared.refused.Fault.TheVariants as faults
-use Rattle.input_steps.specs.Steps.{IsAt, Then}
+use Rattle.input_steps.specs.Steps.{Then}
 use Rattle.input_steps.specs.Texts.{OfInput, IsTextFault}
 use Rattle.input_steps.specs.Classes.{AllSpell, RefusesClasses, IsWorldOf, RefusesWorld}
 use Rattle.input_steps.specs.Programs.{IsProgramOf, RefusesProgram, IsAcyclic, RefusesCalls, HasTypings, RefusesTypes}

@@ -1,5 +1,5 @@
 use Rattle.std.proofs.Common.{◌<◌, refl, arith}
-use Rattle.abs_reach.specs.Instances.{Clause, whole_map, positions, mode, cells, aliases, sharing, shapes, number_of, HoldsClause}
+use Rattle.abs_reach.specs.Instances.{whole_map, positions, mode, cells, aliases, sharing, shapes}
 use Rattle.abs_match.proofs.Ready.{entries_rise}
 use Rattle.abs_match.proofs.Testing.{holds_of, fails_of, matched, whole, first, below_1, below_2, below_3, below_4, below_5, below_6}
 use Rattle.abs_match.proofs.matching.instance.Goals as goal

@@ -1,4 +1,3 @@
-use Rattle.json_view.specs.Located.{located}
 use Rattle.cert_form.proofs.RisingPairs.{listed_rises}
 use Rattle.cert_form.proofs.states.listed_field.Goals as goal
 

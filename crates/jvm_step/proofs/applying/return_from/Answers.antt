@@ -1,6 +1,6 @@
 use Rattle.std.proofs.Common.{arith, refl}
 use Rattle.class_program.specs.Views.{program_of}
-use Rattle.jvm_step.proofs.Applied.{mapped, few_mapped, ended}
+use Rattle.jvm_step.proofs.Applied.{few_mapped, ended}
 use Rattle.jvm_step.proofs.applying.return_from.Goals as goal
 
 pub returns-then-len-lt2-clause-state : goal.returns-then-len-lt2-clause-state

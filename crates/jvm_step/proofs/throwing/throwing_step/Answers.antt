@@ -1,5 +1,5 @@
 use Rattle.std.proofs.Common.{rules, ◌≡◌, length, sym, subst}
-use Rattle.jvm_values.specs.States.{state_of, frame_of}
+use Rattle.jvm_values.specs.States.{state_of}
 use Rattle.class_program.specs.Views.{program_of}
 use Rattle.jvm_step.specs.declared.outcome.Outcome.TheVariants as outcomes
 use Rattle.jvm_step.specs.Running.{Step}

@@ -2,7 +2,7 @@ use Rattle.std.proofs.Common.{◌≡◌, ◌∙◌, sym, arith, FitsSigned, to_z
 use Rattle.std.specs.Int.{w64}
 use Rattle.lin_core.specs.Weights.{weight_in, unweighed, row_under, rows_under}
 use Rattle.lin_core.proofs.Admitted.{all_allowed}
-use Rattle.lin_core.proofs.Partly.{partly_first, partly_entry, partly_more, partly_last, partly_within, within_more, zero_within}
+use Rattle.lin_core.proofs.Partly.{partly_first, partly_entry, partly_more, partly_last, partly_within, within_more}
 use Rattle.lin_core.proofs.Soundness.{sum_nonneg_where_rows_hold}
 use Rattle.lin_core.proofs.Weighs.{found_under, found_inside, same_faults, rise_under, row_is, row_rises, adds_row}
 use Rattle.lin_core.proofs.combining.combine.Goals as goal

@@ -1,6 +1,5 @@
 use Rattle.std.proofs.Common.{rules, ◌∙◌, ◌≤◌, ◌<◌, ℕ, List, length, get_or, ap, subst, sym, refl, arith}
 use Rattle.abs_cells.specs.AbstractStates.{AbstractState}
-use Rattle.term_graph.specs.Graphs.{GraphNode}
 use Rattle.path_rules.specs.Rules.{slots_of}
 use Rattle.path_rules.specs.Bare.{bare}
 use Rattle.path_rules.proofs.Riding.{IsOnPath, short_at, moved, path_begins, path_steps_by, gone_moved, path_well, path_done, too_long}

@@ -1,7 +1,5 @@
 use Rattle.std.proofs.Common.{◌≡◌, Some, drop}
 use Rattle.std.specs.Prelude.{slice_get}
-use Rattle.path_rules.specs.Rules.{slots_of}
-use Rattle.path_rules.specs.Bare.{bare}
 use Rattle.path_rules.proofs.Riding.{IsOnPath}
 use Rattle.path_rules.proofs.walks.rule_along.Given as goal
 
