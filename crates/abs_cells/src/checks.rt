@@ -1,7 +1,6 @@
 //! Whether a state is well-formed.
-ghost use Rattle.std.specs.Prelude.{◌≡◌, ◌≤◌, ◌<◌, ℕ, ◌↔◌, IsTrue, not, ◌++◌, ◌∷◌, []};
+ghost use Rattle.std.specs.Prelude.{◌≡◌, ◌<◌, ℕ, ◌↔◌, IsTrue, not, ◌++◌, ◌∷◌, []};
 ghost use Rattle.std.specs.List.{list_all, flat_map};
-ghost use Rattle.abs_cells.specs.AbstractStates.{AbstractFrame};
 ghost use Rattle.abs_cells.specs.PairLists.{AreAmong};
 ghost use Rattle.abs_cells.specs.IdSets.{has_id};
 ghost use Rattle.abs_cells.specs.Cells.{cell_in, is_of_sort, sort_test, ids_in};

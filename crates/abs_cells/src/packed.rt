@@ -1,5 +1,5 @@
 //! Pairs of ids held as packed bits.
-ghost use Rattle.std.specs.Prelude.{◌≡◌, ◌≢◌, ℕ, suc, ◌+◌, ◌*◌, ◌/◌, ◌<◌, ◌≤◌, ◌==◌, ◌||◌, ◌&&◌, ◌⊎◌, not, Bool, true, false, IsTrue, IsFalse, ◌↔◌, length, List, Some, None, slice_get, if◌then◌else◌, IfSome, IfNone, ◌++◌, ◌∷◌, [], IfOk, IfErr, OnOk, OnErr};
+ghost use Rattle.std.specs.Prelude.{◌≡◌, ◌≢◌, ℕ, suc, ◌+◌, ◌*◌, ◌/◌, ◌<◌, ◌≤◌, ◌==◌, ◌||◌, ◌&&◌, ◌⊎◌, not, true, false, IsTrue, ◌↔◌, length, List, Some, None, slice_get, if◌then◌else◌, IfSome, IfNone, ◌++◌, ◌∷◌, [], IfOk, IfErr, OnOk, OnErr};
 ghost use Rattle.std.specs.Int.{bit_at};
 ghost use Rattle.abs_cells.specs.PairLists.{added, removed, AreAmong};
 ghost use Rattle.abs_cells.specs.IdSets.{has_bit, has_id, are_touched, kept};

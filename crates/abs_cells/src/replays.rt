@@ -1,5 +1,5 @@
 //! Calls on pairs, one after another.
-ghost use Rattle.std.specs.Prelude.{◌≡◌, ◌≢◌, ◌<◌, ℕ, All, take, OnOk, OnErr, IfOk};
+ghost use Rattle.std.specs.Prelude.{◌≡◌, ◌<◌, All, OnOk, OnErr, IfOk};
 ghost use Rattle.abs_cells.specs.Replays.{IsGoodCall, pairs_after_one, pairs_after, answer_of, answers_of, IsStopped};
 
 use crate::ids::Id;

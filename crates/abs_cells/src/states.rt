@@ -1,5 +1,5 @@
 //! Frames and states whose places hold ids.
-ghost use Rattle.std.specs.Prelude.{◌≡◌, List, ℕ, reverse, filter};
+ghost use Rattle.std.specs.Prelude.{◌≡◌, reverse, filter};
 ghost use Rattle.abs_cells.specs.IdSets.{has_id, kept};
 
 use crate::cells::Cell;

@@ -1,6 +1,5 @@
 //! Whether two cells are the same.
-ghost use Rattle.std.specs.Prelude.{◌≡◌, ◌↔◌, Bool, ℕ, List, IsTrue};
-ghost use Rattle.lin_core.specs.Intervals.{Bounds};
+ghost use Rattle.std.specs.Prelude.{◌≡◌, ◌↔◌, IsTrue};
 ghost use Rattle.abs_cells.specs.declared.cells.Cell.TheVariants.{Int, Null, Obj, Nums, Refs, Unk};
 
 use abs_cells::{Cell, Id, Ids};

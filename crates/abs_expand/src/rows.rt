@@ -1,5 +1,5 @@
 //! The rows of the table: what becomes of a state at an instruction.
-ghost use Rattle.std.specs.Prelude.{◌≡◌, ◌∷◌, [], true, pos, IfOk, Some, false};
+ghost use Rattle.std.specs.Prelude.{◌≡◌, [], true, pos, IfOk, Some, false};
 ghost use Rattle.std.specs.Option.{option_map};
 ghost use Rattle.op_forms.specs.Forms.{form_seen, shuffled};
 ghost use Rattle.abs_expand.specs.Plans.{steps, on_stack};

@@ -1,5 +1,5 @@
 //! Reorderings of a stack of ids.
-ghost use Rattle.std.specs.Prelude.{◌≡◌, ◌+◌, ◌<◌, ◌≤◌, ◌∷◌, List, Some, None, length, drop, slice_set, IfOk, MatchBool};
+ghost use Rattle.std.specs.Prelude.{◌≡◌, ◌<◌, ◌≤◌, ◌∷◌, Some, None, length, drop, IfOk, MatchBool};
 ghost use Rattle.op_forms.specs.declared.form.Shuffle.TheVariants as shuffles;
 ghost use Rattle.op_forms.specs.Forms.{shuffled};
 

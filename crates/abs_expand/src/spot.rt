@@ -1,5 +1,5 @@
 //! Where a state stands: its running frame with the instruction there.
-ghost use Rattle.std.specs.Prelude.{◌≡◌, ◌<◌, ◌∷◌, reverse, length, slice_get, slice_set, IfOk, MatchOption, Some, None};
+ghost use Rattle.std.specs.Prelude.{◌≡◌, ◌<◌, reverse, slice_get, slice_set, IfOk, MatchOption, Some, None};
 ghost use Rattle.std.specs.Option.{option_and_then};
 ghost use Rattle.jvm_values.specs.States.{types_of};
 ghost use Rattle.abs_cells.specs.Cells.{cell_in};

@@ -1,5 +1,5 @@
 //! The steps of a switch.
-ghost use Rattle.std.specs.Prelude.{◌≡◌, ◌≤ℤ◌, ◌+ℤ◌, ◌-ℤ◌, ◌++◌, ◌∷◌, [], ℤ, pos, negsuc, map, IfOk, Some};
+ghost use Rattle.std.specs.Prelude.{◌≡◌, ◌≤ℤ◌, ◌-ℤ◌, ◌++◌, ◌∷◌, [], ℤ, pos, negsuc, map, IfOk, Some};
 ghost use Rattle.std.specs.Option.{option_map, option_and_then, option_to_list};
 ghost use Rattle.std.specs.List.{filter_map};
 ghost use Rattle.lin_core.specs.Intervals.{interval_of};

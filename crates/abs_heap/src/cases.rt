@@ -1,5 +1,5 @@
 //! What an object may be that is known to be below a type: an instance of a class, or an array.
-ghost use Rattle.std.specs.Prelude.{◌≡◌, ◌<◌, ◌+◌, ◌&&◌, ◌↔◌, ℕ, nat_lt, true, false, IfOk, OnOk, Err, Some, [], ◌∷◌, ◌++◌, length};
+ghost use Rattle.std.specs.Prelude.{◌≡◌, ◌<◌, ◌+◌, ◌&&◌, ◌↔◌, nat_lt, true, false, IfOk, OnOk, Err, Some, [], ◌∷◌, length};
 ghost use Rattle.std.specs.List.{list_any};
 ghost use Rattle.jvm_values.specs.Subtyping.{class_type, array_of_numbers};
 ghost use Rattle.jvm_values.specs.TypedHeaps.{world_types};
@@ -8,7 +8,7 @@ ghost use Rattle.abs_cells.specs.declared.cells.Cell.TheVariants as cells;
 ghost use Rattle.abs_cells.specs.Sound.{IsWellFormed};
 ghost use Rattle.abs_cells.specs.Limits.{most_ids};
 ghost use Rattle.abs_heap.specs.Answers.{IsObjectBelow, AreClassChildren, HasTooManyChildren};
-ghost use Rattle.abs_heap.specs.Refining.{lower_of, element_below, instances_below, numbers_below, listed, cases_below};
+ghost use Rattle.abs_heap.specs.Refining.{lower_of, element_below, instances_below, listed, cases_below};
 ghost use Rattle.abs_heap.specs.Splitting.{instances_among, numbers_among, crowds, AddsCases};
 ghost use Rattle.abs_heap.specs.declared.fault.HeapFault.TheVariants.{TooManyIds};
 

@@ -1,5 +1,5 @@
 //! Children: their frames, cells, pairs and links.
-ghost use Rattle.std.specs.Prelude.{◌≡◌, ◌+◌, ◌≤◌, ◌<◌, ◌∷◌, [], ◌++◌, true, map, length, IfOk, OnOk, IsTrue, ◌↔◌, ℕ, None};
+ghost use Rattle.std.specs.Prelude.{◌≡◌, ◌+◌, ◌≤◌, ◌<◌, [], true, map, length, IfOk, OnOk, IsTrue, ◌↔◌};
 ghost use Rattle.std.specs.Option.{option_map};
 ghost use Rattle.abs_cells.specs.Cells.{cell_in, AreEqual, Share};
 ghost use Rattle.abs_cells.specs.PairLists.{has};

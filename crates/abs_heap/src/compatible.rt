@@ -1,5 +1,5 @@
 //! Which cells may describe one object.
-ghost use Rattle.std.specs.Prelude.{◌≡◌, ◌≢◌, ◌↔◌, ◌&&◌, ◌||◌, ◌==◌, ◌<◌, ℕ, true, IsTrue, OnOk, Some, MatchOption};
+ghost use Rattle.std.specs.Prelude.{◌≡◌, ◌&&◌, ◌||◌, ◌==◌, ◌<◌, ℕ, true, OnOk, Some, MatchOption};
 ghost use Rattle.jvm_values.specs.Subtyping.{array_of};
 ghost use Rattle.abs_cells.specs.Cells.{type_of_cell, are_compatible, are_compatible_types, is_of_sort, cell_in};
 ghost use Rattle.abs_cells.specs.IdSets.{has_id};

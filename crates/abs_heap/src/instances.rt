@@ -1,5 +1,5 @@
 //! An object of a hazy region as an instance of a class, or as an array.
-ghost use Rattle.std.specs.Prelude.{◌≡◌, ◌≢◌, ◌⊎◌, ◌<◌, ◌+◌, ◌≤◌, ◌↔◌, ℕ, true, IfOk, OnOk, Some, None, [], ◌∷◌, map, zip, length, All};
+ghost use Rattle.std.specs.Prelude.{◌≡◌, ◌≢◌, ◌⊎◌, ◌<◌, ◌+◌, ◌≤◌, ◌↔◌, ℕ, true, IfOk, OnOk, None, [], ◌∷◌, map, zip, length, All};
 ghost use Rattle.jvm_values.specs.declared.shape.Shape.TheVariants.{Tree, Any};
 ghost use Rattle.jvm_values.specs.TypedHeaps.{world_types};
 ghost use Rattle.abs_cells.specs.declared.cells.Cell.TheVariants.{Nums, Refs};

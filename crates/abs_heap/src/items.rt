@@ -1,7 +1,7 @@
 //! An item of an array of references.
-ghost use Rattle.std.specs.Prelude.{◌≡◌, ◌⊎◌, ◌<◌, ◌+◌, ◌≤◌, ◌↔◌, ℕ, true, IfOk, Err, Some, None, length};
+ghost use Rattle.std.specs.Prelude.{◌≡◌, ◌⊎◌, ◌<◌, ◌↔◌, ℕ, true, IfOk, Err, Some, None};
 ghost use Rattle.jvm_values.specs.declared.shape.Shape.TheVariants.{Any};
-ghost use Rattle.abs_cells.specs.Cells.{cell_at, HasCell, Share};
+ghost use Rattle.abs_cells.specs.Cells.{HasCell, Share};
 ghost use Rattle.abs_cells.specs.IdSets.{has_id};
 ghost use Rattle.abs_cells.specs.Sound.{IsWellFormed};
 ghost use Rattle.abs_heap.specs.Answers.{IsLoaded};

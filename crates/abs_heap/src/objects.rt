@@ -1,7 +1,7 @@
 //! New objects and arrays.
-ghost use Rattle.std.specs.Prelude.{◌≡◌, ◌+◌, ◌<◌, ◌≤◌, ◌≤ℤ◌, [], ◌∷◌, ◌↔◌, IfOk, OnOk, None, Some, Err, true, map, zip, length, All};
+ghost use Rattle.std.specs.Prelude.{◌≡◌, ◌+◌, ◌<◌, ◌≤◌, ◌≤ℤ◌, ◌∷◌, ◌↔◌, IfOk, OnOk, None, Some, Err, true, map, zip, length, All};
 ghost use Rattle.jvm_values.specs.TypedHeaps.{world_types};
-ghost use Rattle.abs_cells.specs.Cells.{cell_in, is_int, HasCell, AreEqual, Share};
+ghost use Rattle.abs_cells.specs.Cells.{AreEqual, Share};
 ghost use Rattle.abs_cells.specs.Sound.{AreIdsRising, IsWellFormed};
 ghost use Rattle.abs_heap.specs.Building.{IsOver};
 ghost use Rattle.abs_heap.specs.Counts.{HasTooMany};

@@ -2,7 +2,7 @@
 ghost use Rattle.std.specs.Prelude.{◌≡◌, pos};
 ghost use Rattle.std.specs.Int.{int_max};
 ghost use Rattle.abs_ints.specs.IntIntervals.{all_ints, meet_of};
-ghost use Rattle.abs_ints.specs.Bits.{and_case, and_cases, ones_over, or_case, or_cases, xor_case, xor_cases};
+ghost use Rattle.abs_ints.specs.Bits.{and_case, and_cases, ones_over, or_cases, xor_cases};
 
 use crate::cases::{IntCase, ShortRow};
 use crate::few::Few;

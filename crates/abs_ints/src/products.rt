@@ -1,5 +1,5 @@
 //! Products of abstract ints.
-ghost use Rattle.std.specs.Prelude.{◌≡◌, neg_ℤ, [], if◌then◌else◌};
+ghost use Rattle.std.specs.Prelude.{◌≡◌, [], if◌then◌else◌};
 ghost use Rattle.abs_ints.specs.IntIntervals.{are_ints};
 ghost use Rattle.abs_ints.specs.Products.{times_left, times_right, factor_rows, product_cases};
 

@@ -1,5 +1,5 @@
 //! Whether an id has the pairs and the shape that its image asks of it.
-ghost use Rattle.std.specs.Prelude.{◌≡◌, ◌≢◌, ◌↔◌, ℕ, true, IsTrue, Some};
+ghost use Rattle.std.specs.Prelude.{◌≡◌, ◌↔◌, ℕ, true, IsTrue, Some};
 ghost use Rattle.abs_cells.specs.IdSets.{has_id};
 ghost use Rattle.abs_cells.specs.Cells.{is_known, is_hazy, is_reference, cell_at, HasCell, Share};
 ghost use Rattle.abs_cells.specs.Closures.{MayMeet, MayBeIn};

@@ -1,6 +1,6 @@
 //! Dropping the ids that nothing reaches.
-ghost use Rattle.std.specs.Prelude.{◌≡◌, ◌<◌, ◌==◌, ◌||◌, ◌++◌, ◌∷◌, [], ℕ};
-ghost use Rattle.std.specs.List.{list_any, flat_map};
+ghost use Rattle.std.specs.Prelude.{◌≡◌, ◌<◌, ◌==◌, ◌||◌, ◌∷◌, [], ℕ};
+ghost use Rattle.std.specs.List.{list_any};
 ghost use Rattle.abs_cells.specs.IdSets.{has_id};
 ghost use Rattle.abs_cells.specs.Sound.{IsWellFormed, given_ids, ids_of_frame};
 ghost use Rattle.abs_reach.specs.Reached.{positions, IsDropped, IsRestricted};

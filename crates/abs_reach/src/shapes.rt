@@ -1,5 +1,5 @@
 //! Whether the region of an id has no cycle, and whether it is a tree.
-ghost use Rattle.std.specs.Prelude.{◌≡◌, ◌↔◌, true, IsTrue};
+ghost use Rattle.std.specs.Prelude.{◌↔◌, true, IsTrue};
 ghost use Rattle.abs_cells.specs.Cells.{HasCell};
 ghost use Rattle.abs_cells.specs.Closures.{IsFiniteId, IsTreeId};
 ghost use Rattle.abs_cells.specs.Sound.{IsWellFormed};

@@ -1,5 +1,5 @@
 //! The cells of a widening.
-ghost use Rattle.std.specs.Prelude.{◌≡◌, ◌+◌, ◌≤◌, ℕ, List, map, zip, true, length, None, Some, Ok, Err, IfOk, MatchOption};
+ghost use Rattle.std.specs.Prelude.{◌≡◌, ◌≤◌, ℕ, List, map, zip, true, length, None, Some, Ok, IfOk, MatchOption};
 ghost use Rattle.jvm_values.specs.declared.types.Ty.{Ty};
 ghost use Rattle.jvm_values.specs.Subtyping.{IsReference};
 ghost use Rattle.jvm_values.specs.TypedHeaps.{world_types};

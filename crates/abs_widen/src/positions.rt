@@ -1,9 +1,9 @@
 //! The pairs that stand at the positions of two states, one after another.
-ghost use Rattle.std.specs.Prelude.{◌≡◌, ◌∷◌, [], Bool, true, false, length, zip, reverse, OnOk, Err, Ok, IfOk};
+ghost use Rattle.std.specs.Prelude.{◌≡◌, false, length, zip, OnOk, Err, Ok, IfOk};
 ghost use Rattle.std.specs.List.{AllZip};
 ghost use Rattle.abs_cells.specs.Sound.{IsWellFormed};
 ghost use Rattle.abs_widen.specs.declared.fault.WidenFault.TheVariants.{TooManyIds};
-ghost use Rattle.abs_widen.specs.Visits.{AreTooMany, are_alike, local_pair, local_pairs, frame_pairs, frames_pairs, thrown_pair, some_in, position_pairs, ArePairs};
+ghost use Rattle.abs_widen.specs.Visits.{AreTooMany, are_alike, local_pair, local_pairs, frame_pairs, frames_pairs, thrown_pair, some_in, ArePairs};
 ghost use Rattle.abs_widen.specs.Visiting.{Continues, AreAsLong, AreFew, ArePaired};
 
 use crate::fault::WidenFault;

@@ -1,5 +1,5 @@
 //! The pairs of ids that stand beside one another in two states, in the order in which a visit depth first meets them.
-ghost use Rattle.std.specs.Prelude.{◌≡◌, ◌<◌, ◌≤◌, ◌++◌, ◌∷◌, [], ℕ, length, OnOk, Err};
+ghost use Rattle.std.specs.Prelude.{◌≡◌, ◌<◌, ◌++◌, ◌∷◌, [], OnOk, Err};
 ghost use Rattle.abs_cells.specs.Sound.{IsWellFormed};
 ghost use Rattle.abs_widen.specs.declared.fault.WidenFault.TheVariants.{TooManyIds};
 ghost use Rattle.abs_widen.specs.Visits.{is_among, Visits, AreTooMany, IsPaired, pairs_below};

@@ -1,6 +1,6 @@
 //! Entries of a pool by what they say.
 
-ghost use Rattle.std.specs.Prelude.{◌≡◌, nat_lt, length, ◌^◌};
+ghost use Rattle.std.specs.Prelude.{◌≡◌, length};
 ghost use Rattle.asm_pool.specs.Entries.{is_short, has_text, width, seen};
 
 /// An entry, without the numbers of the entries that it names.

@@ -1,6 +1,6 @@
 //! The pool: entries in order of first need, each once, found through an index.
 
-ghost use Rattle.std.specs.Prelude.{◌≡◌, ◌∷◌, ◌<◌, ◌^◌, [], OnOk, IfOk, fold, map, min, slice_index_or, true};
+ghost use Rattle.std.specs.Prelude.{◌≡◌, ◌<◌, [], OnOk, IfOk, fold, map, min, slice_index_or, true};
 ghost use Rattle.std.specs.List.{AllByRecursion};
 ghost use Rattle.class_pool.specs.Entry.{HasText};
 ghost use Rattle.asm_pool.specs.Entries.{seen, with_named, has_text};

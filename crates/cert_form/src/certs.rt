@@ -8,7 +8,7 @@ ghost use Rattle.cert_form.specs.Answers.{Says};
 ghost use Rattle.cert_form.specs.Fields.{field};
 ghost use Rattle.cert_form.specs.Ways.{numbers_of};
 ghost use Rattle.cert_form.specs.Steps.{proof_of};
-ghost use Rattle.cert_form.specs.Certificates.{form_of, nodes_of, cert_of, kept, AnswersText, LackingAreNamed};
+ghost use Rattle.cert_form.specs.Certificates.{form_of, cert_of, kept, AnswersText, LackingAreNamed};
 
 use crate::fault::CertFault;
 use crate::names::ClassNames;

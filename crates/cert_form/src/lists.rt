@@ -3,8 +3,8 @@ ghost use Rattle.std.specs.Prelude.{◌≡◌, List, Result, Ok};
 ghost use Rattle.json_view.specs.Reading.{items_of, item_count};
 ghost use Rattle.json_view.specs.Located.{Located, located};
 ghost use Rattle.cert_form.specs.declared.fault.CertFault.{CertFault};
-ghost use Rattle.cert_form.specs.Answers.{Says, json};
-ghost use Rattle.cert_form.specs.Fields.{entries_of, field};
+ghost use Rattle.cert_form.specs.Answers.{Says};
+ghost use Rattle.cert_form.specs.Fields.{entries_of};
 
 use crate::fault::CertFault;
 use crate::values;

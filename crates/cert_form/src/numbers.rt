@@ -1,9 +1,9 @@
 //! Numbers, ids and lists of them.
-ghost use Rattle.std.specs.Prelude.{◌≡◌, ◌<◌, ◌^◌, ◌≤◌, ◌≤ℤ◌, pos};
+ghost use Rattle.std.specs.Prelude.{◌≡◌, ◌<◌, ◌≤◌, ◌≤ℤ◌, pos};
 ghost use Rattle.json_view.specs.Located.{located};
 ghost use Rattle.json_view.specs.Reading.{item_count};
 ghost use Rattle.cert_form.specs.Answers.{Says};
-ghost use Rattle.cert_form.specs.Fields.{nth, in_order, number_to, a_number, a_place, an_id, an_int, id_within, unless_negative, maybe_to, maybe_number, maybe_id, maybe_within, long_to, a_multiple, a_constant, next_key, key_in};
+ghost use Rattle.cert_form.specs.Fields.{nth, in_order, number_to, a_number, a_place, an_id, an_int, id_within, unless_negative, maybe_to, maybe_number, maybe_id, maybe_within, long_to, a_multiple, a_constant};
 
 use crate::fault::CertFault;
 use crate::lists::Said;

@@ -1,11 +1,11 @@
 //! Abstract states.
-ghost use Rattle.std.specs.Prelude.{◌≡◌, ◌<◌, ◌≤◌, codes, IfOk};
+ghost use Rattle.std.specs.Prelude.{◌≡◌, ◌<◌, codes, IfOk};
 ghost use Rattle.abs_cells.specs.PairLists.{IsRising, is_before};
 ghost use Rattle.json_view.specs.Located.{located};
 ghost use Rattle.json_view.specs.Reading.{item_count};
 ghost use Rattle.cert_form.specs.Answers.{Says};
 ghost use Rattle.cert_form.specs.Fields.{nth, of_length, field, maybe_id};
-ghost use Rattle.cert_form.specs.States.{is_next_pair, two_ids, ordered_pair, locals_of, frame_parts, frame_of, state_names, cells_of, frames_of, pairs_of, state_of};
+ghost use Rattle.cert_form.specs.States.{is_next_pair, two_ids, ordered_pair, locals_of, frame_parts, frame_of, cells_of, frames_of, pairs_of, state_of};
 
 use crate::cells::nth_ids;
 use crate::fault::CertFault;

@@ -1,5 +1,5 @@
 //! Rank steps for sets of rules.
-ghost use Rattle.std.specs.Prelude.{◌≡◌, IfOk};
+ghost use Rattle.std.specs.Prelude.{IfOk};
 ghost use Rattle.std.specs.List.{All};
 ghost use Rattle.descent.specs.Conditions.{AreRules, IsRanked, IsListed};
 ghost use Rattle.rank_forms.specs.Graphs.{ArePlainRules};

@@ -1,7 +1,6 @@
 //! What is said of a certificate, where its program and its description are good.
-ghost use Rattle.std.specs.Prelude.{◌≡◌, ◌≤◌, ◌^◌, ◌-◌, IfOk, length, Result, Ok};
+ghost use Rattle.std.specs.Prelude.{◌≤◌, ◌^◌, ◌-◌, length, Result, Ok};
 ghost use Rattle.class_program.specs.Views.{program_of};
-ghost use Rattle.class_program.specs.Programs.{IsClosed};
 ghost use Rattle.code_verify.specs.Typings.{IsTypingOf, typing_at};
 ghost use Rattle.input_desc.specs.Descs.{IsOwnDesc, IsGoodDesc};
 ghost use Rattle.input_desc.specs.Initial.{initial_of};

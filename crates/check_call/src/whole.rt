@@ -1,5 +1,5 @@
 //! A whole graph as a source of nodes that all have their states.
-ghost use Rattle.std.specs.Prelude.{◌≡◌, ◌<◌, map, length, Some, slice_get, IfOk};
+ghost use Rattle.std.specs.Prelude.{◌<◌, map, Some};
 ghost use Rattle.check_call.specs.FillTexts.{part_of};
 
 use abs_cells::{AbsState, Pairs};

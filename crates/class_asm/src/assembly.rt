@@ -9,7 +9,7 @@ ghost use Rattle.asm_lines.specs.Firsts.{with_faults};
 ghost use Rattle.asm_pool.specs.Needs.{listing_needs};
 ghost use Rattle.asm_pool.specs.Pools.{pool_in};
 ghost use Rattle.asm_lines.specs.Statements.{Gives};
-ghost use Rattle.class_asm.specs.Classes.{code_faults, method_text, class_of, class_text, all_faults, assembled};
+ghost use Rattle.class_asm.specs.Classes.{method_text, class_of, class_text, all_faults, assembled};
 
 use crate::rules::{check_rules, major_of};
 use crate::texts::{attribute_texts, class_flags, class_numbers, field_texts, method_texts};

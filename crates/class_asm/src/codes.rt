@@ -1,6 +1,6 @@
 //! The codes of methods, with the entries that their lines need.
 
-ghost use Rattle.std.specs.Prelude.{◌≡◌, ◌++◌, [], ◌<◌, ◌≤◌, ◌+◌, ◌*◌, ◌^◌, OnOk, IfOk, map, nat_le, length};
+ghost use Rattle.std.specs.Prelude.{◌≡◌, ◌++◌, [], ◌<◌, ◌+◌, ◌*◌, ◌^◌, OnOk, IfOk, map, nat_le, length};
 ghost use Rattle.std.specs.Option.{option_map};
 ghost use Rattle.asm_pool.specs.Entries.{seen};
 ghost use Rattle.asm_lines.specs.Firsts.{with_faults};

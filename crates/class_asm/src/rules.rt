@@ -1,6 +1,6 @@
 //! The rules on names, descriptors, numbers and lists.
 
-ghost use Rattle.std.specs.Prelude.{◌≡◌, ◌∷◌, ◌++◌, ◌^◌, [], OnOk, IfOk, Some, None, map, true, false, nat_lt, length, if◌then◌else◌};
+ghost use Rattle.std.specs.Prelude.{◌≡◌, ◌++◌, [], OnOk, IfOk, Some, None, map, true, length, if◌then◌else◌};
 ghost use Rattle.std.specs.List.{flat_map, list_all};
 ghost use Rattle.class_base.specs.ClassNames.{is_class_name};
 ghost use Rattle.asm_lines.specs.Firsts.{with_faults, unless};

@@ -1,6 +1,6 @@
 //! The class that a listing says.
 
-ghost use Rattle.std.specs.Prelude.{◌≡◌, ◌++◌, ◌<◌, ◌^◌, OnOk, IfOk, map, length, bit_or, if◌then◌else◌};
+ghost use Rattle.std.specs.Prelude.{◌≡◌, ◌++◌, ◌<◌, OnOk, IfOk, map, if◌then◌else◌};
 ghost use Rattle.std.specs.List.{flat_map};
 ghost use Rattle.asm_pool.specs.Entries.{Class, Utf8};
 ghost use Rattle.asm_lines.specs.Firsts.{with_faults, unless};

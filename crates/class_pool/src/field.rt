@@ -1,6 +1,5 @@
 //! Fields of the input at a place. Each call answers the field and the place after it.
 
-ghost use Rattle.std.specs.Prelude.{◌≡◌, ◌≤◌, take, drop, length};
 ghost use Rattle.class_pool.specs.Reading.{Answers, unread, field_at, number_at, signed_at, counted_at, indexes_at, handle_at};
 
 use crate::fault::PoolFault;

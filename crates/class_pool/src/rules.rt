@@ -1,6 +1,6 @@
 //! The rules on a pool's entries, as tests.
 
-ghost use Rattle.std.specs.Prelude.{◌≡◌, ◌↔◌, IsTrue, All};
+ghost use Rattle.std.specs.Prelude.{◌↔◌, IsTrue, All};
 ghost use Rattle.class_pool.specs.Entry.{HasText};
 ghost use Rattle.class_pool.specs.View.{entry_of};
 ghost use Rattle.class_pool.specs.Text.{HasTexts};

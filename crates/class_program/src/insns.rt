@@ -1,5 +1,5 @@
 //! The instructions of a method, each found by its place.
-ghost use Rattle.std.specs.Prelude.{◌≡◌, length, IsTrue};
+ghost use Rattle.std.specs.Prelude.{◌≡◌, IsTrue};
 ghost use Rattle.std.specs.Option.{option_map};
 ghost use Rattle.class_program.specs.Instructions.{instruction_at, is_placed, at_seen, place_of, nth_at};
 

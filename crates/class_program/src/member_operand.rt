@@ -1,5 +1,4 @@
 //! Members that instructions name (JVM specification, section 4.4.2).
-ghost use Rattle.std.specs.Prelude.{◌≡◌};
 ghost use Rattle.class_program.specs.Ops.{member_operand};
 ghost use Rattle.class_program.specs.Reads.{member_seen};
 ghost use Rattle.class_program.specs.Refusals.{Gives};

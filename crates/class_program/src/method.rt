@@ -1,9 +1,8 @@
 //! One method: what it is once its names are resolved, or the first rule that it breaks.
 ghost use Rattle.class_world.specs.Worlds.{classes_of};
-ghost use Rattle.std.specs.Prelude.{◌≡◌, ◌≢◌, ◌⊎◌, ◌<◌, ◌^◌, length, map, Some, IfOk, IsTrue};
+ghost use Rattle.std.specs.Prelude.{◌≡◌, ◌≢◌, ◌⊎◌, ◌<◌, ◌^◌, length, Some, IfOk, IsTrue};
 ghost use Rattle.class_world.specs.declared.fault.LinkFault.TheVariants.{Code, Memory};
 ghost use Rattle.code_forms.specs.declared.fault.CodeFault.TheVariants as faults;
-ghost use Rattle.std.specs.Option.{option_map_or};
 ghost use Rattle.code_decode.specs.Codes.{decode_of};
 ghost use Rattle.class_read.specs.Rules.{name_of};
 ghost use Rattle.class_read.specs.Content.{MethodContent};

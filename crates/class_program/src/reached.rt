@@ -1,5 +1,5 @@
 //! Methods by number, found through an index.
-ghost use Rattle.std.specs.Prelude.{◌≡◌, ◌≤◌, ◌^◌, ◌-◌, [], length, position, slice_get, IfOk, OnOk, option_copied};
+ghost use Rattle.std.specs.Prelude.{◌≡◌, ◌≤◌, ◌-◌, [], length, position, slice_get, OnOk};
 ghost use Rattle.class_program.specs.Reached.{same_method, with_one};
 
 use class_world::MethodRef;

@@ -1,7 +1,7 @@
 //! Method descriptors (JVM specification, section 4.3.3).
 ghost use Rattle.class_world.specs.Worlds.{classes_of};
-ghost use Rattle.std.specs.Prelude.{◌≡◌, length, map, IfOk};
-ghost use Rattle.std.specs.Option.{option_copied, option_map};
+ghost use Rattle.std.specs.Prelude.{◌≡◌, IfOk};
+ghost use Rattle.std.specs.Option.{option_copied};
 ghost use Rattle.class_world.specs.Descriptors.{meaning_of, known_slot};
 ghost use Rattle.class_program.specs.Refusals.{Gives};
 ghost use Rattle.class_program.specs.Signatures.{types_of, has_unsupported, first_missing_class, missing_class, is_unsupported, slots_of, returned_slot, signature, all_there, all_supported, signature_of, declared_signature};

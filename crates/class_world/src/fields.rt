@@ -1,5 +1,5 @@
 //! What the fields of objects hold.
-ghost use Rattle.std.specs.Prelude.{◌≡◌, ℕ, ◌<◌, length, IfOk, filter_map, map};
+ghost use Rattle.std.specs.Prelude.{◌≡◌, ◌<◌, length, IfOk, filter_map};
 ghost use Rattle.class_read.specs.View.{field_content};
 ghost use Rattle.class_world.specs.World.{line_of};
 ghost use Rattle.class_world.specs.Descriptors.{meaning_of, slot_of};

@@ -1,5 +1,5 @@
 //! What is above each class.
-ghost use Rattle.std.specs.Prelude.{◌≡◌, ℕ, ◌<◌, [], length, All, IfOk, OnOk};
+ghost use Rattle.std.specs.Prelude.{◌≡◌, ◌<◌, [], length, All, IfOk, OnOk};
 ghost use Rattle.class_world.specs.Once.{supers_once};
 ghost use Rattle.class_world.specs.Tables.{above_table, values_to};
 ghost use Rattle.class_world.specs.Marking.{marks_after, todo_after, listed_at, IsRow, IsClosed};

@@ -1,5 +1,5 @@
 //! What a world knows of each class's members beforehand.
-ghost use Rattle.std.specs.Prelude.{◌≡◌, ℕ, ◌+◌, ◌<◌, [], length, IfOk, OnOk, IsTrue, map};
+ghost use Rattle.std.specs.Prelude.{◌≡◌, ◌+◌, ◌<◌, [], length, IfOk, OnOk, IsTrue, map};
 ghost use Rattle.std.specs.List.{list_any, list_all, AllByRecursion};
 ghost use Rattle.class_read.specs.View.{field_content, method_content};
 ghost use Rattle.std.specs.Option.{option_len};

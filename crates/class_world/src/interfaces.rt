@@ -1,5 +1,5 @@
 //! The superinterfaces of classes, in the order in which members are sought in them.
-ghost use Rattle.std.specs.Prelude.{◌≡◌, ℕ, ◌<◌, ◌++◌, length, reverse, IfOk, OnOk, IsTrue};
+ghost use Rattle.std.specs.Prelude.{◌≡◌, ◌<◌, ◌++◌, length, reverse, IfOk, OnOk, IsTrue};
 ghost use Rattle.std.specs.List.{flat_map};
 ghost use Rattle.class_world.specs.World.{line_of};
 ghost use Rattle.class_world.specs.declared.resolve.Wanted.TheVariants.{Method};

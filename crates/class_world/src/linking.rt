@@ -1,5 +1,5 @@
 //! The rules that the classes of a world keep.
-ghost use Rattle.std.specs.Prelude.{◌≡◌, ℕ, ◌<◌, false, not, length, map};
+ghost use Rattle.std.specs.Prelude.{◌≡◌, ◌<◌, false, not, length, map};
 ghost use Rattle.std.specs.Option.{option_map_or};
 ghost use Rattle.std.specs.List.{list_any};
 ghost use Rattle.class_world.specs.World.{is_above, is_interface_class, super_of, interfaces_of};

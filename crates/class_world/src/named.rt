@@ -1,5 +1,5 @@
 //! What classes name, found by name: used once, when the tables of numbers are made.
-ghost use Rattle.std.specs.Prelude.{◌≡◌, ℕ, ◌<◌, ◌^◌, length, IfOk, filter_map};
+ghost use Rattle.std.specs.Prelude.{◌≡◌, ◌<◌, ◌^◌, length, IfOk, filter_map};
 ghost use Rattle.class_world.specs.World.{class_of, super_of, interfaces_of};
 ghost use Rattle.class_world.specs.Linking.{Refuses, first_broken, duplicate_class};
 ghost use Rattle.class_world.specs.Once.{once, interfaces_once};

@@ -1,6 +1,6 @@
 //! The places of fields in objects.
-ghost use Rattle.std.specs.Prelude.{◌≡◌, ℕ, ◌<◌, ◌≤◌, ◌+◌, ◌^◌, length, slice_get, IfSome};
-ghost use Rattle.std.specs.Option.{option_map, option_map_or};
+ghost use Rattle.std.specs.Prelude.{◌≡◌, ◌<◌, ◌+◌, length, slice_get, IfSome};
+ghost use Rattle.std.specs.Option.{option_map};
 ghost use Rattle.class_read.specs.View.{field_content};
 ghost use Rattle.class_world.specs.Resolve.{field_at, field_place, slots_above, own_slots_before};
 

@@ -1,11 +1,10 @@
 //! Resolution: the members that a class, a name and a descriptor stand for.
-ghost use Rattle.std.specs.Prelude.{◌≡◌, ℕ, ◌<◌, ◌++◌, false, length, slice_get, option_and_then, IfSome};
+ghost use Rattle.std.specs.Prelude.{◌≡◌, ◌<◌, false, IfSome};
 ghost use Rattle.std.specs.List.{find};
 ghost use Rattle.std.specs.Option.{option_map, option_map_or};
 ghost use Rattle.class_read.specs.View.{method_content};
 ghost use Rattle.class_world.specs.World.{line_of};
-ghost use Rattle.class_world.specs.Fields.{field_slot};
-ghost use Rattle.class_world.specs.Resolve.{first_found, declared_field, is_static_field, found_field, resolve_field, field_at, field_place, method_ref, resolve_method, superinterfaces_of, method_at, is_initialised, first_static_init};
+ghost use Rattle.class_world.specs.Resolve.{first_found, declared_field, is_static_field, found_field, resolve_field, field_at, method_ref, resolve_method, method_at, is_initialised, first_static_init};
 ghost use Rattle.class_world.specs.Select.{is_selectable, selectable_method};
 ghost use Rattle.class_world.specs.Seeking.{place_in};
 

@@ -1,5 +1,5 @@
 //! The classes of a world with the index of their names, and what they extend and implement by numbers.
-ghost use Rattle.std.specs.Prelude.{◌≡◌, ℕ, ◌<◌, ◌^◌, length, slice_get, IfOk};
+ghost use Rattle.std.specs.Prelude.{◌≡◌, ◌<◌, ◌^◌, length, slice_get, IfOk};
 ghost use Rattle.std.specs.Option.{option_map};
 ghost use Rattle.class_world.specs.Fields.{can_be_made};
 ghost use Rattle.class_world.specs.World.{class_of, super_of, is_interface_class};

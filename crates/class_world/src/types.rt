@@ -1,9 +1,9 @@
 //! The types of a world.
-ghost use Rattle.std.specs.Prelude.{◌≡◌, ◌&&◌, ◌==◌, ℕ, ◌<◌, Bool, List, length, slice_get};
+ghost use Rattle.std.specs.Prelude.{◌≡◌, ◌&&◌, ◌==◌, ◌<◌, length};
 ghost use Rattle.jvm_values.specs.declared.types.Ty.{Ty};
 ghost use Rattle.jvm_values.specs.declared.types.Slot.{Slot};
 ghost use Rattle.class_world.specs.World.{is_interface_class, is_above};
-ghost use Rattle.class_world.specs.Types.{Sub, is_sub, is_sub_by, erase, is_reference, is_same_kind, is_base_below, is_object, is_class_below, erased_base};
+ghost use Rattle.class_world.specs.Types.{is_sub, is_sub_by, erase, is_reference, is_same_kind, is_object, is_class_below, erased_base};
 ghost use Rattle.class_world.specs.Fields.{fields_of, can_be_made};
 
 use crate::world::World;

@@ -1,5 +1,5 @@
 //! Worlds: linked classes.
-ghost use Rattle.std.specs.Prelude.{◌≡◌, ℕ, ◌+◌, ◌-◌, ◌<◌, ◌≤◌, ◌^◌, length, slice_get, IfOk, IfSome, IsTrue};
+ghost use Rattle.std.specs.Prelude.{◌≡◌, ◌+◌, ◌-◌, ◌<◌, ◌≤◌, ◌^◌, length, slice_get, IfOk, IfSome, IsTrue};
 ghost use Rattle.class_world.specs.World.{world_of, class_of, is_above};
 ghost use Rattle.class_world.specs.Linking.{Refuses, CanBeRead, has_few_members, has_short_codes, is_linked, link_fault, later_fault};
 ghost use Rattle.std.specs.List.{list_all, AllByRecursion};

@@ -1,7 +1,7 @@
 //! Operands on the stack: whether they are what is asked for.
 ghost use Rattle.class_world.specs.Worlds.{classes_of};
 ghost use Rattle.class_world.specs.WorldTypes.{types_of};
-ghost use Rattle.std.specs.Prelude.{◌≡◌, [], ◌∷◌, Some, None, MatchBool, IsTrue, map, reverse, slice_get};
+ghost use Rattle.std.specs.Prelude.{◌≡◌, [], ◌∷◌, Some, None, MatchBool, map, reverse};
 ghost use Rattle.std.specs.Option.{is_some};
 ghost use Rattle.jvm_values.specs.Joins.{item_of};
 ghost use Rattle.code_verify.specs.Operands.{is_for, is_base_for, is_int, is_reference, is_below, is_array, is_numbers, is_references, fits, want_of, place_of, item_place};

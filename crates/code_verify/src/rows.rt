@@ -7,9 +7,8 @@ ghost use Rattle.std.specs.Option.{option_map};
 ghost use Rattle.jvm_values.specs.States.{types_of as seen};
 ghost use Rattle.jvm_values.specs.Subtyping.{class_type, array_of};
 ghost use Rattle.class_program.specs.Views.{program_of};
-ghost use Rattle.op_forms.specs.Forms.{form_seen};
 ghost use Rattle.code_verify.specs.Operands.{place_of, want_of};
-ghost use Rattle.code_verify.specs.Rows.{taken, acted, with_result, iload_types, aload_types, istore_types, astore_types, iinc_types, shuffle_types, aaload_types, is_constructor, special_receiver, argument_wants, called, ireturn_types, areturn_types, return_types, static_slot, getstatic_types, putstatic_types, types_after};
+ghost use Rattle.code_verify.specs.Rows.{taken, acted, with_result, iload_types, aload_types, istore_types, astore_types, iinc_types, aaload_types, is_constructor, special_receiver, argument_wants, called, ireturn_types, areturn_types, static_slot, getstatic_types, putstatic_types};
 
 use crate::operands::{
     is_int, is_reference, item_place, place_of, take, take_all, take_arguments, want_of,

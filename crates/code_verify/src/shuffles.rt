@@ -1,5 +1,5 @@
 //! Reorderings of the operand stack's types (JVM specification, section 6.5, pop to swap). Every value has one word.
-ghost use Rattle.std.specs.Prelude.{◌≡◌, ◌∷◌, List, Some, None, IfOk, OnOk, MatchBool, MatchOption};
+ghost use Rattle.std.specs.Prelude.{◌≡◌, ◌∷◌, Some, None, IfOk, OnOk, MatchBool, MatchOption};
 ghost use Rattle.op_forms.specs.declared.form.Shuffle.TheVariants.{Pop, Pop2, Dup, DupX1, DupX2, Dup2, Dup2X1, Dup2X2, Swap};
 ghost use Rattle.op_forms.specs.Forms.{shuffled};
 

@@ -1,5 +1,5 @@
 //! The check of a proof.
-ghost use Rattle.std.specs.Prelude.{◌≡◌, ◌≤◌, ℕ, List, Option, Some, None, OnOk, All, length, slice_get};
+ghost use Rattle.std.specs.Prelude.{◌≡◌, ◌≤◌, ℕ, Option, Some, None, OnOk, length, slice_get};
 ghost use Rattle.lin_core.specs.Sums.{variables};
 ghost use Rattle.descent.specs.declared.faults.StepFault.{StepFault};
 ghost use Rattle.descent.specs.Chains.{ChainsEnd, NoInfiniteChain};

@@ -1,12 +1,12 @@
 //! What is to be shown of a form on a rule.
-ghost use Rattle.std.specs.Prelude.{◌≡◌, ◌≤◌, ◌-ℤ◌, ◌+ℤ◌, ◌^◌, ℕ, ℤ, pos, negsuc, true, false, [], IsTrue, ◌↔◌, ◌&&◌, ◌++◌, None, Some, OnOk, MatchResult, unsigned_abs, if◌then◌else◌};
+ghost use Rattle.std.specs.Prelude.{◌≡◌, ◌≤◌, ◌-ℤ◌, ◌^◌, ℤ, pos, negsuc, true, false, [], IsTrue, ◌↔◌, ◌&&◌, None, Some, OnOk, MatchResult, unsigned_abs, if◌then◌else◌};
 ghost use Rattle.std.specs.Result.{result_err};
 ghost use Rattle.lin_core.specs.Combination.{Shows, IsSumOf, first_fault};
 ghost use Rattle.lin_core.specs.Sums.{variables, IsWithin};
 ghost use Rattle.lin_core.specs.Weights.{AreWeights, weight_in, rows_under};
-ghost use Rattle.descent.specs.Conditions.{AreForms, AreFew, AreMultiples, AreSlots, IsRule};
+ghost use Rattle.descent.specs.Conditions.{AreForms, AreFew, AreSlots, IsRule};
 ghost use Rattle.descent.specs.Lines.{AddsLine};
-ghost use Rattle.descent.specs.Rankings.{Ranking, weigh_of, form_at, ints_of, sizes_of, base_of, entry_terms, entry_constant, is_taken, takes_start, takes_end, line_of, beyond_base, start_of, fall_of, minus_one, need, refuses, dead_fault};
+ghost use Rattle.descent.specs.Rankings.{Ranking, weigh_of, form_at, ints_of, sizes_of, base_of, is_taken, takes_start, takes_end, line_of, beyond_base, start_of, fall_of, need, refuses, dead_fault};
 
 use crate::faults::DescentFault;
 use crate::proof::CutForm;

@@ -1,5 +1,5 @@
 //! Orders: forms of cuts with values that rules may lower.
-ghost use Rattle.std.specs.Prelude.{◌≡◌, ◌≤◌, ◌-ℤ◌, ◌^◌, ℕ, ℤ, pos, true, false, [], List, Option, IsTrue, ◌↔◌, ◌&&◌};
+ghost use Rattle.std.specs.Prelude.{◌≡◌, ◌≤◌, true, false, []};
 ghost use Rattle.std.specs.Result.{result_err};
 ghost use Rattle.lin_core.specs.Sums.{variables};
 ghost use Rattle.lin_core.specs.Weights.{AreWeights};

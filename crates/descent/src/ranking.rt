@@ -1,10 +1,9 @@
 //! What both orders rank by: forms of cuts, the weights of classes, and whether sizes count.
-ghost use Rattle.std.specs.Prelude.{◌≡◌, ℕ, ◌≤◌, ◌<◌, ◌^◌, ◌+ℤ◌, ◌-ℤ◌, ◌*ℤ◌, ℤ, pos, negsuc, Bool, true, false, None, Some, MatchOption, IsTrue, ◌↔◌, unsigned_abs, if◌then◌else◌};
-ghost use Rattle.lin_core.specs.Rows.{Rise};
+ghost use Rattle.std.specs.Prelude.{◌≡◌, ℕ, ◌≤◌, ◌<◌, ◌^◌, ◌*ℤ◌, ℤ, pos, negsuc, true, false, None, Some, MatchOption, unsigned_abs, if◌then◌else◌};
 ghost use Rattle.lin_core.specs.Sums.{variables, IsWithin};
 ghost use Rattle.lin_core.specs.Weights.{AreWeights, weight_in};
-ghost use Rattle.descent.specs.Conditions.{AreForms, AreMultiples, AreSlots, IsSlot};
-ghost use Rattle.descent.specs.Rankings.{form_at, slot_at, is_slot_of, ints_of, sizes_of, base_of, have_slots, entry_terms, entry_constant, is_taken};
+ghost use Rattle.descent.specs.Conditions.{AreMultiples, AreSlots, IsSlot};
+ghost use Rattle.descent.specs.Rankings.{form_at, slot_at, is_slot_of, have_slots, entry_terms, entry_constant};
 ghost use Rattle.descent.specs.Lines.{AddsLine};
 ghost use Rattle.descent.specs.Valuations.{slot_constant};
 

@@ -1,6 +1,5 @@
 //! The class files of a case, and the world that they give.
-ghost use Rattle.std.specs.Prelude.{◌≡◌, ◌<◌, ◌≤◌, length, IfOk};
-ghost use Rattle.std.specs.List.{AllByRecursion};
+ghost use Rattle.std.specs.Prelude.{◌<◌, IfOk};
 ghost use Rattle.class_world.specs.Linking.{CanBeRead};
 ghost use Rattle.entry_cases.specs.ReadClasses.{AreRead};
 

@@ -1,5 +1,5 @@
 //! The entry method and the class files of a case, and the program that they give.
-ghost use Rattle.std.specs.Prelude.{◌≡◌, ◌<◌, ◌≤◌, length};
+ghost use Rattle.std.specs.Prelude.{◌<◌, ◌≤◌};
 
 use crate::classes::{class_files, link};
 use anyhow::{Context, Result, bail};

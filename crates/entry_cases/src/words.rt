@@ -1,5 +1,5 @@
 //! Names of classes and methods in words.
-ghost use Rattle.std.specs.Prelude.{◌≡◌, ◌<◌, length};
+ghost use Rattle.std.specs.Prelude.{◌<◌};
 
 use class_program::{Method, Program};
 use class_world::World;

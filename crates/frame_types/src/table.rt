@@ -4,7 +4,6 @@ ghost use Rattle.std.specs.Option.{option_map};
 ghost use Rattle.jvm_values.specs.TypedHeaps.{world_types};
 ghost use Rattle.jvm_values.specs.States.{types_of};
 ghost use Rattle.frame_types.specs.Places.{IsProper};
-ghost use Rattle.frame_types.specs.Tables.{types_at};
 ghost use Rattle.frame_types.specs.Growth.{IsComing, IsTable, IsGrown, AreRefused, IsRoomier, waits};
 
 use crate::copies::copy_of;

@@ -1,5 +1,5 @@
 //! What a graph grows by.
-ghost use Rattle.std.specs.Prelude.{◌≡◌, Bool, List};
+ghost use Rattle.std.specs.Prelude.{◌≡◌};
 ghost use Rattle.abs_cells.specs.AbstractStates.{AbstractState};
 ghost use Rattle.graph_build.specs.Rules.{GrowthRules, HaveSamePositions};
 ghost use Rattle.graph_build.specs.Growing.{GrowsOr, MatchesOr, WidensOr};

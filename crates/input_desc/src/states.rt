@@ -3,7 +3,7 @@ ghost use Rattle.std.specs.Prelude.{◌≡◌, ◌++◌, IfOk, map, length};
 ghost use Rattle.class_world.specs.Worlds.{classes_of};
 ghost use Rattle.class_world.specs.WorldTypes.{types_of};
 ghost use Rattle.class_program.specs.Views.{program_of};
-ghost use Rattle.input_desc.specs.Given.{statics_of, static_values};
+ghost use Rattle.input_desc.specs.Given.{static_values};
 ghost use Rattle.input_desc.specs.Typed.{object_of};
 ghost use Rattle.input_desc.specs.States.{Gives, GivesState, IsTypedInput, fault_of, value_fault};
 

@@ -1,5 +1,5 @@
 //! Class files, read in the order of their words, and the world that they make.
-ghost use Rattle.std.specs.Prelude.{◌≡◌, ◌≤◌, length, map, None, IfOk, IfErr};
+ghost use Rattle.std.specs.Prelude.{◌≡◌, ◌≤◌, length, map, IfOk, IfErr};
 ghost use Rattle.std.specs.List.{AllByRecursion};
 ghost use Rattle.class_read.specs.Rules.{Spells};
 ghost use Rattle.class_world.specs.Worlds.{classes_of};

@@ -1,5 +1,5 @@
 //! Descriptions.
-ghost use Rattle.std.specs.Prelude.{◌≡◌, ◌<◌, ℤ, codes};
+ghost use Rattle.std.specs.Prelude.{◌≡◌, ◌<◌, codes};
 ghost use Rattle.json_view.specs.Located.{located};
 ghost use Rattle.input_text.specs.Answers.{Says, AnswersText};
 ghost use Rattle.input_text.specs.Fields.{field, an_int};

@@ -1,5 +1,4 @@
 //! Readers of single values and fields.
-ghost use Rattle.std.specs.Prelude.{codes};
 ghost use Rattle.json_view.specs.Located.{located};
 ghost use Rattle.json_view.specs.Reading.{text_of};
 ghost use Rattle.input_text.specs.Answers.{Says};

@@ -1,5 +1,5 @@
 //! States.
-ghost use Rattle.std.specs.Prelude.{◌≡◌, ℤ};
+ghost use Rattle.std.specs.Prelude.{◌≡◌};
 ghost use Rattle.json_view.specs.Located.{located};
 ghost use Rattle.input_text.specs.Answers.{Says, AnswersText};
 ghost use Rattle.input_text.specs.States.{state_names, static_values, state_end, state_fields, state_of};

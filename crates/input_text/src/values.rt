@@ -1,5 +1,5 @@
 //! Values of states.
-ghost use Rattle.std.specs.Prelude.{◌≡◌, ℤ, codes, is_some, Err, false};
+ghost use Rattle.std.specs.Prelude.{◌≡◌, ℤ, is_some, Err, false};
 ghost use Rattle.serde_json.specs.Find.{as_null};
 ghost use Rattle.input_text.specs.Fields.{an_int};
 ghost use Rattle.json_view.specs.Located.{located};

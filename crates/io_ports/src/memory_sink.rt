@@ -1,5 +1,5 @@
 //! A sink in memory, with room for so many bytes, that fails where it is told to.
-ghost use Rattle.std.specs.Prelude.{◌≡◌, ◌≤◌, [], vec_len, vec_capacity, IfOk, is_ok};
+ghost use Rattle.std.specs.Prelude.{◌≡◌, ◌≤◌, [], vec_capacity, IfOk, is_ok};
 
 use crate::{Sink, SinkFault};
 use std::alloc::{AllocError, Global};

@@ -1,7 +1,7 @@
 //! Whether a cycle lies in the region of a value.
-ghost use Rattle.std.specs.Prelude.{◌≡◌, ◌<◌, ◌↔◌, ◌∷◌, true, length, All, OnOk, IfOk};
+ghost use Rattle.std.specs.Prelude.{◌≡◌, ◌<◌, ◌↔◌, ◌∷◌, true, length, OnOk, IfOk};
 ghost use Rattle.jvm_values.specs.Paths.{IsDagFrom};
-ghost use Rattle.jvm_values.specs.Heaps.{heap_steps, values_of, IsInHeap, IsClosed, IsDag};
+ghost use Rattle.jvm_values.specs.Heaps.{heap_steps, IsInHeap, IsClosed, IsDag};
 ghost use Rattle.jvm_heaps.specs.declared.dags.Turn.TheVariants.{Leave};
 ghost use Rattle.jvm_heaps.specs.Searches.{place_of, enter_after, all_enter, values_in, turned, goes_on};
 

@@ -1,7 +1,7 @@
 //! Marking the objects that a value reaches.
-ghost use Rattle.std.specs.Prelude.{◌≡◌, ◌<◌, ◌↔◌, ℕ, length, All, OnOk, IfOk, slice_index_or};
+ghost use Rattle.std.specs.Prelude.{◌≡◌, ◌<◌, ◌↔◌, ℕ, length, All, OnOk, IfOk};
 ghost use Rattle.jvm_values.specs.declared.heap.Value.TheVariants.{Ref};
-ghost use Rattle.jvm_values.specs.Heaps.{target, values_of, Region, IsInHeap, IsClosed};
+ghost use Rattle.jvm_values.specs.Heaps.{values_of, Region, IsInHeap, IsClosed};
 ghost use Rattle.jvm_heaps.specs.Marks.{marks_after, todo_after, all_marks, all_todo, IsMarked};
 
 use jvm_values::{Heap, Object, Value};

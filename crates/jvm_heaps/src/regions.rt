@@ -1,5 +1,5 @@
 //! The region of a value.
-ghost use Rattle.std.specs.Prelude.{◌≡◌, ◌<◌, ◌^◌, ℕ, length, vec_len, OnOk, IfOk};
+ghost use Rattle.std.specs.Prelude.{◌≡◌, ◌<◌, ◌^◌, length, IfOk};
 ghost use Rattle.jvm_values.specs.Heaps.{IsInHeap, IsClosed};
 ghost use Rattle.jvm_heaps.specs.Regions.{IsRegion, marked_from};
 

@@ -1,6 +1,6 @@
 //! Calls.
-ghost use Rattle.std.specs.Prelude.{◌≡◌, ◌+◌, ℕ, Some, IfSome, length, drop};
-ghost use Rattle.std.specs.Option.{option_map, option_map_or};
+ghost use Rattle.std.specs.Prelude.{◌≡◌, ◌+◌, ℕ, Some, IfSome, drop};
+ghost use Rattle.std.specs.Option.{option_map};
 ghost use Rattle.jvm_values.specs.declared.heap.Heap.{Heap};
 ghost use Rattle.jvm_values.specs.States.{frame_of};
 ghost use Rattle.jvm_values.specs.TypedHeaps.{WorldTypes};
@@ -11,7 +11,7 @@ ghost use Rattle.class_program.specs.Selected.{selected_at, can_receive_at};
 ghost use Rattle.class_program.specs.Views.{program_of};
 ghost use Rattle.jvm_step.specs.Acts.{Acts};
 ghost use Rattle.jvm_step.specs.Operands.{top_reference};
-ghost use Rattle.jvm_step.specs.Effects.{class_of_object, selected_effect, answer_of, invokestatic_effect, invokespecial_effect, selecting_effect};
+ghost use Rattle.jvm_step.specs.Effects.{class_of_object, answer_of, invokestatic_effect, invokespecial_effect, selecting_effect};
 
 use crate::after::After;
 use crate::built_ins::{

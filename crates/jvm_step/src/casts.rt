@@ -1,8 +1,8 @@
 //! Instructions that ask for the type of an object.
-ghost use Rattle.std.specs.Prelude.{◌≡◌, ◌+◌, ◌<◌, ◌≤◌, true, false, length, pos, if◌then◌else◌};
+ghost use Rattle.std.specs.Prelude.{◌≡◌, ◌<◌, true, false, length, pos, if◌then◌else◌};
 ghost use Rattle.std.specs.Option.{option_map};
 ghost use Rattle.jvm_values.specs.States.{frame_of};
-ghost use Rattle.jvm_values.specs.TypedHeaps.{WorldTypes, world_types};
+ghost use Rattle.jvm_values.specs.TypedHeaps.{world_types};
 ghost use Rattle.jvm_step.specs.Acts.{Acts};
 ghost use Rattle.jvm_step.specs.Operands.{is_null_or_below, is_below};
 ghost use Rattle.jvm_step.specs.Effects.{references_in, checkcast_effect, instanceof_effect, aastore_effect};

@@ -1,5 +1,5 @@
 //! Frames of methods that begin.
-ghost use Rattle.std.specs.Prelude.{◌≡◌, ◌-◌, ◌++◌, ◌≤◌, map, reverse, take, replicate, Some, None, OnOk, IfOk};
+ghost use Rattle.std.specs.Prelude.{◌≡◌, ◌-◌, ◌++◌, map, reverse, take, replicate, Some, None, OnOk, IfOk};
 ghost use Rattle.jvm_values.specs.States.{frame_of, locals_from};
 ghost use Rattle.jvm_step.specs.Running.{new_frame};
 

@@ -1,11 +1,10 @@
 //! Instructions that change their frame alone.
-ghost use Rattle.std.specs.Prelude.{◌≡◌, ◌+◌, ◌-ℤ◌, ◌<◌, ◌≤◌, length, true, false, OnErr, pos};
-ghost use Rattle.std.specs.Option.{option_map};
+ghost use Rattle.std.specs.Prelude.{◌≡◌, ◌-ℤ◌, ◌<◌, ◌≤◌, length, true, false, OnErr};
 ghost use Rattle.jvm_values.specs.declared.heap.Value.TheVariants as values;
 ghost use Rattle.jvm_values.specs.States.{frame_of};
 ghost use Rattle.jvm_step.specs.Acts.{Acts, Tries};
 ghost use Rattle.jvm_step.specs.Operands.{same_reference, is_null};
-ghost use Rattle.jvm_step.specs.Effects.{is_wanted, target_at, int_of_local, reference_of_local, constant_effect, iload_effect, aload_effect, istore_effect, astore_effect, iinc_effect, arith_effect, ineg_effect, narrow_effect, if_effect, if_icmp_effect, if_acmp_effect, if_null_effect, goto_effect, target_of, tableswitch_effect, lookupswitch_effect};
+ghost use Rattle.jvm_step.specs.Effects.{target_at, int_of_local, reference_of_local, constant_effect, iload_effect, aload_effect, istore_effect, astore_effect, iinc_effect, arith_effect, ineg_effect, narrow_effect, if_effect, if_icmp_effect, if_acmp_effect, if_null_effect, goto_effect, target_of, tableswitch_effect, lookupswitch_effect};
 
 use crate::after::After;
 use crate::built_ins::ARITHMETIC_EXCEPTION;

@@ -1,6 +1,5 @@
 //! Instructions that leave their frame: throws and returns.
-ghost use Rattle.std.specs.Prelude.{◌≡◌, ◌+◌, Option};
-ghost use Rattle.std.specs.Option.{option_map};
+ghost use Rattle.std.specs.Prelude.{Option};
 ghost use Rattle.jvm_values.specs.declared.heap.Heap.{Heap};
 ghost use Rattle.jvm_values.specs.declared.types.Slot.{Slot};
 ghost use Rattle.jvm_values.specs.States.{frame_of};

@@ -1,5 +1,5 @@
 //! Instructions that make objects.
-ghost use Rattle.std.specs.Prelude.{◌≡◌, ◌+◌, ◌<◌, ◌≤◌, ◌^◌, ◌++◌, ◌∷◌, [], length, replicate, drop, pos, OnErr, IfOk, Some};
+ghost use Rattle.std.specs.Prelude.{◌≡◌, ◌<◌, ◌≤◌, length, replicate, drop, pos, IfOk, Some};
 ghost use Rattle.jvm_values.specs.States.{frame_of};
 ghost use Rattle.jvm_values.specs.declared.heap.Value.TheVariants as values;
 ghost use Rattle.jvm_values.specs.declared.types.Base.TheVariants as bases;

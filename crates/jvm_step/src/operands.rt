@@ -1,5 +1,5 @@
 //! Operands on a stack.
-ghost use Rattle.std.specs.Prelude.{◌≡◌, ◌+◌, ◌<◌, ◌≤◌, ◌∷◌, length, drop, OnErr, IfSome};
+ghost use Rattle.std.specs.Prelude.{◌≡◌, ◌+◌, ◌<◌, ◌≤◌, ◌∷◌, length, drop};
 ghost use Rattle.std.specs.Option.{option_map};
 ghost use Rattle.jvm_step.specs.Operands.{int_of, reference_of, top, top_int, top_reference};
 

@@ -1,6 +1,5 @@
 //! Reorderings of the operand stack.
 ghost use Rattle.std.specs.Prelude.{◌≡◌, ◌+◌, ◌<◌, ◌≤◌, ◌∷◌, List, Some, length, slice_set, MatchResult, OnErr};
-ghost use Rattle.std.specs.Option.{option_map};
 ghost use Rattle.jvm_values.specs.States.{frame_of};
 ghost use Rattle.jvm_step.specs.Acts.{Acts, Tries};
 ghost use Rattle.jvm_step.specs.Operands.{top};

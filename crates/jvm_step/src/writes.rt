@@ -1,12 +1,12 @@
 //! Instructions that write to objects or to static fields.
-ghost use Rattle.std.specs.Prelude.{◌≡◌, ◌+◌, ◌<◌, ◌≤◌, length, true, false, slice_set, slice_get, IfSome};
+ghost use Rattle.std.specs.Prelude.{◌≡◌, ◌<◌, length, slice_set, IfSome};
 ghost use Rattle.std.specs.Option.{option_map};
 ghost use Rattle.jvm_values.specs.States.{frame_of};
 ghost use Rattle.jvm_values.specs.TypedHeaps.{WorldTypes};
 ghost use Rattle.jvm_values.specs.Writes.{with_value};
-ghost use Rattle.jvm_step.specs.Acts.{Acts, Tries, with_number_in, with_number_of};
+ghost use Rattle.jvm_step.specs.Acts.{Acts, with_number_in, with_number_of};
 ghost use Rattle.jvm_step.specs.Operands.{object_at, kept};
-ghost use Rattle.jvm_step.specs.Effects.{with_item, numbers_in, index_below, putfield_effect, putstatic_effect, number_store_effect, aastore_effect};
+ghost use Rattle.jvm_step.specs.Effects.{with_item, numbers_in, index_below, putfield_effect, putstatic_effect, number_store_effect};
 
 use crate::after::After;
 use crate::built_ins::{ARRAY_INDEX_OUT_OF_BOUNDS_EXCEPTION, NULL_POINTER_EXCEPTION};

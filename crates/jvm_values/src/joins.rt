@@ -1,6 +1,6 @@
 //! The join of two reference types.
-ghost use Rattle.std.specs.Prelude.{◌≡◌, ◌<◌, ◌-◌, ◌↔◌, ℕ, IsTrue, MatchOption, None, Some};
-ghost use Rattle.jvm_values.specs.Subtyping.{IsReference, class_type, object_type, array_of};
+ghost use Rattle.std.specs.Prelude.{◌≡◌, ◌<◌, ◌-◌, ◌↔◌, IsTrue, None, Some};
+ghost use Rattle.jvm_values.specs.Subtyping.{IsReference};
 ghost use Rattle.jvm_values.specs.Joins.{IsErasedAbove, IsJoin, AreApart, item_of};
 
 use crate::types::{Base, Ty};

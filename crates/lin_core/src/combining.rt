@@ -1,10 +1,10 @@
 //! The sum of rows by multipliers.
-ghost use Rattle.std.specs.Prelude.{◌≡◌, ◌≤◌, ◌^◌, ◌↔◌, ◌<◌, ◌≤ℤ◌, ℕ, ℤ, pos, length, IsTrue, OnOk, OnErr, unsigned_abs, slice_get, unsigned_abs};
+ghost use Rattle.std.specs.Prelude.{◌≡◌, ◌≤◌, ◌^◌, ◌<◌, ◌≤ℤ◌, ℕ, ℤ, pos, length, OnOk, OnErr, unsigned_abs, unsigned_abs};
 ghost use Rattle.std.specs.Result.{result_err};
-ghost use Rattle.lin_core.specs.Combination.{IsSumOf, fault_of_entry, first_fault, first_fault_from};
+ghost use Rattle.lin_core.specs.Combination.{IsSumOf, fault_of_entry, first_fault};
 ghost use Rattle.lin_core.specs.Rows.{AllHold};
 ghost use Rattle.lin_core.specs.Sums.{variables, zero_sum, value_of_sum, IsWithin};
-ghost use Rattle.lin_core.specs.Weights.{total_size, AreRows, AreWeights, IsRow, weight_in, unweighed, row_under, rows_under};
+ghost use Rattle.lin_core.specs.Weights.{total_size, AreRows, AreWeights, weight_in, unweighed, row_under, rows_under};
 
 use crate::faults::LinFault;
 use crate::rows::{RowKind, WRow};

@@ -1,7 +1,7 @@
 //! Sums of rows, in 128 bits.
-ghost use Rattle.std.specs.Prelude.{◌≡◌, ◌+◌, ◌<◌, ◌≤◌, ◌^◌, ◌≤ℤ◌, ◌+ℤ◌, ◌*ℤ◌, ℤ, ℕ, pos, IfOk, IsTrue, ◌↔◌, slice_set, length, unsigned_abs, FitsSigned, if◌then◌else◌, vec_len, count_by};
+ghost use Rattle.std.specs.Prelude.{◌≡◌, ◌+◌, ◌<◌, ◌≤◌, ◌^◌, ◌≤ℤ◌, ◌+ℤ◌, ◌*ℤ◌, ℤ, IfOk, IsTrue, ◌↔◌, slice_set, unsigned_abs, FitsSigned, if◌then◌else◌, vec_len, count_by};
 ghost use Rattle.std.specs.Int.{w128};
-ghost use Rattle.lin_core.specs.Rows.{Rise, coefficient_of};
+ghost use Rattle.lin_core.specs.Rows.{Rise};
 ghost use Rattle.lin_core.specs.Rounds.{AllBelow, AllUpTo, is_nonzero};
 ghost use Rattle.lin_core.specs.Sums.{Sum, zero_sum, variables, coefficient_in, IsWithin, Leaves};
 ghost use Rattle.lin_core.specs.Steps.{AddsMultiple};

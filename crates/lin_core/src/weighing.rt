@@ -1,7 +1,7 @@
 //! The value of multiples of class weights.
-ghost use Rattle.std.specs.Prelude.{◌≡◌, ◌≤◌, ◌*◌, ◌^◌, ◌≤ℤ◌, ◌+ℤ◌, ◌*ℤ◌, ℤ, pos, unsigned_abs};
+ghost use Rattle.std.specs.Prelude.{◌≡◌, ◌≤◌, ◌*◌, ◌^◌, ◌≤ℤ◌, ◌*ℤ◌, ℤ, pos, unsigned_abs};
 ghost use Rattle.lin_core.specs.Rows.{value_of_terms};
-ghost use Rattle.lin_core.specs.Weights.{AreWeights, IsWeight, weight_in, total_size};
+ghost use Rattle.lin_core.specs.Weights.{AreWeights, weight_in, total_size};
 
 /// The weight of a class: the first that is listed for it, and 0 where none is.
 fn weight_of(weights: &[(u32, i64)], class: u32) -> i64

@@ -1,7 +1,7 @@
 //! How faults are put into words: a name, and then each field as ` name=value`. The names in class files are bytes that
 //! need not be text, so all words are lists of bytes.
 
-ghost use Rattle.std.specs.Prelude.{◌≡◌, IfOk, map, string_bytes};
+ghost use Rattle.std.specs.Prelude.{◌≡◌, IfOk, map};
 ghost use Rattle.std.specs.Fmt.{decimal};
 ghost use Rattle.list_views.specs.FaultWords.{joined, number_field, bytes_field};
 

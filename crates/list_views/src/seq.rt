@@ -1,5 +1,5 @@
 //! A vector that contracts see as the list of its items.
-ghost use Rattle.std.specs.Prelude.{◌≡◌, ◌+◌, ◌-◌, ◌<◌, ◌≤◌, ◌==◌, List, [], ◌∷◌, ◌++◌, length, take, IfOk, IfErr, OnOk, OnErr, IfSome, MatchOption, is_ok, if◌then◌else◌, slice_index_or, slice_set};
+ghost use Rattle.std.specs.Prelude.{◌≡◌, ◌+◌, ◌-◌, ◌<◌, ◌≤◌, ◌==◌, List, [], ◌∷◌, ◌++◌, length, take, IfOk, IfErr, MatchOption, is_ok, if◌then◌else◌, slice_index_or, slice_set};
 ghost use Rattle.std.specs.Borrow.{Lends, sem};
 ghost use Rattle.std.specs.Cmp.Lexicographic.{pointwise, lists_per};
 ghost use Rattle.list_views.specs.contracts.seq.Seq.{the_row};

@@ -1,7 +1,7 @@
 //! What lists of successors lead to.
 ghost use Rattle.std.specs.Prelude.{◌≡◌, ◌≤◌, length, IfOk, OnOk, slice_index_or, false};
 ghost use Rattle.number_graphs.specs.Lists.{row_at};
-ghost use Rattle.number_graphs.specs.Marking.{Front, AreReached, come, visit, marked_count};
+ghost use Rattle.number_graphs.specs.Marking.{AreReached, come, visit, marked_count};
 
 use list_views::Seq;
 use std::alloc::{AllocError, Global};

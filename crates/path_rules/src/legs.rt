@@ -1,11 +1,11 @@
 //! The rows of a path's edges.
-ghost use Rattle.std.specs.Prelude.{◌≡◌, ◌<◌, ◌≤◌, ◌+◌, ◌^◌, ◌++◌, map, filter, length, All, OnOk, IfOk, Some, slice_get};
+ghost use Rattle.std.specs.Prelude.{◌≡◌, ◌<◌, ◌≤◌, ◌+◌, ◌^◌, ◌++◌, map, filter, length, All, OnOk, IfOk, Some};
 ghost use Rattle.std.specs.List.{flat_map};
 ghost use Rattle.abs_cells.specs.Cells.{is_int};
 ghost use Rattle.abs_reach.specs.Instances.{image_in};
 ghost use Rattle.term_graph.specs.declared.links.Link.{Link};
 ghost use Rattle.path_rules.specs.Stops.{Leg, child, leg_by};
-ghost use Rattle.path_rules.specs.Rules.{collected, has_int, ids_with, image_row, link_row, rows_of_child, rows_of_instance, rows_of_leg, tie, variable_of};
+ghost use Rattle.path_rules.specs.Rules.{collected, has_int, ids_with, image_row, link_row, rows_of_child, rows_of_leg, tie, variable_of};
 ghost use Rattle.path_rules.specs.Bare.{bare, size_of_terms, variable_by, IsSmall};
 
 use crate::stops::{has_int, variable_of};

@@ -1,5 +1,5 @@
 //! The nodes that nodes lead to, and which of them are cuts.
-ghost use Rattle.std.specs.Prelude.{◌≡◌, ◌<◌, map, All, IfOk, slice_index_or, false};
+ghost use Rattle.std.specs.Prelude.{◌≡◌, ◌<◌, map, All, IfOk, false};
 ghost use Rattle.term_graph.specs.Graphs.{successors};
 ghost use Rattle.path_rules.specs.Ways.{has_mark, AreMarks, inner_row, lists_of};
 

@@ -1,5 +1,5 @@
 //! Paths by their numbers.
-ghost use Rattle.std.specs.Prelude.{◌≡◌, ◌+◌, ◌<◌, ◌≤◌, map, slice_index_or, IfOk};
+ghost use Rattle.std.specs.Prelude.{◌≡◌, ◌+◌, ◌<◌, map, slice_index_or, IfOk};
 ghost use Rattle.number_graphs.specs.Lists.{Fall, row_at};
 ghost use Rattle.path_rules.specs.Limits.{most_paths};
 ghost use Rattle.path_rules.specs.Ways.{has_mark, count_over, counted_on, inner_row, picked, AreCounts, IsWayOf};

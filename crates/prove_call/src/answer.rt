@@ -1,8 +1,8 @@
 //! What is said of a program.
-ghost use Rattle.std.specs.Prelude.{◌≡◌, Result, Ok, Err, Some, None};
+ghost use Rattle.std.specs.Prelude.{Result, Ok, Some, None};
 ghost use Rattle.class_program.specs.Views.{program_of};
 ghost use Rattle.desc_steps.specs.Answers.{AnswersAs};
-ghost use Rattle.prove_call.specs.Lines.{yes_text, reason_text};
+ghost use Rattle.prove_call.specs.Lines.{reason_text};
 ghost use Rattle.prove_call.specs.Said.{yes_with, maybe_with, Tells};
 
 use crate::lines::reason_text;

@@ -1,5 +1,5 @@
 //! Forms of ints that may rank rules.
-ghost use Rattle.std.specs.Prelude.{◌≡◌, ◌<◌, ◌+ℤ◌, ◌*ℤ◌, ℕ, false, pos, negsuc, None, Some, IfOk, IfSome, int_le, int_lt, get_or, ◌&&◌, true, unsigned_abs};
+ghost use Rattle.std.specs.Prelude.{◌≡◌, ◌<◌, ◌+ℤ◌, ◌*ℤ◌, ℕ, false, pos, None, Some, IfOk, IfSome, get_or, ◌&&◌, true, unsigned_abs};
 ghost use Rattle.rank_search.specs.Candidates.{value_of, form_value, is_weak, is_strict, never_rises, falls, ranks_by, multiple_of, IsOneFound, IsSumFound, NoneOfPair, NoneWithOne, NoOne, NoSum, falling_form, NoFall};
 ghost use Rattle.rank_search.specs.Plain.{IsMultiple};
 

@@ -1,8 +1,8 @@
 //! The search for plain and for stepwise forms.
-ghost use Rattle.std.specs.Prelude.{◌≡◌, ◌<◌, ℕ, ℤ, List, [], ◌∷◌, Bool, false, true, None, Some, IfOk, IfSome, MatchOption, slice_get, length};
+ghost use Rattle.std.specs.Prelude.{◌≡◌, ◌<◌, false, true, None, Some, IfOk, IfSome, slice_get, length};
 ghost use Rattle.descent.specs.Conditions.{AreRules};
 ghost use Rattle.descent.specs.declared.rules.Place.{Place};
-ghost use Rattle.rank_search.specs.Plain.{LowersBy, NoPlainForm, RanksInts, RanksSize};
+ghost use Rattle.rank_search.specs.Plain.{LowersBy, NoPlainForm, RanksSize};
 ghost use Rattle.rank_search.specs.Stepwise.{NoStepwiseForm, StepwiseRanks};
 ghost use Rattle.rank_search.specs.Found.{IsTold, IsFound, NoInts, NoSize, NoSteps};
 ghost use Rattle.rule_links.specs.Searching.{IsMoved, IsTable};

@@ -1,6 +1,5 @@
 //! The rank step of an int, or of its negative, that falls step by step.
 ghost use Rattle.std.specs.Prelude.{◌≡◌, ◌∷◌, [], None, IfOk, IfSome};
-ghost use Rattle.rank_forms.specs.Following.{IsFew};
 ghost use Rattle.rank_forms.specs.Forms.{AreFollowed, TellsAll};
 ghost use Rattle.rank_forms.specs.Graphs.{ArePathRules};
 ghost use Rattle.rank_forms.specs.RankSteps.{IsRankStep};

@@ -1,12 +1,10 @@
 //! What sizes and ints fall by along rules.
-ghost use Rattle.std.specs.Prelude.{◌≡◌, ℕ, List, [], get_or, None, Some, IfOk, slice_get, false, true, if◌then◌else◌};
+ghost use Rattle.std.specs.Prelude.{◌≡◌, List, [], get_or, None, Some, IfOk, false, true, if◌then◌else◌};
 ghost use Rattle.std.specs.List.Sorted.{IsNonDecreasingBy};
 ghost use Rattle.descent.specs.Conditions.{AreRules, IsRule};
-ghost use Rattle.rule_links.specs.declared.links.Link.{Link};
 ghost use Rattle.rule_links.specs.declared.links.Tie.{Tie};
-ghost use Rattle.rule_links.specs.Links.{IsWay, total};
 ghost use Rattle.rule_links.specs.Rising.{AreRising, IsLongestTo, IsTableOf, TellAll, TellsSize, TellsSteps, TellsWays, bounded_fall, starts_bounded};
-ghost use Rattle.rule_links.specs.Searching.{InTies, IsTable};
+ghost use Rattle.rule_links.specs.Searching.{IsTable};
 
 use crate::changes::{changes_of, more_of};
 use crate::links::Tie;

@@ -1,5 +1,5 @@
 //! The variables that a variable is tied to by links, and what they have more.
-ghost use Rattle.std.specs.Prelude.{◌≡◌, ◌<◌, ◌≤◌, ◌+ℤ◌, ℕ, suc, ℤ, None, Some, IfOk, IfSome, get_or, replicate};
+ghost use Rattle.std.specs.Prelude.{◌≡◌, ◌<◌, ◌+ℤ◌, ℕ, suc, ℤ, None, Some, IfOk, IfSome, get_or, replicate};
 ghost use Rattle.rule_links.specs.declared.links.Come.{Come};
 ghost use Rattle.rule_links.specs.Searching.{IsReached, moves, step, relaxed, any_moves, by_of, span_from, AreBelow, IsFinished};
 

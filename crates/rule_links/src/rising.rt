@@ -1,5 +1,5 @@
 //! The most that variables fall by, along links to variables of greater numbers.
-ghost use Rattle.std.specs.Prelude.{◌≡◌, ◌<◌, IfOk, OnOk, All};
+ghost use Rattle.std.specs.Prelude.{◌≡◌, ◌<◌, IfOk, OnOk};
 ghost use Rattle.std.specs.List.Sorted.{IsNonDecreasingBy, IsPermutation};
 ghost use Rattle.rule_links.specs.declared.links.Tie.{Tie};
 ghost use Rattle.rule_links.specs.Rising.{AreRising, IsLongest, is_more, raised};

@@ -1,5 +1,5 @@
 //! Fall links: what the rows of a path say of an int, or of its negative, step by step.
-ghost use Rattle.std.specs.Prelude.{All, ◌≡◌, ◌++◌, ◌-ℤ◌, pos, ℤ, [], true, false, None, Some, IfOk, OnOk, if◌then◌else◌};
+ghost use Rattle.std.specs.Prelude.{All, ◌≡◌, ◌++◌, [], true, false, Some, IfOk, OnOk, if◌then◌else◌};
 ghost use Rattle.std.specs.List.Sorted.{IsNonDecreasingBy};
 ghost use Rattle.rule_links.specs.declared.links.Link.{Link};
 ghost use Rattle.rule_links.specs.declared.links.Tie.{Tie};

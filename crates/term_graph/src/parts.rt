@@ -1,5 +1,5 @@
 //! Sources of nodes that may lack their states.
-ghost use Rattle.std.specs.Prelude.{◌≡◌, ◌<◌, ℕ, List, length, Some, slice_get, IfOk};
+ghost use Rattle.std.specs.Prelude.{◌≡◌, ◌<◌, List, length, Some, IfOk};
 ghost use Rattle.term_graph.specs.Graphs.{GraphPart, by_at, state_at};
 
 use crate::nodes::By;

@@ -1,5 +1,5 @@
 //! Sources of nodes.
-ghost use Rattle.std.specs.Prelude.{◌≡◌, ◌<◌, ℕ, List, length, Some, slice_get, IfOk};
+ghost use Rattle.std.specs.Prelude.{◌≡◌, ◌<◌, List, length, Some, slice_get, IfOk};
 ghost use Rattle.term_graph.specs.Graphs.{GraphNode};
 
 use crate::nodes::Node;
