@@ -1,20 +1,21 @@
 -- What the test whether pairs are among others tells, of rising lists and of bits.
 use Rattle.std.proofs.Common.{◌≡◌, ℕ, zero, suc, ◌+◌, ◌<◌, ◌≤◌, Bool, true, false, ◌||◌, List, [], ◌∷◌, length, get_or, drop, Option, Some, inl, inr, ◌↔◌, refl, sym, ap, subst, ◌∙◌, arith, drop-cons, add-one}
 use Rattle.std.specs.Prelude.{slice_get}
-use Rattle.std.proofs.lemmas.Bool.{false≢true, cases_lt, cases_eq}
+use Rattle.std.proofs.lemmas.Bool.{false≢true, cases_lt, cases_eq, cases_Bool, or_left}
 use Rattle.std.proofs.lemmas.Option.{slice_get_within, get_or_from_slice_get}
+use Rattle.std.proofs.lemmas.List.{drop_all}
 use Rattle.abs_cells.specs.PairLists.{pair_of, is_same, IsRising, has_pair, AreAmong}
 use Rattle.abs_cells.specs.PackedBits.{hit, pairs_in, ArePacked, IsRowAmong}
-use Rattle.abs_cells.proofs.PairLaws.{Before, bool_cases, never_both, never_itself, same_is, is_same_from, not_same, or_true, or_rest, behind_first}
+use Rattle.abs_cells.proofs.PairLaws.{Before, never_both, never_itself, same_is, is_same_from, not_same, or_rest, behind_first}
 use Rattle.abs_cells.proofs.PackedLaws.{packed_rises, past_slots, packed_has, packed_has_two}
 use Rattle.abs_cells.proofs.PackedCalls.{left_no_hit}
 use Rattle.abs_cells.proofs.Checking.{low_pair}
 
 -- ---- rising lists
 
-is_low : (p : ℕ × ℕ) (xs : List (ℕ × ℕ)) → IsRising xs → has_pair p xs ≡ true → p.0 < p.1
+pub is_low : (p : ℕ × ℕ) (xs : List (ℕ × ℕ)) → IsRising xs → has_pair p xs ≡ true → p.0 < p.1
 is_low p [] r h = absurd (false≢true h)
-is_low p (x ∷ xs) r h = elim (bool_cases (is_same p x)) [
+is_low p (x ∷ xs) r h = elim (cases_Bool (is_same p x)) [
   | inl s ↦ subst (λ (q : ℕ × ℕ). q.0 < q.1) (sym (same_is p x s)) r.0.0
   | inr s ↦ is_low p xs r.1.1 (sym (or_rest (is_same p x) (has_pair p xs) s) ∙ h)
 ]
@@ -37,8 +38,8 @@ both_first x xs ys r = (there, back)
         sym (or_rest (is_same p x) (has_pair p ys) n) ∙ h p (or_rest (is_same p x) (has_pair p xs) n ∙ k)
 
     back : AreAllIn xs ys → AreAllIn (x ∷ xs) (x ∷ ys)
-    back h p k = elim (bool_cases (is_same p x)) [
-      | inl s ↦ or_true (is_same p x) (has_pair p ys) s
+    back h p k = elim (cases_Bool (is_same p x)) [
+      | inl s ↦ or_left (is_same p x) (has_pair p ys) s
       | inr s ↦ or_rest (is_same p x) (has_pair p ys) s ∙ h p (sym (or_rest (is_same p x) (has_pair p xs) s) ∙ k)
     ]
 
@@ -46,11 +47,11 @@ other_first : (x y : ℕ × ℕ) (xs ys : List (ℕ × ℕ)) → IsRising (x ∷
 other_first x y xs ys r q d = (there, back)
   where
     there : AreAllIn (x ∷ xs) (y ∷ ys) → AreAllIn (x ∷ xs) ys
-    there h p k = elim (bool_cases (is_same p y)) [
+    there h p k = elim (cases_Bool (is_same p y)) [
       | inl s ↦
           let n = not_same p x (λ e. d (sym e ∙ same_is p y s)) in
           let up = behind_first x p xs r.1.0 r.1.1 (sym (or_rest (is_same p x) (has_pair p xs) n) ∙ k) in
-          let first = h x (or_true (is_same x x) (has_pair x xs) (is_same_from x x refl)) in
+          let first = h x (or_left (is_same x x) (has_pair x xs) (is_same_from x x refl)) in
           let down = behind_first y x ys q.1.0 q.1.1 (sym (or_rest (is_same x y) (has_pair x ys) (not_same x y d)) ∙ first) in
           absurd (never_both x y (subst (λ (z : ℕ × ℕ). Before x z) (same_is p y s) up) down)
       | inr s ↦ sym (or_rest (is_same p y) (has_pair p ys) s) ∙ h p k
@@ -114,15 +115,9 @@ passed_one some others n k d r q l m h = subst (λ (i : ℕ). IsLeft some others
           λ w. subst (λ (zs : List (ℕ × ℕ)). AreAllIn zs (drop (suc k) others)) (sym e) (both.0 (subst (λ (zs : List (ℕ × ℕ)). AreAllIn zs (y ∷ drop (suc k) others)) e (at.1 w))),
         )
 
-none_left : (n : ℕ) (xs : List (ℕ × ℕ)) → length xs ≤ n → drop n xs ≡ []
-none_left zero [] l = refl
-none_left zero (x ∷ xs) l = absurd (omega (arith, l))
-none_left (suc n) [] l = refl
-none_left (suc n) (x ∷ xs) l = none_left n xs (omega (arith, l))
-
 is_all : (n : ℕ) (xs : List (ℕ × ℕ)) → AreAllIn (drop n xs) [] → length xs ≤ n
 is_all zero [] h = omega arith
-is_all zero (x ∷ xs) h = absurd (false≢true (h x (or_true (is_same x x) (has_pair x xs) (is_same_from x x refl))))
+is_all zero (x ∷ xs) h = absurd (false≢true (h x (or_left (is_same x x) (has_pair x xs) (is_same_from x x refl))))
 is_all (suc n) [] h = omega arith
 is_all (suc n) (x ∷ xs) h = omega (arith, is_all n xs h)
 
@@ -130,10 +125,10 @@ pub list_answer : (some others : List (ℕ × ℕ)) (n k : ℕ) → IsRising som
 list_answer some others n k r l m h = (yes, back)
   where
     e : drop k others ≡ []
-    e = none_left k others m
+    e = drop_all k others m
 
     yes : n ≡ length some → AreAmong some others
-    yes s a b g = h.0 (subst (λ (zs : List (ℕ × ℕ)). AreAllIn zs (drop k others)) (sym (none_left n some (omega (arith, s)))) (λ p f. absurd (false≢true f))) (pair_of a b) g
+    yes s a b g = h.0 (subst (λ (zs : List (ℕ × ℕ)). AreAllIn zs (drop k others)) (sym (drop_all n some (omega (arith, s)))) (λ p f. absurd (false≢true f))) (pair_of a b) g
 
     back : AreAmong some others → n ≡ length some
     back w =

@@ -1,16 +1,17 @@
 -- What the test of well-formed states tells: rising ids, sorts of cells, ids that are used, and pairs.
 use Rattle.std.proofs.Common.{◌≡◌, ℕ, zero, suc, ◌<◌, min, max, Bool, true, false, if◌then◌else◌, not, ◌&&◌, ◌||◌, ◌==◌, eqb, List, [], ◌∷◌, ◌++◌, length, get_or, reverse, Some, None, Option, inl, inr, refl, sym, ap, subst, ◌∙◌, arith, eq-eqb, All}
 use Rattle.std.specs.List.{list_any, list_all, flat_map}
-use Rattle.std.proofs.lemmas.Bool.{false≢true, ne_eqb, and_parts, and_from, cases_eq}
+use Rattle.std.proofs.lemmas.Bool.{false≢true, ne_eqb, and_parts, and_from, cases_eq, or_right, or_left, cases_Bool}
 use Rattle.std.proofs.lemmas.List.{append_assoc, reverse-append}
 use Rattle.std.proofs.lemmas.List.Folds.{list_all-append}
+use Rattle.list_views.proofs.Truths.{or_false, and_true, and_swapped}
 use Rattle.abs_cells.specs.declared.cells.Cell.{Cell}
 use Rattle.abs_cells.specs.AbstractStates.{AbstractFrame, AbstractState}
 use Rattle.abs_cells.specs.PairLists.{pair_of, is_same, IsRising, has_pair, has, AreAmong}
 use Rattle.abs_cells.specs.IdSets.{has_id, joins, are_touched}
 use Rattle.abs_cells.specs.Cells.{is_known, is_reference, ids_in, is_of_sort, cell_in, cell_at, HasCell}
 use Rattle.abs_cells.specs.Sound.{AreIdsRising, given_ids, ids_of_frame, ids_used, may_join, MayAllJoin, IsWellFormed}
-use Rattle.abs_cells.proofs.PairLaws.{same_is, is_same_from, bool_cases}
+use Rattle.abs_cells.proofs.PairLaws.{same_is, is_same_from}
 
 -- ---- rising ids
 
@@ -29,10 +30,6 @@ none_below test low n [] r l = refl
 none_below test low n (x ∷ xs) r l =
     let apart : eqb x.0 n ≡ false = ne_eqb x.0 n (omega (arith, r.0, l)) in
     ap (λ (t : Bool). (t && test x.1) || list_any (is_here test n) xs) apart ∙ none_below test (suc x.0) n xs r.1.1 (omega (arith, r.0, l))
-
-or_false : (b : Bool) → (b || false) ≡ b
-or_false true = refl
-or_false false = refl
 
 pub sort_is : (test : Cell → Bool) (low n : ℕ) (xs : List (ℕ × Cell)) → AreIdsRising low xs → list_any (is_here test n) xs ≡ is_of_sort test (cell_in xs n)
 sort_is test low n [] r = refl
@@ -69,21 +66,11 @@ all_from : {X : Type 0} (test : X → Bool) (xs : List X) → ((k : ℕ) (d : X)
 all_from test [] h = refl
 all_from test (x ∷ xs) h = and_from (test x) (list_all test xs) (h 0 x (omega arith)) (all_from test xs (λ k d l. h (suc k) d (omega (arith, l))))
 
-and_turned : (a b : Bool) → (a && b) ≡ (b && a)
-and_turned true true = refl
-and_turned true false = refl
-and_turned false true = refl
-and_turned false false = refl
-
-and_true : (a : Bool) → (a && true) ≡ a
-and_true true = refl
-and_true false = refl
-
 pub all_reversed : {X : Type 0} (test : X → Bool) (xs : List X) → list_all test (reverse xs) ≡ list_all test xs
 all_reversed test [] = refl
 all_reversed test (x ∷ xs) =
     ap (list_all test) (reverse-append (x ∷ []) xs) ∙ list_all-append test (reverse xs) (x ∷ []) ∙ ap (λ (b : Bool). list_all test (reverse xs) && b) (and_true (test x))
-    ∙ ap (λ (b : Bool). b && test x) (all_reversed test xs) ∙ and_turned (list_all test xs) (test x)
+    ∙ ap (λ (b : Bool). b && test x) (all_reversed test xs) ∙ and_swapped (list_all test xs) (test x)
 
 pub all_flat : {X Y : Type 0} (test : Y → Bool) (f : X → List Y) (xs : List X) → list_all test (flat_map f xs) ≡ list_all (λ x. list_all test (f x)) xs
 all_flat test f [] = refl
@@ -121,14 +108,6 @@ not_in_used set state places t e = t ∙ ap (λ (b : Bool). b && list_all (λ c.
 
 -- ---- pairs
 
-or_right : (s t : Bool) → t ≡ true → (s || t) ≡ true
-or_right true t e = refl
-or_right false t e = e
-
-or_left : (s t : Bool) → s ≡ true → (s || t) ≡ true
-or_left true t e = refl
-or_left false t e = absurd (false≢true e)
-
 pub low_pair : (p : ℕ × ℕ) → p.0 < p.1 → pair_of p.0 p.1 ≡ p
 low_pair (a, b) l =
     let left : ℕ → ℕ × ℕ = λ x. (x, max a b) in
@@ -144,7 +123,7 @@ none_of : (test : ℕ × ℕ → Bool) (q : ℕ × ℕ) (xs : List (ℕ × ℕ))
 none_of test q [] h k = absurd (false≢true h)
 none_of test q (x ∷ xs) h k =
     let parts = or_parts (test x) (list_any test xs) k in
-    elim (bool_cases (is_same q x)) [
+    elim (cases_Bool (is_same q x)) [
       | inl s ↦ ap test (same_is q x s) ∙ parts.0
       | inr s ↦ none_of test q xs (sym (ap (λ (b : Bool). b || has_pair q xs) s) ∙ h) parts.1
     ]
@@ -215,7 +194,7 @@ module _ (cells : List (ℕ × Cell)) (references known none others every : List
     where
       low_of : (xs : List (ℕ × ℕ)) (p : ℕ × ℕ) → IsRising xs → has_pair p xs ≡ true → p.1 < 2048
       low_of [] p r k = absurd (false≢true k)
-      low_of (x ∷ xs) p r k = elim (bool_cases (is_same p x)) [
+      low_of (x ∷ xs) p r k = elim (cases_Bool (is_same p x)) [
         | inl s ↦ subst (λ (q : ℕ × ℕ). q.1 < 2048) (sym (same_is p x s)) r.0.1
         | inr s ↦ low_of xs p r.1.1 (sym (ap (λ (b : Bool). b || has_pair p xs) s) ∙ k)
       ]
@@ -256,13 +235,9 @@ pub joins_all : (state : AbstractState) → IsWellFormed state → MayAllJoin st
 joins_all state h x y l s =
     and_from (is_of_sort is_reference (cell_at state x) && is_of_sort is_reference (cell_at state y)) (not (is_of_sort is_known (cell_at state x) && is_of_sort is_known (cell_at state y)))
     (and_from (is_of_sort is_reference (cell_at state x)) (is_of_sort is_reference (cell_at state y)) (has_cell_to is_reference state x (h.left x y l s)) (has_cell_to is_reference state y (h.right x y l s)))
-    (elim (bool_cases (is_of_sort is_known (cell_at state x) && is_of_sort is_known (cell_at state y))) [
+    (elim (cases_Bool (is_of_sort is_known (cell_at state x) && is_of_sort is_known (cell_at state y))) [
       | inl b ↦
           let k = and_parts (is_of_sort is_known (cell_at state x)) (is_of_sort is_known (cell_at state y)) b in
           absurd (h.not_both_known x y l s (has_cell_from is_known state x k.0) (has_cell_from is_known state y k.1))
       | inr b ↦ ap not b
     ])
-
-pub not_true : (b : Bool) → not b ≡ true → b ≡ false
-not_true true h = absurd (false≢true h)
-not_true false h = refl

@@ -2,6 +2,7 @@
 use Rattle.std.proofs.Common.{◌≡◌, ◌≢◌, ℕ, ◌+◌, ◌<◌, ◌≤◌, ◌&&◌, ◌||◌, not, Bool, true, false, cond, List, [], ◌∷◌, Option, None, ◌⊎◌, inl, inr, refl, sym, ap, subst, ◌∙◌, arith}
 use Rattle.std.specs.Prelude.{filter, min, max}
 use Rattle.std.proofs.lemmas.Bool.{false≢true, cases_lt, and_parts, and_from, cases_Bool, not-true}
+use Rattle.list_views.proofs.Truths.{same_truth}
 use Rattle.abs_cells.specs.PairLists.{pair_of, is_same, is_before, IsFirst, IsRising, has_pair, removed}
 use Rattle.abs_cells.specs.IdSets.{has_id, kept}
 use Rattle.abs_cells.specs.PackedBits.{slot_of, pairs_in, IsCleared, IsKeptTo}
@@ -171,13 +172,8 @@ rising_filter test (x ∷ xs) r = elim (cases_Bool (test x)) [
   | inr t ↦ subst (λ (b : Bool). IsRising (cond b (x ∷ filter test xs) (filter test xs))) (sym t) (rising_filter test xs r.1.1)
 ]
 
-same_bool : (a b : Bool) → (a ≡ true → b ≡ true) → (b ≡ true → a ≡ true) → a ≡ b
-same_bool true b f g = sym (f refl)
-same_bool false true f g = g refl
-same_bool false false f g = refl
-
 pub kept_all : (ids : List ℕ) (old now : List (ℕ × ℕ)) → IsRising old → IsRising now → IsKeptTo ids old now 2048 → now ≡ kept ids old
-kept_all ids old now r s k = is_one_list now (kept ids old) s (rising_filter (λ p. has_id ids p.0 && has_id ids p.1) old r) (λ p l. same_bool (has_pair p now) (has_pair p (kept ids old))
+kept_all ids old now r s k = is_one_list now (kept ids old) s (rising_filter (λ p. has_id ids p.0 && has_id ids p.1) old r) (λ p l. same_truth (has_pair p now) (has_pair p (kept ids old))
     (λ h.
     let n = low_of now p s h in
     let g = k.gone p l h in

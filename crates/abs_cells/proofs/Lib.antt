@@ -9,3 +9,4 @@ pub mod PackedLooks
 pub mod PairLaws
 pub mod PatternLaws
 pub mod Replaying
+pub mod CellLaws

@@ -2,13 +2,15 @@
 use Rattle.std.proofs.Common.{◌≡◌, ℕ, zero, suc, ◌+◌, ◌*◌, ◌/◌, ◌%◌, ◌<◌, ◌≤◌, min, max, Bool, false, not, ◌&&◌, ◌||◌, ◌==◌, eqb, List, [], ◌∷◌, ◌++◌, length, get_or, set, take, replicate, Option, Some, None, inl, inr, refl, sym, ap, ◌∙◌, arith, mul_left_comm, mul_comm, mul-suc, add-suc, add-one, Result, Ok, Err, OnErr}
 use Rattle.std.proofs.lemmas.Bool.{ne_eqb, cases_lt, cases_eq}
 use Rattle.std.proofs.lemmas.List.{length-set, take_all}
-use Rattle.jvm_values.proofs.Options.{some_is, none_is_not_some}
+use Rattle.jvm_values.proofs.Options.{some_is}
 use Rattle.abs_cells.specs.PairLists.{pair_of, is_same, with_pair, without_pair, added, removed}
 use Rattle.std.specs.Int.{bit_at}
+use Rattle.std.proofs.lemmas.Option.{none-some}
+use Rattle.list_views.proofs.Truths.{and_false}
 use Rattle.abs_cells.specs.IdSets.{has_bit}
 use Rattle.abs_cells.specs.PackedBits.{pairs_in, slot_of, slots_in, row_start, place_of, hit, hit_slots, ArePacked, IsGrown}
 use Rattle.abs_cells.proofs.PairLaws.{rising_with, rising_without, without_none}
-use Rattle.abs_cells.proofs.PackedLaws.{is_one_list, has_with, has_without, packed_rises, packed_has, packed_has_two, same_pairs, rows_apart, later_row, set_hits, clear_hits, place_turned, and_off}
+use Rattle.abs_cells.proofs.PackedLaws.{is_one_list, has_with, has_without, packed_rises, packed_has, packed_has_two, same_pairs, rows_apart, later_row, set_hits, clear_hits, place_turned}
 
 -- ---- where rows begin
 
@@ -81,8 +83,8 @@ module _ (slots : List (Option ℕ)) (count : ℕ) (words after : List ℕ) (h :
     low = h.low;
     apart = h.apart;
     rows = omega (arith, h.rows, e);
-    below = λ r u c l m. f (64 * row_start r + u) ∙ ap (λ (x : Bool). not (64 * row_start r + u == place_of s t) && x) (h.below r u c l m) ∙ and_off (not (64 * row_start r + u == place_of s t));
-    past = λ n l. f n ∙ ap (λ (x : Bool). not (n == place_of s t) && x) (h.past n l) ∙ and_off (not (n == place_of s t));
+    below = λ r u c l m. f (64 * row_start r + u) ∙ ap (λ (x : Bool). not (64 * row_start r + u == place_of s t) && x) (h.below r u c l m) ∙ and_false (not (64 * row_start r + u == place_of s t));
+    past = λ n l. f n ∙ ap (λ (x : Bool). not (n == place_of s t) && x) (h.past n l) ∙ and_false (not (n == place_of s t));
   }
 
 -- two ids in either order
@@ -159,7 +161,7 @@ slot_kept (s ∷ slots) (suc i) (suc a) slot d = slot_kept slots i a slot (λ e.
 pub one_more : (slots : List (Option ℕ)) (i s : ℕ) → i < length slots → slot_of slots i ≡ None → slots_in (set slots i (Some s)) ≡ suc (slots_in slots)
 one_more [] i s l e = absurd (omega (arith, l))
 one_more (None ∷ slots) zero s l e = refl
-one_more (Some t ∷ slots) zero s l e = absurd (none_is_not_some t (sym e))
+one_more (Some t ∷ slots) zero s l e = absurd (none-some t (sym e))
 one_more (None ∷ slots) (suc i) s l e = one_more slots i s (omega (arith, l)) e
 one_more (Some t ∷ slots) (suc i) s l e = ap suc (one_more slots i s (omega (arith, l)) e)
 
@@ -288,7 +290,7 @@ module _ (slots : List (Option ℕ)) (count : ℕ) (words : List ℕ) (slots_now
         below = below_now;
         past = λ n m. r.bits_same n ∙ h.past n (omega (arith, m, row_is));
       };
-      kept = λ a s f. at_old a (λ k. none_is_not_some s (sym new ∙ ap (slot_of slots) (sym k) ∙ f)) ∙ f;
+      kept = λ a s f. at_old a (λ k. none-some s (sym new ∙ ap (slot_of slots) (sym k) ∙ f)) ∙ f;
       same = hits_now;
     }
 

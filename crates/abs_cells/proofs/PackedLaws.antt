@@ -1,18 +1,20 @@
 -- Pairs as bits: the pairs of which something holds, and what a change of slots and bits leaves of them.
 use Rattle.std.proofs.Common.{◌≡◌, ℕ, zero, suc, ◌+◌, ◌*◌, ◌/◌, ◌<◌, ◌≤◌, min, max, Bool, true, false, not, ◌&&◌, ◌||◌, ◌==◌, List, [], ◌∷◌, ◌++◌, length, Option, Some, None, ◌⊎◌, inl, inr, refl, sym, ap, subst, ◌∙◌, arith, eq-eqb}
-use Rattle.std.proofs.lemmas.Bool.{false≢true, ne_eqb, cases_lt, cases_eq}
-use Rattle.jvm_values.proofs.Options.{some_is, none_is_not_some}
+use Rattle.std.proofs.lemmas.Bool.{false≢true, ne_eqb, cases_lt, cases_eq, false_from_ne_true, cond-true, cond-false, cases_Bool, or_left}
+use Rattle.std.proofs.lemmas.Option.{none-some}
+use Rattle.list_views.proofs.Truths.{or_false, or_assoc, and_false as and_off, or_twice, or_over}
+use Rattle.jvm_values.proofs.Options.{some_is}
 use Rattle.abs_cells.specs.PairLists.{pair_of, is_same, is_before, IsFirst, IsRising, has_pair, with_pair, without_pair, has}
 use Rattle.abs_cells.specs.IdSets.{has_bit}
 use Rattle.abs_cells.specs.PackedBits.{row_from, pairs_from, pairs_in, slot_of, row_start, place_of, hit, hit_slots, ArePacked}
-use Rattle.abs_cells.proofs.PairLaws.{Before, is_before_from, never_both, never_itself, same_is, is_same_from, not_same, bool_cases, or_true, or_rest, behind_first, cond_true, cond_false, standing}
+use Rattle.abs_cells.proofs.PairLaws.{Before, is_before_from, never_both, never_itself, same_is, is_same_from, not_same, or_rest, behind_first, standing}
 
 -- ---- two rising lists with the same pairs are equal
 
 head_is : (p q : ℕ × ℕ) (xs ys : List (ℕ × ℕ)) → IsRising (p ∷ xs) → IsRising (q ∷ ys) → has_pair p (q ∷ ys) ≡ true → has_pair q (p ∷ xs) ≡ true → p ≡ q
-head_is p q xs ys r s h k = elim (bool_cases (is_same p q)) [
+head_is p q xs ys r s h k = elim (cases_Bool (is_same p q)) [
   | inl e ↦ same_is p q e
-  | inr e ↦ elim (bool_cases (is_same q p)) [
+  | inr e ↦ elim (cases_Bool (is_same q p)) [
     | inl f ↦ sym (same_is q p f)
     | inr f ↦ absurd (never_both p q (behind_first p q xs r.1.0 r.1.1 (sym (or_rest (is_same q p) (has_pair q xs) f) ∙ k)) (behind_first q p ys s.1.0 s.1.1 (sym (or_rest (is_same p q) (has_pair p ys) e) ∙ h)))
   ]
@@ -21,20 +23,16 @@ head_is p q xs ys r s h k = elim (bool_cases (is_same p q)) [
 not_in_rest : (p : ℕ × ℕ) (xs : List (ℕ × ℕ)) → IsRising (p ∷ xs) → has_pair p xs ≡ true → ⊥
 not_in_rest p xs r h = never_itself p p refl (behind_first p p xs r.1.0 r.1.1 h)
 
-not_true_is : (b : Bool) → (b ≡ true → ⊥) → b ≡ false
-not_true_is true f = absurd (f refl)
-not_true_is false f = refl
-
 pub is_one_list : (xs ys : List (ℕ × ℕ)) → IsRising xs → IsRising ys → ((p : ℕ × ℕ) → p.0 < p.1 → has_pair p xs ≡ has_pair p ys) → xs ≡ ys
 is_one_list [] [] r s h = refl
-is_one_list [] (y ∷ ys) r s h = absurd (false≢true (h y s.0.0 ∙ or_true (is_same y y) (has_pair y ys) (is_same_from y y refl)))
-is_one_list (x ∷ xs) [] r s h = absurd (false≢true (sym (h x r.0.0) ∙ or_true (is_same x x) (has_pair x xs) (is_same_from x x refl)))
+is_one_list [] (y ∷ ys) r s h = absurd (false≢true (h y s.0.0 ∙ or_left (is_same y y) (has_pair y ys) (is_same_from y y refl)))
+is_one_list (x ∷ xs) [] r s h = absurd (false≢true (sym (h x r.0.0) ∙ or_left (is_same x x) (has_pair x xs) (is_same_from x x refl)))
 is_one_list (x ∷ xs) (y ∷ ys) r s h =
-    let e : x ≡ y = head_is x y xs ys r s (sym (h x r.0.0) ∙ or_true (is_same x x) (has_pair x xs) (is_same_from x x refl)) (h y s.0.0 ∙ or_true (is_same y y) (has_pair y ys) (is_same_from y y refl)) in
-    let rest : (p : ℕ × ℕ) → p.0 < p.1 → has_pair p xs ≡ has_pair p ys = λ p l. elim (bool_cases (is_same p x)) [
+    let e : x ≡ y = head_is x y xs ys r s (sym (h x r.0.0) ∙ or_left (is_same x x) (has_pair x xs) (is_same_from x x refl)) (h y s.0.0 ∙ or_left (is_same y y) (has_pair y ys) (is_same_from y y refl)) in
+    let rest : (p : ℕ × ℕ) → p.0 < p.1 → has_pair p xs ≡ has_pair p ys = λ p l. elim (cases_Bool (is_same p x)) [
       | inl t ↦
           let u : p ≡ x = same_is p x t in
-          not_true_is (has_pair p xs) (λ k. not_in_rest x xs r (subst (λ (q : ℕ × ℕ). has_pair q xs ≡ true) u k)) ∙ sym (not_true_is (has_pair p ys) (λ k. not_in_rest y ys s (subst (λ (q : ℕ × ℕ). has_pair q ys ≡ true) (u ∙ e) k)))
+          false_from_ne_true (has_pair p xs) (λ k. not_in_rest x xs r (subst (λ (q : ℕ × ℕ). has_pair q xs ≡ true) u k)) ∙ sym (false_from_ne_true (has_pair p ys) (λ k. not_in_rest y ys s (subst (λ (q : ℕ × ℕ). has_pair q ys ≡ true) (u ∙ e) k)))
       | inr t ↦
           let v : is_same p y ≡ false = subst (λ (q : ℕ × ℕ). is_same p q ≡ false) e t in
           sym (or_rest (is_same p x) (has_pair p xs) t) ∙ h p l ∙ or_rest (is_same p y) (has_pair p ys) v
@@ -42,42 +40,20 @@ is_one_list (x ∷ xs) (y ∷ ys) r s h =
     let tails : xs ≡ ys = is_one_list xs ys r.1.1 s.1.1 rest in
     ap (λ (q : ℕ × ℕ). q ∷ xs) e ∙ ap (λ (zs : List (ℕ × ℕ)). y ∷ zs) tails
 
-or_assoc : (a b c : Bool) → ((a || b) || c) ≡ (a || (b || c))
-or_assoc true b c = refl
-or_assoc false b c = refl
-
-or_twice : (a b : Bool) → (a || b) ≡ (a || (a || b))
-or_twice true b = refl
-or_twice false b = refl
-
-or_turned : (a b c : Bool) → (a || (b || c)) ≡ (b || (a || c))
-or_turned true true c = refl
-or_turned true false c = refl
-or_turned false true c = refl
-or_turned false false c = refl
-
-pub and_off : (b : Bool) → (b && false) ≡ false
-and_off true = refl
-and_off false = refl
-
-or_off : (b : Bool) → (b || false) ≡ b
-or_off true = refl
-or_off false = refl
-
 with_same : (p x : ℕ × ℕ) (xs : List (ℕ × ℕ)) → is_same p x ≡ true → with_pair p (x ∷ xs) ≡ x ∷ xs
-with_same p x xs e = cond_true (is_same p x) _ _ e
+with_same p x xs e = cond-true (is_same p x) _ _ e
 
 with_before : (p x : ℕ × ℕ) (xs : List (ℕ × ℕ)) → is_same p x ≡ false → is_before p x ≡ true → with_pair p (x ∷ xs) ≡ p ∷ x ∷ xs
-with_before p x xs e f = cond_false (is_same p x) _ _ e ∙ cond_true (is_before p x) _ _ f
+with_before p x xs e f = cond-false (is_same p x) _ _ e ∙ cond-true (is_before p x) _ _ f
 
 with_after : (p x : ℕ × ℕ) (xs : List (ℕ × ℕ)) → is_same p x ≡ false → is_before p x ≡ false → with_pair p (x ∷ xs) ≡ x ∷ with_pair p xs
-with_after p x xs e f = cond_false (is_same p x) _ _ e ∙ cond_false (is_before p x) _ _ f
+with_after p x xs e f = cond-false (is_same p x) _ _ e ∙ cond-false (is_before p x) _ _ f
 
 without_same : (p x : ℕ × ℕ) (xs : List (ℕ × ℕ)) → is_same p x ≡ true → without_pair p (x ∷ xs) ≡ xs
-without_same p x xs e = cond_true (is_same p x) _ _ e
+without_same p x xs e = cond-true (is_same p x) _ _ e
 
 without_other : (p x : ℕ × ℕ) (xs : List (ℕ × ℕ)) → is_same p x ≡ false → without_pair p (x ∷ xs) ≡ x ∷ without_pair p xs
-without_other p x xs e = cond_false (is_same p x) _ _ e
+without_other p x xs e = cond-false (is_same p x) _ _ e
 
 pub has_with : (q p : ℕ × ℕ) (xs : List (ℕ × ℕ)) → has_pair q (with_pair p xs) ≡ (is_same q p || has_pair q xs)
 has_with q p [] = refl
@@ -89,23 +65,23 @@ has_with q p (x ∷ xs) = elim (standing p x) [
     | inl c ↦ ap (has_pair q) (with_before p x xs c.same c.before)
     | inr c ↦
         ap (has_pair q) (with_after p x xs c.same c.before)
-        ∙ ap (λ (b : Bool). is_same q x || b) (has_with q p xs) ∙ or_turned (is_same q x) (is_same q p) (has_pair q xs)
+        ∙ ap (λ (b : Bool). is_same q x || b) (has_with q p xs) ∙ or_over (is_same q x) (is_same q p) (has_pair q xs)
   ]
 ]
 
 -- what a list has without its first pair, and without another one
 without_here : (q p x : ℕ × ℕ) (xs : List (ℕ × ℕ)) → IsRising (x ∷ xs) → p ≡ x → has_pair q xs ≡ (not (is_same q p) && (is_same q x || has_pair q xs))
-without_here q p x xs r e = elim (bool_cases (is_same q p)) [
+without_here q p x xs r e = elim (cases_Bool (is_same q p)) [
   | inl t ↦
       let u : q ≡ x = same_is q p t ∙ e in
-      not_true_is (has_pair q xs) (λ k. not_in_rest x xs r (subst (λ (y : ℕ × ℕ). has_pair y xs ≡ true) u k)) ∙ sym (ap (λ (b : Bool). not b && (is_same q x || has_pair q xs)) t)
+      false_from_ne_true (has_pair q xs) (λ k. not_in_rest x xs r (subst (λ (y : ℕ × ℕ). has_pair y xs ≡ true) u k)) ∙ sym (ap (λ (b : Bool). not b && (is_same q x || has_pair q xs)) t)
   | inr t ↦
       let v : is_same q x ≡ false = subst (λ (y : ℕ × ℕ). is_same q y ≡ false) e t in
       sym (ap (λ (b : Bool). not b && (is_same q x || has_pair q xs)) t ∙ or_rest (is_same q x) (has_pair q xs) v)
 ]
 
 without_there : (q p x : ℕ × ℕ) (rest : Bool) → is_same p x ≡ false → (is_same q x || (not (is_same q p) && rest)) ≡ (not (is_same q p) && (is_same q x || rest))
-without_there q p x rest s = elim (bool_cases (is_same q p)) [
+without_there q p x rest s = elim (cases_Bool (is_same q p)) [
   | inl t ↦
       let v : is_same q x ≡ false = subst (λ (y : ℕ × ℕ). is_same y x ≡ false) (sym (same_is q p t)) s in
       ap (λ (b : Bool). is_same q x || (not b && rest)) t ∙ or_rest (is_same q x) false v ∙ sym (ap (λ (b : Bool). not b && (is_same q x || rest)) t)
@@ -114,22 +90,22 @@ without_there q p x rest s = elim (bool_cases (is_same q p)) [
 
 pub has_without : (q p : ℕ × ℕ) (xs : List (ℕ × ℕ)) → IsRising xs → has_pair q (without_pair p xs) ≡ (not (is_same q p) && has_pair q xs)
 has_without q p [] r = sym (and_off (not (is_same q p)))
-has_without q p (x ∷ xs) r = elim (bool_cases (is_same p x)) [
+has_without q p (x ∷ xs) r = elim (cases_Bool (is_same p x)) [
   | inl s ↦ ap (has_pair q) (without_same p x xs s) ∙ without_here q p x xs r (same_is p x s)
   | inr s ↦ ap (has_pair q) (without_other p x xs s) ∙ ap (λ (b : Bool). is_same q x || b) (has_without q p xs r.1.1) ∙ without_there q p x (has_pair q xs) s
 ]
 
 -- ---- the pairs of which something holds
 
-has_append : (p : ℕ × ℕ) (xs ys : List (ℕ × ℕ)) → has_pair p (xs ++ ys) ≡ (has_pair p xs || has_pair p ys)
+pub has_append : (p : ℕ × ℕ) (xs ys : List (ℕ × ℕ)) → has_pair p (xs ++ ys) ≡ (has_pair p xs || has_pair p ys)
 has_append p [] ys = refl
 has_append p (x ∷ xs) ys = ap (λ (b : Bool). is_same p x || b) (has_append p xs ys) ∙ sym (or_assoc (is_same p x) (has_pair p xs) (has_pair p ys))
 
 pub row_with : (test : ℕ → Bool) (a b count : ℕ) → test b ≡ true → row_from test a b (suc count) ≡ (a, b) ∷ row_from test a (suc b) count
-row_with test a b count e = cond_true (test b) _ _ e
+row_with test a b count e = cond-true (test b) _ _ e
 
 pub row_without : (test : ℕ → Bool) (a b count : ℕ) → test b ≡ false → row_from test a b (suc count) ≡ row_from test a (suc b) count
-row_without test a b count e = cond_false (test b) _ _ e
+row_without test a b count e = cond-false (test b) _ _ e
 
 first_of : {p : ℕ × ℕ} {a b : ℕ} → p ≡ (a, b) → p.0 ≡ a
 first_of e = ap (λ (x : ℕ × ℕ). x.0) e
@@ -142,7 +118,7 @@ other_row : (test : ℕ → Bool) (a b count : ℕ) (p : ℕ × ℕ) → (p.0 �
 other_row test a b zero p f = refl
 other_row test a b (suc count) p f =
     let rest : has_pair p (row_from test a (suc b) count) ≡ false = other_row test a (suc b) count p (λ e l. f e (omega (arith, l))) in
-    elim (bool_cases (test b)) [
+    elim (cases_Bool (test b)) [
       | inl t ↦
           let apart : is_same p (a, b) ≡ false = not_same p (a, b) (λ e. f (first_of e) (omega (arith, second_of e))) in
           ap (has_pair p) (row_with test a b count t) ∙ or_rest (is_same p (a, b)) (has_pair p (row_from test a (suc b) count)) apart ∙ rest
@@ -153,16 +129,16 @@ other_row test a b (suc count) p f =
 in_row : (test : ℕ → Bool) (a b count c : ℕ) → b ≤ c → c < b + count → has_pair (a, c) (row_from test a b count) ≡ test c
 in_row test a b zero c l m = absurd (omega (arith, l, m))
 in_row test a b (suc count) c l m = elim (cases_eq c b) [
-  | inl e ↦ elim (bool_cases (test b)) [
+  | inl e ↦ elim (cases_Bool (test b)) [
     | inl t ↦
         let right : ℕ → ℕ × ℕ = λ x. (a, x) in
-        ap (has_pair (a, c)) (row_with test a b count t) ∙ or_true (is_same (a, c) (a, b)) (has_pair (a, c) (row_from test a (suc b) count)) (is_same_from (a, c) (a, b) (ap right e)) ∙ sym (ap test e ∙ t)
+        ap (has_pair (a, c)) (row_with test a b count t) ∙ or_left (is_same (a, c) (a, b)) (has_pair (a, c) (row_from test a (suc b) count)) (is_same_from (a, c) (a, b) (ap right e)) ∙ sym (ap test e ∙ t)
     | inr t ↦ ap (has_pair (a, c)) (row_without test a b count t) ∙ other_row test a (suc b) count (a, c) (λ u k. omega (arith, e, k)) ∙ sym (ap test e ∙ t)
   ]
   | inr d ↦
       let k : suc b ≤ c = omega (arith, l, d) in
       let rest : has_pair (a, c) (row_from test a (suc b) count) ≡ test c = in_row test a (suc b) count c k (omega (arith, m)) in
-      elim (bool_cases (test b)) [
+      elim (cases_Bool (test b)) [
         | inl t ↦
             let apart : is_same (a, c) (a, b) ≡ false = not_same (a, c) (a, b) (λ e. d (second_of e)) in
             ap (has_pair (a, c)) (row_with test a b count t) ∙ or_rest (is_same (a, c) (a, b)) (has_pair (a, c) (row_from test a (suc b) count)) apart ∙ rest
@@ -174,7 +150,7 @@ past_row : (test : ℕ → Bool) (a b count : ℕ) (p : ℕ × ℕ) → b + coun
 past_row test a b zero p m = refl
 past_row test a b (suc count) p m =
     let rest : has_pair p (row_from test a (suc b) count) ≡ false = past_row test a (suc b) count p (omega (arith, m)) in
-    elim (bool_cases (test b)) [
+    elim (cases_Bool (test b)) [
       | inl t ↦
           let apart : is_same p (a, b) ≡ false = not_same p (a, b) (λ e. omega (arith, m, second_of e)) in
           ap (has_pair p) (row_with test a b count t) ∙ or_rest (is_same p (a, b)) (has_pair p (row_from test a (suc b) count)) apart ∙ rest
@@ -204,7 +180,7 @@ inside holds a (suc count) p l m n = elim (cases_eq p.0 a) [
   | inl e ↦
       has_append p (row_from (holds a) a (suc a) count) (pairs_from holds (suc a) count)
       ∙ ap (λ (b : Bool). has_pair p (row_from (holds a) a (suc a) count) || b) (lower_out holds (suc a) count p (omega (arith, e)))
-      ∙ or_off (has_pair p (row_from (holds a) a (suc a) count)) ∙ first_row holds a count p e m n
+      ∙ or_false (has_pair p (row_from (holds a) a (suc a) count)) ∙ first_row holds a count p e m n
   | inr d ↦
       has_append p (row_from (holds a) a (suc a) count) (pairs_from holds (suc a) count)
       ∙ ap (λ (b : Bool). b || has_pair p (pairs_from holds (suc a) count)) (other_row (holds a) a (suc a) count p (λ e k. d e))
@@ -214,7 +190,7 @@ inside holds a (suc count) p l m n = elim (cases_eq p.0 a) [
 -- the lists rise
 starts : (p : ℕ × ℕ) (test : ℕ → Bool) (a b count : ℕ) (ys : List (ℕ × ℕ)) → ((c : ℕ) → b ≤ c → Before p (a, c)) → IsFirst p ys → IsFirst p (row_from test a b count ++ ys)
 starts p test a b zero ys f h = h
-starts p test a b (suc count) ys f h = elim (bool_cases (test b)) [
+starts p test a b (suc count) ys f h = elim (cases_Bool (test b)) [
   | inl t ↦ subst (λ (xs : List (ℕ × ℕ)). IsFirst p (xs ++ ys)) (sym (row_with test a b count t)) (is_before_from p (a, b) (f b (omega arith)))
   | inr t ↦ subst (λ (xs : List (ℕ × ℕ)). IsFirst p (xs ++ ys)) (sym (row_without test a b count t)) (starts p test a (suc b) count ys (λ c l. f c (omega (arith, l))) h)
 ]
@@ -223,7 +199,7 @@ row_rises : (test : ℕ → Bool) (a b count : ℕ) (ys : List (ℕ × ℕ)) →
 row_rises test a b zero ys l m f r = r
 row_rises test a b (suc count) ys l m f r =
     let rest : IsRising (row_from test a (suc b) count ++ ys) = row_rises test a (suc b) count ys (omega (arith, l)) (omega (arith, m)) f r in
-    elim (bool_cases (test b)) [
+    elim (cases_Bool (test b)) [
       | inl t ↦ subst (λ (xs : List (ℕ × ℕ)). IsRising (xs ++ ys)) (sym (row_with test a b count t)) ((l, omega (arith, m)), (starts (a, b) test a (suc b) count ys (λ c k. inr (refl, omega (arith, k))) (f b), rest))
       | inr t ↦ subst (λ (xs : List (ℕ × ℕ)). IsRising (xs ++ ys)) (sym (row_without test a b count t)) rest
     ]
@@ -355,8 +331,8 @@ module _ (slots : List (Option ℕ)) (count : ℕ) (words after : List ℕ) (h :
   set_hits l f x y m = go (slot_of slots x) (slot_of slots y) refl refl
     where
       none_same : (u v : Option ℕ) → slot_of slots x ≡ u → slot_of slots y ≡ v → ((u ≡ None) ⊎ (v ≡ None)) → is_same (x, y) (a, b) ≡ false
-      none_same u v ex ey (inl n) = not_same (x, y) (a, b) (λ e. none_is_not_some s (sym n ∙ sym ex ∙ ap (slot_of slots) (ap (λ (z : ℕ × ℕ). z.0) e) ∙ ea))
-      none_same u v ex ey (inr n) = not_same (x, y) (a, b) (λ e. none_is_not_some t (sym n ∙ sym ey ∙ ap (slot_of slots) (ap (λ (z : ℕ × ℕ). z.1) e) ∙ eb))
+      none_same u v ex ey (inl n) = not_same (x, y) (a, b) (λ e. none-some s (sym n ∙ sym ex ∙ ap (slot_of slots) (ap (λ (z : ℕ × ℕ). z.0) e) ∙ ea))
+      none_same u v ex ey (inr n) = not_same (x, y) (a, b) (λ e. none-some t (sym n ∙ sym ey ∙ ap (slot_of slots) (ap (λ (z : ℕ × ℕ). z.1) e) ∙ eb))
 
       go : (u v : Option ℕ) → slot_of slots x ≡ u → slot_of slots y ≡ v → hit_slots after u v ≡ (is_same (x, y) (a, b) || hit_slots words u v)
       go None v ex ey = sym (or_rest (is_same (x, y) (a, b)) false (none_same None v ex ey (inl refl)))

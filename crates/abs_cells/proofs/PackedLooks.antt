@@ -3,13 +3,15 @@ use Rattle.std.proofs.Common.{◌≡◌, ℕ, zero, suc, ◌+◌, ◌*◌, ◌/�
 use Rattle.std.specs.Prelude.{slice_get}
 use Rattle.std.specs.Int.{bit_at, trailing_zeros}
 use Rattle.std.specs.List.{list_any}
-use Rattle.std.proofs.lemmas.Bool.{false≢true, eqb-true, cases_lt}
+use Rattle.std.proofs.lemmas.Bool.{false≢true, eqb-true, cases_lt, cases_Bool}
 use Rattle.std.proofs.lemmas.Nat.Bits.{bit_at-trailing_zeros, bit_at_and, bit_at-zero, bit_at-lt}
-use Rattle.jvm_values.proofs.Options.{some_is, none_is_not_some}
+use Rattle.std.proofs.lemmas.Option.{none-some}
+use Rattle.list_views.proofs.Items.{get_before}
+use Rattle.jvm_values.proofs.Options.{some_is}
 use Rattle.abs_cells.specs.PairLists.{pair_of, is_same, has_pair, has}
 use Rattle.abs_cells.specs.IdSets.{has_bit, has_id, joins, are_touched}
 use Rattle.abs_cells.specs.PackedBits.{row_from, pairs_from, pairs_in, slot_of, row_start, place_of, hit, hit_slots, ArePacked, RowMeets, HasSlot, SideMeets, AreBothSet}
-use Rattle.abs_cells.proofs.PairLaws.{same_is, bool_cases, or_rest}
+use Rattle.abs_cells.proofs.PairLaws.{same_is, or_rest}
 use Rattle.abs_cells.proofs.PackedLaws.{packed_rises, packed_has, packed_has_two, place_turned, row_with, row_without, past_slots}
 use Rattle.abs_cells.proofs.Checking.{none_from}
 
@@ -48,7 +50,7 @@ module _ (whole : List (ℕ × ℕ)) (n : ℕ) (test : ℕ → Bool) (a b end le
       })
 
 pub row_goes_on : (whole : List (ℕ × ℕ)) (n : ℕ) (test : ℕ → Bool) (a b end left rest : ℕ) → b < end → IsInRow whole n test a b end left → left ≡ rest + cond (test b) 1 0 → IsInRow whole n test a (b + 1) end rest
-row_goes_on whole n test a b end left rest l h e = elim (bool_cases (test b)) [
+row_goes_on whole n test a b end left rest l h e = elim (cases_Bool (test b)) [
   | inl t ↦
       let is : left ≡ rest + 1 = e ∙ ap (λ (c : Bool). rest + cond c 1 0) t in
       let down : left - 1 ≡ rest = omega (arith, is) in
@@ -58,11 +60,6 @@ row_goes_on whole n test a b end left rest l h e = elim (bool_cases (test b)) [
       let same : left ≡ rest = omega (arith, is) in
       subst (λ (k : ℕ). IsInRow whole n test a (b + 1) end k) same (row_skipped whole n test a b end left l h t)
 ]
-
-get_front : (xs ys : List (ℕ × ℕ)) (n : ℕ) (p : ℕ × ℕ) → slice_get xs n ≡ Some p → slice_get (xs ++ ys) n ≡ Some p
-get_front [] ys n p e = absurd (none_is_not_some p e)
-get_front (x ∷ xs) ys zero p e = e
-get_front (x ∷ xs) ys (suc n) p e = get_front xs ys n p e
 
 get_back : (xs ys : List (ℕ × ℕ)) (n left : ℕ) → n ≡ left + length xs → slice_get (xs ++ ys) n ≡ slice_get ys left
 get_back [] ys n left e = ap (slice_get ys) (omega (arith, e))
@@ -74,7 +71,7 @@ rows_next holds a end l = let e : end - a ≡ suc (end - suc a) = omega (arith, 
 
 pub nth_found : (holds : ℕ → ℕ → Bool) (whole : List (ℕ × ℕ)) (n a b end left : ℕ) → a < end → slice_get whole n ≡ slice_get (pairs_from holds a (end - a)) left → slice_get (row_from (holds a) a (suc a) (end - suc a)) left ≡ Some (a, b) → Some (a, b) ≡ slice_get whole n
 nth_found holds whole n a b end left l h f =
-    sym (h ∙ ap (λ (xs : List (ℕ × ℕ)). slice_get xs left) (rows_next holds a end l) ∙ get_front (row_from (holds a) a (suc a) (end - suc a)) (pairs_from holds (suc a) (end - suc a)) left (a, b) f)
+    sym (h ∙ ap (λ (xs : List (ℕ × ℕ)). slice_get xs left) (rows_next holds a end l) ∙ get_before (row_from (holds a) a (suc a) (end - suc a)) (pairs_from holds (suc a) (end - suc a)) left (a, b) f)
 
 pub nth_later : (holds : ℕ → ℕ → Bool) (whole : List (ℕ × ℕ)) (n a end left rest : ℕ) → a < end → slice_get whole n ≡ slice_get (pairs_from holds a (end - a)) left → left ≡ rest + length (row_from (holds a) a (suc a) (end - suc a)) → slice_get whole n ≡ slice_get (pairs_from holds (a + 1) (end - (a + 1))) rest
 nth_later holds whole n a end left rest l h f =
@@ -149,7 +146,7 @@ words_meet words mask start n h =
 
 any_of : (test : ℕ × ℕ → Bool) (q : ℕ × ℕ) (xs : List (ℕ × ℕ)) → has_pair q xs ≡ true → test q ≡ true → list_any test xs ≡ true
 any_of test q [] h k = absurd (false≢true h)
-any_of test q (x ∷ xs) h k = elim (bool_cases (is_same q x)) [
+any_of test q (x ∷ xs) h k = elim (cases_Bool (is_same q x)) [
   | inl s ↦ first (test x) (list_any test xs) (sym (ap test (same_is q x s)) ∙ k)
   | inr s ↦ later (test x) (list_any test xs) (any_of test q xs (sym (or_rest (is_same q x) (has_pair q xs) s) ∙ h) k)
 ]
@@ -326,7 +323,7 @@ found_more slots set found after id slot h at has put = (
         let same : s ≡ slot = some_is (sym e ∙ ap (slot_of slots) is ∙ at) in
         or_first (s == slot) (has_id found s) (eq-eqb s slot same)
   ],
-  λ s k. from s (bool_cases (s == slot)) k,
+  λ s k. from s (cases_Bool (s == slot)) k,
 )
   where
     or_later : (a b : Bool) → b ≡ true → (a || b) ≡ true
@@ -344,7 +341,7 @@ found_more slots set found after id slot h at has put = (
 pub slot_in : (slots : List (Option ℕ)) (a s : ℕ) → slot_of slots a ≡ Some s → a < length slots
 slot_in slots a s e = elim (cases_lt a (length slots)) [
   | inl l ↦ l
-  | inr l ↦ absurd (none_is_not_some s (sym (past_slots slots a l) ∙ e))
+  | inr l ↦ absurd (none-some s (sym (past_slots slots a l) ∙ e))
 ]
 
 pub decided : (r t : Bool) → (r ≡ true → t ≡ true) → (r ≡ false → t ≡ false) → r ≡ t

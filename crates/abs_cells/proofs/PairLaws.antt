@@ -2,8 +2,9 @@
 use Rattle.std.proofs.Common.{◌≡◌, ℕ, zero, suc, ◌<◌, ◌≤◌, min, max, Bool, true, false, cond, ◌||◌, eqb, ltb, List, [], ◌∷◌, length, get_or, Some, ◌⊎◌, inl, inr, refl, sym, ap, subst, ◌∙◌, arith, eq-eqb}
 use Rattle.std.specs.Prelude.{slice_get}
 use Rattle.std.specs.List.{insert, remove}
-use Rattle.std.proofs.lemmas.Bool.{false≢true, eqb-true, ltb-true, lt-ltb, ne_eqb, and_parts, and_from, cases_lt}
-use Rattle.jvm_values.proofs.Options.{some_is, none_is_not_some}
+use Rattle.std.proofs.lemmas.Bool.{false≢true, eqb-true, ltb-true, lt-ltb, ne_eqb, and_parts, and_from, cases_lt, cond-true, cond-false, cases_Bool, or_left}
+use Rattle.std.proofs.lemmas.Option.{none-some}
+use Rattle.jvm_values.proofs.Options.{some_is}
 use Rattle.abs_cells.specs.PairLists.{pair_of, is_same, is_before, IsFirst, IsRising, has_pair, with_pair, without_pair, has, added, removed, place_in}
 
 pub has_swapped : (a b : ℕ) (pairs : List (ℕ × ℕ)) → has b a pairs ≡ has a b pairs
@@ -11,14 +12,6 @@ has_swapped a b pairs =
     let low : min b a ≡ min a b = omega arith in
     let high : max b a ≡ max a b = omega arith in
     ap (λ (x : ℕ). has_pair (x, max b a) pairs) low ∙ ap (λ (y : ℕ). has_pair (min a b, y) pairs) high
-
-pub cond_true : {A : Type 0} (s : Bool) (x y : A) → s ≡ true → cond s x y ≡ x
-cond_true true x y e = refl
-cond_true false x y e = absurd (false≢true e)
-
-pub cond_false : {A : Type 0} (s : Bool) (x y : A) → s ≡ false → cond s x y ≡ y
-cond_false true x y e = absurd (false≢true (sym e))
-cond_false false x y e = refl
 
 abbrev pub Before : ℕ × ℕ → ℕ × ℕ → Type 0
 Before p q = (p.0 < q.0) ⊎ ((p.0 ≡ q.0) × (p.1 < q.1))
@@ -31,12 +24,8 @@ before_is p q e = go (eqb p.0 q.0) refl e
     go false f h = inl (ltb-true p.0 q.0 h)
 
 pub is_before_from : (p q : ℕ × ℕ) → Before p q → is_before p q ≡ true
-is_before_from p q (inl l) = cond_false (eqb p.0 q.0) _ _ (ne_eqb p.0 q.0 (omega (arith, l))) ∙ lt-ltb p.0 q.0 l
-is_before_from p q (inr h) = cond_true (eqb p.0 q.0) _ _ (eq-eqb p.0 q.0 h.0) ∙ lt-ltb p.1 q.1 h.1
-
-pub bool_cases : (b : Bool) → (b ≡ true) ⊎ (b ≡ false)
-bool_cases true = inl refl
-bool_cases false = inr refl
+is_before_from p q (inl l) = cond-false (eqb p.0 q.0) _ _ (ne_eqb p.0 q.0 (omega (arith, l))) ∙ lt-ltb p.0 q.0 l
+is_before_from p q (inr h) = cond-true (eqb p.0 q.0) _ _ (eq-eqb p.0 q.0 h.0) ∙ lt-ltb p.1 q.1 h.1
 
 pub never_both : (p q : ℕ × ℕ) → Before p q → Before q p → ⊥
 never_both p q (inl l) (inl m) = omega (arith, l, m)
@@ -55,7 +44,7 @@ onward p q r (inr l) (inl m) = inl (omega (arith, l.0, m))
 onward p q r (inr l) (inr m) = inr (l.0 ∙ m.0, omega (arith, l.1, m.1))
 
 not_before : (p q : ℕ × ℕ) → (Before p q → ⊥) → is_before p q ≡ false
-not_before p q h = elim (bool_cases (is_before p q)) [ inl e ↦ absurd (h (before_is p q e)) | inr e ↦ e ]
+not_before p q h = elim (cases_Bool (is_before p q)) [ inl e ↦ absurd (h (before_is p q e)) | inr e ↦ e ]
 
 pub same_is : (p q : ℕ × ℕ) → is_same p q ≡ true → p ≡ q
 same_is (a, b) (c, d) e =
@@ -68,7 +57,7 @@ pub is_same_from : (p q : ℕ × ℕ) → p ≡ q → is_same p q ≡ true
 is_same_from p q e = and_from (eqb p.0 q.0) (eqb p.1 q.1) (eq-eqb p.0 q.0 (ap (λ (x : ℕ × ℕ). x.0) e)) (eq-eqb p.1 q.1 (ap (λ (x : ℕ × ℕ). x.1) e))
 
 pub not_same : (p q : ℕ × ℕ) → (p ≡ q → ⊥) → is_same p q ≡ false
-not_same p q h = elim (bool_cases (is_same p q)) [ inl e ↦ absurd (h (same_is p q e)) | inr e ↦ e ]
+not_same p q h = elim (cases_Bool (is_same p q)) [ inl e ↦ absurd (h (same_is p q e)) | inr e ↦ e ]
 
 -- how two pairs stand: as one, the first before, or the first behind
 pub record IsOne (p q : ℕ × ℕ) : Type 0 where
@@ -121,10 +110,10 @@ standing (a, b) (c, d) = elim (cases_lt a c) [
 -- ---- the place of a pair
 
 place_here : (p q : ℕ × ℕ) (rest : List (ℕ × ℕ)) → is_before q p ≡ false → place_in p (q ∷ rest) ≡ 0
-place_here p q rest e = cond_false (is_before q p) _ _ e
+place_here p q rest e = cond-false (is_before q p) _ _ e
 
 place_later : (p q : ℕ × ℕ) (rest : List (ℕ × ℕ)) → is_before q p ≡ true → place_in p (q ∷ rest) ≡ suc (place_in p rest)
-place_later p q rest e = cond_true (is_before q p) _ _ e
+place_later p q rest e = cond-true (is_before q p) _ _ e
 
 abbrev Stands : ℕ × ℕ → List (ℕ × ℕ) → Type 0
 Stands p xs = slice_get xs (place_in p xs) ≡ Some p
@@ -144,12 +133,12 @@ stands_later p q rest e h = ap (slice_get (q ∷ rest)) (place_later p q rest e)
 -- ---- putting a pair
 
 pub put_again : (p : ℕ × ℕ) (xs : List (ℕ × ℕ)) → Stands p xs → with_pair p xs ≡ xs
-put_again p [] h = absurd (none_is_not_some p h)
+put_again p [] h = absurd (none-some p h)
 put_again p (q ∷ rest) h = elim (standing p q) [
-  | inl c ↦ cond_true (is_same p q) _ _ c.same
+  | inl c ↦ cond-true (is_same p q) _ _ c.same
   | inr d ↦ elim d [
     | inl c ↦ absurd (never_itself p q (sym (stands_first p q rest c.after h)) c.order)
-    | inr c ↦ cond_false (is_same p q) _ _ c.same ∙ cond_false (is_before p q) _ _ c.before ∙ ap (λ (ys : List (ℕ × ℕ)). q ∷ ys) (put_again p rest (stands_rest p q rest c.after h))
+    | inr c ↦ cond-false (is_same p q) _ _ c.same ∙ cond-false (is_before p q) _ _ c.before ∙ ap (λ (ys : List (ℕ × ℕ)). q ∷ ys) (put_again p rest (stands_rest p q rest c.after h))
   ]
 ]
 
@@ -158,9 +147,9 @@ put_new p [] h = refl
 put_new p (q ∷ rest) h = elim (standing p q) [
   | inl c ↦ absurd (h (stands_here p q rest c.after (sym c.is)))
   | inr d ↦ elim d [
-    | inl c ↦ cond_false (is_same p q) _ _ c.same ∙ cond_true (is_before p q) _ _ c.before ∙ ap (λ (i : ℕ). insert (q ∷ rest) i p) (sym (place_here p q rest c.after))
+    | inl c ↦ cond-false (is_same p q) _ _ c.same ∙ cond-true (is_before p q) _ _ c.before ∙ ap (λ (i : ℕ). insert (q ∷ rest) i p) (sym (place_here p q rest c.after))
     | inr c ↦
-        cond_false (is_same p q) _ _ c.same ∙ cond_false (is_before p q) _ _ c.before
+        cond-false (is_same p q) _ _ c.same ∙ cond-false (is_before p q) _ _ c.before
         ∙ ap (λ (ys : List (ℕ × ℕ)). q ∷ ys) (put_new p rest (λ s. h (stands_later p q rest c.after s)))
         ∙ ap (λ (i : ℕ). insert (q ∷ rest) i p) (sym (place_later p q rest c.after))
   ]
@@ -169,28 +158,24 @@ put_new p (q ∷ rest) h = elim (standing p q) [
 first_with : (q p : ℕ × ℕ) (rest : List (ℕ × ℕ)) → IsFirst q rest → is_before q p ≡ true → IsFirst q (with_pair p rest)
 first_with q p [] h e = e
 first_with q p (r ∷ rest) h e = elim (standing p r) [
-  | inl c ↦ subst (λ (ys : List (ℕ × ℕ)). IsFirst q ys) (sym (cond_true (is_same p r) _ _ c.same)) h
+  | inl c ↦ subst (λ (ys : List (ℕ × ℕ)). IsFirst q ys) (sym (cond-true (is_same p r) _ _ c.same)) h
   | inr d ↦ elim d [
-    | inl c ↦ subst (λ (ys : List (ℕ × ℕ)). IsFirst q ys) (sym (cond_false (is_same p r) _ _ c.same ∙ cond_true (is_before p r) _ _ c.before)) e
-    | inr c ↦ subst (λ (ys : List (ℕ × ℕ)). IsFirst q ys) (sym (cond_false (is_same p r) _ _ c.same ∙ cond_false (is_before p r) _ _ c.before)) h
+    | inl c ↦ subst (λ (ys : List (ℕ × ℕ)). IsFirst q ys) (sym (cond-false (is_same p r) _ _ c.same ∙ cond-true (is_before p r) _ _ c.before)) e
+    | inr c ↦ subst (λ (ys : List (ℕ × ℕ)). IsFirst q ys) (sym (cond-false (is_same p r) _ _ c.same ∙ cond-false (is_before p r) _ _ c.before)) h
   ]
 ]
 
 pub rising_with : (p : ℕ × ℕ) (xs : List (ℕ × ℕ)) → (p.0 < p.1) × (p.1 < 2048) → IsRising xs → IsRising (with_pair p xs)
 rising_with p [] l h = (l, (tt, tt))
 rising_with p (q ∷ rest) l h = elim (standing p q) [
-  | inl c ↦ subst IsRising (sym (cond_true (is_same p q) _ _ c.same)) h
+  | inl c ↦ subst IsRising (sym (cond-true (is_same p q) _ _ c.same)) h
   | inr d ↦ elim d [
-    | inl c ↦ subst IsRising (sym (cond_false (is_same p q) _ _ c.same ∙ cond_true (is_before p q) _ _ c.before)) (l, (c.before, h))
-    | inr c ↦ subst IsRising (sym (cond_false (is_same p q) _ _ c.same ∙ cond_false (is_before p q) _ _ c.before)) (h.0, (first_with q p rest h.1.0 c.after, rising_with p rest l h.1.1))
+    | inl c ↦ subst IsRising (sym (cond-false (is_same p q) _ _ c.same ∙ cond-true (is_before p q) _ _ c.before)) (l, (c.before, h))
+    | inr c ↦ subst IsRising (sym (cond-false (is_same p q) _ _ c.same ∙ cond-false (is_before p q) _ _ c.before)) (h.0, (first_with q p rest h.1.0 c.after, rising_with p rest l h.1.1))
   ]
 ]
 
 -- ---- having a pair
-
-pub or_true : (s t : Bool) → s ≡ true → (s || t) ≡ true
-or_true true t e = refl
-or_true false t e = absurd (false≢true e)
 
 pub or_rest : (s t : Bool) → s ≡ false → (s || t) ≡ t
 or_rest true t e = absurd (false≢true (sym e))
@@ -199,7 +184,7 @@ or_rest false t e = refl
 -- a pair that stands somewhere behind is behind the first
 pub behind_first : (q p : ℕ × ℕ) (rest : List (ℕ × ℕ)) → IsFirst q rest → IsRising rest → has_pair p rest ≡ true → Before q p
 behind_first q p [] f r h = absurd (false≢true h)
-behind_first q p (x ∷ rest) f r h = elim (bool_cases (is_same p x)) [
+behind_first q p (x ∷ rest) f r h = elim (cases_Bool (is_same p x)) [
   | inl s ↦ subst (λ (y : ℕ × ℕ). Before q y) (sym (same_is p x s)) (before_is q x f)
   | inr s ↦ onward q x p (before_is q x f) (behind_first x p rest r.1.0 r.1.1 (sym (or_rest (is_same p x) (has_pair p rest) s) ∙ h))
 ]
@@ -215,9 +200,9 @@ found p (q ∷ rest) r h = elim (standing p q) [
 ]
 
 pub has_from : (p : ℕ × ℕ) (xs : List (ℕ × ℕ)) → Stands p xs → has_pair p xs ≡ true
-has_from p [] h = absurd (none_is_not_some p h)
+has_from p [] h = absurd (none-some p h)
 has_from p (q ∷ rest) h = elim (standing p q) [
-  | inl c ↦ or_true (is_same p q) (has_pair p rest) c.same
+  | inl c ↦ or_left (is_same p q) (has_pair p rest) c.same
   | inr d ↦ elim d [
     | inl c ↦ absurd (never_itself p q (sym (stands_first p q rest c.after h)) c.order)
     | inr c ↦ or_rest (is_same p q) (has_pair p rest) c.same ∙ has_from p rest (stands_rest p q rest c.after h)
@@ -226,31 +211,31 @@ has_from p (q ∷ rest) h = elim (standing p q) [
 
 pub has_is : (p : ℕ × ℕ) (xs : List (ℕ × ℕ)) (result : Bool) → IsRising xs → (result ≡ true → Stands p xs) → (Stands p xs → result ≡ true) → result ≡ has_pair p xs
 has_is p xs true r h k = sym (has_from p xs (h refl))
-has_is p xs false r h k = elim (bool_cases (has_pair p xs)) [ inl e ↦ absurd (false≢true (k (found p xs r e))) | inr e ↦ sym e ]
+has_is p xs false r h k = elim (cases_Bool (has_pair p xs)) [ inl e ↦ absurd (false≢true (k (found p xs r e))) | inr e ↦ sym e ]
 
 -- ---- taking a pair away
 
 pub take_away : (p : ℕ × ℕ) (xs : List (ℕ × ℕ)) → Stands p xs → without_pair p xs ≡ remove xs (place_in p xs)
-take_away p [] h = absurd (none_is_not_some p h)
+take_away p [] h = absurd (none-some p h)
 take_away p (q ∷ rest) h = elim (standing p q) [
-  | inl c ↦ cond_true (is_same p q) _ _ c.same ∙ ap (λ (i : ℕ). remove (q ∷ rest) i) (sym (place_here p q rest c.after))
+  | inl c ↦ cond-true (is_same p q) _ _ c.same ∙ ap (λ (i : ℕ). remove (q ∷ rest) i) (sym (place_here p q rest c.after))
   | inr d ↦ elim d [
     | inl c ↦ absurd (never_itself p q (sym (stands_first p q rest c.after h)) c.order)
     | inr c ↦
-        cond_false (is_same p q) _ _ c.same ∙ ap (λ (ys : List (ℕ × ℕ)). q ∷ ys) (take_away p rest (stands_rest p q rest c.after h))
+        cond-false (is_same p q) _ _ c.same ∙ ap (λ (ys : List (ℕ × ℕ)). q ∷ ys) (take_away p rest (stands_rest p q rest c.after h))
         ∙ ap (λ (i : ℕ). remove (q ∷ rest) i) (sym (place_later p q rest c.after))
   ]
 ]
 
 pub without_none : (p : ℕ × ℕ) (xs : List (ℕ × ℕ)) → has_pair p xs ≡ false → without_pair p xs ≡ xs
 without_none p [] h = refl
-without_none p (q ∷ rest) h = elim (bool_cases (is_same p q)) [
-  | inl s ↦ absurd (false≢true (sym h ∙ or_true (is_same p q) (has_pair p rest) s))
-  | inr s ↦ cond_false (is_same p q) _ _ s ∙ ap (λ (ys : List (ℕ × ℕ)). q ∷ ys) (without_none p rest (sym (or_rest (is_same p q) (has_pair p rest) s) ∙ h))
+without_none p (q ∷ rest) h = elim (cases_Bool (is_same p q)) [
+  | inl s ↦ absurd (false≢true (sym h ∙ or_left (is_same p q) (has_pair p rest) s))
+  | inr s ↦ cond-false (is_same p q) _ _ s ∙ ap (λ (ys : List (ℕ × ℕ)). q ∷ ys) (without_none p rest (sym (or_rest (is_same p q) (has_pair p rest) s) ∙ h))
 ]
 
 pub take_none : (p : ℕ × ℕ) (xs : List (ℕ × ℕ)) → IsRising xs → (Stands p xs → ⊥) → without_pair p xs ≡ xs
-take_none p xs r h = without_none p xs (elim (bool_cases (has_pair p xs)) [ inl e ↦ absurd (h (found p xs r e)) | inr e ↦ e ])
+take_none p xs r h = without_none p xs (elim (cases_Bool (has_pair p xs)) [ inl e ↦ absurd (h (found p xs r e)) | inr e ↦ e ])
 
 first_of_rest : (q : ℕ × ℕ) (x : ℕ × ℕ) (rest : List (ℕ × ℕ)) → is_before q x ≡ true → IsFirst x rest → IsFirst q rest
 first_of_rest q x [] e h = tt
@@ -258,16 +243,16 @@ first_of_rest q x (y ∷ rest) e h = is_before_from q y (onward q x y (before_is
 
 first_without : (q p : ℕ × ℕ) (rest : List (ℕ × ℕ)) → IsFirst q rest → IsRising rest → IsFirst q (without_pair p rest)
 first_without q p [] h r = tt
-first_without q p (x ∷ rest) h r = elim (bool_cases (is_same p x)) [
-  | inl s ↦ subst (λ (ys : List (ℕ × ℕ)). IsFirst q ys) (sym (cond_true (is_same p x) _ _ s)) (first_of_rest q x rest h r.1.0)
-  | inr s ↦ subst (λ (ys : List (ℕ × ℕ)). IsFirst q ys) (sym (cond_false (is_same p x) _ _ s)) h
+first_without q p (x ∷ rest) h r = elim (cases_Bool (is_same p x)) [
+  | inl s ↦ subst (λ (ys : List (ℕ × ℕ)). IsFirst q ys) (sym (cond-true (is_same p x) _ _ s)) (first_of_rest q x rest h r.1.0)
+  | inr s ↦ subst (λ (ys : List (ℕ × ℕ)). IsFirst q ys) (sym (cond-false (is_same p x) _ _ s)) h
 ]
 
 pub rising_without : (p : ℕ × ℕ) (xs : List (ℕ × ℕ)) → IsRising xs → IsRising (without_pair p xs)
 rising_without p [] h = tt
-rising_without p (q ∷ rest) h = elim (bool_cases (is_same p q)) [
-  | inl s ↦ subst IsRising (sym (cond_true (is_same p q) _ _ s)) h.1.1
-  | inr s ↦ subst IsRising (sym (cond_false (is_same p q) _ _ s)) (h.0, (first_without q p rest h.1.0 h.1.1, rising_without p rest h.1.1))
+rising_without p (q ∷ rest) h = elim (cases_Bool (is_same p q)) [
+  | inl s ↦ subst IsRising (sym (cond-true (is_same p q) _ _ s)) h.1.1
+  | inr s ↦ subst IsRising (sym (cond-false (is_same p q) _ _ s)) (h.0, (first_without q p rest h.1.0 h.1.1, rising_without p rest h.1.1))
 ]
 
 -- ---- looking for the place
@@ -275,7 +260,7 @@ rising_without p (q ∷ rest) h = elim (bool_cases (is_same p q)) [
 -- a pair behind which the place lies stands behind all that are before the place
 later_too : (q p : ℕ × ℕ) (rest : List (ℕ × ℕ)) → IsFirst q rest → 0 < place_in p rest → is_before q p ≡ true
 later_too q p [] f l = absurd (omega (arith, l))
-later_too q p (x ∷ rest) f l = elim (bool_cases (is_before x p)) [
+later_too q p (x ∷ rest) f l = elim (cases_Bool (is_before x p)) [
   | inl e ↦ is_before_from q p (onward q x p (before_is q x f) (before_is x p e))
   | inr e ↦ absurd (omega (arith, l, place_here p x rest e))
 ]
@@ -291,7 +276,7 @@ place_behind p (q ∷ rest) (suc i) d r l b =
 pub place_before : (p : ℕ × ℕ) (xs : List (ℕ × ℕ)) (i : ℕ) (d : ℕ × ℕ) → i < length xs → is_before (get_or xs i d) p ≡ false → place_in p xs ≤ i
 place_before p [] i d l b = absurd (omega (arith, l))
 place_before p (q ∷ rest) zero d l b = omega (arith, place_here p q rest b)
-place_before p (q ∷ rest) (suc i) d l b = elim (bool_cases (is_before q p)) [
+place_before p (q ∷ rest) (suc i) d l b = elim (cases_Bool (is_before q p)) [
   | inl e ↦ let h = place_before p rest i d (omega (arith, l)) b in omega (arith, h, place_later p q rest e)
   | inr e ↦ omega (arith, place_here p q rest e)
 ]
@@ -299,7 +284,7 @@ place_before p (q ∷ rest) (suc i) d l b = elim (bool_cases (is_before q p)) [
 -- the place is within the list, or at its end
 pub place_within : (p : ℕ × ℕ) (xs : List (ℕ × ℕ)) → place_in p xs ≤ length xs
 place_within p [] = omega arith
-place_within p (q ∷ rest) = elim (bool_cases (is_before q p)) [
+place_within p (q ∷ rest) = elim (cases_Bool (is_before q p)) [
   | inl e ↦ omega (arith, place_later p q rest e, place_within p rest)
   | inr e ↦ omega (arith, place_here p q rest e)
 ]

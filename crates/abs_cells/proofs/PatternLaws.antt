@@ -2,7 +2,8 @@
 use Rattle.std.proofs.Common.{◌≡◌, ℕ, zero, suc, ◌≤◌, List, [], ◌∷◌, Option, Some, None, inl, inr, refl, sym, ap, ◌∙◌, arith}
 use Rattle.std.specs.Option.{option_map, option_and_then}
 use Rattle.std.proofs.lemmas.Bool.{cases_lt}
-use Rattle.jvm_values.proofs.Options.{some_is, none_is_not_some}
+use Rattle.std.proofs.lemmas.Option.{none-some}
+use Rattle.jvm_values.proofs.Options.{some_is}
 use Rattle.abs_cells.specs.declared.cells.Cell.{Cell}
 use Rattle.abs_cells.specs.declared.cells.Cell.TheVariants.{Int, Null, Obj, Nums, Refs, Unk}
 use Rattle.abs_cells.specs.AbstractStates.{AbstractState}
@@ -17,7 +18,7 @@ abbrev IsKept : {A : Type 0} → Option A → Option A → Type 0
 IsKept {A} u v = (x : A) → u ≡ Some x → v ≡ Some x
 
 map_kept : {A B : Type 0} (w : A → B) (u v : Option A) → IsKept u v → IsKept (option_map w u) (option_map w v)
-map_kept w None v k x e = absurd (none_is_not_some x e)
+map_kept w None v k x e = absurd (none-some x e)
 map_kept w (Some y) v k x e = ap (option_map w) (k y refl) ∙ e
 
 rest_kept : (r : Option Pattern) (u v : Option Patterns) → IsKept u v → IsKept (with_first (Some r) u) (with_first (Some r) v)
@@ -25,7 +26,7 @@ rest_kept None u v k = k
 rest_kept (Some first) u v k = map_kept (more first) u v k
 
 first_kept : (a b : Option (Option Pattern)) → IsKept a b → (u v : Option Patterns) → IsKept u v → IsKept (with_first a u) (with_first b v)
-first_kept None b h u v k x e = absurd (none_is_not_some x e)
+first_kept None b h u v k x e = absurd (none-some x e)
 first_kept (Some r) b h u v k x e = ap (λ (y : Option (Option Pattern)). with_first y v) (h r refl) ∙ rest_kept r u v k x e
 
 patterns_kept : (f g : ℕ → Option (Option Pattern)) → ((id : ℕ) → IsKept (f id) (g id)) → (ids : List ℕ) → IsKept (patterns_by f ids) (patterns_by g ids)
@@ -41,11 +42,11 @@ cell_kept f g h id (Refs element len shape) x e = e
 cell_kept f g h id (Unk bound nullable shape) x e = e
 
 chain_kept : (f g : ℕ → Option (Option Pattern)) → ((id : ℕ) → IsKept (f id) (g id)) → (id : ℕ) (c : Option Cell) → IsKept (option_and_then (pattern_of_cell f id) c) (option_and_then (pattern_of_cell g id) c)
-chain_kept f g h id None x e = absurd (none_is_not_some x e)
+chain_kept f g h id None x e = absurd (none-some x e)
 chain_kept f g h id (Some cell) x e = cell_kept f g h id cell x e
 
 within_kept : (d e : ℕ) (state : AbstractState) → d ≤ e → (id : ℕ) → IsKept (pattern_within d state id) (pattern_within e state id)
-within_kept zero e state l id x h = absurd (none_is_not_some x h)
+within_kept zero e state l id x h = absurd (none-some x h)
 within_kept (suc d) zero state l id x h = absurd (omega (arith, l))
 within_kept (suc d) (suc e) state l id x h = chain_kept (pattern_within d state) (pattern_within e state) (within_kept d e state (omega (arith, l))) id (cell_at state id) x h
 

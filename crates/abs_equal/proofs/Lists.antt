@@ -1,11 +1,7 @@
 -- Lists that are compared item by item.
 use Rattle.std.proofs.Common.{◌≡◌, ◌≢◌, ◌<◌, ◌≤◌, ◌+◌, ◌∙◌, ℕ, zero, suc, List, [], ◌∷◌, length, slice_index_or, take, refl, sym, ap, arith}
 use Rattle.std.proofs.lemmas.List.{take_all, take_more_same}
-
-any_default : {X : Type 0} (xs : List X) (k : ℕ) (d e : X) → k < length xs → slice_index_or xs k d ≡ slice_index_or xs k e
-any_default [] k d e l = absurd (omega (arith, l))
-any_default (x ∷ xs) zero d e l = refl
-any_default (x ∷ xs) (suc k) d e l = any_default xs k d e (omega (arith, l))
+use Rattle.list_views.proofs.Items.{any_default}
 
 pub more_same : {X : Type 0} (xs ys : List X) (n : ℕ) (x y : X) → n < length xs → length xs ≡ length ys → x ≡ slice_index_or xs n x → y ≡ slice_index_or ys n y → x ≡ y → take n xs ≡ take n ys → take (n + 1) xs ≡ take (n + 1) ys
 more_same xs ys n x y l same is there e front =

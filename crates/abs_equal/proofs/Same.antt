@@ -2,6 +2,8 @@
 use Rattle.std.proofs.Common.{◌≡◌, ◌<◌, ◌∙◌, ℕ, max, Bool, true, false, List, refl, sym, ap, arith}
 use Rattle.std.specs.Prelude.{reverse}
 use Rattle.std.proofs.lemmas.List.{reverse-reverse}
+use Rattle.list_views.proofs.Truths.{same_truth}
+use Rattle.abs_cells.proofs.Checking.{low_pair}
 use Rattle.abs_cells.specs.AbstractStates.{AbstractFrame, AbstractState}
 use Rattle.abs_cells.specs.PairLists.{pair_of, IsRising, has_pair, AreAmong}
 use Rattle.abs_cells.proofs.PackedLaws.{is_one_list}
@@ -24,20 +26,11 @@ state_same s t p w =
     ∙ ap (λ x. record { frames = t.frames; throwing = t.throwing; cells = t.cells; eq = x; share = s.share }) w.1.0
     ∙ ap (λ x. record t { share = x }) w.1.1
 
--- a rising pair is the pair of its numbers
-pair_is : (p : ℕ × ℕ) → p.0 < p.1 → pair_of p.0 p.1 ≡ p
-pair_is p l = ap (λ a. (a, max p.0 p.1)) (omega (arith, l)) ∙ ap (λ b. (p.0, b)) (omega (arith, l))
-
-same_truth : (a b : Bool) → (a ≡ true → b ≡ true) → (b ≡ true → a ≡ true) → a ≡ b
-same_truth true b f g = sym (f refl)
-same_truth false true f g = g refl
-same_truth false false f g = refl
-
 pub pairs_same : (xs ys : List (ℕ × ℕ)) → IsRising xs → IsRising ys → AreAmong xs ys → AreAmong ys xs → xs ≡ ys
 pairs_same xs ys r s f g =
     is_one_list xs ys r s (λ p l. same_truth (has_pair p xs) (has_pair p ys)
-    (λ h. ap (λ q. has_pair q ys) (sym (pair_is p l)) ∙ f p.0 p.1 (ap (λ q. has_pair q xs) (pair_is p l) ∙ h))
-    (λ h. ap (λ q. has_pair q xs) (sym (pair_is p l)) ∙ g p.0 p.1 (ap (λ q. has_pair q ys) (pair_is p l) ∙ h)))
+    (λ h. ap (λ q. has_pair q ys) (sym (low_pair p l)) ∙ f p.0 p.1 (ap (λ q. has_pair q xs) (low_pair p l) ∙ h))
+    (λ h. ap (λ q. has_pair q xs) (sym (low_pair p l)) ∙ g p.0 p.1 (ap (λ q. has_pair q ys) (low_pair p l) ∙ h)))
 
 pub among_itself : (xs ys : List (ℕ × ℕ)) → xs ≡ ys → AreAmong xs ys
 among_itself xs ys e a b h = ap (λ zs. has_pair (pair_of a b) zs) (sym e) ∙ h

@@ -4,8 +4,10 @@ use Rattle.std.specs.Prelude.{unwrap_or}
 use Rattle.std.specs.List.{AllByRecursion}
 use Rattle.std.specs.Option.{option_map}
 use Rattle.std.proofs.lemmas.Bool.{eqb-true, eqb-false, ne_eqb, cases_eq}
-use Rattle.std.proofs.lemmas.List.{take-append-drop, get_or_read}
-use Rattle.jvm_values.proofs.Options.{none_is_not_some}
+use Rattle.std.proofs.lemmas.List.{take-append-drop, get_or_read, get_or_default}
+use Rattle.std.proofs.lemmas.Option.{none-some}
+use Rattle.abs_heap.proofs.Placing.{joined_is}
+use Rattle.abs_cells.proofs.CellLaws.{low_of_cell}
 use Rattle.abs_cells.specs.declared.cells.Cell.{Cell}
 use Rattle.abs_cells.specs.AbstractStates.{AbstractState}
 use Rattle.abs_cells.specs.Cells.{cell_in}
@@ -27,7 +29,7 @@ changed_in changed (c ∷ listed) id = at (c.0 == id) refl (changed_in changed l
 
 both_options : (other found : Option Cell) → (found ≡ None → other ≡ None) → option_map (λ cell. unwrap_or other cell) found ≡ first_cell other found
 both_options None None h = refl
-both_options (Some x) None h = absurd (none_is_not_some x (sym (h refl)))
+both_options (Some x) None h = absurd (none-some x (sym (h refl)))
 both_options None (Some c) h = refl
 both_options (Some x) (Some c) h = refl
 
@@ -36,7 +38,7 @@ none_changed state [] id h e = refl
 none_changed state (c ∷ changed) id h e = at (c.0 == id) refl (none_changed state changed id h.1 e)
   where
     at : (b : Bool) → eqb c.0 id ≡ b → cell_in changed id ≡ None → (if b then Some c.1 else cell_in changed id) ≡ None
-    at true f rest = absurd (none_is_not_some h.0.0.cell (sym e ∙ ap (cell_in state.cells) (sym (eqb-true c.0 id f)) ∙ h.0.0.is))
+    at true f rest = absurd (none-some h.0.0.cell (sym e ∙ ap (cell_in state.cells) (sym (eqb-true c.0 id f)) ∙ h.0.0.is))
     at false f rest = rest
 
 -- the cell of each id: the changed one, where it is one of these
@@ -62,22 +64,13 @@ changed_free changed listed free l = record {
 
 -- ---- one cell more
 
--- an id of cells that rise from a number is at least that number
-pub at_least : (low id : ℕ) (listed : List (ℕ × Cell)) (cell : Cell) → AreIdsRising low listed → cell_in listed id ≡ Some cell → low ≤ id
-at_least low id [] cell r e = absurd (none_is_not_some cell e)
-at_least low id (c ∷ listed) cell r e = at (c.0 == id) refl e (λ g. at_least (suc c.0) id listed cell r.1.1 g)
-  where
-    at : (b : Bool) → eqb c.0 id ≡ b → (if b then Some c.1 else cell_in listed id) ≡ Some cell → (cell_in listed id ≡ Some cell → suc c.0 ≤ id) → low ≤ id
-    at true f g rest = omega (arith, r.0, eqb-true c.0 id f)
-    at false f g rest = omega (arith, r.0, rest g)
-
 -- the first of them is the number, where that is an id
 first_is : (low : ℕ) (c : ℕ × Cell) (listed : List (ℕ × Cell)) (cell : Cell) → AreIdsRising low (c ∷ listed) → cell_in (c ∷ listed) low ≡ Some cell → c.0 ≡ low
 first_is low c listed cell r e = at (c.0 == low) refl e
   where
     at : (b : Bool) → eqb c.0 low ≡ b → (if b then Some c.1 else cell_in listed low) ≡ Some cell → c.0 ≡ low
     at true f g = eqb-true c.0 low f
-    at false f g = absurd (omega (arith, r.0, at_least (suc c.0) low listed cell r.1.1 g))
+    at false f g = absurd (omega (arith, r.0, low_of_cell (suc c.0) low listed cell r.1.1 g))
 
 -- the numbers from `low` on, so many, are ids of cells, and the next one is none
 pub record IsFreeAfter (low count : ℕ) (listed : List (ℕ × Cell)) : Type 0 where
@@ -102,10 +95,10 @@ inserted_rising low zero cell (c ∷ listed) r f s =
     (omega arith, (s, (omega (arith, apart), r.1)))
   where
     other : (b : Bool) → eqb c.0 (low + 0) ≡ b → (if b then Some c.1 else cell_in listed (low + 0)) ≡ None → low + 0 < c.0
-    other true g h = absurd (none_is_not_some c.1 (sym h))
+    other true g h = absurd (none-some c.1 (sym h))
     other false g h = omega (arith, r.0, eqb-false c.0 (low + 0) g)
 inserted_rising low (suc count) cell [] r f s =
-    let found = f.least low (omega arith) (omega arith) in absurd (none_is_not_some found.0 found.1)
+    let found = f.least low (omega arith) (omega arith) in absurd (none-some found.0 found.1)
 inserted_rising low (suc count) cell (c ∷ listed) r f s =
     let found = f.least low (omega arith) (omega arith) in
     let first : c.0 ≡ low = first_is low c listed found.0 r found.1 in
@@ -115,7 +108,7 @@ inserted_rising low (suc count) cell (c ∷ listed) r f s =
 -- so many cells there are at least
 pub free_is_low : (low count : ℕ) (listed : List (ℕ × Cell)) → AreIdsRising low listed → IsFreeAfter low count listed → count ≤ length listed
 free_is_low low zero listed r f = omega arith
-free_is_low low (suc count) [] r f = let found = f.least low (omega arith) (omega arith) in absurd (none_is_not_some found.0 found.1)
+free_is_low low (suc count) [] r f = let found = f.least low (omega arith) (omega arith) in absurd (none-some found.0 found.1)
 free_is_low low (suc count) (c ∷ listed) r f =
     let found = f.least low (omega arith) (omega arith) in
     omega (arith, free_is_low (suc c.0) count listed r.1.1 (free_rest low count c listed (first_is low c listed found.0 r found.1) f))
@@ -130,11 +123,6 @@ pub placed_low : (changed listed : List (ℕ × Cell)) (free : ℕ) → AreIdsRi
 placed_low changed listed free r l = free_is_low 0 free (changed_cells changed listed) (changed_rising 0 changed listed r) (free_after (changed_cells changed listed) free (changed_free changed listed free l))
 
 -- ---- the least free number
-
-get_or_any : {X : Type 0} (xs : List X) (k : ℕ) (d e : X) → k < length xs → get_or xs k d ≡ get_or xs k e
-get_or_any [] k d e l = absurd (omega (arith, l))
-get_or_any (x ∷ xs) zero d e l = refl
-get_or_any (x ∷ xs) (suc k) d e l = get_or_any xs k d e (omega (arith, l))
 
 at_index : (low : ℕ) (listed : List (ℕ × Cell)) (j : ℕ) (d : ℕ × Cell) → AreIdsRising low listed → j < length listed → low + j ≤ (get_or listed j d).0
 at_index low [] j d r l = absurd (omega (arith, l))
@@ -157,7 +145,7 @@ least_at listed count r l h apart = record {
     | inl same ↦ apart d (omega (arith, low, same)) (subst (λ (n : ℕ). (get_or listed n d).0 ≡ count) same e)
     | inr other ↦
         let before : k < count = omega (arith, at_index 0 listed k d r low, e, other) in
-        other (sym (h k before) ∙ ap (λ (x : ℕ × Cell). x.0) (get_or_any listed k (0, cells.Null) d low) ∙ e)
+        other (sym (h k before) ∙ ap (λ (x : ℕ × Cell). x.0) (get_or_default listed k (0, cells.Null) d low) ∙ e)
   ]);
   least = λ m low. ((get_or listed m (0, cells.Null)).1, stands 0 listed m m (0, cells.Null) r (omega (arith, low, l)) (h m low));
 }
@@ -165,19 +153,10 @@ least_at listed count r l h apart = record {
 -- the number at which the ids of cells leave the counting
 pub least_here : (listed : List (ℕ × Cell)) (count free : ℕ) (item : ℕ × Cell) → AreIdsRising 0 listed → free ≡ count → count < length listed → item ≡ get_or listed count item → (item.0 ≡ free → ⊥) → AreCounted listed count → IsLeastFree listed free
 least_here listed count free item r at l is apart h =
-    subst (IsLeastFree listed) (sym at) (least_at listed count r (omega (arith, l)) h (λ d low e. apart (ap (λ (x : ℕ × Cell). x.0) (is ∙ get_or_any listed count item d l) ∙ e ∙ sym at)))
+    subst (IsLeastFree listed) (sym at) (least_at listed count r (omega (arith, l)) h (λ d low e. apart (ap (λ (x : ℕ × Cell). x.0) (is ∙ get_or_default listed count item d l) ∙ e ∙ sym at)))
 
 pub least_end : (listed : List (ℕ × Cell)) (count free : ℕ) → AreIdsRising 0 listed → free ≡ count → length listed ≤ count → count ≤ length listed → AreCounted listed count → IsLeastFree listed free
 least_end listed count free r at past l h = subst (IsLeastFree listed) (sym at) (least_at listed count r l h (λ d low e. omega (arith, past, low)))
-
--- cells in front of others
-cell_before : (xs ys : List (ℕ × Cell)) (id : ℕ) → cell_in (xs ++ ys) id ≡ first_cell (cell_in xs id) (cell_in ys id)
-cell_before [] ys id = refl
-cell_before (x ∷ xs) ys id = at (x.0 == id) (cell_before xs ys id)
-  where
-    at : (b : Bool) → cell_in (xs ++ ys) id ≡ first_cell (cell_in xs id) (cell_in ys id) → (if b then Some x.1 else cell_in (xs ++ ys) id) ≡ first_cell (if b then Some x.1 else cell_in xs id) (cell_in ys id)
-    at true rest = refl
-    at false rest = rest
 
 first_none : (a b : Option Cell) → first_cell a b ≡ None → a ≡ None
 first_none None b e = refl
@@ -186,10 +165,10 @@ first_none (Some x) b e = e
 -- the cell of each id, where one more comes
 pub inserted_at : (listed : List (ℕ × Cell)) (count free : ℕ) (cell : Cell) (id : ℕ) → cell_in listed free ≡ None → cell_in (take count listed ++ ((free, cell) ∷ drop count listed)) id ≡ first_cell (cell_in ((free, cell) ∷ []) id) (cell_in listed id)
 inserted_at listed count free cell id none =
-    cell_before (take count listed) ((free, cell) ∷ drop count listed) id ∙ at (free == id) refl
+    joined_is (take count listed) ((free, cell) ∷ drop count listed) id ∙ at (free == id) refl
   where
     whole : (n : ℕ) → first_cell (cell_in (take count listed) n) (cell_in (drop count listed) n) ≡ cell_in listed n
-    whole n = sym (cell_before (take count listed) (drop count listed) n) ∙ ap (λ (xs : List (ℕ × Cell)). cell_in xs n) (take-append-drop count listed)
+    whole n = sym (joined_is (take count listed) (drop count listed) n) ∙ ap (λ (xs : List (ℕ × Cell)). cell_in xs n) (take-append-drop count listed)
 
     at : (b : Bool) → eqb free id ≡ b → first_cell (cell_in (take count listed) id) (if b then Some cell else cell_in (drop count listed) id) ≡ first_cell (if b then Some cell else None) (cell_in listed id)
     at true e = ap (λ (o : Option Cell). first_cell o (Some cell)) (first_none (cell_in (take count listed) id) (cell_in (drop count listed) id) (whole id ∙ ap (cell_in listed) (sym (eqb-true free id e)) ∙ none))

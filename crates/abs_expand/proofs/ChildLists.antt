@@ -35,12 +35,6 @@ pub all_mapped : {X Y : Type 0} (P : Y → Type 0) (f : X → Y) (xs : List X) �
 all_mapped P f [] h = tt
 all_mapped P f (x ∷ xs) h = (h.0, all_mapped P f xs h.1)
 
-pub zip_more : {X Y : Type 0} (R : X → Y → Type 0) (xs : List X) (ys : List Y) (x : X) (y : Y) → AllZip R xs ys → R x y → AllZip R (xs ++ x ∷ []) (ys ++ y ∷ [])
-zip_more R [] [] x y h r = (r, tt)
-zip_more R [] (b ∷ ys) x y h r = absurd h
-zip_more R (a ∷ xs) [] x y h r = absurd h
-zip_more R (a ∷ xs) (b ∷ ys) x y h r = (h.0, zip_more R xs ys x y h.1 r)
-
 pub more_made : {X Y : Type 0} (f : X → Y) (made : List Y) (old rest : List X) (x : X) (y : Y) (whole : List Y) → old ≡ x ∷ rest → y ≡ f x → made ++ map f old ≡ whole → (made ++ y ∷ []) ++ map f rest ≡ whole
 more_made f made old rest x y whole o e w = append_assoc made (y ∷ []) (map f rest) ∙ ap (λ z. made ++ z ∷ map f rest) e ∙ ap (λ zs. made ++ map f zs) (sym o) ∙ w
 

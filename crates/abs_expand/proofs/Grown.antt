@@ -4,8 +4,10 @@ use Rattle.std.specs.Prelude.{unwrap_or, slice_set}
 use Rattle.std.specs.List.{AllByRecursion, flat_map}
 use Rattle.std.proofs.lemmas.Bool.{false≢true, eq-eqb}
 use Rattle.std.proofs.lemmas.List.Elements.{All-from_recursion, recursion_from_All}
+use Rattle.std.proofs.lemmas.Option.{none-some}
+use Rattle.list_views.proofs.Quantified.{all_joined, all_front, all_back, all_weaker}
 use Rattle.jvm_values.specs.TypedHeaps.{WorldTypes}
-use Rattle.jvm_values.proofs.Options.{some_is, none_is_not_some}
+use Rattle.jvm_values.proofs.Options.{some_is}
 use Rattle.abs_cells.specs.declared.cells.Cell.{Cell}
 use Rattle.abs_cells.specs.declared.cells.Cell.TheVariants.{Int, Null, Obj, Nums, Refs, Unk}
 use Rattle.abs_cells.specs.AbstractStates.{AbstractFrame, AbstractState}
@@ -24,29 +26,13 @@ use Rattle.abs_expand.proofs.IntTurns.{set_held}
 
 -- ---- lists
 
-pub both_all : {X : Type 0} (P : X → Type 0) (xs ys : List X) → AllByRecursion P xs → AllByRecursion P ys → AllByRecursion P (xs ++ ys)
-both_all P [] ys a b = b
-both_all P (x ∷ xs) ys a b = (a.0, both_all P xs ys a.1 b)
-
-pub first_all : {X : Type 0} (P : X → Type 0) (xs ys : List X) → AllByRecursion P (xs ++ ys) → AllByRecursion P xs
-first_all P [] ys a = tt
-first_all P (x ∷ xs) ys a = (a.0, first_all P xs ys a.1)
-
-pub second_all : {X : Type 0} (P : X → Type 0) (xs ys : List X) → AllByRecursion P (xs ++ ys) → AllByRecursion P ys
-second_all P [] ys a = a
-second_all P (x ∷ xs) ys a = second_all P xs ys a.1
-
-weaker_all : {X : Type 0} (P Q : X → Type 0) → ((x : X) → P x → Q x) → (xs : List X) → AllByRecursion P xs → AllByRecursion Q xs
-weaker_all P Q h [] a = tt
-weaker_all P Q h (x ∷ xs) a = (h x a.0, weaker_all P Q h xs a.1)
-
 flat_from : {X Y : Type 0} (P : Y → Type 0) (f : X → List Y) (xs : List X) → AllByRecursion P (flat_map f xs) → AllByRecursion (λ x. AllByRecursion P (f x)) xs
 flat_from P f [] a = tt
-flat_from P f (x ∷ xs) a = (first_all P (f x) (flat_map f xs) a, flat_from P f xs (second_all P (f x) (flat_map f xs) a))
+flat_from P f (x ∷ xs) a = (all_front P (f x) (flat_map f xs) a, flat_from P f xs (all_back P (f x) (flat_map f xs) a))
 
 flat_to : {X Y : Type 0} (P : Y → Type 0) (f : X → List Y) (xs : List X) → AllByRecursion (λ x. AllByRecursion P (f x)) xs → AllByRecursion P (flat_map f xs)
 flat_to P f [] a = tt
-flat_to P f (x ∷ xs) a = both_all P (f x) (flat_map f xs) a.0 (flat_to P f xs a.1)
+flat_to P f (x ∷ xs) a = all_joined P (f x) (flat_map f xs) a.0 (flat_to P f xs a.1)
 
 inserted_all : {X : Type 0} (P : X → Type 0) (n : ℕ) (x : X) (xs : List X) → P x → AllByRecursion P xs → AllByRecursion P (take n xs ++ (x ∷ drop n xs))
 inserted_all P zero x xs p a = (p, a)
@@ -70,7 +56,7 @@ int_names_none (Refs element len shape) e = absurd (false≢true e)
 int_names_none (Unk bound nullable shape) e = absurd (false≢true e)
 
 narrowed_int : (state : AbstractState) (changed : List (ℕ × Cell)) (id : ℕ) (cell : Cell) → AllByRecursion (IsNarrowed state) changed → cell_in changed id ≡ Some cell → is_int cell ≡ true
-narrowed_int state [] id cell h e = absurd (none_is_not_some cell e)
+narrowed_int state [] id cell h e = absurd (none-some cell e)
 narrowed_int state (c ∷ changed) id cell h e = at (c.0 == id) e (λ f. narrowed_int state changed id cell h.1 f)
   where
     at : (b : Bool) → (if b then Some c.1 else cell_in changed id) ≡ Some cell → (cell_in changed id ≡ Some cell → is_int cell ≡ true) → is_int cell ≡ true
@@ -195,15 +181,15 @@ module _ (state : AbstractState) (ints : IsIntState state) (good : IsWellFormed 
     stands id cell e = record { cell = cell; is = e; sort_is = refl }
 
     frame_named : (frame : AbstractFrame) → AllByRecursion Stands (given_ids frame.locals) → AllByRecursion Stands frame.stack → AllByRecursion Stands (ids_of_frame frame)
-    frame_named frame l s = both_all Stands (given_ids frame.locals) frame.stack l s
+    frame_named frame l s = all_joined Stands (given_ids frame.locals) frame.stack l s
 
     -- what the state held still has a cell
     module _ (kept : (id : ℕ) → HasCell (λ _. true) state id → Stands id) where
       frames_named : (list : List AbstractFrame) → AllByRecursion (HoldsIds state) list → AllByRecursion (λ frame. AllByRecursion Stands (ids_of_frame frame)) list
-      frames_named list h = weaker_all (HoldsIds state) (λ frame. AllByRecursion Stands (ids_of_frame frame)) (λ frame holds. frame_named frame (weaker_all (HasCell (λ _. true) state) Stands kept (given_ids frame.locals) holds.locals) (weaker_all (HasCell (λ _. true) state) Stands kept frame.stack holds.stack)) list h
+      frames_named list h = all_weaker (HoldsIds state) (λ frame. AllByRecursion Stands (ids_of_frame frame)) (λ frame holds. frame_named frame (all_weaker (HasCell (λ _. true) state) Stands kept (given_ids frame.locals) holds.locals) (all_weaker (HasCell (λ _. true) state) Stands kept frame.stack holds.stack)) list h
 
       cell_named : (found : Option Cell) (cell : Cell) → ((other : Cell) → found ≡ Some other → is_int other ≡ true) → AllByRecursion (HasCell (λ _. true) state) (ids_in cell) → AllByRecursion Stands (ids_in (unwrap_or found cell))
-      cell_named None cell h n = weaker_all (HasCell (λ _. true) state) Stands kept (ids_in cell) n
+      cell_named None cell h n = all_weaker (HasCell (λ _. true) state) Stands kept (ids_in cell) n
       cell_named (Some other) cell h n = subst (AllByRecursion Stands) (sym (int_names_none other (h other refl))) tt
 
       cells_named : (list : List (ℕ × Cell)) → AllByRecursion (λ c. AllByRecursion (HasCell (λ _. true) state) (ids_in c.1)) list → AllByRecursion (λ c. AllByRecursion Stands (ids_in c.1)) (changed_cells changed list)
@@ -213,7 +199,7 @@ module _ (state : AbstractState) (ints : IsIntState state) (good : IsWellFormed 
     formed : AreIdsRising 0 cells → AllByRecursion (λ frame. AllByRecursion Stands (ids_of_frame frame)) after → AllByRecursion Stands (given_ids (thrown ∷ [])) → AllByRecursion (λ c. AllByRecursion Stands (ids_in c.1)) cells → IsWellFormed After
     formed rising f t c = record {
       rising = rising;
-      used = All-from_recursion Stands (ids_used After) (both_all Stands (flat_map ids_of_frame after) (given_ids (thrown ∷ []) ++ flat_map (λ (x : ℕ × Cell). ids_in x.1) cells) (flat_to Stands ids_of_frame after f) (both_all Stands (given_ids (thrown ∷ [])) (flat_map (λ (x : ℕ × Cell). ids_in x.1) cells) t (flat_to Stands (λ (x : ℕ × Cell). ids_in x.1) cells c)));
+      used = All-from_recursion Stands (ids_used After) (all_joined Stands (flat_map ids_of_frame after) (given_ids (thrown ∷ []) ++ flat_map (λ (x : ℕ × Cell). ids_in x.1) cells) (flat_to Stands ids_of_frame after f) (all_joined Stands (given_ids (thrown ∷ [])) (flat_map (λ (x : ℕ × Cell). ids_in x.1) cells) t (flat_to Stands (λ (x : ℕ × Cell). ids_in x.1) cells c)));
       shared = λ a b h. h;
       left = λ a b l h. absurd (false≢true h);
       right = λ a b l h. absurd (false≢true h);
@@ -225,8 +211,8 @@ module _ (state : AbstractState) (ints : IsIntState state) (good : IsWellFormed 
   named =
       let all = recursion_from_All (HasCell (λ _. true) state) (ids_used state) good.used in
       flat_from (HasCell (λ _. true) state) (λ (c : ℕ × Cell). ids_in c.1) state.cells
-      (second_all (HasCell (λ _. true) state) (given_ids (state.throwing ∷ [])) (flat_map (λ (c : ℕ × Cell). ids_in c.1) state.cells)
-      (second_all (HasCell (λ _. true) state) (flat_map ids_of_frame state.frames) (given_ids (state.throwing ∷ []) ++ flat_map (λ (c : ℕ × Cell). ids_in c.1) state.cells) all))
+      (all_back (HasCell (λ _. true) state) (given_ids (state.throwing ∷ [])) (flat_map (λ (c : ℕ × Cell). ids_in c.1) state.cells)
+      (all_back (HasCell (λ _. true) state) (flat_map ids_of_frame state.frames) (given_ids (state.throwing ∷ []) ++ flat_map (λ (c : ℕ × Cell). ids_in c.1) state.cells) all))
 
   changed_there : (id : ℕ) → HasCell (λ _. true) state id → (cell : Cell) × (cell_in Changed id ≡ Some cell)
   changed_there id h =
@@ -261,11 +247,11 @@ module _ (state : AbstractState) (ints : IsIntState state) (good : IsWellFormed 
   -- the running frame with the fresh id
   on_top : (P : ℕ → Type 0) (list : List AbstractFrame) → P fresh → AllByRecursion (λ frame. AllByRecursion P (ids_of_frame frame)) list → AllByRecursion (λ frame. AllByRecursion P (ids_of_frame frame)) (top_with (λ frame. record frame { stack = fresh ∷ frame.stack }) list)
   on_top P [] p a = tt
-  on_top P (frame ∷ below) p a = (both_all P (given_ids frame.locals) (fresh ∷ frame.stack) (first_all P (given_ids frame.locals) frame.stack a.0) (p, second_all P (given_ids frame.locals) frame.stack a.0), a.1)
+  on_top P (frame ∷ below) p a = (all_joined P (given_ids frame.locals) (fresh ∷ frame.stack) (all_front P (given_ids frame.locals) frame.stack a.0) (p, all_back P (given_ids frame.locals) frame.stack a.0), a.1)
 
   in_top : (P : ℕ → Type 0) (n : ℕ) (list : List AbstractFrame) → P fresh → AllByRecursion (λ frame. AllByRecursion P (ids_of_frame frame)) list → AllByRecursion (λ frame. AllByRecursion P (ids_of_frame frame)) (top_with (λ frame. record frame { locals = slice_set frame.locals n (Some fresh) }) list)
   in_top P n [] p a = tt
-  in_top P n (frame ∷ below) p a = (both_all P (given_ids (slice_set frame.locals n (Some fresh))) frame.stack (set_held P frame.locals n fresh (first_all P (given_ids frame.locals) frame.stack a.0) p) (second_all P (given_ids frame.locals) frame.stack a.0), a.1)
+  in_top P n (frame ∷ below) p a = (all_joined P (given_ids (slice_set frame.locals n (Some fresh))) frame.stack (set_held P frame.locals n fresh (all_front P (given_ids frame.locals) frame.stack a.0) p) (all_back P (given_ids frame.locals) frame.stack a.0), a.1)
 
   pub is_formed : (act : Act) (goal : Goal) → MakesOneAtMost act goal → IsWellFormed (grown state changed frames act goal fresh)
   is_formed nothing nowhere m = formed_changed

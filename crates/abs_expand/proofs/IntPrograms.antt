@@ -3,7 +3,10 @@ use Rattle.std.proofs.Common.{◌≡◌, ◌≤◌, ◌∙◌, ◌==◌, ℕ, ze
 use Rattle.std.specs.List.{list_all}
 use Rattle.std.specs.Option.{option_map, is_none}
 use Rattle.std.proofs.lemmas.Bool.{false≢true, and_parts, and_from, ne_eqb, eqb-true}
-use Rattle.jvm_values.proofs.Options.{given, some_is, none_is_not_some}
+use Rattle.std.proofs.lemmas.Option.{none-some}
+use Rattle.abs_cells.proofs.CellLaws.{low_of_cell, first_cell_is, past_first_cell}
+use Rattle.list_views.proofs.Options.{none_from_is_none, then_some}
+use Rattle.jvm_values.proofs.Options.{some_is}
 use Rattle.abs_cells.specs.declared.cells.Cell.{Cell}
 use Rattle.abs_cells.specs.AbstractStates.{AbstractState}
 use Rattle.abs_cells.specs.Cells.{is_int, cell_in}
@@ -15,7 +18,7 @@ use Rattle.class_program.specs.Programs.{Program, insn_at}
 use Rattle.abs_expand.specs.IntForms.{has_int_form, are_int_insns, are_int_methods, has_ints, HasIntForms, IsIntState}
 
 insn_int : (insns : List (ℕ × Op)) (pc : ℕ) (x : Op × Option ℕ) → are_int_insns insns ≡ true → instruction_at insns pc ≡ Some x → has_int_form x.0 ≡ true
-insn_int [] pc x h e = absurd (none_is_not_some x e)
+insn_int [] pc x h e = absurd (none-some x e)
 insn_int (y ∷ insns) pc x h e =
     let both = and_parts (has_int_form y.1) (are_int_insns insns) h in
     go (y.0 == pc) e both.0 (λ f. insn_int insns pc x both.1 f)
@@ -25,15 +28,15 @@ insn_int (y ∷ insns) pc x h e =
     go false f first rest = rest f
 
 method_int : (methods : List Method) (number : ℕ) (m : Method) → are_int_methods methods ≡ true → slice_get methods number ≡ Some m → are_int_insns m.insns ≡ true
-method_int [] number m h e = absurd (none_is_not_some m e)
+method_int [] number m h e = absurd (none-some m e)
 method_int (x ∷ methods) zero m h e = subst (λ (y : Method). are_int_insns y.insns ≡ true) (some_is e) (and_parts (are_int_insns x.insns) (are_int_methods methods) h).0
 method_int (x ∷ methods) (suc number) m h e = method_int methods number m (and_parts (are_int_insns x.insns) (are_int_methods methods) h).1 e
 
 found_int : (methods : List Method) (number pc : ℕ) (found : Option (Op × Option ℕ)) (op : Op) → are_int_methods methods ≡ true → insn_at methods number pc ≡ found → option_map (λ (x : Op × Option ℕ). x.0) found ≡ Some op → has_int_form op ≡ true
 unfolding insn_at
-found_int methods number pc None op h e f = absurd (none_is_not_some op f)
+found_int methods number pc None op h e f = absurd (none-some op f)
 found_int methods number pc (Some x) op h e f =
-    let m = given (λ (y : Method). instruction_at y.insns pc) (slice_get methods number) x e in
+    let m = then_some (λ (y : Method). instruction_at y.insns pc) (slice_get methods number) x e in
     subst (λ (z : Op). has_int_form z ≡ true) (some_is f) (insn_int m.0.insns pc x (method_int methods number m.0 h m.1.0) m.1.1)
 
 pub program_int : (p : Program) → are_int_methods p.methods ≡ true → HasIntForms p
@@ -42,7 +45,7 @@ program_int p h number pc op e = found_int p.methods number pc (insn_at p.method
 -- ---- states
 
 cell_int : (listed : List (ℕ × Cell)) (id : ℕ) (cell : Cell) → list_all (λ (c : ℕ × Cell). is_int c.1) listed ≡ true → cell_in listed id ≡ Some cell → is_int cell ≡ true
-cell_int [] id cell h e = absurd (none_is_not_some cell e)
+cell_int [] id cell h e = absurd (none-some cell e)
 cell_int (c ∷ listed) id cell h e =
     let both = and_parts (is_int c.1) (list_all (λ (x : ℕ × Cell). is_int x.1) listed) h in
     go (c.0 == id) e both.0 (λ f. cell_int listed id cell both.1 f)
@@ -53,35 +56,15 @@ cell_int (c ∷ listed) id cell h e =
 
 none_first : {X : Type 0} (xs : List X) → slice_get xs 0 ≡ None → xs ≡ []
 none_first [] e = refl
-none_first (x ∷ xs) e = absurd (none_is_not_some x (sym e))
-
--- an option that isn't there
-nothing_there : {A : Type 0} (found : Option A) → is_none found ≡ true → found ≡ None
-nothing_there None e = refl
-nothing_there (Some x) e = absurd (false≢true e)
-
-here : (c : ℕ × Cell) (cells : List (ℕ × Cell)) → cell_in (c ∷ cells) c.0 ≡ Some c.1
-here c cells = ap (λ b. cond b (Some c.1) (cell_in cells c.0)) (eq-eqb c.0 c.0 refl)
-
-past : (c : ℕ × Cell) (cells : List (ℕ × Cell)) (id : ℕ) → eqb c.0 id ≡ false → cell_in (c ∷ cells) id ≡ cell_in cells id
-past c cells id f = ap (λ b. cond b (Some c.1) (cell_in cells id)) f
-
--- a cell behind a number is of an id from that number on
-from_low : (low id : ℕ) (cells : List (ℕ × Cell)) (cell : Cell) → AreIdsRising low cells → cell_in cells id ≡ Some cell → low ≤ id
-from_low low id [] cell rise at = absurd (none_is_not_some cell at)
-from_low low id (c ∷ cells) cell rise at = go (eqb c.0 id) refl (λ f. from_low (suc c.0) id cells cell rise.1.1 (sym (past c cells id f) ∙ at))
-  where
-    go : (b : Bool) → eqb c.0 id ≡ b → (eqb c.0 id ≡ false → suc c.0 ≤ id) → low ≤ id
-    go true t later = let same = eqb-true c.0 id t in omega (arith, rise.0, same)
-    go false f later = let next = later f in omega (arith, rise.0, next)
+none_first (x ∷ xs) e = absurd (none-some x (sym e))
 
 each_int : (low : ℕ) (cells : List (ℕ × Cell)) → AreIdsRising low cells → ((id : ℕ) (cell : Cell) → cell_in cells id ≡ Some cell → is_int cell ≡ true) → list_all (λ (c : ℕ × Cell). is_int c.1) cells ≡ true
 each_int low [] rise ints = refl
 each_int low (c ∷ cells) rise ints =
-    and_from (is_int c.1) (list_all (λ (x : ℕ × Cell). is_int x.1) cells) (ints c.0 c.1 (here c cells))
+    and_from (is_int c.1) (list_all (λ (x : ℕ × Cell). is_int x.1) cells) (ints c.0 c.1 (first_cell_is c cells))
     (each_int (suc c.0) cells rise.1.1 (λ id cell at.
-    let later = from_low (suc c.0) id cells cell rise.1.1 at in
-    ints id cell (past c cells id (ne_eqb c.0 id (omega (arith, later))) ∙ at)))
+    let later = low_of_cell (suc c.0) id cells cell rise.1.1 at in
+    ints id cell (past_first_cell c cells id (ne_eqb c.0 id (omega (arith, later))) ∙ at)))
 
 no_first : {A : Type 0} (xs : List A) → xs ≡ [] → is_none (slice_get xs 0) ≡ true
 no_first xs e = ap (λ ys. is_none (slice_get ys 0)) e
@@ -101,7 +84,7 @@ passes_ints state h =
     let c = and_parts (is_none state.throwing) _ b.1 in
     record {
       cells = λ id cell f. cell_int state.cells id cell c.1 f;
-      no_eq = none_first state.eq (nothing_there (slice_get state.eq 0) a.0);
-      no_share = none_first state.share (nothing_there (slice_get state.share 0) b.0);
-      unthrown = nothing_there state.throwing c.0;
+      no_eq = none_first state.eq (none_from_is_none (slice_get state.eq 0) a.0);
+      no_share = none_first state.share (none_from_is_none (slice_get state.share 0) b.0);
+      unthrown = none_from_is_none state.throwing c.0;
     }

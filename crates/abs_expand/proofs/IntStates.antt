@@ -5,6 +5,7 @@ use Rattle.std.specs.List.{AllByRecursion, flat_map}
 use Rattle.std.specs.Option.{option_map, option_map_or}
 use Rattle.std.proofs.lemmas.List.Elements.{recursion_from_All}
 use Rattle.std.proofs.lemmas.Bool.{false≢true}
+use Rattle.list_views.proofs.Quantified.{all_front, all_back}
 use Rattle.jvm_values.specs.declared.typing.PlaceType.{PlaceType}
 use Rattle.jvm_values.specs.TypedHeaps.{WorldTypes}
 use Rattle.abs_cells.specs.declared.cells.Cell.{Cell}
@@ -20,7 +21,6 @@ use Rattle.frame_types.specs.Tables.{CodeTypes}
 use Rattle.abs_expand.specs.Plans.{Plan}
 use Rattle.abs_expand.specs.Building.{HoldsIds, AreIntTurns}
 use Rattle.abs_expand.specs.Expansions.{plan_here, plan_in, plan_of}
-use Rattle.abs_expand.proofs.Grown.{first_all, second_all}
 use Rattle.abs_expand.proofs.IntTurns.{row_sound}
 use Rattle.abs_expand.specs.Needs.{Passing, passes, passing, after_test, tested, operands_of}
 use Rattle.abs_expand.specs.Turns.{Here}
@@ -98,12 +98,12 @@ if_ok P Q (Err e) f p = tt
 pub frame_held : (state : AbstractState) (frame : AbstractFrame) → IsWellFormed state → state.frames ≡ frame ∷ [] → HoldsIds state frame
 frame_held state frame good alone =
     let used = recursion_from_All (HasCell (λ _. true) state) (ids_used state) good.used in
-    let placed : AllByRecursion (HasCell (λ _. true) state) (flat_map ids_of_frame state.frames) = first_all (HasCell (λ _. true) state) (flat_map ids_of_frame state.frames) (given_ids (state.throwing ∷ []) ++ flat_map (λ (c : ℕ × Cell). ids_in c.1) state.cells) used in
+    let placed : AllByRecursion (HasCell (λ _. true) state) (flat_map ids_of_frame state.frames) = all_front (HasCell (λ _. true) state) (flat_map ids_of_frame state.frames) (given_ids (state.throwing ∷ []) ++ flat_map (λ (c : ℕ × Cell). ids_in c.1) state.cells) used in
     let mine : AllByRecursion (HasCell (λ _. true) state) (flat_map ids_of_frame (frame ∷ [])) = subst (λ (frames : List AbstractFrame). AllByRecursion (HasCell (λ _. true) state) (flat_map ids_of_frame frames)) alone placed in
-    let own : AllByRecursion (HasCell (λ _. true) state) (given_ids frame.locals ++ frame.stack) = first_all (HasCell (λ _. true) state) (given_ids frame.locals ++ frame.stack) [] mine in
+    let own : AllByRecursion (HasCell (λ _. true) state) (given_ids frame.locals ++ frame.stack) = all_front (HasCell (λ _. true) state) (given_ids frame.locals ++ frame.stack) [] mine in
     record {
-      locals = first_all (HasCell (λ _. true) state) (given_ids frame.locals) frame.stack own;
-      stack = second_all (HasCell (λ _. true) state) (given_ids frame.locals) frame.stack own;
+      locals = all_front (HasCell (λ _. true) state) (given_ids frame.locals) frame.stack own;
+      stack = all_back (HasCell (λ _. true) state) (given_ids frame.locals) frame.stack own;
     }
 
 -- the plan of a form is its row, whose steps are of ints

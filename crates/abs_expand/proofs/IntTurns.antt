@@ -4,12 +4,15 @@ use Rattle.std.specs.Prelude.{slice_set}
 use Rattle.std.specs.List.{AllByRecursion, filter_map}
 use Rattle.std.specs.Option.{option_map, option_and_then}
 use Rattle.std.proofs.lemmas.Bool.{false≢true}
+use Rattle.std.proofs.lemmas.Option.{none-some}
+use Rattle.list_views.proofs.Quantified.{all_filtered}
+use Rattle.list_views.proofs.Options.{map_some, then_some}
 use Rattle.lin_core.specs.Intervals.{Bounds}
 use Rattle.jvm_values.specs.declared.ints.IntOp.{IntOp}
 use Rattle.jvm_values.specs.declared.ints.IntOp.TheVariants.{Add, Sub, Narrow as NarrowOp}
 use Rattle.jvm_values.specs.declared.ints.Cond.{Cond}
 use Rattle.jvm_values.specs.declared.types.Kind.{Kind}
-use Rattle.jvm_values.proofs.Options.{given, some_is, none_is_not_some}
+use Rattle.jvm_values.proofs.Options.{some_is}
 use Rattle.abs_cells.specs.declared.cells.Cell.{Cell}
 use Rattle.abs_cells.specs.declared.cells.Cell.TheVariants as cells
 use Rattle.abs_cells.specs.AbstractStates.{AbstractFrame}
@@ -30,13 +33,13 @@ use Rattle.abs_expand.specs.Switches.{table_keys, lookup_keys, parts_of}
 use Rattle.abs_expand.specs.Table.{local_here, load_plan, store_plan, increment_plan, negation_plan, narrow_plan, switch_plan, unary, binary, value_plan, returned_to, row_of}
 use Rattle.abs_expand.specs.IntForms.{is_int_form, IsIntState}
 use Rattle.abs_expand.specs.Building.{HoldsIds, IsNarrowed, MakesOneAtMost, IsIntTurn, AreIntTurns}
-use Rattle.abs_expand.proofs.OptionLists.{mapped, filtered_any, each_any, if_there}
+use Rattle.abs_expand.proofs.OptionLists.{each_any, if_there}
 
 -- ---- locals
 
 pub local_held : (P : ℕ → Type 0) (locals : List (Option ℕ)) (n x : ℕ) → AllByRecursion P (given_ids locals) → slice_get locals n ≡ Some (Some x) → P x
-local_held P [] n x h e = absurd (none_is_not_some (Some x) e)
-local_held P (None ∷ locals) zero x h e = absurd (none_is_not_some x (some_is e))
+local_held P [] n x h e = absurd (none-some (Some x) e)
+local_held P (None ∷ locals) zero x h e = absurd (none-some x (some_is e))
 local_held P (Some y ∷ locals) zero x h e = subst P (some_is (some_is e)) h.0
 local_held P (None ∷ locals) (suc n) x h e = local_held P locals n x h e
 local_held P (Some y ∷ locals) (suc n) x h e = local_held P locals n x h.1 e
@@ -51,34 +54,34 @@ set_held P (Some y ∷ locals) (suc n) x h p = (h.0, set_held P locals n x h.1 p
 -- ---- stacks
 
 reordered : (P : ℕ → Type 0) (shuffle : StackShuffle) (stack rest : List ℕ) → AllByRecursion P stack → shuffled shuffle stack ≡ Some rest → AllByRecursion P rest
-reordered P Pop [] rest h e = absurd (none_is_not_some rest e)
+reordered P Pop [] rest h e = absurd (none-some rest e)
 reordered P Pop (a ∷ below) rest h e = subst (AllByRecursion P) (some_is e) h.1
-reordered P Pop2 [] rest h e = absurd (none_is_not_some rest e)
-reordered P Pop2 (a ∷ []) rest h e = absurd (none_is_not_some rest e)
+reordered P Pop2 [] rest h e = absurd (none-some rest e)
+reordered P Pop2 (a ∷ []) rest h e = absurd (none-some rest e)
 reordered P Pop2 (a ∷ b ∷ below) rest h e = subst (AllByRecursion P) (some_is e) h.1.1
-reordered P Dup [] rest h e = absurd (none_is_not_some rest e)
+reordered P Dup [] rest h e = absurd (none-some rest e)
 reordered P Dup (a ∷ below) rest h e = subst (AllByRecursion P) (some_is e) (h.0, h)
-reordered P DupX1 [] rest h e = absurd (none_is_not_some rest e)
-reordered P DupX1 (a ∷ []) rest h e = absurd (none_is_not_some rest e)
+reordered P DupX1 [] rest h e = absurd (none-some rest e)
+reordered P DupX1 (a ∷ []) rest h e = absurd (none-some rest e)
 reordered P DupX1 (a ∷ b ∷ below) rest h e = subst (AllByRecursion P) (some_is e) (h.0, (h.1.0, (h.0, h.1.1)))
-reordered P DupX2 [] rest h e = absurd (none_is_not_some rest e)
-reordered P DupX2 (a ∷ []) rest h e = absurd (none_is_not_some rest e)
-reordered P DupX2 (a ∷ b ∷ []) rest h e = absurd (none_is_not_some rest e)
+reordered P DupX2 [] rest h e = absurd (none-some rest e)
+reordered P DupX2 (a ∷ []) rest h e = absurd (none-some rest e)
+reordered P DupX2 (a ∷ b ∷ []) rest h e = absurd (none-some rest e)
 reordered P DupX2 (a ∷ b ∷ c ∷ below) rest h e = subst (AllByRecursion P) (some_is e) (h.0, (h.1.0, (h.1.1.0, (h.0, h.1.1.1))))
-reordered P Dup2 [] rest h e = absurd (none_is_not_some rest e)
-reordered P Dup2 (a ∷ []) rest h e = absurd (none_is_not_some rest e)
+reordered P Dup2 [] rest h e = absurd (none-some rest e)
+reordered P Dup2 (a ∷ []) rest h e = absurd (none-some rest e)
 reordered P Dup2 (a ∷ b ∷ below) rest h e = subst (AllByRecursion P) (some_is e) (h.0, (h.1.0, h))
-reordered P Dup2X1 [] rest h e = absurd (none_is_not_some rest e)
-reordered P Dup2X1 (a ∷ []) rest h e = absurd (none_is_not_some rest e)
-reordered P Dup2X1 (a ∷ b ∷ []) rest h e = absurd (none_is_not_some rest e)
+reordered P Dup2X1 [] rest h e = absurd (none-some rest e)
+reordered P Dup2X1 (a ∷ []) rest h e = absurd (none-some rest e)
+reordered P Dup2X1 (a ∷ b ∷ []) rest h e = absurd (none-some rest e)
 reordered P Dup2X1 (a ∷ b ∷ c ∷ below) rest h e = subst (AllByRecursion P) (some_is e) (h.0, (h.1.0, (h.1.1.0, (h.0, (h.1.0, h.1.1.1)))))
-reordered P Dup2X2 [] rest h e = absurd (none_is_not_some rest e)
-reordered P Dup2X2 (a ∷ []) rest h e = absurd (none_is_not_some rest e)
-reordered P Dup2X2 (a ∷ b ∷ []) rest h e = absurd (none_is_not_some rest e)
-reordered P Dup2X2 (a ∷ b ∷ c ∷ []) rest h e = absurd (none_is_not_some rest e)
+reordered P Dup2X2 [] rest h e = absurd (none-some rest e)
+reordered P Dup2X2 (a ∷ []) rest h e = absurd (none-some rest e)
+reordered P Dup2X2 (a ∷ b ∷ []) rest h e = absurd (none-some rest e)
+reordered P Dup2X2 (a ∷ b ∷ c ∷ []) rest h e = absurd (none-some rest e)
 reordered P Dup2X2 (a ∷ b ∷ c ∷ d ∷ below) rest h e = subst (AllByRecursion P) (some_is e) (h.0, (h.1.0, (h.1.1.0, (h.1.1.1.0, (h.0, (h.1.0, h.1.1.1.1))))))
-reordered P Swap [] rest h e = absurd (none_is_not_some rest e)
-reordered P Swap (a ∷ []) rest h e = absurd (none_is_not_some rest e)
+reordered P Swap [] rest h e = absurd (none-some rest e)
+reordered P Swap (a ∷ []) rest h e = absurd (none-some rest e)
 reordered P Swap (a ∷ b ∷ below) rest h e = subst (AllByRecursion P) (some_is e) (h.1.0, (h.0, h.1.1))
 
 -- ---- steps
@@ -120,7 +123,7 @@ module _ (here : Here) (ints : IsIntState here.state) (below_held : AllByRecursi
   result_sound frames goal narrowed rows (Some r) h g n = record { unthrown = refl; narrowed = n; held = h; makes = g r }
 
   both_narrowed : (x y : ℕ) → Holds x → Holds y → (same : Bool) (met : Option Bounds) (a b : Bounds) (list : List (ℕ × Cell)) → (if same then option_map (λ both. (x, cells.Int both) ∷ []) met else Some ((x, cells.Int a) ∷ (y, cells.Int b) ∷ [])) ≡ Some list → AllByRecursion (IsNarrowed here.state) list
-  both_narrowed x y hx hy true None a b list e = absurd (none_is_not_some list e)
+  both_narrowed x y hx hy true None a b list e = absurd (none-some list e)
   both_narrowed x y hx hy true (Some both) a b list e = subst (AllByRecursion (IsNarrowed here.state)) (some_is e) (narrow_one x both hx, tt)
   both_narrowed x y hx hy false met a b list e = subst (AllByRecursion (IsNarrowed here.state)) (some_is e) (narrow_one x a hx, (narrow_one y b hy, tt))
 
@@ -132,28 +135,28 @@ module _ (here : Here) (ints : IsIntState here.state) (below_held : AllByRecursi
 
   case_sound : (left right : Operand) (frames : List AbstractFrame) (goal : Goal) → HoldsOperand left → HoldsOperand right → AllByRecursion (HoldsIds here.state) frames → ((r : Bounds) → MakesOneAtMost (makes (cells.Int r)) goal) → (case : IntCase) (turn : Turn) → turn_of_case here left right frames goal case ≡ Some turn → Sound turn
   case_sound left right frames goal hl hr h g case turn e =
-      let m = mapped (λ (narrowed : List (ℕ × Cell)). turn_of_result here frames goal narrowed (rows_over left right case.rows) case.result) (narrowings left case.left right case.right) turn e in
+      let m = map_some (λ (narrowed : List (ℕ × Cell)). turn_of_result here frames goal narrowed (rows_over left right case.rows) case.result) (narrowings left case.left right case.right) turn e in
       subst Sound m.1.1 (result_sound frames goal m.0 (rows_over left right case.rows) case.result h g (are_narrowed left right hl hr case.left case.right m.0 m.1.0))
 
   operator_sound : (op : IntOp) (left right : Operand) (frames : List AbstractFrame) (goal : Goal) → HoldsOperand left → HoldsOperand right → AllByRecursion (HoldsIds here.state) frames → ((r : Bounds) → MakesOneAtMost (makes (cells.Int r)) goal) → AllByRecursion Sound (turns_of here op left right frames goal)
   operator_sound op left right frames goal hl hr h g =
-      filtered_any Sound (turn_of_case here left right frames goal) (operated op (interval_at here.state left) (interval_at here.state right)) (case_sound left right frames goal hl hr h g)
+      all_filtered Sound (turn_of_case here left right frames goal) (operated op (interval_at here.state left) (interval_at here.state right)) (case_sound left right frames goal hl hr h g)
 
   branch_sound : (left right : Operand) (place : ℕ) (stack : List ℕ) (with_rows : Bool) → HoldsOperand left → HoldsOperand right → AllByRecursion Holds stack → (case : IntCase) (turn : Turn) → branch_of_case here left right place stack with_rows case ≡ Some turn → Sound turn
   branch_sound left right place stack with_rows hl hr s case turn e =
       let frames = with_stack here (place_of_way here place case.way) stack in
       let rows = rows_if with_rows (rows_over left right case.rows) in
-      let m = mapped (λ (narrowed : List (ℕ × Cell)). narrows narrowed frames rows) (narrowings left case.left right case.right) turn e in
+      let m = map_some (λ (narrowed : List (ℕ × Cell)). narrows narrowed frames rows) (narrowings left case.left right case.right) turn e in
       subst Sound m.1.1 (narrows_sound m.0 frames rows (are_narrowed left right hl hr case.left case.right m.0 m.1.0) (stack_held (place_of_way here place case.way) stack s))
 
   branches_sound : (cond : Cond) (left right : Operand) (place : ℕ) (stack : List ℕ) (with_rows : Bool) → HoldsOperand left → HoldsOperand right → AllByRecursion Holds stack → AllByRecursion Sound (branches here cond left right place stack with_rows)
   branches_sound cond left right place stack with_rows hl hr s =
-      filtered_any Sound (branch_of_case here left right place stack with_rows) (compared cond (are_one left right) (interval_at here.state left) (interval_at here.state right)) (branch_sound left right place stack with_rows hl hr s)
+      all_filtered Sound (branch_of_case here left right place stack with_rows) (compared cond (are_one left right) (interval_at here.state left) (interval_at here.state right)) (branch_sound left right place stack with_rows hl hr s)
 
   switch_sound : (x : ℕ) (stack : List ℕ) (parts : List (Option Bounds × ℕ)) → Holds x → AllByRecursion Holds stack → AllByRecursion Sound (filter_map (switch_turn here x stack) parts)
   switch_sound x stack parts h s =
-      filtered_any Sound (switch_turn here x stack) parts (λ part turn e.
-      let m = mapped (λ (both : Bounds). narrows ((x, cells.Int both) ∷ []) (with_stack here part.1 stack) no_rows) (option_and_then (meet_of (interval_of_id here.state x)) part.0) turn e in
+      all_filtered Sound (switch_turn here x stack) parts (λ part turn e.
+      let m = map_some (λ (both : Bounds). narrows ((x, cells.Int both) ∷ []) (with_stack here part.1 stack) no_rows) (option_and_then (meet_of (interval_of_id here.state x)) part.0) turn e in
       subst Sound m.1.1 (narrows_sound ((x, cells.Int m.0) ∷ []) (with_stack here part.1 stack) no_rows (narrow_one x m.0 h, tt) (stack_held part.1 stack s)))
 
   kind_sound : (x : ℕ) (stack : List ℕ) → Holds x → AllByRecursion Holds stack → (result : Option Bounds) → Sound (turn_narrowing (goes_on here here.next (x ∷ stack)) (with_stack here here.next stack) on_stack result)
@@ -171,7 +174,7 @@ module _ (here : Here) (ints : IsIntState here.state) (below_held : AllByRecursi
 
   found_local : (n x : ℕ) → local_here here n ≡ Some x → Holds x
   found_local n x e =
-      let m = given (λ (local : Option ℕ). local) (slice_get here.frame.locals n) x e in
+      let m = then_some (λ (local : Option ℕ). local) (slice_get here.frame.locals n) x e in
       local_held Holds here.frame.locals n x held.locals (m.1.0 ∙ ap Some m.1.1)
 
   increment_sound : (n : ℕ) (by : ℤ) (found : Option ℕ) → ((x : ℕ) → found ≡ Some x → Holds x) → ArePlanned (increment_plan here n by found)
@@ -181,7 +184,7 @@ module _ (here : Here) (ints : IsIntState here.state) (below_held : AllByRecursi
   load_sound : (n : ℕ) → ArePlanned (load_plan here n)
   load_sound n =
       if_there Sound (option_map (λ x. goes_on here here.next (x ∷ here.frame.stack)) (local_here here n)) (λ turn e.
-      let m = mapped (λ (x : ℕ). goes_on here here.next (x ∷ here.frame.stack)) (local_here here n) turn e in
+      let m = map_some (λ (x : ℕ). goes_on here here.next (x ∷ here.frame.stack)) (local_here here n) turn e in
       subst Sound m.1.1 (goes_sound here.next (m.0 ∷ here.frame.stack) (found_local n m.0 m.1.0, held.stack)))
 
   store_sound : (n : ℕ) (stack : List ℕ) → AllByRecursion Holds stack → ArePlanned (store_plan here n stack)
@@ -192,7 +195,7 @@ module _ (here : Here) (ints : IsIntState here.state) (below_held : AllByRecursi
   shuffle_sound : (shuffle : StackShuffle) → ArePlanned (row_of here (Shuffle shuffle))
   shuffle_sound shuffle =
       if_there Sound (option_map (goes_on here here.next) (shuffled shuffle here.frame.stack)) (λ turn e.
-      let m = mapped (goes_on here here.next) (shuffled shuffle here.frame.stack) turn e in
+      let m = map_some (goes_on here here.next) (shuffled shuffle here.frame.stack) turn e in
       subst Sound m.1.1 (goes_sound here.next m.0 (reordered Holds shuffle here.frame.stack m.0 held.stack m.1.0)))
 
   negation_sound : (stack : List ℕ) → AllByRecursion Holds stack → ArePlanned (negation_plan here stack)

@@ -2,11 +2,7 @@
 use Rattle.std.proofs.Common.{◌≡◌, List, [], ◌∷◌, map, Option, Some, None, refl}
 use Rattle.std.specs.List.{AllByRecursion, filter_map, cons_option}
 use Rattle.std.specs.Option.{option_map, option_to_list}
-use Rattle.jvm_values.proofs.Options.{some_is, none_is_not_some}
-
-pub mapped : {X Y : Type 0} (f : X → Y) (o : Option X) (y : Y) → option_map f o ≡ Some y → (x : X) × ((o ≡ Some x) × (f x ≡ y))
-mapped f None y e = absurd (none_is_not_some y e)
-mapped f (Some x) y e = (x, (refl, some_is e))
+use Rattle.std.proofs.lemmas.Option.{none-some}
 
 put_one : {Y : Type 0} (P : Y → Type 0) (o : Option Y) (rest : List Y) → ((y : Y) → o ≡ Some y → P y) → AllByRecursion P rest → AllByRecursion P (cons_option o rest)
 put_one P None rest h r = r
@@ -15,10 +11,6 @@ put_one P (Some y) rest h r = (h y refl, r)
 pub filtered : {X Y : Type 0} (Q : X → Type 0) (P : Y → Type 0) (f : X → Option Y) (xs : List X) → ((x : X) → Q x → (y : Y) → f x ≡ Some y → P y) → AllByRecursion Q xs → AllByRecursion P (filter_map f xs)
 filtered Q P f [] h all = tt
 filtered Q P f (x ∷ xs) h all = put_one P (f x) (filter_map f xs) (h x all.0) (filtered Q P f xs h all.1)
-
-pub filtered_any : {X Y : Type 0} (P : Y → Type 0) (f : X → Option Y) (xs : List X) → ((x : X) (y : Y) → f x ≡ Some y → P y) → AllByRecursion P (filter_map f xs)
-filtered_any P f [] h = tt
-filtered_any P f (x ∷ xs) h = put_one P (f x) (filter_map f xs) (h x) (filtered_any P f xs h)
 
 pub each_any : {X Y : Type 0} (P : Y → Type 0) (f : X → Y) (xs : List X) → ((x : X) → P (f x)) → AllByRecursion P (map f xs)
 each_any P f [] h = tt

@@ -7,13 +7,16 @@ use Rattle.std.proofs.lemmas.Bool.{false≢true, cases_eq, and_parts, and_from, 
 use Rattle.std.proofs.lemmas.List.{reverse-append, reverse-reverse, length-reverse, length-map, length-take-le, drop_all, take_more, take_all, take-append-le}
 use Rattle.std.proofs.lemmas.List.Elements.{All-from_recursion, recursion_from_All}
 use Rattle.std.proofs.Math.Bool.{and-true}
+use Rattle.std.proofs.lemmas.Option.{none-some}
+use Rattle.list_views.proofs.Options.{then_some}
+use Rattle.list_views.proofs.Truths.{and_swapped}
 use Rattle.list_views.proofs.Reversed.{reverse-take}
 use Rattle.jvm_values.specs.declared.types.Slot.{Slot}
 use Rattle.jvm_values.specs.declared.types.Slot.TheVariants as slots
 use Rattle.jvm_values.specs.declared.typing.PlaceType.{PlaceType}
 use Rattle.jvm_values.specs.declared.typing.PlaceType.TheVariants as places
 use Rattle.jvm_values.specs.States.{PlaceTypes}
-use Rattle.jvm_values.proofs.Options.{given, some_is, none_is_not_some}
+use Rattle.jvm_values.proofs.Options.{some_is}
 use Rattle.abs_cells.specs.AbstractStates.{AbstractFrame, AbstractState}
 use Rattle.abs_cells.specs.declared.cells.Cell.{Cell}
 use Rattle.abs_cells.specs.Cells.{is_int}
@@ -90,12 +93,6 @@ module _ (state : AbstractState) where
 
 -- ---- the other way round
 
-and_turned : (b c : Bool) → (b && c) ≡ (c && b)
-and_turned true true = refl
-and_turned true false = refl
-and_turned false true = refl
-and_turned false false = refl
-
 and_apart : (a b c : Bool) → (a && (b && c)) ≡ ((a && b) && c)
 and_apart true b c = refl
 and_apart false b c = refl
@@ -118,7 +115,7 @@ zip_turned test (a ∷ xs) (b ∷ ys) l =
     ∙ ap (λ zs. all_zip test (reverse xs ++ a ∷ []) zs) (reverse-append (b ∷ []) ys)
     ∙ zip_behind test (reverse xs) (reverse ys) a b same
     ∙ ap (λ (rest : Bool). rest && test a b) (zip_turned test xs ys (omega (arith, l)))
-    ∙ and_turned (all_zip test xs ys) (test a b)
+    ∙ and_swapped (all_zip test xs ys) (test a b)
 
 pub zip_turned_apart : {A B : Type 0} (test : A → B → Bool) (xs : List A) (ys : List B) → length xs ≢ length ys → all_zip test (reverse xs) (reverse ys) ≡ false
 zip_turned_apart test xs ys n = zip_apart test (reverse xs) (reverse ys) (λ e. n (sym (length-reverse xs) ∙ e ∙ length-reverse ys))
@@ -145,7 +142,7 @@ none_left test (y ∷ ys) = sym (ne_eqb (length (y ∷ ys)) 0 (λ e. omega (arit
 
 if_some : {A : Type 0} (b : Bool) (x y : A) → (if b then Some x else None) ≡ Some y → (b ≡ true) × (x ≡ y)
 if_some true x y e = (refl, some_is e)
-if_some false x y e = absurd (none_is_not_some y e)
+if_some false x y e = absurd (none-some y e)
 
 abbrev slots_of : List StaticField → List Slot
 slots_of statics = map (λ (field : StaticField). field.slot) statics
@@ -156,8 +153,8 @@ slots_count statics = length-map statics (λ (field : StaticField). field.slot)
 module _ (p : Program) (typing : ℕ → CodeTypes) (state : AbstractState) where
   placed_from : (statics : List StaticField) (frame : AbstractFrame) (there : PlaceTypes) → placed_at p typing state.cells statics frame ≡ Some there → IsPlaced p typing state (slots_of statics) frame there
   placed_from statics frame there e =
-      let m = given (λ (method : Method). option_and_then (if_locals state.cells statics frame.locals method) (typing frame.method frame.pc)) (slice_get p.methods frame.method) there e in
-      let t = given (if_locals state.cells statics frame.locals m.0) (typing frame.method frame.pc) there m.1.1 in
+      let m = then_some (λ (method : Method). option_and_then (if_locals state.cells statics frame.locals method) (typing frame.method frame.pc)) (slice_get p.methods frame.method) there e in
+      let t = then_some (if_locals state.cells statics frame.locals m.0) (typing frame.method frame.pc) there m.1.1 in
       let i = if_some (has_locals state.cells m.0.max_locals t.0.locals statics frame.locals) t.0 there t.1.1 in
       let h = and_parts (length frame.locals == m.0.max_locals + length statics) (all_zip (is_of_place state.cells) t.0.locals (take m.0.max_locals frame.locals) && are_of_fields state.cells statics (drop m.0.max_locals frame.locals)) i.0 in
       let k = and_parts (all_zip (is_of_place state.cells) t.0.locals (take m.0.max_locals frame.locals)) (are_of_fields state.cells statics (drop m.0.max_locals frame.locals)) h.1 in
@@ -291,7 +288,7 @@ all_tested p typing state frames seen frame first rest e l is f r =
 
 some_not_none : {A : Type 0} (found : Option A) → is_some found ≡ true → found ≢ None
 some_not_none None e n = false≢true e
-some_not_none (Some x) e n = none_is_not_some x (sym n)
+some_not_none (Some x) e n = none-some x (sym n)
 
 not_none_some : {A : Type 0} (found : Option A) → found ≢ None → is_some found ≡ true
 not_none_some None n = absurd (n refl)

@@ -1,7 +1,8 @@
 -- Lists whose items are related place by place.
 use Rattle.std.proofs.Common.{◌≡◌, ℕ, zero, suc, List, [], ◌∷◌, Some, slice_get, refl, subst}
 use Rattle.std.specs.List.{AllZip}
-use Rattle.jvm_values.proofs.Options.{some_is, none_is_not_some}
+use Rattle.std.proofs.lemmas.Option.{none-some}
+use Rattle.jvm_values.proofs.Options.{some_is}
 
 -- what stands on the right at a place, beside an item
 pub record Beside {A B : Type 0} (R : A → B → Type 0) (ys : List B) (n : ℕ) (x : A) : Type 0 where
@@ -10,7 +11,7 @@ pub record Beside {A B : Type 0} (R : A → B → Type 0) (ys : List B) (n : ℕ
   pub alike : R x other
 
 pub beside : {A B : Type 0} (R : A → B → Type 0) (xs : List A) (ys : List B) (n : ℕ) (x : A) → AllZip R xs ys → slice_get xs n ≡ Some x → Beside R ys n x
-beside R [] ys n x all at = absurd (none_is_not_some x at)
+beside R [] ys n x all at = absurd (none-some x at)
 beside R (z ∷ xs) [] n x all at = absurd all
 beside R (z ∷ xs) (y ∷ ys) zero x all at = record { other = y; there = refl; alike = subst (λ w. R w y) (some_is at) all.0 }
 beside R (z ∷ xs) (y ∷ ys) (suc n) x all at =

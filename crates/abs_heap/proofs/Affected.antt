@@ -1,25 +1,24 @@
 -- The ids that a write affects, and their new numbers.
 use Rattle.std.proofs.Common.{◌≡◌, ℕ, suc, ◌<◌, ◌≤◌, ◌+◌, ◌==◌, ◌&&◌, ◌||◌, Bool, true, false, List, [], ◌∷◌, ◌++◌, length, map, zip, take, get_or, Some, inl, inr, refl, sym, ap, subst, ◌∙◌, arith, All, eq-eqb}
 use Rattle.std.specs.Prelude.{◌↔◌, Contains}
-use Rattle.std.proofs.lemmas.Bool.{eqb-true, or_cases, or_left, or_right, and_parts, and_from}
+use Rattle.std.proofs.lemmas.Bool.{eqb-true, or_cases, or_left, or_right, and_parts, and_from, cond-true, cond-false, cases_Bool, cases_eq}
 use Rattle.std.proofs.lemmas.List.{take_more, take_all}
 use Rattle.std.proofs.lemmas.List.Elements.{All-nil, All-head, All-tail, All-cons, All-contains}
 use Rattle.std.proofs.lemmas.Slice.Zip.{get_or-zip}
-use Rattle.jvm_values.proofs.Options.{none_is_not_some}
+use Rattle.std.proofs.lemmas.Option.{none-some}
 use Rattle.abs_cells.specs.declared.cells.Cell.{Cell}
 use Rattle.abs_cells.specs.AbstractStates.{AbstractState}
 use Rattle.abs_cells.specs.Cells.{is_hazy, is_of_sort, cell_in, HasCell}
 use Rattle.abs_cells.specs.IdSets.{has_id}
 use Rattle.abs_cells.specs.PairLists.{has}
 use Rattle.abs_cells.specs.Sound.{AreIdsRising}
-use Rattle.abs_cells.proofs.PairLaws.{cond_true, cond_false, bool_cases}
 use Rattle.abs_cells.proofs.Checking.{has_cell_from, has_cell_to, id_is_low}
 use Rattle.abs_reach.proofs.Walks.{some_cell}
 use Rattle.abs_heap.specs.Given.{IsBelowFirst, AreRising, AreFresh}
 use Rattle.abs_heap.specs.Names.{name_in}
 use Rattle.abs_heap.specs.Renaming.{ids_among, if_in, AreNamesOf}
 use Rattle.abs_heap.specs.Writing.{is_array_of_references, IsAffected}
-use Rattle.abs_heap.proofs.Placing.{cell_later, same_or_not}
+use Rattle.abs_heap.proofs.Placing.{cell_later}
 use Rattle.abs_heap.proofs.Renamed.{named_here, named_later}
 
 -- ---- which they are
@@ -51,14 +50,14 @@ affected_there state k x (inr h) = subst (λ (i : ℕ). HasCell (λ _. true) sta
 -- ---- in order
 
 yes_in : (set : List ℕ) (c : ℕ × Cell) (cells : List (ℕ × Cell)) → has_id set c.0 ≡ true → ids_among set (c ∷ cells) ≡ c.0 ∷ ids_among set cells
-yes_in set c cells e = cond_true (has_id set c.0) (c.0 ∷ ids_among set cells) (ids_among set cells) e
+yes_in set c cells e = cond-true (has_id set c.0) (c.0 ∷ ids_among set cells) (ids_among set cells) e
 
 not_in : (set : List ℕ) (c : ℕ × Cell) (cells : List (ℕ × Cell)) → has_id set c.0 ≡ false → ids_among set (c ∷ cells) ≡ ids_among set cells
-not_in set c cells e = cond_false (has_id set c.0) (c.0 ∷ ids_among set cells) (ids_among set cells) e
+not_in set c cells e = cond-false (has_id set c.0) (c.0 ∷ ids_among set cells) (ids_among set cells) e
 
 among_joined : (set : List ℕ) (xs : List (ℕ × Cell)) (c : ℕ × Cell) → ids_among set (xs ++ c ∷ []) ≡ ids_among set xs ++ if_in set c.0
 among_joined set [] c = refl
-among_joined set (x ∷ xs) c = elim (bool_cases (has_id set x.0)) [
+among_joined set (x ∷ xs) c = elim (cases_Bool (has_id set x.0)) [
   | inl e ↦ yes_in set x (xs ++ c ∷ []) e ∙ ap (λ (ys : List ℕ). x.0 ∷ ys) (among_joined set xs c) ∙ ap (λ (ys : List ℕ). ys ++ if_in set c.0) (sym (yes_in set x xs e))
   | inr e ↦ not_in set x (xs ++ c ∷ []) e ∙ among_joined set xs c ∙ ap (λ (ys : List ℕ). ys ++ if_in set c.0) (sym (not_in set x xs e))
 ]
@@ -75,14 +74,14 @@ listed_all set cells i ids l e = e ∙ ap (ids_among set) (take_all i cells l)
 
 among_above : (set : List ℕ) (low : ℕ) (cells : List (ℕ × Cell)) (n : ℕ) → AreIdsRising low cells → n < low → IsBelowFirst n (ids_among set cells)
 among_above set low [] n r l = tt
-among_above set low (c ∷ cells) n r l = elim (bool_cases (has_id set c.0)) [
+among_above set low (c ∷ cells) n r l = elim (cases_Bool (has_id set c.0)) [
   | inl e ↦ subst (IsBelowFirst n) (sym (yes_in set c cells e)) (omega (arith, l, r.0))
   | inr e ↦ subst (IsBelowFirst n) (sym (not_in set c cells e)) (among_above set (suc c.0) cells n r.1.1 (omega (arith, l, r.0)))
 ]
 
 among_rise : (set : List ℕ) (low : ℕ) (cells : List (ℕ × Cell)) → AreIdsRising low cells → AreRising (ids_among set cells)
 among_rise set low [] r = tt
-among_rise set low (c ∷ cells) r = elim (bool_cases (has_id set c.0)) [
+among_rise set low (c ∷ cells) r = elim (cases_Bool (has_id set c.0)) [
   | inl e ↦ subst AreRising (sym (yes_in set c cells e)) (among_above set (suc c.0) cells c.0 r.1.1 (omega arith), among_rise set (suc c.0) cells r.1.1)
   | inr e ↦ subst AreRising (sym (not_in set c cells e)) (among_rise set (suc c.0) cells r.1.1)
 ]
@@ -91,27 +90,27 @@ pub among_few : (set : List ℕ) (cells : List (ℕ × Cell)) → length (ids_am
 among_few set [] = omega arith
 among_few set (c ∷ cells) =
     let h = among_few set cells in
-    elim (bool_cases (has_id set c.0)) [
+    elim (cases_Bool (has_id set c.0)) [
       | inl e ↦ let f : length (ids_among set (c ∷ cells)) ≡ suc (length (ids_among set cells)) = ap (λ (xs : List ℕ). length xs) (yes_in set c cells e) in omega (arith, h, f)
       | inr e ↦ let f : length (ids_among set (c ∷ cells)) ≡ length (ids_among set cells) = ap (λ (xs : List ℕ). length xs) (not_in set c cells e) in omega (arith, h, f)
     ]
 
 among_in : (set : List ℕ) (cells : List (ℕ × Cell)) → All (λ id. has_id set id ≡ true) (ids_among set cells)
 among_in set [] = All-nil (λ id. has_id set id ≡ true)
-among_in set (c ∷ cells) = elim (bool_cases (has_id set c.0)) [
+among_in set (c ∷ cells) = elim (cases_Bool (has_id set c.0)) [
   | inl e ↦ subst (λ (xs : List ℕ). All (λ id. has_id set id ≡ true) xs) (sym (yes_in set c cells e)) (All-cons (λ id. has_id set id ≡ true) c.0 (ids_among set cells) e (among_in set cells))
   | inr e ↦ subst (λ (xs : List ℕ). All (λ id. has_id set id ≡ true) xs) (sym (not_in set c cells e)) (among_in set cells)
 ]
 
 among_all : (set : List ℕ) (cells : List (ℕ × Cell)) (x : ℕ) (cell : Cell) → cell_in cells x ≡ Some cell → has_id set x ≡ true → Contains (ids_among set cells) x
-among_all set [] x cell e h = absurd (none_is_not_some cell e)
-among_all set (c ∷ cells) x cell e h = elim (same_or_not c.0 x) [
+among_all set [] x cell e h = absurd (none-some cell e)
+among_all set (c ∷ cells) x cell e h = elim (cases_eq c.0 x) [
   | inl s ↦
       let t : has_id set c.0 ≡ true = ap (has_id set) s ∙ h in
       subst (λ (xs : List ℕ). Contains xs x) (sym (yes_in set c cells t)) (0, omega arith, s)
   | inr s ↦
       let k = among_all set cells x cell (sym (cell_later c cells x s) ∙ e) h in
-      elim (bool_cases (has_id set c.0)) [
+      elim (cases_Bool (has_id set c.0)) [
         | inl t ↦ subst (λ (xs : List ℕ). Contains xs x) (sym (yes_in set c cells t)) (let l = k.1 in (suc k.0, omega (arith, l), k.2))
         | inr t ↦ subst (λ (xs : List ℕ). Contains xs x) (sym (not_in set c cells t)) k
       ]
@@ -171,7 +170,7 @@ module _ (state : AbstractState) (set : List ℕ) (list : List (ℕ × Cell)) (o
   low_name : (xs bs : List ℕ) (id : ℕ) → All (λ i. i < 2048) bs → id < 2048 → name_in (zip xs bs) id < 2048
   low_name [] bs id low l = l
   low_name (a ∷ xs) [] id low l = l
-  low_name (a ∷ xs) (b ∷ bs) id low l = elim (same_or_not a id) [
+  low_name (a ∷ xs) (b ∷ bs) id low l = elim (cases_eq a id) [
     | inl s ↦ subst (λ (n : ℕ). n < 2048) (sym (named_here (a, b) (zip xs bs) id s)) (All-head (λ i. i < 2048) b bs low)
     | inr s ↦ subst (λ (n : ℕ). n < 2048) (sym (named_later (a, b) (zip xs bs) id s)) (low_name xs bs id (All-tail (λ i. i < 2048) b bs low) l)
   ]

@@ -2,31 +2,31 @@
 use Rattle.std.proofs.Common.{◌≡◌, ℕ, zero, suc, ◌<◌, ◌≤◌, ◌+◌, ◌==◌, ◌&&◌, ◌||◌, Bool, true, false, if◌then◌else◌, List, [], ◌∷◌, ◌++◌, length, map, take, get_or, Option, Some, None, inl, inr, refl, sym, ap, ◌∙◌, arith, eq-eqb}
 use Rattle.std.specs.Prelude.{◌↔◌, slice_get, slice_set}
 use Rattle.std.specs.List.{list_any}
-use Rattle.std.proofs.lemmas.Bool.{false≢true, eqb-true, or_cases, or_left, or_right, and_parts, and_from, ne_eqb}
+use Rattle.std.proofs.lemmas.Bool.{false≢true, eqb-true, or_cases, or_left, or_right, and_parts, and_from, ne_eqb, cond-false, cases_eq}
 use Rattle.std.proofs.lemmas.List.{take_more, take_all, map_more}
-use Rattle.std.proofs.lemmas.Option.{slice_get_within, slice_get-get_or}
+use Rattle.std.proofs.lemmas.Option.{slice_get_within, slice_get-get_or, none-some}
+use Rattle.list_views.proofs.Items.{get_past, length_set}
 use Rattle.jvm_values.specs.declared.shape.Shape.{Shape}
-use Rattle.jvm_values.proofs.Options.{some_is, none_is_not_some}
+use Rattle.jvm_values.proofs.Options.{some_is}
 use Rattle.abs_cells.specs.declared.cells.Cell.{Cell}
 use Rattle.abs_cells.specs.declared.cells.Cell.TheVariants as cells
 use Rattle.abs_cells.specs.Cells.{cell_in}
 use Rattle.abs_cells.specs.IdSets.{has_id}
 use Rattle.abs_cells.specs.PairLists.{has, pair_of, is_same, IsRising}
-use Rattle.abs_cells.proofs.PairLaws.{is_same_from, cond_false}
+use Rattle.abs_cells.proofs.PairLaws.{is_same_from}
 use Rattle.abs_cells.proofs.Checking.{low_pair}
 use Rattle.abs_heap.specs.Building.{Gains}
 use Rattle.abs_heap.specs.Names.{name_in, cell_named}
 use Rattle.abs_heap.specs.Renaming.{IsBeside, is_beside, is_named, shape_if, written_cell, field_at}
 use Rattle.abs_heap.specs.Writing.{Write, shape_after, with_shape, with_field, is_renamed, reshaped, cell_after}
 use Rattle.abs_heap.proofs.Choosing.{any_joined}
-use Rattle.abs_heap.proofs.PairGains.{same_pair, pair_turned, past_end, gain_as, gain_nothing}
-use Rattle.abs_heap.proofs.Placing.{cell_later, same_or_not}
-use Rattle.abs_heap.proofs.Renamed.{set_long}
+use Rattle.abs_heap.proofs.PairGains.{same_pair, pair_turned, gain_as, gain_nothing}
+use Rattle.abs_heap.proofs.Placing.{cell_later}
 
 -- ---- a field set
 
 same_test : (i k : ℕ) → (i == k) ≡ (suc i == suc k)
-same_test i k = elim (same_or_not i k) [
+same_test i k = elim (cases_eq i k) [
   | inl e ↦ eq-eqb i k e ∙ sym (eq-eqb (suc i) (suc k) (ap suc e))
   | inr n ↦ ne_eqb i k n ∙ sym (ne_eqb (suc i) (suc k) (λ e. n (omega (arith, e))))
 ]
@@ -34,19 +34,19 @@ same_test i k = elim (same_or_not i k) [
 set_got : (ids : List ℕ) (k w i d : ℕ) → i < length ids → get_or (slice_set ids k w) i d ≡ (if i == k then w else get_or ids i d)
 set_got [] k w i d l = absurd (omega (arith, l))
 set_got (x ∷ ids) zero w zero d l = refl
-set_got (x ∷ ids) zero w (suc i) d l = sym (cond_false (suc i == zero) w (get_or ids i d) (ne_eqb (suc i) zero (λ e. omega (arith, e))))
-set_got (x ∷ ids) (suc k) w zero d l = sym (cond_false (zero == suc k) w x (ne_eqb zero (suc k) (λ e. omega (arith, e))))
+set_got (x ∷ ids) zero w (suc i) d l = sym (cond-false (suc i == zero) w (get_or ids i d) (ne_eqb (suc i) zero (λ e. omega (arith, e))))
+set_got (x ∷ ids) (suc k) w zero d l = sym (cond-false (zero == suc k) w x (ne_eqb zero (suc k) (λ e. omega (arith, e))))
 set_got (x ∷ ids) (suc k) w (suc i) d l = set_got ids k w i d (omega (arith, l)) ∙ ap (λ (b : Bool). if b then w else get_or ids i d) (same_test i k)
 
 pub set_next : (f : ℕ → ℕ) (ids : List ℕ) (k w i d y z : ℕ) (named pushed : List ℕ) → i < length ids → y ≡ (if i == k then w else get_or ids i d) → z ≡ f y
     → named ≡ map f (take i (slice_set ids k w)) → pushed ≡ named ++ z ∷ [] → pushed ≡ map f (take (i + 1) (slice_set ids k w))
 set_next f ids k w i d y z named pushed l g h e p =
-    let long = set_long ids k w in
+    let long = length_set ids k w in
     let got : y ≡ get_or (slice_set ids k w) i d = g ∙ sym (set_got ids k w i d l) in
     p ∙ ap (λ (xs : List ℕ). xs ++ z ∷ []) e ∙ ap (λ (n : ℕ). map f (take i (slice_set ids k w)) ++ n ∷ []) (h ∙ ap f got) ∙ sym (map_more f (slice_set ids k w) i d (omega (arith, l, long)))
 
 pub set_all : (f : ℕ → ℕ) (ids : List ℕ) (k w i : ℕ) (named : List ℕ) → length ids ≤ i → named ≡ map f (take i (slice_set ids k w)) → named ≡ map f (slice_set ids k w)
-set_all f ids k w i named l e = let long = set_long ids k w in e ∙ ap (map f) (take_all i (slice_set ids k w) (omega (arith, l, long)))
+set_all f ids k w i named l e = let long = length_set ids k w in e ∙ ap (map f) (take_all i (slice_set ids k w) (omega (arith, l, long)))
 
 -- ---- a cell
 
@@ -137,7 +137,7 @@ beside_any set m from (p ∷ pairs) r i h = elim (or_cases (is_same (pair_of fro
 
 pub beside_all : (set : List ℕ) (pairs : List (ℕ × ℕ)) (n m : ℕ) (b : Bool) → IsRising pairs → slice_get pairs n ≡ None → b ≡ list_any (is_beside set m) (take n pairs) → (b ≡ true) ↔ IsBeside pairs set m
 beside_all set pairs n m b r e f =
-    let whole = any_all (is_beside set m) pairs n b (past_end pairs n e) f in (
+    let whole = any_all (is_beside set m) pairs n b (get_past pairs n e) f in (
       λ t. any_beside set m pairs r (sym whole ∙ t),
       λ h. whole ∙ beside_any set m h.from pairs r h.is_in h.paired,
     )
@@ -157,8 +157,8 @@ any_named names first second n (c ∷ list) h = elim (or_cases (is_named names f
 ]
 
 pub named_any : (names : List (ℕ × ℕ)) (first second : List ℕ) (n z : ℕ) (cell : Cell) (list : List (ℕ × Cell)) → cell_in list z ≡ Some cell → (has_id first z || has_id second z) ≡ true → n ≡ name_in names z → list_any (is_named names first second n) list ≡ true
-named_any names first second n z cell [] e h is = absurd (none_is_not_some cell e)
-named_any names first second n z cell (c ∷ list) e h is = elim (same_or_not c.0 z) [
+named_any names first second n z cell [] e h is = absurd (none-some cell e)
+named_any names first second n z cell (c ∷ list) e h is = elim (cases_eq c.0 z) [
   | inl s ↦ or_left (is_named names first second n c) _ (and_from (has_id first c.0 || has_id second c.0) (n == name_in names c.0) (ap (λ (i : ℕ). has_id first i || has_id second i) s ∙ h) (eq-eqb n (name_in names c.0) (is ∙ ap (name_in names) (sym s))))
   | inr s ↦ or_right (is_named names first second n c) _ (named_any names first second n z cell list (sym (cell_later c list z s) ∙ e) h is)
 ]

@@ -3,6 +3,8 @@ use Rattle.std.proofs.Common.{◌≡◌, ℕ, zero, suc, true, List, [], ◌∷�
 use Rattle.std.specs.Prelude.{slice_get}
 use Rattle.std.specs.List.{AllZip, flat_map}
 use Rattle.std.proofs.lemmas.List.Elements.{All-head, All-tail}
+use Rattle.std.proofs.lemmas.Option.{none-some}
+use Rattle.list_views.proofs.Quantified.{all_at, every_back, every_front}
 use Rattle.jvm_values.specs.declared.heap.Value.{Value}
 use Rattle.jvm_values.specs.declared.heap.Object.{Object}
 use Rattle.jvm_values.specs.declared.heap.Object.TheVariants as objects
@@ -11,14 +13,14 @@ use Rattle.jvm_values.specs.declared.state.Mode.{Mode}
 use Rattle.jvm_values.specs.declared.state.Mode.TheVariants.{Normal, Throwing}
 use Rattle.jvm_values.specs.States.{MachineFrame}
 use Rattle.jvm_values.specs.TypedHeaps.{WorldTypes}
-use Rattle.jvm_values.proofs.Options.{some_is, none_is_not_some}
+use Rattle.jvm_values.proofs.Options.{some_is}
 use Rattle.abs_cells.specs.declared.cells.Cell.{Cell}
 use Rattle.abs_cells.specs.declared.cells.Cell.TheVariants as cells
 use Rattle.abs_cells.specs.AbstractStates.{AbstractFrame, AbstractState}
 use Rattle.abs_cells.specs.Cells.{ids_in, cell_at, HasCell}
 use Rattle.abs_cells.specs.Sound.{IsWellFormed, ids_used, ids_of_frame, given_ids}
 use Rattle.abs_cells.specs.Fits.{Meaning, FitsFrame, FitsMode, Describes}
-use Rattle.abs_reach.proofs.Walks.{named_has_cell, all_at, all_front, all_behind}
+use Rattle.abs_reach.proofs.Walks.{named_has_cell}
 
 -- two maps agree on a state's ids
 abbrev pub Agrees : AbstractState → Meaning → Meaning → Type 0
@@ -29,8 +31,8 @@ maps_agree m n [] h = refl
 maps_agree m n (id ∷ ids) h = ap (λ (v : Value). v ∷ map m ids) (sym (h 0 id refl)) ∙ ap (λ (vs : List Value). n id ∷ vs) (maps_agree m n ids (λ i x e. h (suc i) x e))
 
 given_there : (locals : List (Option ℕ)) (P : ℕ → Type 0) → All P (given_ids locals) → (k id : ℕ) → slice_get locals k ≡ Some (Some id) → P id
-given_there [] P a k id e = absurd (none_is_not_some (Some id) e)
-given_there (None ∷ locals) P a zero id e = absurd (none_is_not_some id (some_is e))
+given_there [] P a k id e = absurd (none-some (Some id) e)
+given_there (None ∷ locals) P a zero id e = absurd (none-some id (some_is e))
 given_there (None ∷ locals) P a (suc k) id e = given_there locals P a k id e
 given_there (Some x ∷ locals) P a zero id e = subst P (some_is (some_is e)) (All-head P x (given_ids locals) a)
 given_there (Some x ∷ locals) P a (suc k) id e = given_there locals P (All-tail P x (given_ids locals) a) k id e
@@ -41,8 +43,8 @@ frame_there m n frame mf a f =
     record {
       method = f.method;
       pc = f.pc;
-      locals = λ k id e. f.locals k id e ∙ ap (λ (v : Value). Some (Some v)) (sym (given_there frame.locals P (all_front P (given_ids frame.locals) frame.stack a) k id e));
-      stack = f.stack ∙ maps_agree m n frame.stack (λ i id e. all_at P frame.stack i id (all_behind P (given_ids frame.locals) frame.stack a) e);
+      locals = λ k id e. f.locals k id e ∙ ap (λ (v : Value). Some (Some v)) (sym (given_there frame.locals P (every_front P (given_ids frame.locals) frame.stack a) k id e));
+      stack = f.stack ∙ maps_agree m n frame.stack (λ i id e. all_at P frame.stack i id (every_back P (given_ids frame.locals) frame.stack a) e);
     }
 
 frames_there : (m n : Meaning) (frames : List AbstractFrame) (mfs : List MachineFrame) → All (λ id. n id ≡ m id) (flat_map ids_of_frame frames) → AllZip (FitsFrame m) frames mfs → AllZip (FitsFrame n) frames mfs
@@ -51,14 +53,14 @@ frames_there m n [] (mf ∷ mfs) a z = z
 frames_there m n (frame ∷ frames) [] a z = z
 frames_there m n (frame ∷ frames) (mf ∷ mfs) a z =
     let P : ℕ → Type 0 = λ id. n id ≡ m id in
-    (frame_there m n frame mf (all_front P (ids_of_frame frame) (flat_map ids_of_frame frames) a) z.0, frames_there m n frames mfs (all_behind P (ids_of_frame frame) (flat_map ids_of_frame frames) a) z.1)
+    (frame_there m n frame mf (every_front P (ids_of_frame frame) (flat_map ids_of_frame frames) a) z.0, frames_there m n frames mfs (every_back P (ids_of_frame frame) (flat_map ids_of_frame frames) a) z.1)
 
 all_agree : (state : AbstractState) (m n : Meaning) → IsWellFormed state → Agrees state m n → All (λ id. n id ≡ m id) (ids_used state)
 all_agree state m n good h k d l = h (get_or (ids_used state) k d) (good.used k d l)
 
 pub positions_carried : (state : AbstractState) (m n : Meaning) (mfs : List MachineFrame) → IsWellFormed state → Agrees state m n → AllZip (FitsFrame m) state.frames mfs → AllZip (FitsFrame n) state.frames mfs
 positions_carried state m n mfs good h z =
-    frames_there m n state.frames mfs (all_front (λ id. n id ≡ m id) (flat_map ids_of_frame state.frames) (given_ids (state.throwing ∷ []) ++ flat_map (λ c. ids_in c.1) state.cells) (all_agree state m n good h)) z
+    frames_there m n state.frames mfs (every_front (λ id. n id ≡ m id) (flat_map ids_of_frame state.frames) (given_ids (state.throwing ∷ []) ++ flat_map (λ c. ids_in c.1) state.cells) (all_agree state m n good h)) z
 
 thrown_there : (m n : Meaning) (throwing : Option ℕ) (mode : Mode) → All (λ id. n id ≡ m id) (given_ids (throwing ∷ [])) → FitsMode m throwing mode → FitsMode n throwing mode
 thrown_there m n None Normal a f = f
@@ -69,8 +71,8 @@ thrown_there m n (Some id) (Throwing r) a f = All-head (λ i. n i ≡ m i) id []
 pub mode_carried : (state : AbstractState) (m n : Meaning) (mode : Mode) → IsWellFormed state → Agrees state m n → FitsMode m state.throwing mode → FitsMode n state.throwing mode
 mode_carried state m n mode good h f =
     let P : ℕ → Type 0 = λ id. n id ≡ m id in
-    let rest = all_behind P (flat_map ids_of_frame state.frames) (given_ids (state.throwing ∷ []) ++ flat_map (λ c. ids_in c.1) state.cells) (all_agree state m n good h) in
-    thrown_there m n state.throwing mode (all_front P (given_ids (state.throwing ∷ [])) (flat_map (λ c. ids_in c.1) state.cells) rest) f
+    let rest = every_back P (flat_map ids_of_frame state.frames) (given_ids (state.throwing ∷ []) ++ flat_map (λ c. ids_in c.1) state.cells) (all_agree state m n good h) in
+    thrown_there m n state.throwing mode (every_front P (given_ids (state.throwing ∷ [])) (flat_map (λ c. ids_in c.1) state.cells) rest) f
 
 -- objects stay at their places
 abbrev pub Keeps : Heap → Heap → Type 0

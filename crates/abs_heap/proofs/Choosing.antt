@@ -1,8 +1,9 @@
 -- The ids of a set whose cells are of a sort, and pairs of the ids of two sets.
 use Rattle.std.proofs.Common.{◌≡◌, ℕ, suc, ◌<◌, ◌≤◌, ◌==◌, ◌&&◌, ◌||◌, ◌+◌, Bool, true, false, List, [], ◌∷◌, ◌++◌, length, get_or, take, Option, Some, None, inl, inr, refl, sym, ap, ◌∙◌, arith, eq-eqb, ne_eqb}
 use Rattle.std.specs.List.{list_any}
-use Rattle.std.proofs.lemmas.Bool.{false≢true, eqb-true, and_parts, and_from, or_cases, or_left, or_right}
+use Rattle.std.proofs.lemmas.Bool.{false≢true, eqb-true, and_parts, and_from, or_cases, or_left, or_right, cases_eq}
 use Rattle.std.proofs.lemmas.List.{take_more, take_all}
+use Rattle.list_views.proofs.Truths.{or_false, and_true, and_false}
 use Rattle.jvm_values.specs.declared.types.Ty.{Ty}
 use Rattle.abs_cells.specs.declared.cells.Cell.{Cell}
 use Rattle.abs_cells.specs.Cells.{is_reference, is_of_sort, cell_in, are_compatible}
@@ -11,22 +12,10 @@ use Rattle.abs_cells.specs.Sound.{AreIdsRising}
 use Rattle.abs_heap.specs.Building.{Gains, may_be_one}
 use Rattle.abs_heap.specs.Splitting.{WantsOne}
 use Rattle.abs_heap.proofs.PairGains.{gain_as, gain_both, gain_nothing, is_listed, listed_next, listed_there, joins_left}
-use Rattle.abs_heap.proofs.Placing.{cell_here, cell_later, same_or_not}
+use Rattle.abs_heap.proofs.Placing.{cell_here, cell_later}
 
 abbrev pub chosen : (Cell → Bool) → List ℕ → ℕ → ℕ × Cell → Bool
 chosen test others n c = (has_id others c.0 && test c.1) && (n == c.0)
-
-and_false : (a : Bool) → (a && false) ≡ false
-and_false true = refl
-and_false false = refl
-
-and_true : (a : Bool) → (a && true) ≡ a
-and_true true = refl
-and_true false = refl
-
-or_false : (a : Bool) → (a || false) ≡ a
-or_false true = refl
-or_false false = refl
 
 not_chosen : (test : Cell → Bool) (others : List ℕ) (n low : ℕ) (cells : List (ℕ × Cell)) → AreIdsRising low cells → n < low → list_any (chosen test others n) cells ≡ false
 not_chosen test others n low [] r l = refl
@@ -37,7 +26,7 @@ not_chosen test others n low (c ∷ cells) r l =
 
 pub chosen_are : (test : Cell → Bool) (others : List ℕ) (n low : ℕ) (cells : List (ℕ × Cell)) → AreIdsRising low cells → list_any (chosen test others n) cells ≡ (has_id others n && is_of_sort test (cell_in cells n))
 chosen_are test others n low [] r = sym (and_false (has_id others n))
-chosen_are test others n low (c ∷ cells) r = elim (same_or_not c.0 n) [
+chosen_are test others n low (c ∷ cells) r = elim (cases_eq c.0 n) [
   | inl e ↦
       ap (λ (b : Bool). ((has_id others c.0 && test c.1) && b) || list_any (chosen test others n) cells) (eq-eqb n c.0 (sym e))
       ∙ ap (λ (b : Bool). b || list_any (chosen test others n) cells) (and_true (has_id others c.0 && test c.1))

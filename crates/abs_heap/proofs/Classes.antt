@@ -2,10 +2,16 @@
 use Rattle.std.proofs.Common.{◌≡◌, ◌≢◌, ℕ, zero, suc, ◌+◌, ◌-◌, ◌<◌, ◌≤◌, ◌&&◌, Bool, true, false, List, [], ◌∷◌, ◌++◌, length, map, Option, Some, None, ◌⊎◌, inl, inr, refl, sym, ap, subst, ◌∙◌, arith, IsTrue, pos}
 use Rattle.std.specs.Prelude.{slice_get, zip, filter, nat_lt}
 use Rattle.std.specs.List.{AllZip}
-use Rattle.std.proofs.lemmas.Bool.{false≢true, cases_Bool, and_from, lt-ltb}
+use Rattle.std.proofs.lemmas.Bool.{false≢true, cases_Bool, and_from, lt-ltb, cond-true, cond-false, cases_eq}
 use Rattle.std.proofs.lemmas.Int.{ints}
 use Rattle.std.proofs.lemmas.List.Elements.{All-nil}
 use Rattle.std.proofs.lemmas.Slice.Zip.{AllZip-long}
+use Rattle.std.proofs.lemmas.Option.{none-some}
+use Rattle.abs_cells.proofs.CellLaws.{hazy_not_known}
+use Rattle.list_views.proofs.Orders.{zero_before}
+use Rattle.list_views.proofs.Zipped.{zip_left}
+use Rattle.list_views.proofs.Quantified.{all_at}
+use Rattle.list_views.proofs.Items.{get_before}
 use Rattle.jvm_values.specs.declared.types.Ty.{Ty}
 use Rattle.jvm_values.specs.declared.types.Base.{Base}
 use Rattle.jvm_values.specs.declared.types.Base.TheVariants as bases
@@ -25,8 +31,7 @@ use Rattle.jvm_values.specs.Joins.{item_of, item_under}
 use Rattle.jvm_values.specs.Heaps.{target, values_of, Region, HasShape}
 use Rattle.jvm_values.specs.Subtyping.{class_type, object_type, array_of, array_of_numbers, IsReference, IsReferenceBase, IsSlot}
 use Rattle.jvm_values.specs.TypedHeaps.{WorldTypes, AreLawful, HasType, Holds, IsTypedHeap, IsTypedObject, type_of}
-use Rattle.jvm_values.proofs.Options.{some_is, none_is_not_some}
-use Rattle.jvm_values.proofs.Lists.{same_or_not}
+use Rattle.jvm_values.proofs.Options.{some_is}
 use Rattle.jvm_values.proofs.Ranges.{kind_ints}
 use Rattle.abs_cells.specs.declared.cells.Cell.{Cell}
 use Rattle.abs_cells.specs.declared.cells.Cell.TheVariants as cells
@@ -35,7 +40,7 @@ use Rattle.abs_cells.specs.Cells.{is_known, is_hazy, is_reference, is_comparable
 use Rattle.abs_cells.specs.Sound.{IsWellFormed, IsSound, IsSoundCell}
 use Rattle.abs_cells.specs.Fits.{Meaning, Describes, Fits, with_statics}
 use Rattle.abs_cells.proofs.Fitting.{known_apart}
-use Rattle.abs_cells.proofs.PairLaws.{has_swapped, cond_true, cond_false}
+use Rattle.abs_cells.proofs.PairLaws.{has_swapped}
 use Rattle.abs_reach.proofs.Walks.{some_cell}
 use Rattle.term_graph.specs.Edges.{HoldsBetween}
 use Rattle.abs_heap.specs.Given.{first_cell, with_cells, IsGiven, AreFresh, MayBeOne}
@@ -43,10 +48,9 @@ use Rattle.list_views.specs.Lists.{numbers_from}
 use Rattle.abs_heap.specs.Refining.{Case, instance, numbers, references, lower_of, cell_of_slot, length_cell, IsReferenceField, JoinsFields, IsInstanceChild, IsCase, instances_below, numbers_below, element_below, listed, cases_below, cases_of}
 use Rattle.abs_heap.specs.Laws.{plain_link, Goes, GoesToCase, ClassesSplit}
 use Rattle.abs_heap.proofs.Placing.{cell_here, cell_later}
-use Rattle.abs_heap.proofs.Fitted.{FitsBy, fits_given, names_reference, hazy_not_known}
+use Rattle.abs_heap.proofs.Fitted.{FitsBy, fits_given, names_reference}
 use Rattle.abs_heap.proofs.SameTerms.{same_size}
 use Rattle.abs_heap.proofs.Carried.{Agrees, positions_carried, mode_carried, cell_carried}
-use Rattle.abs_heap.proofs.Growing.{all_got}
 use Rattle.abs_heap.proofs.NewThings.{with_values, kept_others, valued_here, valued_later, values_are}
 use Rattle.abs_heap.proofs.Telling.{Tells, tells, told_compatible, sound_at, array_reference}
 use Rattle.abs_heap.proofs.OneObject.{object_at, ref_of}
@@ -58,46 +62,32 @@ use Rattle.abs_heap.proofs.Loading.{held_path, held_region, held_shape, held_its
 abbrev Stands : {X : Type 0} → List X → X → Type 0
 Stands {X} xs x = (n : ℕ) × (slice_get xs n ≡ Some x)
 
-stands_front : {X : Type 0} (xs ys : List X) (x : X) (n : ℕ) → slice_get xs n ≡ Some x → slice_get (xs ++ ys) n ≡ Some x
-stands_front [] ys x n e = absurd (none_is_not_some x e)
-stands_front (y ∷ xs) ys x zero e = e
-stands_front (y ∷ xs) ys x (suc n) e = stands_front xs ys x n e
-
-none_more : (n : ℕ) → 0 + n ≡ n
-none_more n = omega arith
-
 one_more : (k n : ℕ) → suc k + n ≡ suc (k + n)
 one_more k n = omega arith
 
 stands_behind : {X : Type 0} (xs ys : List X) (x : X) (n : ℕ) → slice_get ys n ≡ Some x → slice_get (xs ++ ys) (length xs + n) ≡ Some x
-stands_behind [] ys x n e = ap (slice_get ys) (none_more n) ∙ e
+stands_behind [] ys x n e = ap (slice_get ys) (zero_before n) ∙ e
 stands_behind (y ∷ xs) ys x n e = ap (slice_get (y ∷ (xs ++ ys))) (one_more (length xs) n) ∙ stands_behind xs ys x n e
 
 stands_mapped : {X Y : Type 0} (f : X → Y) (xs : List X) (x : X) (n : ℕ) → slice_get xs n ≡ Some x → slice_get (map f xs) n ≡ Some (f x)
-stands_mapped f [] x n e = absurd (none_is_not_some x e)
+stands_mapped f [] x n e = absurd (none-some x e)
 stands_mapped f (y ∷ xs) x zero e = ap (λ (z : _). Some (f z)) (some_is e)
 stands_mapped f (y ∷ xs) x (suc n) e = stands_mapped f xs x n e
 
 stands_filtered : {X : Type 0} (test : X → Bool) (xs : List X) (x : X) (n : ℕ) → slice_get xs n ≡ Some x → test x ≡ true → Stands (filter test xs) x
-stands_filtered test [] x n e t = absurd (none_is_not_some x e)
-stands_filtered test (y ∷ xs) x zero e t = (0, ap (λ (ys : List _). slice_get ys 0) (cond_true (test y) (y ∷ filter test xs) (filter test xs) (ap test (some_is e) ∙ t)) ∙ e)
+stands_filtered test [] x n e t = absurd (none-some x e)
+stands_filtered test (y ∷ xs) x zero e t = (0, ap (λ (ys : List _). slice_get ys 0) (cond-true (test y) (y ∷ filter test xs) (filter test xs) (ap test (some_is e) ∙ t)) ∙ e)
 stands_filtered test (y ∷ xs) x (suc n) e t =
     let h = stands_filtered test xs x n e t in
     elim (cases_Bool (test y)) [
-      | inl s ↦ (suc h.0, ap (λ (ys : List _). slice_get ys (suc h.0)) (cond_true (test y) (y ∷ filter test xs) (filter test xs) s) ∙ h.1)
-      | inr s ↦ (h.0, ap (λ (ys : List _). slice_get ys h.0) (cond_false (test y) (y ∷ filter test xs) (filter test xs) s) ∙ h.1)
+      | inl s ↦ (suc h.0, ap (λ (ys : List _). slice_get ys (suc h.0)) (cond-true (test y) (y ∷ filter test xs) (filter test xs) s) ∙ h.1)
+      | inr s ↦ (h.0, ap (λ (ys : List _). slice_get ys h.0) (cond-false (test y) (y ∷ filter test xs) (filter test xs) s) ∙ h.1)
     ]
 
 number_stands : (from count n : ℕ) → n < count → slice_get (numbers_from from count) n ≡ Some (from + n)
 number_stands from zero n l = absurd (omega (arith, l))
 number_stands from (suc count) zero l = let same : from ≡ from + 0 = omega arith in ap Some same
 number_stands from (suc count) (suc n) l = let same : suc from + n ≡ from + suc n = omega arith in number_stands (suc from) count n (omega (arith, l)) ∙ ap Some same
-
-zipped_at : {A B : Type 0} (R : A → B → Type 0) (xs : List A) (ys : List B) (n : ℕ) (x : A) → AllZip R xs ys → slice_get xs n ≡ Some x → (y : B) × ((slice_get ys n ≡ Some y) × R x y)
-zipped_at R [] ys n x z e = absurd (none_is_not_some x e)
-zipped_at R (a ∷ xs) [] n x z e = absurd z
-zipped_at R (a ∷ xs) (b ∷ ys) zero x z e = (b, (refl, subst (λ (c : _). R c b) (some_is e) z.0))
-zipped_at R (a ∷ xs) (b ∷ ys) (suc n) x z e = zipped_at R xs ys n x z.1 e
 
 -- ---- the cases
 
@@ -110,7 +100,7 @@ module _ (types : WorldTypes) (laws : AreLawful types) (low : Ty) where
       let at = number_stands 0 types.classes class l in
       let same : 0 + class ≡ class = omega arith in
       let kept = stands_filtered (λ c. types.can_be_made c && types.sub (class_type c) low) (numbers_from 0 types.classes) class class (at ∙ ap Some same) (and_from _ _ made below) in
-      (kept.0, stands_front (instances_below types low) (numbers_below types low ++ listed (element_below types low)) (instance class) kept.0 (stands_mapped instance (filter (λ c. types.can_be_made c && types.sub (class_type c) low) (numbers_from 0 types.classes)) class kept.0 kept.1))
+      (kept.0, get_before (instances_below types low) (numbers_below types low ++ listed (element_below types low)) kept.0 (instance class) (stands_mapped instance (filter (λ c. types.can_be_made c && types.sub (class_type c) low) (numbers_from 0 types.classes)) class kept.0 kept.1))
 
   kind_at : (kind : Kind) → Stands (kinds.Boolean ∷ kinds.Char ∷ kinds.Byte ∷ kinds.Short ∷ kinds.Int ∷ []) kind
   kind_at kinds.Boolean = (0, refl)
@@ -125,7 +115,7 @@ module _ (types : WorldTypes) (laws : AreLawful types) (low : Ty) where
       let kept = stands_filtered (λ k. types.sub (array_of_numbers k) low) (kinds.Boolean ∷ kinds.Char ∷ kinds.Byte ∷ kinds.Short ∷ kinds.Int ∷ []) kind at.0 at.1 below in (
         length (instances_below types low) + kept.0,
         stands_behind (instances_below types low) (numbers_below types low ++ listed (element_below types low)) (numbers kind) kept.0
-            (stands_front (numbers_below types low) (listed (element_below types low)) (numbers kind) kept.0 (stands_mapped numbers (filter (λ k. types.sub (array_of_numbers k) low) (kinds.Boolean ∷ kinds.Char ∷ kinds.Byte ∷ kinds.Short ∷ kinds.Int ∷ [])) kind kept.0 kept.1)),
+            (get_before (numbers_below types low) (listed (element_below types low)) kept.0 (numbers kind) (stands_mapped numbers (filter (λ k. types.sub (array_of_numbers k) low) (kinds.Boolean ∷ kinds.Char ∷ kinds.Byte ∷ kinds.Short ∷ kinds.Int ∷ [])) kind kept.0 kept.1)),
       )
 
   listed_stands : (element : Ty) → element_below types low ≡ Some element → Stands (cases_below types low) (references element)
@@ -143,16 +133,16 @@ module _ (types : WorldTypes) (laws : AreLawful types) (low : Ty) where
       same_dims d = omega arith
 
       go : (d : ℕ) (b : Base) → IsReferenceBase types.classes d b → item_under (d + 1) b ≡ Some (record { dims = d; base = b })
-      go d (bases.Class class) h = cond_true (nat_lt 0 (d + 1)) _ None (lt-ltb 0 (d + 1) (omega arith)) ∙ ap (λ (n : ℕ). Some (ty_of n (bases.Class class))) (same_dims d)
-      go d (bases.Num kind) h = cond_true (nat_lt 1 (d + 1)) _ None (lt-ltb 1 (d + 1) (omega (arith, h))) ∙ ap (λ (n : ℕ). Some (ty_of n (bases.Num kind))) (same_dims d)
+      go d (bases.Class class) h = cond-true (nat_lt 0 (d + 1)) _ None (lt-ltb 0 (d + 1) (omega arith)) ∙ ap (λ (n : ℕ). Some (ty_of n (bases.Class class))) (same_dims d)
+      go d (bases.Num kind) h = cond-true (nat_lt 1 (d + 1)) _ None (lt-ltb 1 (d + 1) (omega (arith, h))) ∙ ap (λ (n : ℕ). Some (ty_of n (bases.Num kind))) (same_dims d)
 
   -- an array of references below a type is of items below the listed element type
   element_stands : (item : Ty) → IsReference types.classes (array_of item) → IsReference types.classes item → IsTrue (types.sub (array_of item) low) → (element : Ty) × ((element_below types low ≡ Some element) × IsTrue (types.sub item element))
   element_stands item whole inner below = elim (cases_Bool (types.sub object_type low)) [
-    | inl top ↦ (object_type, (cond_true (types.sub object_type low) (Some object_type) (item_of low) top, laws.object_on_top item inner))
+    | inl top ↦ (object_type, (cond-true (types.sub object_type low) (Some object_type) (item_of low) top, laws.object_on_top item inner))
     | inr not_top ↦ elim (laws.array_below item low inner below) [
       | inl is_top ↦ absurd (false≢true (sym not_top ∙ subst (λ (t : Ty). IsTrue (types.sub object_type t)) (sym is_top) (laws.reflexive object_type (object_reference inner below))))
-      | inr above ↦ (above.0, (cond_false (types.sub object_type low) (Some object_type) (item_of low) not_top ∙ ap item_of above.3 ∙ item_again above.0 above.1, above.2))
+      | inr above ↦ (above.0, (cond-false (types.sub object_type low) (Some object_type) (item_of low) not_top ∙ ap item_of above.3 ∙ item_again above.0 above.1, above.2))
     ]
   ]
     where
@@ -187,11 +177,11 @@ module _ (types : WorldTypes) (state : AbstractState) (machine : MachineState) (
       size : length_cell ≡ c → now i ≡ values.Int (pos count) → Sort i c
 
     sort_of : (i : ℕ) (c : Cell) → with_cells ((x, thing) ∷ (len, length_cell) ∷ []) state i ≡ Some c → Sort i c
-    sort_of i c e = elim (same_or_not x i) [
+    sort_of i c e = elim (cases_eq x i) [
       | inl f ↦ split f (some_is (sym (ap (λ (y : Option Cell). first_cell y (cell_at state i)) (cell_here (x, thing) ((len, length_cell) ∷ []) i f)) ∙ e)) (subst (λ (j : ℕ). now j ≡ m j) f (agrees x any_x))
       | inr f ↦
           let rest : first_cell (cell_in ((len, length_cell) ∷ []) i) (cell_at state i) ≡ Some c = sym (ap (λ (y : Option Cell). first_cell y (cell_at state i)) (cell_later (x, thing) ((len, length_cell) ∷ []) i f)) ∙ e in
-          elim (same_or_not len i) [
+          elim (cases_eq len i) [
             | inl g ↦ size (some_is (sym (ap (λ (y : Option Cell). first_cell y (cell_at state i)) (cell_here (len, length_cell) [] i g)) ∙ rest)) (valued_here (len, values.Int (pos count)) [] m i g)
             | inr g ↦
                 let there : cell_at state i ≡ Some c = sym (ap (λ (y : Option Cell). first_cell y (cell_at state i)) (cell_later (len, length_cell) [] i g)) ∙ rest in
@@ -206,7 +196,7 @@ module _ (types : WorldTypes) (state : AbstractState) (machine : MachineState) (
     across v w p e r = subst (λ (u : Value). Region machine.heap u p) e r
 
     no_name : (v : Value) (p : ℕ) → v ≡ values.Int (pos count) → target v ≡ Some p → ⊥
-    no_name v p e t = none_is_not_some p (sym (ap target e) ∙ t)
+    no_name v p e t = none-some p (sym (ap target e) ∙ t)
 
     cells_now : (i : ℕ) (c : Cell) → Sort i c → Describes types machine.heap now c (now i)
     cells_now i c (old e s q) = cell_carried types state machine.heap machine.heap m now good agrees (λ r ob f. f) i c e (h.cells i c e)
@@ -233,7 +223,7 @@ module _ (types : WorldTypes) (state : AbstractState) (machine : MachineState) (
     hazy_there : (i p : ℕ) (c : Cell) → Sort i c → is_hazy c ≡ true → Region machine.heap (now i) p → HasCell is_hazy state i × Region machine.heap (m i) p
     hazy_there i p c (old e s q) z r = (record { cell = c; is = e; sort_is = z }, across (now i) (m i) p s r)
     hazy_there i p c (split f g s) z r = (subst (λ (j : ℕ). HasCell is_hazy state j) f hazy_x, across (now i) (m i) p s r)
-    hazy_there i p c (size g s) z r = absurd (none_is_not_some r.start (sym (ap target s) ∙ r.names))
+    hazy_there i p c (size g s) z r = absurd (none-some r.start (sym (ap target s) ∙ r.names))
 
     inside_now : (a b p : ℕ) (c d : Cell) → Sort a c → Sort b d → is_known c ≡ true → is_hazy d ≡ true → target (now a) ≡ Some p → Region machine.heap (now b) p → Share state a b
     inside_now a b p c d (old e s u) y k l ta rb = let z = hazy_there b p d y l rb in h.inside a b p (record { cell = c; is = e; sort_is = k }) z.0 (moved (now a) (m a) p s ta) z.1
@@ -246,7 +236,7 @@ module _ (types : WorldTypes) (state : AbstractState) (machine : MachineState) (
     shapes_now : (i : ℕ) (c : Cell) (s : Shape) → Sort i c → shape_of c ≡ Some s → HasShape s machine.heap (now i)
     shapes_now i c s (old e t q) g = subst (λ (u : Value). HasShape s machine.heap u) (sym t) (h.shapes i c s e g)
     shapes_now i c s (split f e t) g = subst (λ (u : Value). HasShape s machine.heap u) (ap m f ∙ sym t) (shaped s (ap shape_of e ∙ g))
-    shapes_now i c s (size e t) g = absurd (none_is_not_some s (ap shape_of e ∙ g))
+    shapes_now i c s (size e t) g = absurd (none-some s (ap shape_of e ∙ g))
 
     array_fits : FitsBy types state.frames state.throwing (with_cells ((x, thing) ∷ (len, length_cell) ∷ []) state) (AreEqual state) (Share state) machine now
     array_fits = record {
@@ -282,10 +272,10 @@ module _ (types : WorldTypes) (state : AbstractState) (machine : MachineState) (
 -- an id that a field of the object has
 field_pair : (ids : List ℕ) (ss : List Slot) (g : Slot → Cell) (vs : List Value) (m : Meaning) (i : ℕ) (c : Cell) → cell_in (zip ids (map g ss)) i ≡ Some c → length ids ≡ length vs
     → (place : ℕ) × ((slot : Slot) × ((value : Value) × ((slice_get ids place ≡ Some i) × ((slice_get ss place ≡ Some slot) × ((slice_get vs place ≡ Some value) × ((g slot ≡ c) × (with_values (zip ids vs) m i ≡ value)))))))
-field_pair [] ss g vs m i c e l = absurd (none_is_not_some c e)
-field_pair (y ∷ ids) [] g vs m i c e l = absurd (none_is_not_some c e)
+field_pair [] ss g vs m i c e l = absurd (none-some c e)
+field_pair (y ∷ ids) [] g vs m i c e l = absurd (none-some c e)
 field_pair (y ∷ ids) (s ∷ ss) g [] m i c e l = absurd (omega (arith, l))
-field_pair (y ∷ ids) (s ∷ ss) g (v ∷ vs) m i c e l = elim (same_or_not y i) [
+field_pair (y ∷ ids) (s ∷ ss) g (v ∷ vs) m i c e l = elim (cases_eq y i) [
   | inl f ↦ (0, (s, (v, (ap Some f, (refl, (refl, (some_is (sym (cell_here (y, g s) (zip ids (map g ss)) i f) ∙ e), valued_here (y, v) (zip ids vs) m i f)))))))
   | inr f ↦
       let r = field_pair ids ss g vs m i c (sym (cell_later (y, g s) (zip ids (map g ss)) i f) ∙ e) (omega (arith, l)) in
@@ -294,7 +284,7 @@ field_pair (y ∷ ids) (s ∷ ss) g (v ∷ vs) m i c e l = elim (same_or_not y i
 
 held_at : (types : WorldTypes) (heap : Heap) (ss : List Slot) (vs : List Value) (n : ℕ) (slot : Slot) (value : Value) → AllZip (Holds types heap) ss vs → slice_get ss n ≡ Some slot → slice_get vs n ≡ Some value → Holds types heap slot value
 held_at types heap ss vs n slot value z e f =
-    let r = zipped_at (Holds types heap) ss vs n slot z e in
+    let r = zip_left (Holds types heap) ss vs n slot z e in
     subst (Holds types heap slot) (some_is (sym r.1.0 ∙ f)) r.1.1
 
 -- an object that reaches itself through a value that it holds has a region of any shape
@@ -377,7 +367,7 @@ module _ (types : WorldTypes) (state child : AbstractState) (machine : MachineSt
   now_x = iagrees x iany_x
 
   isort_of : (i : ℕ) (c : Cell) → with_cells ((x, cells.Obj class is.ids) ∷ zip is.ids (map (cell_of_slot types.erase shape) (types.fields class))) state i ≡ Some c → ISort i c
-  isort_of i c e = elim (same_or_not x i) [
+  isort_of i c e = elim (cases_eq x i) [
     | inl f ↦ isplit f (some_is (sym (ap (λ (y : Option Cell). first_cell y (cell_at state i)) (cell_here (x, cells.Obj class is.ids) (zip is.ids (map (cell_of_slot types.erase shape) (types.fields class))) i f)) ∙ e))
     | inr f ↦ later f (cell_in (zip is.ids (map (cell_of_slot types.erase shape) (types.fields class))) i) refl (sym (ap (λ (y : Option Cell). first_cell y (cell_at state i)) (cell_later (x, cells.Obj class is.ids) (zip is.ids (map (cell_of_slot types.erase shape) (types.fields class))) i f)) ∙ e)
   ]
@@ -412,10 +402,10 @@ module _ (types : WorldTypes) (state child : AbstractState) (machine : MachineSt
   slot_sound (slots.Ref y) r = ((laws.of_world y (types.erase y) (laws.erase_up y r)).1, laws.erase_erased y r)
 
   field_sound : (i : ℕ) (c : Cell) (f : Field i c) → IsSoundCell types state c
-  field_sound i c f = subst (λ (d : Cell). IsSoundCell types state d) f.cell_is (slot_sound f.slot (all_got (IsSlot types.classes) (types.fields class) f.place f.slot (laws.slots_of_world class object_typed.0) f.slot_is))
+  field_sound i c f = subst (λ (d : Cell). IsSoundCell types state d) f.cell_is (slot_sound f.slot (all_at (IsSlot types.classes) (types.fields class) f.place f.slot (laws.slots_of_world class object_typed.0) f.slot_is))
 
   reference_slot : (s : Slot) (v : Value) (p : ℕ) → Holds types heap s v → target v ≡ Some p → (y : Ty) × (s ≡ slots.Ref y)
-  reference_slot (slots.Num kind) (values.Int n) p t e = absurd (none_is_not_some p e)
+  reference_slot (slots.Num kind) (values.Int n) p t e = absurd (none-some p e)
   reference_slot (slots.Num kind) values.Null p t e = absurd t
   reference_slot (slots.Num kind) (values.Ref r) p t e = absurd t
   reference_slot (slots.Ref y) v p t e = (y, refl)
@@ -595,12 +585,12 @@ module _ (types : WorldTypes) (state child : AbstractState) (machine : MachineSt
   icells i c (ifield f n) = subst (λ (v : Value). Describes types heap inow c v) (sym f.now_is) (field_described i c f)
 
   slot_shape : (s : Slot) (t : Shape) → shape_of (cell_of_slot types.erase shape s) ≡ Some t → t ≡ shape
-  slot_shape (slots.Num kind) t e = absurd (none_is_not_some t e)
+  slot_shape (slots.Num kind) t e = absurd (none-some t e)
   slot_shape (slots.Ref y) t e = sym (some_is e)
 
   ishapes : (i : ℕ) (c : Cell) (s : Shape) → ISort i c → shape_of c ≡ Some s → HasShape s heap (with_values (zip is.ids fields) m i)
   ishapes i c s (iold e t n) g = subst (λ (v : Value). HasShape s heap v) (sym t) (h.shapes i c s e g)
-  ishapes i c s (isplit f t) g = absurd (none_is_not_some s (ap shape_of t ∙ g))
+  ishapes i c s (isplit f t) g = absurd (none-some s (ap shape_of t ∙ g))
   ishapes i c s (ifield f n) g =
       let same : s ≡ shape = slot_shape f.slot s (ap shape_of f.cell_is ∙ g) in
       subst (λ (v : Value). HasShape s heap v) (sym f.now_is) (subst (λ (y : Shape). HasShape y heap f.value) (sym same) (held_shape heap (m x) f.value o f.place (objects.Instance class fields) names stands f.value_is shape shape_x))
@@ -641,7 +631,7 @@ classes_split types state children machine m x bound wanted shape laws sound typ
 ]
   where
     cases_are : cases_of types bound wanted ≡ cases_below types (lower_of types.sub bound wanted)
-    cases_are = cond_true (is_comparable types.sub bound wanted) (cases_below types (lower_of types.sub bound wanted)) [] comparable
+    cases_are = cond-true (is_comparable types.sub bound wanted) (cases_below types (lower_of types.sub bound wanted)) [] comparable
 
     wanted_below : (o : ℕ) (ob : Object) → m x ≡ values.Ref o → slice_get machine.heap.objects o ≡ Some ob → IsTrue (types.sub (type_of ob) wanted)
     wanted_below o ob e s =
@@ -650,22 +640,22 @@ classes_split types state children machine m x bound wanted shape laws sound typ
 
     low_below : (ob : Object) → IsTrue (types.sub (type_of ob) bound) → IsTrue (types.sub (type_of ob) wanted) → IsTrue (types.sub (type_of ob) (lower_of types.sub bound wanted))
     low_below ob a b = elim (cases_Bool (types.sub bound wanted)) [
-      | inl e ↦ subst (λ (t : Ty). IsTrue (types.sub (type_of ob) t)) (sym (cond_true (types.sub bound wanted) bound wanted e)) a
-      | inr e ↦ subst (λ (t : Ty). IsTrue (types.sub (type_of ob) t)) (sym (cond_false (types.sub bound wanted) bound wanted e)) b
+      | inl e ↦ subst (λ (t : Ty). IsTrue (types.sub (type_of ob) t)) (sym (cond-true (types.sub bound wanted) bound wanted e)) a
+      | inr e ↦ subst (λ (t : Ty). IsTrue (types.sub (type_of ob) t)) (sym (cond-false (types.sub bound wanted) bound wanted e)) b
     ]
 
     child_at : (case : Case) → Stands (cases_below types (lower_of types.sub bound wanted)) case → (n : ℕ) × ((child : AbstractState) × ((slice_get children n ≡ Some child) × IsCase types state x shape case child))
     child_at case s =
-        let r = zipped_at (IsCase types state x shape) (cases_of types bound wanted) children s.0 case zip_is (ap (λ (cs : List Case). slice_get cs s.0) cases_are ∙ s.1) in
+        let r = zip_left (IsCase types state x shape) (cases_of types bound wanted) children s.0 case zip_is (ap (λ (cs : List Case). slice_get cs s.0) cases_are ∙ s.1) in
         (s.0, (r.0, r.1))
 
     by_object : (o : ℕ) (ob : Object) → target (m x) ≡ Some o → slice_get machine.heap.objects o ≡ Some ob → IsTrue (types.sub (type_of ob) bound) → IsTrue (types.sub (type_of ob) wanted) → GoesToCase types state machine m children
     by_object o (objects.Instance class fields) t s a b =
-        let object_typed = all_got (IsTypedObject types machine.heap) machine.heap.objects o (objects.Instance class fields) typed s in
+        let object_typed = all_at (IsTypedObject types machine.heap) machine.heap.objects o (objects.Instance class fields) typed s in
         let c = child_at (instance class) (instance_stands types laws (lower_of types.sub bound wanted) class object_typed.0 object_typed.1.0 (low_below (objects.Instance class fields) a b)) in
         record { n = c.0; child = c.1.0; is = c.1.1.0; goes = instance_goes types state c.1.0 machine m laws sound typed h x bound shape at unknown o class fields t s object_typed c.1.1.1 }
     by_object o (objects.Nums kind items) t s a b =
-        let object_typed = all_got (IsTypedObject types machine.heap) machine.heap.objects o (objects.Nums kind items) typed s in
+        let object_typed = all_at (IsTypedObject types machine.heap) machine.heap.objects o (objects.Nums kind items) typed s in
         let c = child_at (numbers kind) (numbers_stand types laws (lower_of types.sub bound wanted) kind (low_below (objects.Nums kind items) a b)) in
         record {
           n = c.0;
@@ -673,10 +663,10 @@ classes_split types state children machine m x bound wanted shape laws sound typ
           is = c.1.1.0;
           goes = array_goes types state machine m sound.well_formed h x bound shape at unknown c.1.1.1.len (length items) (cells.Nums kind c.1.1.1.len) c.1.1.1.fresh object_typed.0
               (record { place = o; object = objects.Nums kind items; names = ref_of (m x) o t; stands = s; holds = record { items = items; is = refl; length_is = valued_here (c.1.1.1.len, values.Int (pos (length items))) [] m c.1.1.1.len refl } })
-              (λ y e. absurd (none_is_not_some y e)) c.1.0 c.1.1.1.is;
+              (λ y e. absurd (none-some y e)) c.1.0 c.1.1.1.is;
         }
     by_object o (objects.Refs item items) t s a b =
-        let object_typed = all_got (IsTypedObject types machine.heap) machine.heap.objects o (objects.Refs item items) typed s in
+        let object_typed = all_at (IsTypedObject types machine.heap) machine.heap.objects o (objects.Refs item items) typed s in
         let e = element_stands types laws (lower_of types.sub bound wanted) item (array_reference types item object_typed.1.0 object_typed.1.1.0) object_typed.1.1.0 (low_below (objects.Refs item items) a b) in
         let c = child_at (references e.0) (listed_stands types laws (lower_of types.sub bound wanted) e.0 e.1.0) in
         record {

@@ -2,7 +2,7 @@
 use Rattle.std.proofs.Common.{◌≡◌, ◌≢◌, ℕ, ◌+◌, ◌<◌, ◌≤◌, ◌==◌, ◌&&◌, ◌||◌, Bool, true, false, List, [], ◌∷◌, map, zip, length, get_or, Some, ◌⊎◌, inl, inr, refl, sym, ap, subst, ◌∙◌, arith, eq-eqb}
 use Rattle.std.specs.Prelude.{◌↔◌, slice_get}
 use Rattle.std.specs.Option.{option_map}
-use Rattle.std.proofs.lemmas.Bool.{false≢true, eqb-true, and_parts, and_from, or_cases, or_left, or_right}
+use Rattle.std.proofs.lemmas.Bool.{false≢true, eqb-true, and_parts, and_from, or_cases, or_left, or_right, cases_eq}
 use Rattle.std.proofs.lemmas.Option.{slice_get-get_or, slice_get_within}
 use Rattle.jvm_values.specs.declared.types.Ty.{Ty}
 use Rattle.jvm_values.specs.declared.types.Slot.{Slot}
@@ -25,7 +25,7 @@ use Rattle.abs_heap.specs.Building.{Gains, IsOver}
 use Rattle.jvm_values.specs.Slots.{is_reference_slot}
 use Rattle.abs_heap.specs.Splitting.{IsFieldBefore, IsGivenInstance, WantsOne}
 use Rattle.abs_heap.proofs.PairGains.{gain_both, gain_as, gains_on}
-use Rattle.abs_heap.proofs.Placing.{over_more, over_cell, same_or_not}
+use Rattle.abs_heap.proofs.Placing.{over_more, over_cell}
 use Rattle.abs_heap.proofs.Giving.{image_unnamed, pairs_given, over_state, state_of, frames_unnamed, given_unnamed}
 use Rattle.abs_heap.proofs.Reading.{one_cells, cells_one}
 
@@ -74,7 +74,7 @@ references_next fields ids i s d n wanted start old new l e w f was = (to, from)
 
     from : (start ≡ true) ⊎ IsFieldBefore fields ids (i + 1) n → new ≡ true
     from (inl b) = f ∙ or_right (wanted && (n == get_or ids i d)) old (was.1 (inl b))
-    from (inr r) = elim (same_or_not r.place i) [
+    from (inr r) = elim (cases_eq r.place i) [
       | inl p ↦ here r p
       | inr p ↦ f ∙ or_right (wanted && (n == get_or ids i d)) old (was.1 (inr (record { place = r.place; before = let b = r.before in omega (arith, b, p); t = r.t; slot_is = r.slot_is; id_is = r.id_is })))
     ]

@@ -2,12 +2,14 @@
 use Rattle.std.proofs.Common.{◌≡◌, ◌≢◌, ℕ, ◌&&◌, Bool, true, false, not, List, Option, Some, ◌⊎◌, refl, sym, ap, subst, ◌∙◌}
 use Rattle.std.specs.List.{AllZip}
 use Rattle.std.proofs.lemmas.Bool.{false≢true, and_from}
+use Rattle.std.proofs.lemmas.Option.{none-some}
+use Rattle.abs_cells.proofs.CellLaws.{hazy_not_known}
 use Rattle.jvm_values.specs.declared.heap.Value.{Value}
 use Rattle.jvm_values.specs.declared.shape.Shape.{Shape}
 use Rattle.jvm_values.specs.States.{MachineState}
 use Rattle.jvm_values.specs.Heaps.{target, Region, HasShape}
 use Rattle.jvm_values.specs.TypedHeaps.{WorldTypes}
-use Rattle.jvm_values.proofs.Options.{some_is, none_is_not_some}
+use Rattle.jvm_values.proofs.Options.{some_is}
 use Rattle.abs_cells.specs.declared.cells.Cell.{Cell}
 use Rattle.abs_cells.specs.declared.cells.Cell.TheVariants as cells
 use Rattle.abs_cells.specs.AbstractStates.{AbstractFrame, AbstractState}
@@ -29,8 +31,8 @@ pub record FitsBy (types : WorldTypes) (frames : List AbstractFrame) (throwing :
 
 -- a cell that describes a value which names an object is that of a reference
 pub names_reference : (types : WorldTypes) (machine : MachineState) (m : Meaning) (c : Cell) (value : Value) (o : ℕ) → Describes types machine.heap m c value → target value ≡ Some o → is_reference c ≡ true
-names_reference types machine m (cells.Int interval) value o (n, (e, k)) t = absurd (none_is_not_some o (ap target (sym e) ∙ t))
-names_reference types machine m cells.Null value o e t = absurd (none_is_not_some o (ap target (sym e) ∙ t))
+names_reference types machine m (cells.Int interval) value o (n, (e, k)) t = absurd (none-some o (ap target (sym e) ∙ t))
+names_reference types machine m cells.Null value o e t = absurd (none-some o (ap target (sym e) ∙ t))
 names_reference types machine m (cells.Obj class ids) value o d t = refl
 names_reference types machine m (cells.Nums kind len) value o d t = refl
 names_reference types machine m (cells.Refs element len shape) value o d t = refl
@@ -51,14 +53,6 @@ known_reference (cells.Obj class ids) h = refl
 known_reference (cells.Nums kind len) h = refl
 known_reference (cells.Refs element len shape) h = refl
 known_reference (cells.Unk bound nullable shape) h = refl
-
-pub hazy_not_known : (c : Cell) → is_hazy c ≡ true → is_known c ≡ false
-hazy_not_known (cells.Int interval) h = refl
-hazy_not_known cells.Null h = refl
-hazy_not_known (cells.Obj class ids) h = absurd (false≢true h)
-hazy_not_known (cells.Nums kind len) h = absurd (false≢true h)
-hazy_not_known (cells.Refs element len shape) h = refl
-hazy_not_known (cells.Unk bound nullable shape) h = refl
 
 not_both : (k l : Bool) → (k ≡ true → l ≡ true → ⊥) → not (k && l) ≡ true
 not_both true true h = absurd (h refl refl)

@@ -2,7 +2,9 @@
 use Rattle.std.proofs.Common.{◌≡◌, ℕ, zero, suc, ◌+◌, ◌<◌, ◌≤◌, true, List, [], ◌∷◌, ◌++◌, length, get_or, drop, Some, None, ◌⊎◌, inl, inr, refl, sym, ap, subst, ◌∙◌, arith, add-one, length-append}
 use Rattle.std.specs.Prelude.{slice_get, All, Contains}
 use Rattle.std.proofs.lemmas.List.Elements.{All-nil, All-head, All-tail, All-push, All-weaker, All-contains, Contains-append_left, Contains-push}
-use Rattle.jvm_values.proofs.Options.{some_is, none_is_not_some}
+use Rattle.std.proofs.lemmas.Option.{slice_get_within, none-some}
+use Rattle.std.proofs.lemmas.Bool.{cases_eq}
+use Rattle.jvm_values.proofs.Options.{some_is}
 use Rattle.abs_cells.specs.declared.cells.Cell.{Cell}
 use Rattle.abs_cells.specs.AbstractStates.{AbstractState}
 use Rattle.abs_cells.specs.Cells.{is_of_sort, cell_in}
@@ -10,7 +12,7 @@ use Rattle.abs_cells.specs.Sound.{AreIdsRising}
 use Rattle.abs_cells.proofs.Checking.{has_cell_from}
 use Rattle.abs_heap.specs.Given.{AreRising, AreFresh}
 use Rattle.abs_heap.specs.Building.{IsIdAt}
-use Rattle.abs_heap.proofs.Placing.{cell_here, cell_later, same_or_not, absent}
+use Rattle.abs_heap.proofs.Placing.{cell_here, cell_later, absent}
 
 -- the ids found so far, when all numbers below `next` are settled and so many cells are behind
 pub record AreFound (cells : List (ℕ × Cell)) (ids : List ℕ) (passed next : ℕ) : Type 0 where
@@ -45,14 +47,9 @@ rising_push (a ∷ b ∷ rest) n r l = (r.0, rising_push (b ∷ rest) n r.1 (All
 
 -- the front of what is ahead
 split_at : (cells : List (ℕ × Cell)) (passed next : ℕ) (cell : Cell) → slice_get cells passed ≡ Some (next, cell) → drop passed cells ≡ (next, cell) ∷ drop (suc passed) cells
-split_at [] passed next cell e = absurd (none_is_not_some (next, cell) e)
+split_at [] passed next cell e = absurd (none-some (next, cell) e)
 split_at (c ∷ cells) zero next cell e = ap (λ (x : ℕ × Cell). x ∷ cells) (some_is e)
 split_at (c ∷ cells) (suc passed) next cell e = split_at cells passed next cell e
-
-get_within : (cells : List (ℕ × Cell)) (k : ℕ) (c : ℕ × Cell) → slice_get cells k ≡ Some c → k < length cells
-get_within [] k c e = absurd (none_is_not_some c e)
-get_within (x ∷ cells) zero c e = omega arith
-get_within (x ∷ cells) (suc k) c e = let h = get_within cells k c e in omega (arith, h)
 
 pub found_used : (cells : List (ℕ × Cell)) (ids : List ℕ) (passed next : ℕ) → AreFound cells ids passed next → IsIdAt cells passed next → AreFound cells ids (passed + 1) (next + 1)
 found_used cells ids passed next f (cell, e) =
@@ -61,11 +58,11 @@ found_used cells ids passed next f (cell, e) =
     let here : cell_in cells next ≡ Some cell = f.behind next (omega arith) ∙ ap (λ (cs : List (ℕ × Cell)). cell_in cs next) split ∙ cell_here (next, cell) (drop (suc passed) cells) next refl in
     rw (add-one, add-one) (record {
       sum = omega (arith, f.sum);
-      within = get_within cells passed (next, cell) e;
+      within = slice_get_within cells passed (next, cell) e;
       rise = f.rise;
       low = higher next (suc next) ids (omega arith) f.low;
       free = f.free;
-      used = λ m l. elim (same_or_not m next) [
+      used = λ m l. elim (cases_eq m next) [
         | inl s ↦ inl (ap (λ (k : ℕ). is_of_sort (λ _. true) (cell_in cells k)) s ∙ ap (is_of_sort (λ _. true)) here)
         | inr s ↦ f.used m (omega (arith, l, s))
       ];
@@ -95,7 +92,7 @@ found_free cells ids passed next f h =
       rise = rising_push ids next f.rise f.low;
       low = All-push (λ id. id < suc next) ids next (higher next (suc next) ids (omega arith) f.low) (omega arith);
       free = All-push (λ id. cell_in cells id ≡ None) ids next f.free (f.behind next (omega arith) ∙ rest.1);
-      used = λ m l. elim (same_or_not m next) [
+      used = λ m l. elim (cases_eq m next) [
         | inl s ↦ inr (subst (λ (k : ℕ). Contains (ids ++ next ∷ []) k) (sym s) (Contains-push ids next))
         | inr s ↦ elim (f.used m (omega (arith, l, s))) [ inl u ↦ inl u | inr c ↦ inr (Contains-append_left ids (next ∷ []) m c) ]
       ];

@@ -124,14 +124,6 @@ over_state state start news some all made e h k m id =
 
 -- ---- as code reads it
 
-pub ok_map : {A E : Type 0} (r : Result A E) (P Q : A → Type 0) → ((x : A) → P x → Q x) → IfOk r P → IfOk r Q
-ok_map (Ok x) P Q f h = f x h
-ok_map (Err e) P Q f h = h
-
-pub ok_as : {A E P Q : Type 0} (r : Result A E) → (P → Q) → OnOk r P → OnOk r Q
-ok_as (Ok x) f h = f h
-ok_as (Err e) f h = h
-
 reversed_twice : (f : AbstractFrame → AbstractFrame) (xs : List AbstractFrame) → reverse (map f (reverse xs)) ≡ map f xs
 reversed_twice f xs = ap reverse (map_reversed f xs) ∙ reverse-reverse (map f xs)
   where

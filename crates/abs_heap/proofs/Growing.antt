@@ -3,67 +3,44 @@ use Rattle.std.proofs.Common.{◌≡◌, ℕ, zero, suc, ◌<◌, List, [], ◌�
 use Rattle.std.specs.Prelude.{slice_get}
 use Rattle.std.specs.Option.{option_map, option_and_then}
 use Rattle.std.proofs.lemmas.Option.{slice_get_within, slice_get-get_or}
+use Rattle.jvm_values.proofs.AfterWrites.{same_shape}
+use Rattle.list_views.proofs.Quantified.{all_at}
+use Rattle.list_views.proofs.Items.{get_front}
+use Rattle.list_views.proofs.Options.{same_answer, then_some}
 use Rattle.jvm_values.specs.declared.heap.Value.{Value}
 use Rattle.jvm_values.specs.declared.heap.Value.TheVariants as values
 use Rattle.jvm_values.specs.declared.heap.Object.{Object}
 use Rattle.jvm_values.specs.declared.heap.Object.TheVariants.{Instance, Nums, Refs}
 use Rattle.jvm_values.specs.declared.heap.Heap.{Heap}
 use Rattle.jvm_values.specs.declared.shape.Shape.{Shape}
-use Rattle.jvm_values.specs.declared.shape.Shape.TheVariants.{Tree, Dag, Any}
+use Rattle.jvm_values.specs.declared.shape.Shape.TheVariants.{Dag}
 use Rattle.jvm_values.specs.Paths.{follow}
 use Rattle.jvm_values.specs.Heaps.{target, values_of, value_at, heap_steps, Region, HasShape, IsInHeap, IsClosed}
 use Rattle.jvm_values.specs.Terms.{HeapTerm, HeapTerms, term_within, term_of_object, terms_by, IsTerm}
 use Rattle.jvm_values.specs.Terms.HeapTerm.{null, node}
 use Rattle.jvm_values.specs.Terms.HeapTerms.{more}
-use Rattle.jvm_values.proofs.Options.{given, some_is}
-use Rattle.jvm_values.proofs.PathLaws.{joined, rest_of}
+use Rattle.jvm_values.proofs.Options.{some_is}
 use Rattle.abs_heap.specs.Laws.{heap_with}
 
 -- ---- lists
 
-pub got_front : {X : Type 0} (xs ys : List X) (k : ℕ) → k < length xs → slice_get (xs ++ ys) k ≡ slice_get xs k
-got_front [] ys k l = absurd (omega (arith, l))
-got_front (x ∷ xs) ys zero l = refl
-got_front (x ∷ xs) ys (suc k) l = got_front xs ys k (omega (arith, l))
-
-pub got_last : {X : Type 0} (xs : List X) (y : X) → slice_get (xs ++ y ∷ []) (length xs) ≡ Some y
-got_last [] y = refl
-got_last (x ∷ xs) y = got_last xs y
-
-pub all_got : {X : Type 0} (P : X → Type 0) (xs : List X) (k : ℕ) (x : X) → All P xs → slice_get xs k ≡ Some x → P x
-all_got P xs k x a e =
-    let l = slice_get_within xs k x e in
-    subst P (some_is (sym (slice_get-get_or xs k x l) ∙ e)) (a k x l)
-
-same_answer : {A B : Type 0} (f g : A → Option B) (x : Option A) → ((c : A) → x ≡ Some c → f c ≡ g c) → option_and_then f x ≡ option_and_then g x
-same_answer f g None h = refl
-same_answer f g (Some c) h = h c refl
-
--- the same paths give the same shapes
-pub same_shape : (one two : Heap) (x : Value) → ((a : ℕ) → target x ≡ Some a → (p : List ℕ) (b : ℕ) → follow (heap_steps two) p a ≡ Some b → follow (heap_steps one) p a ≡ Some b) → (shape : Shape) → HasShape shape one x → HasShape shape two x
-same_shape one two x back Tree h = λ a t p q b e f. h a t p q b (back a t p b e) (back a t q b f)
-same_shape one two x back Dag h = λ a t p b e q f.
-    let start = back a t p b e in
-    h a t p b start q (rest_of (heap_steps one) p q a b b start (back a t (p ++ q) b (joined (heap_steps two) p q a b b e f)))
-same_shape one two x back Any h = tt
-
 module _ (heap : Heap) (object : Object) (closed : IsClosed heap) where
   pub stays : (r : ℕ) (ob : Object) → slice_get heap.objects r ≡ Some ob → slice_get (heap_with heap object).objects r ≡ Some ob
-  stays r ob e = got_front heap.objects (object ∷ []) r (slice_get_within heap.objects r ob e) ∙ e
+  stays r ob e = get_front heap.objects (object ∷ []) r (slice_get_within heap.objects r ob e) ∙ e
 
   same_object : (a : ℕ) → a < length heap.objects → slice_get (heap_with heap object).objects a ≡ slice_get heap.objects a
-  same_object a l = got_front heap.objects (object ∷ []) a l
+  same_object a l = get_front heap.objects (object ∷ []) a l
 
   same_step : (a j : ℕ) → a < length heap.objects → heap_steps (heap_with heap object) a j ≡ heap_steps heap a j
   same_step a j l = ap (λ (x : Option Object). option_and_then target (option_and_then (λ (ob : Object). slice_get (values_of ob) j) x)) (same_object a l)
 
   value_low : (a : ℕ) (ob : Object) (j : ℕ) (y : Value) → slice_get heap.objects a ≡ Some ob → slice_get (values_of ob) j ≡ Some y → IsInHeap (length heap.objects) y
-  value_low a ob j y e f = all_got (IsInHeap (length heap.objects)) (values_of ob) j y (all_got (λ (x : Object). All (IsInHeap (length heap.objects)) (values_of x)) heap.objects a ob closed e) f
+  value_low a ob j y e f = all_at (IsInHeap (length heap.objects)) (values_of ob) j y (all_at (λ (x : Object). All (IsInHeap (length heap.objects)) (values_of x)) heap.objects a ob closed e) f
 
   step_low : (a j c : ℕ) → heap_steps heap a j ≡ Some c → c < length heap.objects
   step_low a j c e =
-      let p = given target (value_at heap a j) c e in
-      let q = given (λ (ob : Object). slice_get (values_of ob) j) (slice_get heap.objects a) p.0 p.1.0 in
+      let p = then_some target (value_at heap a j) c e in
+      let q = then_some (λ (ob : Object). slice_get (values_of ob) j) (slice_get heap.objects a) p.0 p.1.0 in
       value_low a q.0 j p.0 q.1.0 q.1.1 c p.1.1
 
   pub same_follow : (p : List ℕ) (a : ℕ) → a < length heap.objects → follow (heap_steps (heap_with heap object)) p a ≡ follow (heap_steps heap) p a
@@ -74,7 +51,7 @@ module _ (heap : Heap) (object : Object) (closed : IsClosed heap) where
 
   pub follow_low : (p : List ℕ) (a b : ℕ) → a < length heap.objects → follow (heap_steps heap) p a ≡ Some b → b < length heap.objects
   follow_low [] a b l e = subst (λ (n : ℕ). n < length heap.objects) (some_is e) l
-  follow_low (i ∷ p) a b l e = let q = given (follow (heap_steps heap) p) (heap_steps heap a i) b e in follow_low p q.0 b (step_low a i q.0 q.1.0) q.1.1
+  follow_low (i ∷ p) a b l e = let q = then_some (follow (heap_steps heap) p) (heap_steps heap a i) b e in follow_low p q.0 b (step_low a i q.0 q.1.0) q.1.1
 
   pub region_back : (v : Value) (o : ℕ) → IsInHeap (length heap.objects) v → Region (heap_with heap object) v o → Region heap v o
   region_back v o l r = record { start = r.start; names = r.names; reaches = record { path = r.reaches.path; leads = sym (same_follow r.reaches.path r.start (l r.start r.names)) ∙ r.reaches.leads } }

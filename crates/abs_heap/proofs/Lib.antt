@@ -15,7 +15,7 @@ mod Merging
 mod NewThings
 mod OneObject
 mod PairGains
-mod Placing
+pub mod Placing
 mod Reading
 mod Renamed
 mod Replacing
@@ -23,4 +23,4 @@ mod SameTerms
 mod Telling
 mod Untold
 mod WriteChildren
-mod Written
+pub mod Written

@@ -2,9 +2,12 @@
 use Rattle.std.proofs.Common.{◌≡◌, ℕ, zero, suc, ◌+◌, ◌<◌, ◌≤◌, ◌&&◌, ◌||◌, Bool, true, false, List, [], ◌∷◌, ◌++◌, length, map, get_or, take, Option, Some, None, Result, Ok, Err, inl, inr, refl, sym, ap, subst, ◌∙◌, arith, append_assoc, append-nil}
 use Rattle.std.specs.Prelude.{◌↔◌, nat_lt, filter, Contains, is_some}
 use Rattle.std.specs.List.{AllZip, list_any}
-use Rattle.std.proofs.lemmas.Bool.{false≢true, cases_Bool, or_cases, or_left, or_right, or_parts, or_from, ltb-true, lt-ltb}
+use Rattle.std.proofs.lemmas.Bool.{false≢true, cases_Bool, or_cases, or_left, or_right, or_parts, or_from, ltb-true, lt-ltb, cond-true, cond-false}
 use Rattle.std.proofs.lemmas.List.{take_more, take_all, get_or_default, map-append}
 use Rattle.std.proofs.lemmas.List.Elements.{filter-append, Contains-append_left, Contains-append_right, Contains-append_cases, Contains-push, Contains-push_cases}
+use Rattle.std.proofs.lemmas.List.Folds.{list_any-append}
+use Rattle.list_views.proofs.Zipped.{zip_joined}
+use Rattle.list_views.proofs.Truths.{or_false}
 use Rattle.jvm_values.specs.declared.types.Ty.{Ty}
 use Rattle.jvm_values.specs.declared.shape.Shape.{Shape}
 use Rattle.jvm_values.specs.declared.types.Kind.{Kind}
@@ -15,7 +18,6 @@ use Rattle.abs_cells.specs.declared.cells.Cell.{Cell}
 use Rattle.abs_cells.specs.declared.cells.Cell.TheVariants as cells
 use Rattle.abs_cells.specs.AbstractStates.{AbstractState}
 use Rattle.abs_cells.specs.Cells.{cell_at, is_comparable}
-use Rattle.abs_cells.proofs.PairLaws.{cond_true, cond_false}
 use Rattle.term_graph.specs.declared.links.Link.{Link}
 use Rattle.term_graph.specs.Graphs.{GraphChild}
 use Rattle.abs_heap.specs.Answers.{AreClassChildren, HasTooManyChildren}
@@ -28,16 +30,8 @@ use Rattle.abs_heap.specs.Splitting.{instances_among, numbers_among, crowds, pla
 
 -- ---- some of a list
 
-any_joined : {X : Type 0} (p : X → Bool) (xs ys : List X) → list_any p (xs ++ ys) ≡ (list_any p xs || list_any p ys)
-any_joined p [] ys = refl
-any_joined p (x ∷ xs) ys = ap (λ (b : Bool). p x || b) (any_joined p xs ys) ∙ grouped (p x) (list_any p xs) (list_any p ys)
-  where
-    grouped : (a b c : Bool) → (a || (b || c)) ≡ ((a || b) || c)
-    grouped true b c = refl
-    grouped false b c = refl
-
 pub any_three : {X : Type 0} (p : X → Bool) (xs ys zs : List X) → list_any p (xs ++ (ys ++ zs)) ≡ (list_any p xs || (list_any p ys || list_any p zs))
-any_three p xs ys zs = any_joined p xs (ys ++ zs) ∙ ap (λ (b : Bool). list_any p xs || b) (any_joined p ys zs)
+any_three p xs ys zs = list_any-append p xs (ys ++ zs) ∙ ap (λ (b : Bool). list_any p xs || b) (list_any-append p ys zs)
 
 pub none_first : {X : Type 0} (p : X → Bool) (xs ys zs : List X) → list_any p (xs ++ (ys ++ zs)) ≡ false → list_any p xs ≡ false
 none_first p xs ys zs f = (or_parts (list_any p xs) (list_any p ys || list_any p zs) (sym (any_three p xs ys zs) ∙ f)).0
@@ -51,10 +45,6 @@ none_second p xs ys zs f = (none_rest p xs ys zs f).0
 pub none_third : {X : Type 0} (p : X → Bool) (xs ys zs : List X) → list_any p (xs ++ (ys ++ zs)) ≡ false → list_any p zs ≡ false
 none_third p xs ys zs f = (none_rest p xs ys zs f).1
 
-or_none : (a : Bool) → (a || false) ≡ a
-or_none true = refl
-or_none false = refl
-
 -- ---- those of a list that pass a test, made into cases
 
 module _ {X : Type 0} (make : X → Case) (test : X → Bool) (p : Case → Bool) where
@@ -65,14 +55,14 @@ module _ {X : Type 0} (make : X → Case) (test : X → Bool) (p : Case → Bool
   among_joined xs ys = ap (map make) (filter-append test xs ys) ∙ map-append make (filter test xs) (filter test ys)
 
   pub among_yes : (x : X) → test x ≡ true → among (x ∷ []) ≡ make x ∷ []
-  among_yes x t = ap (map make) (cond_true (test x) (x ∷ []) [] t)
+  among_yes x t = ap (map make) (cond-true (test x) (x ∷ []) [] t)
 
   pub among_no : (x : X) → test x ≡ false → among (x ∷ []) ≡ []
-  among_no x t = ap (map make) (cond_false (test x) (x ∷ []) [] t)
+  among_no x t = ap (map make) (cond-false (test x) (x ∷ []) [] t)
 
   pub any_one : (x : X) → list_any p (among (x ∷ [])) ≡ (test x && p (make x))
   any_one x = elim (cases_Bool (test x)) [
-    | inl t ↦ ap (list_any p) (among_yes x t) ∙ or_none (p (make x)) ∙ ap (λ (b : Bool). b && p (make x)) (sym t)
+    | inl t ↦ ap (list_any p) (among_yes x t) ∙ or_false (p (make x)) ∙ ap (λ (b : Bool). b && p (make x)) (sym t)
     | inr t ↦ ap (list_any p) (among_no x t) ∙ ap (λ (b : Bool). b && p (make x)) (sym t)
   ]
 
@@ -81,15 +71,15 @@ module _ {X : Type 0} (make : X → Case) (test : X → Bool) (p : Case → Bool
 
   pub none_next : (xs : List X) (i : ℕ) (x : X) (b : Bool) → i < length xs → x ≡ get_or xs i x → list_any p (among (take i xs)) ≡ false → b ≡ list_any p (among (x ∷ [])) → b ≡ false → list_any p (among (take (i + 1) xs)) ≡ false
   none_next xs i x b l e was is f =
-      ap (list_any p) (among_more xs i x l e) ∙ any_joined p (among (take i xs)) (among (x ∷ [])) ∙ or_from (list_any p (among (take i xs))) (list_any p (among (x ∷ []))) was (sym is ∙ f)
+      ap (list_any p) (among_more xs i x l e) ∙ list_any-append p (among (take i xs)) (among (x ∷ [])) ∙ or_from (list_any p (among (take i xs))) (list_any p (among (x ∷ []))) was (sym is ∙ f)
 
   pub none_of_all : (xs : List X) (i : ℕ) → length xs ≤ i → list_any p (among (take i xs)) ≡ false → list_any p (among xs) ≡ false
   none_of_all xs i l was = ap (λ (ys : List X). list_any p (among ys)) (sym (take_all i xs l)) ∙ was
 
   pub none_there : (xs : List X) (i : ℕ) (x : X) → i < length xs → x ≡ get_or xs i x → list_any p (among xs) ≡ false → list_any p (among (x ∷ [])) ≡ false
   none_there [] i x l e f = absurd (omega (arith, l))
-  none_there (y ∷ xs) zero x l e f = ap (λ (z : X). list_any p (among (z ∷ []))) e ∙ (or_parts (list_any p (among (y ∷ []))) (list_any p (among xs)) (sym (any_joined p (among (y ∷ [])) (among xs)) ∙ ap (list_any p) (sym (among_joined (y ∷ []) xs)) ∙ f)).0
-  none_there (y ∷ xs) (suc i) x l e f = none_there xs i x (omega (arith, l)) e (or_parts (list_any p (among (y ∷ []))) (list_any p (among xs)) (sym (any_joined p (among (y ∷ [])) (among xs)) ∙ ap (list_any p) (sym (among_joined (y ∷ []) xs)) ∙ f)).1
+  none_there (y ∷ xs) zero x l e f = ap (λ (z : X). list_any p (among (z ∷ []))) e ∙ (or_parts (list_any p (among (y ∷ []))) (list_any p (among xs)) (sym (list_any-append p (among (y ∷ [])) (among xs)) ∙ ap (list_any p) (sym (among_joined (y ∷ []) xs)) ∙ f)).0
+  none_there (y ∷ xs) (suc i) x l e f = none_there xs i x (omega (arith, l)) e (or_parts (list_any p (among (y ∷ []))) (list_any p (among xs)) (sym (list_any-append p (among (y ∷ [])) (among xs)) ∙ ap (list_any p) (sym (among_joined (y ∷ []) xs)) ∙ f)).1
 
   -- a child of a case that is listed has room
   pub room_of : (x : X) (b : Bool) → b ≡ test x → b ≡ true → list_any p (among (x ∷ [])) ≡ false → p (make x) ≡ false
@@ -133,12 +123,6 @@ past_length count n m e l = let h = numbers_length 0 count in omega (arith, h, e
 
 -- ---- children added
 
-zip_both : {A B : Type 0} (R : A → B → Type 0) (xs ys : List A) (us vs : List B) → AllZip R xs us → AllZip R ys vs → AllZip R (xs ++ ys) (us ++ vs)
-zip_both R [] ys [] vs a b = b
-zip_both R [] ys (u ∷ us) vs a b = absurd a
-zip_both R (x ∷ xs) ys [] vs a b = absurd a
-zip_both R (x ∷ xs) ys (u ∷ us) vs a b = (a.0, zip_both R xs ys us vs a.1 b)
-
 module _ (types : WorldTypes) (state : AbstractState) (x : ℕ) (shape : Shape) where
   pub adds_none : (old : List GraphChild) → AddsCases types state x shape [] old old
   adds_none old = record { states = []; are = tt; is = sym (append-nil old) }
@@ -146,7 +130,7 @@ module _ (types : WorldTypes) (state : AbstractState) (x : ℕ) (shape : Shape) 
   pub adds_both : (first second : List Case) (old mid new : List GraphChild) → AddsCases types state x shape first old mid → AddsCases types state x shape second mid new → AddsCases types state x shape (first ++ second) old new
   adds_both first second old mid new a b = record {
     states = a.states ++ b.states;
-    are = zip_both (IsCase types state x shape) first second a.states b.states a.are b.are;
+    are = zip_joined (IsCase types state x shape) first second a.states b.states a.are b.are;
     is = b.is
         ∙ ap (λ (cs : List GraphChild). cs ++ map plain_child b.states) a.is
         ∙ append_assoc old (map plain_child a.states) (map plain_child b.states)
@@ -208,7 +192,7 @@ module _ (types : WorldTypes) (state : AbstractState) where
 
   pub listed_crowds : (o : Option Ty) (some b : Bool) → some ≡ is_some o → b ≡ nat_lt 512 (length state.cells + 1) → (some && b) ≡ list_any (crowds types state) (listed o)
   listed_crowds None some b e f = ap (λ (c : Bool). c && b) e
-  listed_crowds (Some t) some b e f = ap (λ (c : Bool). c && b) e ∙ f ∙ sym (or_none (nat_lt 512 (length state.cells + 1)))
+  listed_crowds (Some t) some b e f = ap (λ (c : Bool). c && b) e ∙ f ∙ sym (or_false (nat_lt 512 (length state.cells + 1)))
 
 pub has_room_for : (count more : ℕ) → nat_lt 512 (count + more) ≡ false → count + more ≤ 512
 has_room_for count more e = let h : 512 < count + more → ⊥ = λ l. false≢true (sym e ∙ lt-ltb 512 (count + more) l) in omega (arith, h)
@@ -241,7 +225,7 @@ pub listed_none : (o given : Option Ty) → given ≡ o → given ≡ None → l
 listed_none o given e f = ap listed (sym e ∙ f)
 
 pub listed_room : (p : Case → Bool) (o given : Option Ty) (t : Ty) → given ≡ o → given ≡ Some t → list_any p (listed o) ≡ false → p (references t) ≡ false
-listed_room p o given t e f h = sym (or_none (p (references t))) ∙ ap (list_any p) (sym (listed_is o given t e f)) ∙ h
+listed_room p o given t e f h = sym (or_false (p (references t))) ∙ ap (list_any p) (sym (listed_is o given t e f)) ∙ h
 
 -- ---- the answers
 
@@ -261,10 +245,10 @@ module _ (types : WorldTypes) (state : AbstractState) (x : ℕ) (bound wanted : 
   one_bound h = ap bound_of (some_is (sym h.was ∙ at))
 
   are_cases : (b : Bool) → b ≡ is_comparable types.sub bound wanted → b ≡ true → cases_of types bound wanted ≡ cases_below types (lower_of types.sub bound wanted)
-  are_cases b e t = cond_true (is_comparable types.sub bound wanted) _ _ (sym e ∙ t)
+  are_cases b e t = cond-true (is_comparable types.sub bound wanted) _ _ (sym e ∙ t)
 
   are_none : (b : Bool) → b ≡ is_comparable types.sub bound wanted → b ≡ false → cases_of types bound wanted ≡ []
-  are_none b e f = cond_false (is_comparable types.sub bound wanted) _ _ (sym e ∙ f)
+  are_none b e f = cond-false (is_comparable types.sub bound wanted) _ _ (sym e ∙ f)
 
   pub apart_children : (b : Bool) (children : List GraphChild) → b ≡ is_comparable types.sub bound wanted → b ≡ false → children ≡ [] → AreClassChildren types state x wanted children
   apart_children b children e f empty = record {

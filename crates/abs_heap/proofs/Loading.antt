@@ -2,8 +2,10 @@
 use Rattle.std.proofs.Common.{◌≡◌, ◌≢◌, ℕ, true, List, [], ◌∷◌, Option, Some, ◌⊎◌, inl, inr, refl, sym, ap, subst, ◌∙◌, IsTrue}
 use Rattle.std.specs.Prelude.{slice_get}
 use Rattle.std.specs.Option.{option_and_then}
-use Rattle.std.proofs.lemmas.Bool.{false≢true}
+use Rattle.std.proofs.lemmas.Bool.{false≢true, cases_eq}
 use Rattle.std.proofs.lemmas.List.Elements.{All-nil}
+use Rattle.std.proofs.lemmas.Option.{none-some}
+use Rattle.list_views.proofs.Quantified.{all_at}
 use Rattle.jvm_values.specs.declared.heap.Value.{Value}
 use Rattle.jvm_values.specs.declared.heap.Value.TheVariants as values
 use Rattle.jvm_values.specs.declared.heap.Object.{Object}
@@ -16,8 +18,7 @@ use Rattle.jvm_values.specs.Paths.{follow}
 use Rattle.jvm_values.specs.States.{MachineState}
 use Rattle.jvm_values.specs.Heaps.{target, values_of, heap_steps, Region, HasShape}
 use Rattle.jvm_values.specs.TypedHeaps.{WorldTypes, AreLawful, HasType, IsTypedHeap, type_of}
-use Rattle.jvm_values.proofs.Options.{some_is, none_is_not_some}
-use Rattle.jvm_values.proofs.Lists.{same_or_not}
+use Rattle.jvm_values.proofs.Options.{some_is}
 use Rattle.abs_cells.specs.declared.cells.Cell.{Cell}
 use Rattle.abs_cells.specs.declared.cells.Cell.TheVariants as cells
 use Rattle.abs_cells.specs.AbstractStates.{AbstractState}
@@ -35,7 +36,6 @@ use Rattle.abs_heap.proofs.Placing.{cell_here, cell_later}
 use Rattle.abs_heap.proofs.Fitted.{FitsBy, fits_given, names_reference}
 use Rattle.abs_heap.proofs.SameTerms.{same_size}
 use Rattle.abs_heap.proofs.Carried.{Agrees, positions_carried, mode_carried, cell_carried}
-use Rattle.abs_heap.proofs.Growing.{all_got}
 use Rattle.abs_heap.proofs.NewThings.{with_values, kept_others, valued_here}
 use Rattle.abs_heap.proofs.Telling.{tells, told_compatible, sound_at, array_typed}
 
@@ -111,7 +111,7 @@ module _ (types : WorldTypes) (state child : AbstractState) (machine : MachineSt
     new : item ≡ i → thing ≡ c → now i ≡ value → Sort i c
 
   sort_of : (i : ℕ) (c : Cell) → with_cells ((item, thing) ∷ []) state i ≡ Some c → Sort i c
-  sort_of i c e = elim (same_or_not item i) [
+  sort_of i c e = elim (cases_eq item i) [
     | inl f ↦ new f (some_is (sym (ap (λ (x : Option Cell). first_cell x (cell_at state i)) (cell_here (item, thing) [] i f)) ∙ e)) (valued_here (item, value) [] m i f)
     | inr f ↦
         let there : cell_at state i ≡ Some c = sym (ap (λ (x : Option Cell). first_cell x (cell_at state i)) (cell_later (item, thing) [] i f)) ∙ e in
@@ -143,7 +143,7 @@ module _ (types : WorldTypes) (state child : AbstractState) (machine : MachineSt
   described (values.Ref r) t = inr (record { place = r; object = t.0; names = refl; stands = t.1.0; holds = laws.transitive (type_of t.0) own element t.1.1 own_below })
 
   item_described : Describes types heap now thing value
-  item_described = described value (all_got (λ (v : Value). HasType types heap v own) items n value (array_typed types heap o own items typed stands).1.1.1 got)
+  item_described = described value (all_at (λ (v : Value). HasType types heap v own) items n value (array_typed types heap o own items typed stands).1.1.1 got)
 
   -- what shares with an item
   shares_item : (a b : ℕ) (c : Cell) → cell_at state a ≡ Some c → (a ≡ k → ⊥) → is_reference c ≡ true → target (m a) ≡ Some b → Region heap (m k) b → Share state k a
@@ -178,7 +178,7 @@ module _ (types : WorldTypes) (state child : AbstractState) (machine : MachineSt
       }
     where
       why : (a b : ℕ) (c : Cell) → cell_at state a ≡ Some c → is_reference c ≡ true → target (m a) ≡ Some b → target value ≡ Some b → Region heap (m k) b → Share state k a ⊎ ((shape ≡ Any) × (a ≡ k))
-      why a b c e r ta tv region = elim (same_or_not a k) [
+      why a b c e r ta tv region = elim (cases_eq a k) [
         | inl s ↦
             let there : target value ≡ Some o = tv ∙ sym ta ∙ ap (λ (x : ℕ). target (m x)) s ∙ names in
             inr (held_itself heap (m k) value o n (objects.Refs own items) names stands got shape (h.shapes k (cells.Refs element len shape) shape at refl) there, s)
@@ -186,12 +186,12 @@ module _ (types : WorldTypes) (state child : AbstractState) (machine : MachineSt
       ]
 
       object_of : (c : Cell) (v : Value) (b : ℕ) → Describes types heap m c v → target v ≡ Some b → (object : Object) × (slice_get heap.objects b ≡ Some object)
-      object_of (cells.Int interval) v b d t = absurd (none_is_not_some b (ap target (sym d.1.0) ∙ t))
-      object_of cells.Null v b d t = absurd (none_is_not_some b (ap target (sym d) ∙ t))
+      object_of (cells.Int interval) v b d t = absurd (none-some b (ap target (sym d.1.0) ∙ t))
+      object_of cells.Null v b d t = absurd (none-some b (ap target (sym d) ∙ t))
       object_of (cells.Obj class ids) v b d t = (d.object, ap (slice_get heap.objects) (sym (some_is (sym (ap target d.names) ∙ t))) ∙ d.stands)
       object_of (cells.Nums kind l) v b d t = (d.object, ap (slice_get heap.objects) (sym (some_is (sym (ap target d.names) ∙ t))) ∙ d.stands)
       object_of (cells.Refs e l s) v b d t = (d.object, ap (slice_get heap.objects) (sym (some_is (sym (ap target d.names) ∙ t))) ∙ d.stands)
-      object_of (cells.Unk e l s) v b (inl d) t = absurd (none_is_not_some b (ap target (sym d.1) ∙ t))
+      object_of (cells.Unk e l s) v b (inl d) t = absurd (none-some b (ap target (sym d.1) ∙ t))
       object_of (cells.Unk e l s) v b (inr d) t = (d.object, ap (slice_get heap.objects) (sym (some_is (sym (ap target d.names) ∙ t))) ∙ d.stands)
 
   old_target : (a b : ℕ) → now a ≡ m a → target (now a) ≡ Some b → target (m a) ≡ Some b
@@ -215,7 +215,7 @@ module _ (types : WorldTypes) (state child : AbstractState) (machine : MachineSt
   apart_now a b x c d (new e g s) y u v apart ta tb = false≢true (ap is_known g ∙ u)
 
   meets_item : (a x : ℕ) (c : Cell) → cell_at state a ≡ Some c → is_hazy c ≡ true → Region heap (m a) x → Region heap (m k) x → wants_share item a
-  meets_item a x c e z ra rk = elim (same_or_not a k) [
+  meets_item a x c e z ra rk = elim (cases_eq a k) [
     | inl s ↦ inr (inr (refl, s))
     | inr s ↦ inr (inl (record { is_item = refl; why = inl (h.meeting k a x hazy_k (record { cell = c; is = e; sort_is = z }) (λ t. s (sym t)) rk ra) }))
   ]

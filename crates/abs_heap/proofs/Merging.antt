@@ -2,14 +2,14 @@
 use Rattle.std.proofs.Common.{◌≡◌, ◌≢◌, ℕ, ◌==◌, ◌&&◌, ◌||◌, Bool, true, false, not, eqb, if◌then◌else◌, ◌<◌, All, List, [], ◌∷◌, ◌++◌, map, get_or, Option, Some, None, ◌⊎◌, inl, inr, refl, sym, ap, subst, ◌∙◌, eq-eqb, ne_eqb}
 use Rattle.std.specs.Prelude.{◌↔◌, nat_lt, slice_get, is_some}
 use Rattle.std.specs.Option.{option_map}
-use Rattle.std.proofs.lemmas.Bool.{false≢true, and_parts, and_from, or_cases, or_left, or_right, cases_Bool, cases_order, lt-ltb}
+use Rattle.std.proofs.lemmas.Bool.{false≢true, and_parts, and_from, or_cases, or_left, or_right, cases_Bool, cases_order, lt-ltb, cond-true, cond-false, cases_eq}
 use Rattle.abs_cells.specs.declared.cells.Cell.{Cell}
 use Rattle.abs_cells.specs.declared.cells.Cell.TheVariants as cells
 use Rattle.abs_cells.specs.AbstractStates.{AbstractFrame, AbstractState}
 use Rattle.abs_cells.specs.Cells.{cell_in, cell_at, HasCell, AreEqual, Share, is_reference, is_of_sort, are_compatible}
 use Rattle.abs_cells.specs.PairLists.{pair_of, is_same, IsRising, has, removed}
 use Rattle.abs_cells.specs.Sound.{AreIdsRising, IsWellFormed}
-use Rattle.abs_cells.proofs.PairLaws.{cond_true, cond_false, has_swapped}
+use Rattle.abs_cells.proofs.PairLaws.{has_swapped}
 use Rattle.abs_cells.proofs.PackedLaws.{has_without}
 use Rattle.abs_cells.proofs.Checking.{id_is_low}
 use Rattle.abs_reach.proofs.Room.{has_cell_low}
@@ -24,7 +24,7 @@ use Rattle.abs_heap.specs.Refining.{merged_cell, rank_of, stays_before, IsMerged
 use Rattle.jvm_values.specs.declared.types.Ty.{Ty}
 use Rattle.abs_heap.proofs.PairGains.{pair_as, same_pair, pair_same, gains_on}
 use Rattle.abs_heap.proofs.Giving.{pairs_given, same_pairs, state_of, frames_unnamed, given_unnamed}
-use Rattle.abs_heap.proofs.Placing.{cell_here, cell_later, same_or_not}
+use Rattle.abs_heap.proofs.Placing.{cell_here, cell_later}
 
 -- ---- one name for another
 
@@ -58,46 +58,46 @@ cell_same f g h (cells.Refs element len shape) = ap (λ (n : ℕ). cells.Refs el
 cell_same f g h (cells.Unk bound nullable shape) = refl
 
 pub one_is : (old new n : ℕ) → name_in ((old, new) ∷ []) n ≡ one_name old new n
-one_is old new n = elim (same_or_not old n) [
-  | inl e ↦ cond_true (eqb old n) new n (eq-eqb old n e) ∙ sym (cond_true (eqb n old) new n (eq-eqb n old (sym e)))
-  | inr e ↦ cond_false (eqb old n) new n (ne_eqb old n e) ∙ sym (cond_false (eqb n old) new n (ne_eqb n old (λ s. e (sym s))))
+one_is old new n = elim (cases_eq old n) [
+  | inl e ↦ cond-true (eqb old n) new n (eq-eqb old n e) ∙ sym (cond-true (eqb n old) new n (eq-eqb n old (sym e)))
+  | inr e ↦ cond-false (eqb old n) new n (ne_eqb old n e) ∙ sym (cond-false (eqb n old) new n (ne_eqb n old (λ s. e (sym s))))
 ]
 
 pub one_moves : (old new n : ℕ) → n ≡ old → one_name old new n ≡ new
-one_moves old new n e = cond_true (eqb n old) new n (eq-eqb n old e)
+one_moves old new n e = cond-true (eqb n old) new n (eq-eqb n old e)
 
 pub one_stays : (old new n : ℕ) → (n ≡ old → ⊥) → one_name old new n ≡ n
-one_stays old new n e = cond_false (eqb n old) new n (ne_eqb n old e)
+one_stays old new n e = cond-false (eqb n old) new n (ne_eqb n old e)
 
 -- ---- the cells
 
 -- of a state whose id `goes` is under the name of `stays`, each other id has its cell under the names
 named_is : (goes stays : ℕ) (list : List (ℕ × Cell)) (id : ℕ) → (id ≡ stays → ⊥) → cell_in (map (named_entry ((goes, stays) ∷ [])) list) id ≡ (if id == goes then None else option_map (cell_named (one_name goes stays)) (cell_in list id))
-named_is goes stays [] id n = elim (same_or_not id goes) [
-  | inl e ↦ sym (cond_true (eqb id goes) None None (eq-eqb id goes e))
-  | inr e ↦ sym (cond_false (eqb id goes) None None (ne_eqb id goes e))
+named_is goes stays [] id n = elim (cases_eq id goes) [
+  | inl e ↦ sym (cond-true (eqb id goes) None None (eq-eqb id goes e))
+  | inr e ↦ sym (cond-false (eqb id goes) None None (ne_eqb id goes e))
 ]
 named_is goes stays (c ∷ list) id n =
     let names : List (ℕ × ℕ) = (goes, stays) ∷ [] in
     let first : ℕ × Cell = (name_in ((goes, stays) ∷ []) c.0, cell_named (name_in ((goes, stays) ∷ [])) c.1) in
-    elim (same_or_not c.0 goes) [
+    elim (cases_eq c.0 goes) [
       | inl e ↦
           let moved : name_in ((goes, stays) ∷ []) c.0 ≡ stays = one_is goes stays c.0 ∙ one_moves goes stays c.0 e in
           cell_later first (map (named_entry ((goes, stays) ∷ [])) list) id (λ s. n (sym s ∙ moved))
           ∙ named_is goes stays list id n
-          ∙ elim (same_or_not id goes) [
-            | inl f ↦ cond_true (eqb id goes) None _ (eq-eqb id goes f) ∙ sym (cond_true (eqb id goes) None _ (eq-eqb id goes f))
+          ∙ elim (cases_eq id goes) [
+            | inl f ↦ cond-true (eqb id goes) None _ (eq-eqb id goes f) ∙ sym (cond-true (eqb id goes) None _ (eq-eqb id goes f))
             | inr f ↦ ap (λ (o : Option Cell). if id == goes then None else option_map (cell_named (one_name goes stays)) o) (sym (cell_later c list id (λ s. f (sym s ∙ e))))
           ]
       | inr e ↦
           let kept : name_in ((goes, stays) ∷ []) c.0 ≡ c.0 = one_is goes stays c.0 ∙ one_stays goes stays c.0 e in
-          elim (same_or_not c.0 id) [
+          elim (cases_eq c.0 id) [
             | inl f ↦
                 let other : id ≡ goes → ⊥ = λ s. e (f ∙ s) in
                 cell_here first (map (named_entry ((goes, stays) ∷ [])) list) id (kept ∙ f)
                 ∙ ap Some (cell_same (name_in ((goes, stays) ∷ [])) (one_name goes stays) (one_is goes stays) c.1)
                 ∙ ap (option_map (cell_named (one_name goes stays))) (sym (cell_here c list id f))
-                ∙ sym (cond_false (eqb id goes) None _ (ne_eqb id goes other))
+                ∙ sym (cond-false (eqb id goes) None _ (ne_eqb id goes other))
             | inr f ↦
                 cell_later first (map (named_entry ((goes, stays) ∷ [])) list) id (λ s. f (sym kept ∙ s))
                 ∙ named_is goes stays list id n
@@ -110,12 +110,12 @@ pub merged_cells : (stays goes : ℕ) (merged : Cell) (list some all : List (ℕ
 merged_cells stays goes merged list some all differ h k id =
     let named : Cell = cell_named (name_in ((goes, stays) ∷ [])) merged in
     k.is id ∙ ap (λ (o : Option Cell). first_cell o (cell_in (map (named_entry ((goes, stays) ∷ [])) list) id)) (h.is id)
-    ∙ elim (same_or_not stays id) [
+    ∙ elim (cases_eq stays id) [
       | inl e ↦
           ap (λ (o : Option Cell). first_cell o (cell_in (map (named_entry ((goes, stays) ∷ [])) list) id)) (cell_here (stays, named) [] id e)
           ∙ ap Some (cell_same (name_in ((goes, stays) ∷ [])) (one_name goes stays) (one_is goes stays) merged)
           ∙ ap (option_map (cell_named (one_name goes stays))) (sym (cell_here (stays, merged) list id e))
-          ∙ sym (cond_false (eqb id goes) None _ (ne_eqb id goes (λ s. differ (e ∙ s))))
+          ∙ sym (cond-false (eqb id goes) None _ (ne_eqb id goes (λ s. differ (e ∙ s))))
       | inr e ↦
           ap (λ (o : Option Cell). first_cell o (cell_in (map (named_entry ((goes, stays) ∷ [])) list) id)) (cell_later (stays, named) [] id e)
           ∙ named_is goes stays list id (λ s. e (sym s))
@@ -258,7 +258,7 @@ pub id_low : (list : List (ℕ × Cell)) (id : ℕ) (cell : Cell) → AreIdsRisi
 id_low list id cell r e = has_cell_low list id r (ap (is_of_sort (λ _. true)) e)
 
 pub named_low : (goes stays : ℕ) (list : List (ℕ × Cell)) → AreIdsRising 0 list → stays < 2048 → All (λ c. name_in ((goes, stays) ∷ []) c.0 < 2048) list
-named_low goes stays list r l = λ k d h. elim (same_or_not (get_or list k d).0 goes) [
+named_low goes stays list r l = λ k d h. elim (cases_eq (get_or list k d).0 goes) [
   | inl e ↦ subst (λ (n : ℕ). n < 2048) (sym (one_is goes stays (get_or list k d).0 ∙ one_moves goes stays (get_or list k d).0 e)) l
   | inr e ↦ subst (λ (n : ℕ). n < 2048) (sym (one_is goes stays (get_or list k d).0 ∙ one_stays goes stays (get_or list k d).0 e)) (id_is_low 0 list k d r h)
 ]

@@ -1,9 +1,13 @@
 -- A new object, and a new array, at the heap's end.
 use Rattle.std.proofs.Common.{◌≡◌, ◌≢◌, ℕ, zero, suc, ◌<◌, true, false, eqb, List, [], ◌∷◌, length, map, Option, Some, None, inl, inr, refl, sym, ap, subst, ◌∙◌, arith, All, pos, replicate, if◌then◌else◌, ◌==◌}
 use Rattle.std.specs.Prelude.{slice_get, zip}
-use Rattle.std.proofs.lemmas.Bool.{false≢true, eq-eqb, ne_eqb}
+use Rattle.std.proofs.lemmas.Bool.{false≢true, eq-eqb, ne_eqb, cond-true, cond-false, cases_eq}
 use Rattle.std.proofs.lemmas.Int.{ints}
 use Rattle.std.proofs.lemmas.List.Elements.{All-nil, All-head, All-tail}
+use Rattle.std.proofs.lemmas.Option.{none-some}
+use Rattle.abs_cells.proofs.CellLaws.{hazy_not_known}
+use Rattle.list_views.proofs.Items.{length_mapped, get_last}
+use Rattle.list_views.proofs.Options.{then_some}
 use Rattle.jvm_values.specs.declared.types.Slot.{Slot}
 use Rattle.jvm_values.specs.declared.types.Slot.TheVariants as slots
 use Rattle.jvm_values.specs.declared.heap.Value.{Value}
@@ -18,8 +22,7 @@ use Rattle.jvm_values.specs.States.{MachineState}
 use Rattle.jvm_values.specs.Heaps.{target, values_of, value_at, heap_steps, Region, HasShape, IsInHeap}
 use Rattle.jvm_values.specs.TypedHeaps.{WorldTypes}
 use Rattle.jvm_values.specs.Slots.{initial_value}
-use Rattle.jvm_values.proofs.Options.{given, some_is, none_is_not_some}
-use Rattle.jvm_values.proofs.Lists.{same_or_not}
+use Rattle.jvm_values.proofs.Options.{some_is}
 use Rattle.abs_cells.specs.declared.cells.Cell.{Cell}
 use Rattle.abs_cells.specs.declared.cells.Cell.TheVariants as cells
 use Rattle.abs_cells.specs.AbstractStates.{AbstractState}
@@ -27,17 +30,16 @@ use Rattle.abs_cells.specs.Cells.{is_known, is_hazy, shape_of, cell_in, cell_at,
 use Rattle.abs_cells.specs.Sound.{IsWellFormed}
 use Rattle.abs_cells.specs.Fits.{Meaning, Describes, Fits, with_statics}
 use Rattle.abs_cells.proofs.Fitting.{known_apart}
-use Rattle.abs_cells.proofs.PairLaws.{cond_true, cond_false}
 use Rattle.abs_reach.proofs.Walks.{some_cell}
 use Rattle.term_graph.specs.Edges.{HoldsBetween}
 use Rattle.abs_heap.specs.Given.{first_cell, with_cells, IsGiven, AreFresh, AreRising}
 use Rattle.abs_heap.specs.Writing.{zero_cell, IsObjectChild}
 use Rattle.abs_heap.specs.Laws.{heap_with, with_heap, IsClosedState, GoesWith, ObjectsGoOn, ArraysGoOn}
 use Rattle.abs_heap.proofs.Placing.{cell_here, cell_later}
-use Rattle.abs_heap.proofs.Fitted.{FitsBy, fits_given, hazy_not_known}
+use Rattle.abs_heap.proofs.Fitted.{FitsBy, fits_given}
 use Rattle.abs_heap.proofs.SameTerms.{size_kept}
 use Rattle.abs_heap.proofs.Carried.{Agrees, maps_agree, positions_carried, mode_carried, cell_carried}
-use Rattle.abs_heap.proofs.Growing.{got_last, stays, region_back, region_low, shape_stays, term_back}
+use Rattle.abs_heap.proofs.Growing.{stays, region_back, region_low, shape_stays, term_back}
 
 -- ---- values for some ids
 
@@ -46,20 +48,20 @@ with_values [] m id = m id
 with_values (e ∷ es) m id = if e.0 == id then e.1 else with_values es m id
 
 pub valued_here : (e : ℕ × Value) (es : List (ℕ × Value)) (m : Meaning) (id : ℕ) → e.0 ≡ id → with_values (e ∷ es) m id ≡ e.1
-valued_here e es m id s = cond_true (eqb e.0 id) _ _ (eq-eqb e.0 id s)
+valued_here e es m id s = cond-true (eqb e.0 id) _ _ (eq-eqb e.0 id s)
 
 pub valued_later : (e : ℕ × Value) (es : List (ℕ × Value)) (m : Meaning) (id : ℕ) → (e.0 ≡ id → ⊥) → with_values (e ∷ es) m id ≡ with_values es m id
-valued_later e es m id n = cond_false (eqb e.0 id) _ _ (ne_eqb e.0 id n)
+valued_later e es m id n = cond-false (eqb e.0 id) _ _ (ne_eqb e.0 id n)
 
 pub kept_others : (state : AbstractState) (m : Meaning) (ids : List ℕ) (vs : List Value) → All (λ id. cell_at state id ≡ None) ids → Agrees state m (with_values (zip ids vs) m)
 kept_others state m [] vs free = λ id h. refl
 kept_others state m (x ∷ ids) [] free = λ id h. refl
 kept_others state m (x ∷ ids) (v ∷ vs) free = λ id h.
-    valued_later (x, v) (zip ids vs) m id (λ s. none_is_not_some h.cell (sym (All-head (λ i. cell_at state i ≡ None) x ids free) ∙ ap (cell_at state) s ∙ h.is))
+    valued_later (x, v) (zip ids vs) m id (λ s. none-some h.cell (sym (All-head (λ i. cell_at state i ≡ None) x ids free) ∙ ap (cell_at state) s ∙ h.is))
     ∙ kept_others state m ids vs (All-tail (λ i. cell_at state i ≡ None) x ids free) id h
 
 rising_rest : (x : ℕ) (ids : List ℕ) → AreRising (x ∷ ids) → (k y : ℕ) → slice_get ids k ≡ Some y → x < y
-rising_rest x [] r k y e = absurd (none_is_not_some y e)
+rising_rest x [] r k y e = absurd (none-some y e)
 rising_rest x (z ∷ ids) r zero y e = subst (λ (n : ℕ). x < n) (some_is e) r.0
 rising_rest x (z ∷ ids) r (suc k) y e = let h = rising_rest z ids r.1 k y e in omega (arith, h, r.0)
 
@@ -92,9 +94,9 @@ zero_is types heap n (slots.Num kind) = record { described = zero_described type
 zero_is types heap n (slots.Ref t) = record { described = zero_described types heap n (slots.Ref t); unknown = refl; clear = refl; shapeless = refl; nothing = refl }
 
 zero_of_id : (types : WorldTypes) (heap : Heap) (n m : Meaning) (ids : List ℕ) (ss : List Slot) (i : ℕ) (c : Cell) → cell_in (zip ids (map zero_cell ss)) i ≡ Some c → IsZero types heap n c (with_values (zip ids (map initial_value ss)) m i)
-zero_of_id types heap n m [] ss i c e = absurd (none_is_not_some c e)
-zero_of_id types heap n m (x ∷ ids) [] i c e = absurd (none_is_not_some c e)
-zero_of_id types heap n m (x ∷ ids) (s ∷ ss) i c e = elim (same_or_not x i) [
+zero_of_id types heap n m [] ss i c e = absurd (none-some c e)
+zero_of_id types heap n m (x ∷ ids) [] i c e = absurd (none-some c e)
+zero_of_id types heap n m (x ∷ ids) (s ∷ ss) i c e = elim (cases_eq x i) [
   | inl f ↦
       let is : zero_cell s ≡ c = some_is (sym (cell_here (x, zero_cell s) (zip ids (map zero_cell ss)) i f) ∙ e) in
       subst (λ (v : Value). IsZero types heap n c v) (sym (valued_here (x, initial_value s) (zip ids (map initial_value ss)) m i f))
@@ -131,7 +133,7 @@ module _ (types : WorldTypes) (state : AbstractState) (machine : MachineState) (
     none : IsZero types after now c (now i) → Sort i c
 
   sort_of : (i : ℕ) (c : Cell) → cell i ≡ Some c → Sort i c
-  sort_of i c e = elim (same_or_not id i) [
+  sort_of i c e = elim (cases_eq id i) [
     | inl f ↦ new f (some_is (sym (ap (λ (o : Option Cell). first_cell o (cell_at state i)) (cell_here (id, thing) (zip ids (map zero_cell ss)) i f)) ∙ e)) (valued_here (id, values.Ref place) (zip ids (map initial_value ss)) m i f)
     | inr f ↦ later f (cell_in (zip ids (map zero_cell ss)) i) refl (sym (ap (λ (o : Option Cell). first_cell o (cell_at state i)) (cell_later (id, thing) (zip ids (map zero_cell ss)) i f)) ∙ e)
   ]
@@ -153,14 +155,14 @@ module _ (types : WorldTypes) (state : AbstractState) (machine : MachineState) (
 
   no_step : (i c : ℕ) → heap_steps after place i ≡ Some c → ⊥
   no_step i c e =
-      let p = given target (value_at after place i) c e in
-      let q = given (λ (ob : Object). slice_get (values_of ob) i) (slice_get after.objects place) p.0 p.1.0 in
-      let is : object ≡ q.0 = some_is (sym (got_last machine.heap.objects object) ∙ q.1.0) in
-      none_is_not_some c (sym (empty i p.0 (ap (λ (ob : Object). slice_get (values_of ob) i) is ∙ q.1.1)) ∙ p.1.1)
+      let p = then_some target (value_at after place i) c e in
+      let q = then_some (λ (ob : Object). slice_get (values_of ob) i) (slice_get after.objects place) p.0 p.1.0 in
+      let is : object ≡ q.0 = some_is (sym (get_last machine.heap.objects object) ∙ q.1.0) in
+      none-some c (sym (empty i p.0 (ap (λ (ob : Object). slice_get (values_of ob) i) is ∙ q.1.1)) ∙ p.1.1)
 
   no_path : (p : List ℕ) (o : ℕ) → follow (heap_steps after) p place ≡ Some o → (p ≡ []) × (o ≡ place)
   no_path [] o e = (refl, sym (some_is e))
-  no_path (i ∷ p) o e = let q = given (follow (heap_steps after) p) (heap_steps after place i) o e in absurd (no_step i q.0 q.1.0)
+  no_path (i ∷ p) o e = let q = then_some (follow (heap_steps after) p) (heap_steps after place i) o e in absurd (no_step i q.0 q.1.0)
 
   new_region : (i o : ℕ) → now i ≡ values.Ref place → Region after (now i) o → o ≡ place
   new_region i o s r =
@@ -190,20 +192,20 @@ module _ (types : WorldTypes) (state : AbstractState) (machine : MachineState) (
     aliases_now : (a b o : ℕ) (c d : Cell) → Sort a c → Sort b d → a ≢ b → target (now a) ≡ Some o → target (now b) ≡ Some o → AreEqual state a b
     aliases_now a b o c d (old e s) (old f t) n ta tb = h.aliases a b o (any_state a c e) (any_state b d f) n (low_target a o c e s ta).1 (low_target b o d f t tb).1
     aliases_now a b o c d (old e s) (new f g t) n ta tb = absurd (let l = (low_target a o c e s ta).0 in let k = new_target b o t tb in omega (arith, l, k))
-    aliases_now a b o c d (old e s) (none z) n ta tb = absurd (none_is_not_some o (sym z.nothing ∙ tb))
+    aliases_now a b o c d (old e s) (none z) n ta tb = absurd (none-some o (sym z.nothing ∙ tb))
     aliases_now a b o c d (new e g s) (old f t) n ta tb = absurd (let l = (low_target b o d f t tb).0 in let k = new_target a o s ta in omega (arith, l, k))
     aliases_now a b o c d (new e g s) (new f k t) n ta tb = absurd (n (sym e ∙ f))
-    aliases_now a b o c d (new e g s) (none z) n ta tb = absurd (none_is_not_some o (sym z.nothing ∙ tb))
-    aliases_now a b o c d (none z) y n ta tb = absurd (none_is_not_some o (sym z.nothing ∙ ta))
+    aliases_now a b o c d (new e g s) (none z) n ta tb = absurd (none-some o (sym z.nothing ∙ tb))
+    aliases_now a b o c d (none z) y n ta tb = absurd (none-some o (sym z.nothing ∙ ta))
 
     apart_now : (a b o : ℕ) (c d : Cell) → Sort a c → Sort b d → is_known c ≡ true → is_known d ≡ true → a ≢ b → target (now a) ≡ Some o → target (now b) ≡ Some o → ⊥
     apart_now a b o c d (old e s) (old f t) k l n ta tb = known_apart types state machine m good h a b o (record { cell = c; is = e; sort_is = k }) (record { cell = d; is = f; sort_is = l }) n (low_target a o c e s ta).1 (low_target b o d f t tb).1
     apart_now a b o c d (old e s) (new f g t) k l n ta tb = let p = (low_target a o c e s ta).0 in let q = new_target b o t tb in omega (arith, p, q)
-    apart_now a b o c d (old e s) (none z) k l n ta tb = none_is_not_some o (sym z.nothing ∙ tb)
+    apart_now a b o c d (old e s) (none z) k l n ta tb = none-some o (sym z.nothing ∙ tb)
     apart_now a b o c d (new e g s) (old f t) k l n ta tb = let p = (low_target b o d f t tb).0 in let q = new_target a o s ta in omega (arith, p, q)
     apart_now a b o c d (new e g s) (new f i t) k l n ta tb = n (sym e ∙ f)
-    apart_now a b o c d (new e g s) (none z) k l n ta tb = none_is_not_some o (sym z.nothing ∙ tb)
-    apart_now a b o c d (none z) y k l n ta tb = none_is_not_some o (sym z.nothing ∙ ta)
+    apart_now a b o c d (new e g s) (none z) k l n ta tb = none-some o (sym z.nothing ∙ tb)
+    apart_now a b o c d (none z) y k l n ta tb = none-some o (sym z.nothing ∙ ta)
 
     meeting_now : (a b o : ℕ) (c d : Cell) → Sort a c → Sort b d → is_hazy c ≡ true → is_hazy d ≡ true → a ≢ b → Region after (now a) o → Region after (now b) o → Share state a b
     meeting_now a b o c d (old e s) (old f t) k l n ra rb = h.meeting a b o (record { cell = c; is = e; sort_is = k }) (record { cell = d; is = f; sort_is = l }) n (old_region a o c e s ra).1 (old_region b o d f t rb).1
@@ -226,7 +228,7 @@ module _ (types : WorldTypes) (state : AbstractState) (machine : MachineState) (
     shapes_now : (i : ℕ) (c : Cell) (shape : Shape) → Sort i c → shape_of c ≡ Some shape → HasShape shape after (now i)
     shapes_now i c shape (old e s) f = subst (λ (v : Value). HasShape shape after v) (sym s) (shape_stays machine.heap object closed.heap (m i) shape (closed.ids i (any_state i c e)) (h.shapes i c shape e f))
     shapes_now i c shape (new e g s) f = subst (λ (v : Value). HasShape shape after v) (sym s) (shaped shape (ap shape_of g ∙ f))
-    shapes_now i c shape (none z) f = absurd (none_is_not_some shape (sym z.shapeless ∙ f))
+    shapes_now i c shape (none z) f = absurd (none-some shape (sym z.shapeless ∙ f))
 
     fits_now : FitsBy types state.frames state.throwing (with_cells ((id, thing) ∷ zip ids (map zero_cell ss)) state) (AreEqual state) (Share state) (with_heap machine (heap_with machine.heap object)) now
     fits_now = record {
@@ -257,14 +259,10 @@ module _ (types : WorldTypes) (state : AbstractState) (machine : MachineState) (
 -- ---- objects
 
 zeros_empty : (ss : List Slot) (j : ℕ) (y : Value) → slice_get (map initial_value ss) j ≡ Some y → target y ≡ None
-zeros_empty [] j y e = absurd (none_is_not_some y e)
+zeros_empty [] j y e = absurd (none-some y e)
 zeros_empty (slots.Num kind ∷ ss) zero y e = ap target (sym (some_is e))
 zeros_empty (slots.Ref t ∷ ss) zero y e = ap target (sym (some_is e))
 zeros_empty (s ∷ ss) (suc j) y e = zeros_empty ss j y e
-
-mapped_length : {X Y : Type 0} (f : X → Y) (xs : List X) → length (map f xs) ≡ length xs
-mapped_length f [] = refl
-mapped_length f (x ∷ xs) = ap suc (mapped_length f xs)
 
 pub objects_go_on : ObjectsGoOn
 objects_go_on types state child machine m class id sound closed h low made is =
@@ -276,17 +274,17 @@ objects_go_on types state child machine m class id sound closed h low made is =
       place = length machine.heap.objects;
       object = object;
       names = refl;
-      stands = got_last machine.heap.objects object;
+      stands = get_last machine.heap.objects object;
       holds = ap (objects.Instance class) (sym (fields_are is));
     })
-    (λ s e. absurd (none_is_not_some s e))
+    (λ s e. absurd (none-some s e))
     child is.is
   where
     fields_are : (is : IsObjectChild types state class id child) → map (with_values ((id, values.Ref (length machine.heap.objects)) ∷ zip is.ids (map initial_value (types.fields class))) m) is.ids ≡ map initial_value (types.fields class)
     fields_are is =
         sym (maps_agree (with_values (zip is.ids (map initial_value (types.fields class))) m) (with_values ((id, values.Ref (length machine.heap.objects)) ∷ zip is.ids (map initial_value (types.fields class))) m) is.ids
         (λ k y e. valued_later (id, values.Ref (length machine.heap.objects)) (zip is.ids (map initial_value (types.fields class))) m y (λ s. let l = rising_rest id is.ids is.fresh.rise k y e in omega (arith, l, s))))
-        ∙ values_are m is.ids (map initial_value (types.fields class)) (rest_rises id is.ids is.fresh.rise) (is.count ∙ sym (mapped_length initial_value (types.fields class)))
+        ∙ values_are m is.ids (map initial_value (types.fields class)) (rest_rises id is.ids is.fresh.rise) (is.count ∙ sym (length_mapped initial_value (types.fields class)))
       where
         rest_rises : (x : ℕ) (xs : List ℕ) → AreRising (x ∷ xs) → AreRising xs
         rest_rises x xs r = r.1
@@ -294,7 +292,7 @@ objects_go_on types state child machine m class id sound closed h low made is =
 -- ---- arrays
 
 replicated : {X : Type 0} (x : X) (count : ℕ) (j : ℕ) (y : X) → slice_get (replicate count x) j ≡ Some y → y ≡ x
-replicated x zero j y e = absurd (none_is_not_some y e)
+replicated x zero j y e = absurd (none-some y e)
 replicated x (suc count) zero y e = sym (some_is e)
 replicated x (suc count) (suc j) y e = replicated x count j y e
 
@@ -305,19 +303,19 @@ replicated_length x (suc count) = ap suc (replicated_length x count)
 pub arrays_go_on : ArraysGoOn
 arrays_go_on types state child machine m (slots.Num kind) len id count laws sound closed h slot int is_count is =
     let object = objects.Nums kind (replicate count (pos 0)) in
-    goes_now types state machine m sound.well_formed closed h id (cells.Nums kind len) object [] [] is.fresh refl (λ j y e. absurd (none_is_not_some y e))
+    goes_now types state machine m sound.well_formed closed h id (cells.Nums kind len) object [] [] is.fresh refl (λ j y e. absurd (none-some y e))
     (record {
       place = length machine.heap.objects;
       object = object;
       names = refl;
-      stands = got_last machine.heap.objects object;
+      stands = get_last machine.heap.objects object;
       holds = record {
         items = replicate count (pos 0);
         is = refl;
-        length_is = now_agrees types state machine m sound.well_formed closed h id (cells.Nums kind len) object [] [] is.fresh refl (λ j y e. absurd (none_is_not_some y e)) len (some_cell state len int) ∙ is_count ∙ ap (λ (k : ℕ). values.Int (pos k)) (sym (replicated_length (pos 0) count));
+        length_is = now_agrees types state machine m sound.well_formed closed h id (cells.Nums kind len) object [] [] is.fresh refl (λ j y e. absurd (none-some y e)) len (some_cell state len int) ∙ is_count ∙ ap (λ (k : ℕ). values.Int (pos k)) (sym (replicated_length (pos 0) count));
       };
     })
-    (λ s e. absurd (none_is_not_some s e))
+    (λ s e. absurd (none-some s e))
     child is.is
 arrays_go_on types state child machine m (slots.Ref t) len id count laws sound closed h slot int is_count is =
     let object = objects.Refs t (replicate count values.Null) in
@@ -327,7 +325,7 @@ arrays_go_on types state child machine m (slots.Ref t) len id count laws sound c
       place = length machine.heap.objects;
       object = object;
       names = refl;
-      stands = got_last machine.heap.objects object;
+      stands = get_last machine.heap.objects object;
       holds = record {
         item = t;
         items = replicate count values.Null;

@@ -3,8 +3,9 @@ use Rattle.std.proofs.Common.{◌≡◌, ◌≢◌, ℕ, zero, suc, ◌+◌, Boo
 use Rattle.std.specs.Prelude.{slice_get}
 use Rattle.std.specs.List.{AllZip}
 use Rattle.std.specs.Option.{option_map}
-use Rattle.std.proofs.lemmas.Bool.{false≢true, cases_Bool}
+use Rattle.std.proofs.lemmas.Bool.{false≢true, cases_Bool, cond-true, cond-false, cases_eq}
 use Rattle.std.proofs.lemmas.List.Elements.{All-nil}
+use Rattle.std.proofs.lemmas.Option.{none-some}
 use Rattle.jvm_values.specs.declared.heap.Value.{Value}
 use Rattle.jvm_values.specs.declared.heap.Value.TheVariants as values
 use Rattle.jvm_values.specs.declared.heap.Object.{Object}
@@ -19,9 +20,8 @@ use Rattle.jvm_values.specs.States.{MachineFrame, MachineState}
 use Rattle.jvm_values.specs.Subtyping.{array_of, object_type, IsReference}
 use Rattle.jvm_values.specs.Heaps.{target, HasShape}
 use Rattle.jvm_values.specs.TypedHeaps.{WorldTypes, AreLawful, IsTypedHeap, type_of}
-use Rattle.jvm_values.proofs.Joining.{array_of_item, same_type}
-use Rattle.jvm_values.proofs.Options.{some_is, none_is_not_some}
-use Rattle.jvm_values.proofs.Lists.{same_or_not}
+use Rattle.jvm_values.proofs.Joining.{array_of_item, array_inside, no_dims}
+use Rattle.jvm_values.proofs.Options.{some_is}
 use Rattle.abs_cells.specs.declared.cells.Cell.{Cell}
 use Rattle.abs_cells.specs.declared.cells.Cell.TheVariants as cells
 use Rattle.abs_cells.specs.AbstractStates.{AbstractFrame, AbstractState}
@@ -29,7 +29,6 @@ use Rattle.abs_cells.specs.Cells.{is_known, is_hazy, shape_of, type_of_cell, cel
 use Rattle.abs_cells.specs.Sound.{IsSound}
 use Rattle.abs_cells.specs.Fits.{Meaning, FitsFrame, FitsMode, Describes, Fits, with_statics}
 use Rattle.abs_cells.proofs.Fitting.{known_apart}
-use Rattle.abs_cells.proofs.PairLaws.{cond_true, cond_false}
 use Rattle.term_graph.specs.Edges.{HoldsBetween, id_after}
 use Rattle.abs_heap.specs.Given.{IsGiven}
 use Rattle.abs_heap.specs.Names.{one_name, frame_named, cell_named, IsImage, IsPairOf}
@@ -42,39 +41,31 @@ use Rattle.abs_heap.proofs.Replacing.{same_edge}
 use Rattle.abs_heap.proofs.Telling.{Tells, tells, told_compatible, sound_at, array_typed}
 use Rattle.abs_heap.proofs.Written.{known_named, hazy_named, shape_named}
 
-array_inside : (a b : Ty) → array_of a ≡ array_of b → a ≡ b
-array_inside a b e =
-    let d : a.dims + 1 ≡ b.dims + 1 = ap (λ (t : Ty). t.dims) e in
-    same_type a b (omega (arith, d)) (ap (λ (t : Ty). t.base) e)
-
-no_dims : (t item : Ty) → t.dims ≡ 0 → t ≡ array_of item → ⊥
-no_dims t item z e = let d : t.dims ≡ item.dims + 1 = ap (λ (x : Ty). x.dims) e in omega (arith, d, z)
-
 -- ---- values that name one object
 
 pub ref_of : (v : Value) (o : ℕ) → target v ≡ Some o → v ≡ values.Ref o
-ref_of (values.Int n) o t = absurd (none_is_not_some o t)
-ref_of values.Null o t = absurd (none_is_not_some o t)
+ref_of (values.Int n) o t = absurd (none-some o t)
+ref_of values.Null o t = absurd (none-some o t)
 ref_of (values.Ref r) o t = ap values.Ref (some_is t)
 
 -- two values name one object, or no object is named by both
 one_or_two : (v w : Value) → ((o : ℕ) × ((target v ≡ Some o) × (target w ≡ Some o))) ⊎ ((o : ℕ) → target v ≡ Some o → target w ≡ Some o → ⊥)
-one_or_two (values.Int n) w = inr (λ o t u. none_is_not_some o t)
-one_or_two values.Null w = inr (λ o t u. none_is_not_some o t)
-one_or_two (values.Ref r) (values.Int n) = inr (λ o t u. none_is_not_some o u)
-one_or_two (values.Ref r) values.Null = inr (λ o t u. none_is_not_some o u)
-one_or_two (values.Ref r) (values.Ref s) = elim (same_or_not r s) [
+one_or_two (values.Int n) w = inr (λ o t u. none-some o t)
+one_or_two values.Null w = inr (λ o t u. none-some o t)
+one_or_two (values.Ref r) (values.Int n) = inr (λ o t u. none-some o u)
+one_or_two (values.Ref r) values.Null = inr (λ o t u. none-some o u)
+one_or_two (values.Ref r) (values.Ref s) = elim (cases_eq r s) [
   | inl e ↦ inl (r, (refl, ap Some (sym e)))
   | inr n ↦ inr (λ o t u. n (some_is t ∙ sym (some_is u)))
 ]
 
 pub object_at : (types : WorldTypes) (heap : Heap) (m : Meaning) (c : Cell) (v : Value) (b : ℕ) → Describes types heap m c v → target v ≡ Some b → (object : Object) × (slice_get heap.objects b ≡ Some object)
-object_at types heap m (cells.Int interval) v b d t = absurd (none_is_not_some b (ap target (sym d.1.0) ∙ t))
-object_at types heap m cells.Null v b d t = absurd (none_is_not_some b (ap target (sym d) ∙ t))
+object_at types heap m (cells.Int interval) v b d t = absurd (none-some b (ap target (sym d.1.0) ∙ t))
+object_at types heap m cells.Null v b d t = absurd (none-some b (ap target (sym d) ∙ t))
 object_at types heap m (cells.Obj class ids) v b d t = (d.object, ap (slice_get heap.objects) (sym (some_is (sym (ap target d.names) ∙ t))) ∙ d.stands)
 object_at types heap m (cells.Nums kind l) v b d t = (d.object, ap (slice_get heap.objects) (sym (some_is (sym (ap target d.names) ∙ t))) ∙ d.stands)
 object_at types heap m (cells.Refs e l s) v b d t = (d.object, ap (slice_get heap.objects) (sym (some_is (sym (ap target d.names) ∙ t))) ∙ d.stands)
-object_at types heap m (cells.Unk e l s) v b (inl d) t = absurd (none_is_not_some b (ap target (sym d.1) ∙ t))
+object_at types heap m (cells.Unk e l s) v b (inl d) t = absurd (none-some b (ap target (sym d.1) ∙ t))
 object_at types heap m (cells.Unk e l s) v b (inr d) t = (d.object, ap (slice_get heap.objects) (sym (some_is (sym (ap target d.names) ∙ t))) ∙ d.stands)
 
 -- ---- the better shape
@@ -98,8 +89,8 @@ module _ (m : Meaning) (f : ℕ → ℕ) (keeps : (n : ℕ) → m (f n) ≡ m n)
   values_named (id ∷ ids) = ap (λ (v : Value). v ∷ map m (map f ids)) (keeps id) ∙ ap (λ (vs : List Value). m id ∷ vs) (values_named ids)
 
   local_named : (locals : List (Option ℕ)) (n id : ℕ) → slice_get (map (option_map f) locals) n ≡ Some (Some id) → (old : ℕ) × ((slice_get locals n ≡ Some (Some old)) × (f old ≡ id))
-  local_named [] n id e = absurd (none_is_not_some (Some id) e)
-  local_named (None ∷ locals) zero id e = absurd (none_is_not_some id (some_is e))
+  local_named [] n id e = absurd (none-some (Some id) e)
+  local_named (None ∷ locals) zero id e = absurd (none-some id (some_is e))
   local_named (Some x ∷ locals) zero id e = (x, (refl, some_is (some_is e)))
   local_named (o ∷ locals) (suc n) id e = local_named locals n id e
 
@@ -150,10 +141,10 @@ hazy_merged sub (cells.Refs element len shape) d = refl
 hazy_merged sub (cells.Unk bound nullable shape) d = refl
 
 shape_merged : (sub : Ty → Ty → Bool) (c d : Cell) (heap : Heap) (v : Value) → ((s : Shape) → shape_of c ≡ Some s → HasShape s heap v) → ((s : Shape) → shape_of d ≡ Some s → HasShape s heap v) → (s : Shape) → shape_of (merged_cell sub c d) ≡ Some s → HasShape s heap v
-shape_merged sub (cells.Int interval) d heap v a b s e = absurd (none_is_not_some s e)
-shape_merged sub cells.Null d heap v a b s e = absurd (none_is_not_some s e)
-shape_merged sub (cells.Obj class ids) d heap v a b s e = absurd (none_is_not_some s e)
-shape_merged sub (cells.Nums kind len) d heap v a b s e = absurd (none_is_not_some s e)
+shape_merged sub (cells.Int interval) d heap v a b s e = absurd (none-some s e)
+shape_merged sub cells.Null d heap v a b s e = absurd (none-some s e)
+shape_merged sub (cells.Obj class ids) d heap v a b s e = absurd (none-some s e)
+shape_merged sub (cells.Nums kind len) d heap v a b s e = absurd (none-some s e)
 shape_merged sub (cells.Refs element len shape) d heap v a b s e = subst (λ (x : Shape). HasShape x heap v) (some_is e) (better_of_holds shape (shape_of d) heap v (a shape refl) b)
 shape_merged sub (cells.Unk bound nullable shape) d heap v a b s e = subst (λ (x : Shape). HasShape x heap v) (some_is e) (better_of_holds shape (shape_of d) heap v (a shape refl) b)
 
@@ -166,10 +157,10 @@ module _ (types : WorldTypes) (state : AbstractState) (machine : MachineState) (
 
   -- an array's own element type is below what another cell tells of it
   below_told : (id : ℕ) (c : Cell) (o : ℕ) (item t : Ty) (items : List Value) → cell_at state id ≡ Some c → target (m id) ≡ Some o → slice_get heap.objects o ≡ Some (objects.Refs item items) → element_told c ≡ Some t → IsTrue (types.sub item t)
-  below_told id (cells.Int interval) o item t items e n s f = absurd (none_is_not_some t f)
-  below_told id cells.Null o item t items e n s f = absurd (none_is_not_some t f)
-  below_told id (cells.Obj class ids) o item t items e n s f = absurd (none_is_not_some t f)
-  below_told id (cells.Nums kind len) o item t items e n s f = absurd (none_is_not_some t f)
+  below_told id (cells.Int interval) o item t items e n s f = absurd (none-some t f)
+  below_told id cells.Null o item t items e n s f = absurd (none-some t f)
+  below_told id (cells.Obj class ids) o item t items e n s f = absurd (none-some t f)
+  below_told id (cells.Nums kind len) o item t items e n s f = absurd (none-some t f)
   below_told id (cells.Refs element len shape) o item t items e n s f =
       let d = h.cells id (cells.Refs element len shape) e in
       let place : d.place ≡ o = some_is (sym (ap target d.names) ∙ n) in
@@ -219,8 +210,8 @@ module _ (types : WorldTypes) (state : AbstractState) (machine : MachineState) (
       lower : {item : Ty} (told_by : Option Ty) → IsTrue (types.sub item element) → ((x : Ty) → told_by ≡ Some x → IsTrue (types.sub item x)) → IsTrue (types.sub item (lower_element types.sub element told_by))
       lower {item} None a b = a
       lower {item} (Some x) a b = elim (cases_Bool (types.sub x element)) [
-        | inl p ↦ subst (λ (y : Ty). IsTrue (types.sub item y)) (sym (cond_true (types.sub x element) x element p)) (b x refl)
-        | inr p ↦ subst (λ (y : Ty). IsTrue (types.sub item y)) (sym (cond_false (types.sub x element) x element p)) a
+        | inl p ↦ subst (λ (y : Ty). IsTrue (types.sub item y)) (sym (cond-true (types.sub x element) x element p)) (b x refl)
+        | inr p ↦ subst (λ (y : Ty). IsTrue (types.sub item y)) (sym (cond-false (types.sub x element) x element p)) a
       ]
   merged_described stays goes o (cells.Unk bound nullable shape) d e f t u =
       let ob = object_at types heap m (cells.Unk bound nullable shape) (m stays) o (h.cells stays (cells.Unk bound nullable shape) e) t in
@@ -238,8 +229,8 @@ module _ (types : WorldTypes) (state : AbstractState) (machine : MachineState) (
       lower : {own : Ty} (told_by : Option Ty) → IsTrue (types.sub own bound) → ((x : Ty) → told_by ≡ Some x → IsTrue (types.sub own x)) → IsTrue (types.sub own (lower_bound types.sub bound told_by))
       lower {own} None a b = a
       lower {own} (Some x) a b = elim (cases_Bool (types.sub bound x)) [
-        | inl p ↦ subst (λ (y : Ty). IsTrue (types.sub own y)) (sym (cond_true (types.sub bound x) bound x p)) a
-        | inr p ↦ subst (λ (y : Ty). IsTrue (types.sub own y)) (sym (cond_false (types.sub bound x) bound x p)) (b x refl)
+        | inl p ↦ subst (λ (y : Ty). IsTrue (types.sub own y)) (sym (cond-true (types.sub bound x) bound x p)) a
+        | inr p ↦ subst (λ (y : Ty). IsTrue (types.sub own y)) (sym (cond-false (types.sub bound x) bound x p)) (b x refl)
       ]
 
   -- ---- they are one
@@ -251,9 +242,9 @@ module _ (types : WorldTypes) (state : AbstractState) (machine : MachineState) (
     merged = merged_cell types.sub left right
 
     keeps : (n : ℕ) → m (one_name goes stays n) ≡ m n
-    keeps n = elim (same_or_not n goes) [
-      | inl e ↦ ap m (cond_true (eqb n goes) stays n (eq-eqb n goes e)) ∙ ref_of (m stays) o t ∙ sym (ref_of (m goes) o u) ∙ ap m (sym e)
-      | inr e ↦ ap m (cond_false (eqb n goes) stays n (ne_eqb n goes e))
+    keeps n = elim (cases_eq n goes) [
+      | inl e ↦ ap m (cond-true (eqb n goes) stays n (eq-eqb n goes e)) ∙ ref_of (m stays) o t ∙ sym (ref_of (m goes) o u) ∙ ap m (sym e)
+      | inr e ↦ ap m (cond-false (eqb n goes) stays n (ne_eqb n goes e))
     ]
 
     abbrev now : ℕ → Option Cell
@@ -270,15 +261,15 @@ module _ (types : WorldTypes) (state : AbstractState) (machine : MachineState) (
       shaped : (s : Shape) → shape_of c ≡ Some s → HasShape s heap (m id)
 
     mapped : (x : Option Cell) (c : Cell) → option_map (cell_named (one_name goes stays)) x ≡ Some c → (d : Cell) × ((x ≡ Some d) × (cell_named (one_name goes stays) d ≡ c))
-    mapped None c e = absurd (none_is_not_some c e)
+    mapped None c e = absurd (none-some c e)
     mapped (Some d) c e = (d, (refl, some_is e))
 
     was : (id : ℕ) (c : Cell) → now id ≡ Some c → Was id c
-    was id c e = elim (same_or_not id goes) [
-      | inl g ↦ absurd (none_is_not_some c (sym (cond_true (eqb id goes) None _ (eq-eqb id goes g)) ∙ e))
+    was id c e = elim (cases_eq id goes) [
+      | inl g ↦ absurd (none-some c (sym (cond-true (eqb id goes) None _ (eq-eqb id goes g)) ∙ e))
       | inr g ↦
-          let p = mapped (cell_in ((stays, merged_cell types.sub left right) ∷ state.cells) id) c (sym (cond_false (eqb id goes) None _ (ne_eqb id goes g)) ∙ e) in
-          elim (same_or_not stays id) [
+          let p = mapped (cell_in ((stays, merged_cell types.sub left right) ∷ state.cells) id) c (sym (cond-false (eqb id goes) None _ (ne_eqb id goes g)) ∙ e) in
+          elim (cases_eq stays id) [
             | inl s ↦
                 let is : merged_cell types.sub left right ≡ p.0 = some_is (sym (cell_here (stays, merged_cell types.sub left right) state.cells id s) ∙ p.1.0) in
                 let named : cell_named (one_name goes stays) (merged_cell types.sub left right) ≡ c = ap (cell_named (one_name goes stays)) is ∙ p.1.1 in
@@ -309,7 +300,7 @@ module _ (types : WorldTypes) (state : AbstractState) (machine : MachineState) (
     ]
 
     image_of : (pairs : ℕ → ℕ → Type 0) (a b : ℕ) → (a ≡ goes → ⊥) → (b ≡ goes → ⊥) → pairs a b → IsImage (one_name goes stays) pairs a b
-    image_of pairs a b p q w = record { x = a; y = b; were = w; left = cond_false (eqb a goes) stays a (ne_eqb a goes p); right = cond_false (eqb b goes) stays b (ne_eqb b goes q) }
+    image_of pairs a b p q w = record { x = a; y = b; were = w; left = cond-false (eqb a goes) stays a (ne_eqb a goes p); right = cond-false (eqb b goes) stays b (ne_eqb b goes q) }
 
     merged_fits : FitsBy types (map (frame_named (one_name goes stays)) state.frames) (option_map (one_name goes stays) state.throwing)
         (λ id. if id == goes then None else option_map (cell_named (one_name goes stays)) (cell_in ((stays, merged_cell types.sub left right) ∷ state.cells) id))
@@ -338,9 +329,9 @@ module _ (types : WorldTypes) (state : AbstractState) (machine : MachineState) (
     }
 
     after_is : (id : ℕ) → m (id_after (Some (goes, stays)) id) ≡ m id
-    after_is id = elim (same_or_not goes id) [
-      | inl e ↦ ap m (cond_true (eqb goes id) stays id (eq-eqb goes id e)) ∙ ref_of (m stays) o t ∙ sym (ref_of (m goes) o u) ∙ ap m e
-      | inr e ↦ ap m (cond_false (eqb goes id) stays id (ne_eqb goes id e))
+    after_is id = elim (cases_eq goes id) [
+      | inl e ↦ ap m (cond-true (eqb goes id) stays id (eq-eqb goes id e)) ∙ ref_of (m stays) o t ∙ sym (ref_of (m goes) o u) ∙ ap m e
+      | inr e ↦ ap m (cond-false (eqb goes id) stays id (ne_eqb goes id e))
     ]
 
     pub merged_goes : (child : AbstractState) → IsGiven (map (frame_named (one_name goes stays)) state.frames) (option_map (one_name goes stays) state.throwing)

@@ -2,15 +2,19 @@
 use Rattle.std.proofs.Common.{◌≡◌, ◌≢◌, ℕ, zero, suc, ◌+◌, ◌*◌, ◌<◌, ◌≤◌, ◌==◌, ◌&&◌, ◌||◌, min, max, Bool, true, false, not, eqb, List, [], ◌∷◌, ◌++◌, length, get_or, take, Option, Some, None, ◌⊎◌, inl, inr, refl, sym, ap, subst, ◌∙◌, arith, eq-eqb}
 use Rattle.std.specs.Prelude.{slice_get}
 use Rattle.std.specs.List.{list_any}
-use Rattle.std.proofs.lemmas.Bool.{false≢true, eqb-true, cases_lt, and_parts, or_cases, or_left, or_right}
+use Rattle.std.proofs.lemmas.Bool.{false≢true, eqb-true, cases_lt, and_parts, or_cases, or_left, or_right, cond-true, cond-false, cases_Bool}
 use Rattle.std.proofs.lemmas.List.{take_more, take_all}
-use Rattle.std.proofs.lemmas.Option.{slice_get_within, slice_get-get_or}
-use Rattle.jvm_values.proofs.Options.{some_is, none_is_not_some}
+use Rattle.std.proofs.lemmas.Option.{slice_get_within, slice_get-get_or, none-some}
+use Rattle.abs_reach.proofs.Answering.{any_sort}
+use Rattle.abs_cells.proofs.PackedLaws.{has_with, has_append}
+use Rattle.list_views.proofs.Items.{get_past}
+use Rattle.list_views.proofs.Truths.{or_false, or_assoc, and_swapped}
+use Rattle.jvm_values.proofs.Options.{some_is}
 use Rattle.abs_cells.specs.declared.cells.Cell.{Cell}
 use Rattle.abs_cells.specs.Cells.{is_known, is_reference, is_of_sort, cell_in}
-use Rattle.abs_cells.specs.PairLists.{pair_of, is_same, IsRising, has_pair, with_pair, has, added, is_before}
+use Rattle.abs_cells.specs.PairLists.{pair_of, is_same, IsRising, has_pair, has, added}
 use Rattle.abs_cells.specs.Sound.{AreIdsRising, may_join}
-use Rattle.abs_cells.proofs.PairLaws.{cond_true, cond_false, bool_cases, same_is, is_same_from, before_is}
+use Rattle.abs_cells.proofs.PairLaws.{same_is, is_same_from, before_is}
 use Rattle.abs_cells.proofs.Checking.{low_pair}
 use Rattle.abs_reach.proofs.Room.{has_cell_low}
 use Rattle.abs_heap.specs.Given.{IsPair}
@@ -19,50 +23,7 @@ use Rattle.abs_heap.specs.Building.{Gains, IsThis}
 
 -- ---- booleans
 
-or_twice : (s h : Bool) → (s || h) ≡ (s || (s || h))
-or_twice true h = refl
-or_twice false h = refl
-
-or_over : (s t h : Bool) → (s || (t || h)) ≡ (t || (s || h))
-or_over true true h = refl
-or_over true false h = refl
-or_over false t h = refl
-
-or_grouped : (s t h : Bool) → ((s || t) || h) ≡ (s || (t || h))
-or_grouped true t h = refl
-or_grouped false t h = refl
-
-and_turned : (a b : Bool) → (a && b) ≡ (b && a)
-and_turned true true = refl
-and_turned true false = refl
-and_turned false true = refl
-and_turned false false = refl
-
 -- ---- pairs in lists
-
-has_put : (p q : ℕ × ℕ) (xs : List (ℕ × ℕ)) → has_pair p (with_pair q xs) ≡ (is_same p q || has_pair p xs)
-has_put p q [] = refl
-has_put p q (x ∷ rest) = elim (bool_cases (is_same q x)) [
-  | inl s ↦
-      ap (has_pair p) (cond_true (is_same q x) _ _ s)
-      ∙ or_twice (is_same p x) (has_pair p rest)
-      ∙ ap (λ (y : ℕ × ℕ). is_same p y || (is_same p x || has_pair p rest)) (sym (same_is q x s))
-  | inr s ↦ ap (has_pair p) (cond_false (is_same q x) _ _ s) ∙ elim (bool_cases (is_before q x)) [
-    | inl b ↦ ap (has_pair p) (cond_true (is_before q x) _ _ b)
-    | inr b ↦
-        ap (has_pair p) (cond_false (is_before q x) _ _ b)
-        ∙ ap (λ (h : Bool). is_same p x || h) (has_put p q rest)
-        ∙ or_over (is_same p x) (is_same p q) (has_pair p rest)
-  ]
-]
-
-has_joined : (p : ℕ × ℕ) (xs ys : List (ℕ × ℕ)) → has_pair p (xs ++ ys) ≡ (has_pair p xs || has_pair p ys)
-has_joined p [] ys = refl
-has_joined p (x ∷ xs) ys = ap (λ (h : Bool). is_same p x || h) (has_joined p xs ys) ∙ sym (or_grouped (is_same p x) (has_pair p xs) (has_pair p ys))
-
-or_none : (s : Bool) → (s || false) ≡ s
-or_none true = refl
-or_none false = refl
 
 -- two unordered pairs are one where their numbers are, in the one order or the other
 pub same_pair : (c d a b : ℕ) → is_same (pair_of c d) (pair_of a b) ≡ true → IsThis a b c d ⊎ IsThis a b d c
@@ -95,19 +56,19 @@ pub joins_turned : (cells : List (ℕ × Cell)) (a b : ℕ) → may_join cells b
 joins_turned cells a b =
     let r : ℕ → Bool = λ n. is_of_sort is_reference (cell_in cells n) in
     let k : ℕ → Bool = λ n. is_of_sort is_known (cell_in cells n) in
-    ap (λ (x : Bool). x && not (k b && k a)) (and_turned (r b) (r a)) ∙ ap (λ (x : Bool). (r a && r b) && not x) (and_turned (k b) (k a))
+    ap (λ (x : Bool). x && not (k b && k a)) (and_swapped (r b) (r a)) ∙ ap (λ (x : Bool). (r a && r b) && not x) (and_swapped (k b) (k a))
 
 -- ---- one pair
 
 gain_added : (cells : List (ℕ × Cell)) (a b : ℕ) (old : List (ℕ × ℕ)) → a ≢ b → may_join cells a b ≡ true → Gains cells (IsThis a b) old (added a b old)
 gain_added cells a b old n j = λ c d. (
-  λ h. elim (or_cases (is_same (pair_of c d) (pair_of a b)) (has c d old) (sym (has_put (pair_of c d) (pair_of a b) old) ∙ h)) [
+  λ h. elim (or_cases (is_same (pair_of c d) (pair_of a b)) (has c d old) (sym (has_with (pair_of c d) (pair_of a b) old) ∙ h)) [
     | inl s ↦ inr (here c d (same_pair c d a b s))
     | inr k ↦ inl k
   ],
   λ h. elim h [
-    | inl k ↦ has_put (pair_of c d) (pair_of a b) old ∙ or_right (is_same (pair_of c d) (pair_of a b)) (has c d old) k
-    | inr p ↦ has_put (pair_of c d) (pair_of a b) old ∙ or_left (is_same (pair_of c d) (pair_of a b)) (has c d old) (pair_same c d a b p.1.1)
+    | inl k ↦ has_with (pair_of c d) (pair_of a b) old ∙ or_right (is_same (pair_of c d) (pair_of a b)) (has c d old) k
+    | inr p ↦ has_with (pair_of c d) (pair_of a b) old ∙ or_left (is_same (pair_of c d) (pair_of a b)) (has c d old) (pair_same c d a b p.1.1)
   ],
 )
   where
@@ -190,19 +151,19 @@ is_listed id cells = list_any (λ c. c.0 == id) cells
 
 listed_joined : (id : ℕ) (xs ys : List (ℕ × Cell)) → is_listed id (xs ++ ys) ≡ (is_listed id xs || is_listed id ys)
 listed_joined id [] ys = refl
-listed_joined id (x ∷ xs) ys = ap (λ (h : Bool). (x.0 == id) || h) (listed_joined id xs ys) ∙ sym (or_grouped (x.0 == id) (is_listed id xs) (is_listed id ys))
+listed_joined id (x ∷ xs) ys = ap (λ (h : Bool). (x.0 == id) || h) (listed_joined id xs ys) ∙ sym (or_assoc (x.0 == id) (is_listed id xs) (is_listed id ys))
 
 pub listed_next : (id : ℕ) (cells : List (ℕ × Cell)) (i : ℕ) (d : ℕ × Cell) → i < length cells → is_listed id (take (i + 1) cells) ≡ (is_listed id (take i cells) || ((get_or cells i d).0 == id))
 listed_next id cells i d l =
     ap (is_listed id) (take_more cells i d l)
     ∙ listed_joined id (take i cells) (get_or cells i d ∷ [])
-    ∙ ap (λ (h : Bool). is_listed id (take i cells) || h) (or_none ((get_or cells i d).0 == id))
+    ∙ ap (λ (h : Bool). is_listed id (take i cells) || h) (or_false ((get_or cells i d).0 == id))
 
 pub listed_there : (id : ℕ) (cells : List (ℕ × Cell)) (test : Cell → Bool) → is_of_sort test (cell_in cells id) ≡ true → is_listed id cells ≡ true
 listed_there id [] test h = absurd (false≢true h)
-listed_there id (c ∷ cells) test h = elim (bool_cases (eqb c.0 id)) [
+listed_there id (c ∷ cells) test h = elim (cases_Bool (eqb c.0 id)) [
   | inl e ↦ or_left (c.0 == id) (is_listed id cells) e
-  | inr e ↦ or_right (c.0 == id) (is_listed id cells) (listed_there id cells test (ap (is_of_sort test) (sym (cond_false (eqb c.0 id) (Some c.1) (cell_in cells id) e)) ∙ h))
+  | inr e ↦ or_right (c.0 == id) (is_listed id cells) (listed_there id cells test (ap (is_of_sort test) (sym (cond-false (eqb c.0 id) (Some c.1) (cell_in cells id) e)) ∙ h))
 ]
 
 pub joins_left : (cells : List (ℕ × Cell)) (a b : ℕ) → may_join cells a b ≡ true → is_of_sort is_reference (cell_in cells a) ≡ true
@@ -271,12 +232,12 @@ has_next c d pairs n p e =
     let l = slice_get_within pairs n p e in
     let is : get_or pairs n p ≡ p = some_is (sym (slice_get-get_or pairs n p l) ∙ e) in
     ap (has_pair (pair_of c d)) (take_more pairs n p l)
-    ∙ has_joined (pair_of c d) (take n pairs) (get_or pairs n p ∷ [])
-    ∙ ap (λ (h : Bool). has_pair (pair_of c d) (take n pairs) || h) (or_none (is_same (pair_of c d) (get_or pairs n p)))
+    ∙ has_append (pair_of c d) (take n pairs) (get_or pairs n p ∷ [])
+    ∙ ap (λ (h : Bool). has_pair (pair_of c d) (take n pairs) || h) (or_false (is_same (pair_of c d) (get_or pairs n p)))
     ∙ ap (λ (q : ℕ × ℕ). has_pair (pair_of c d) (take n pairs) || is_same (pair_of c d) q) is
 
 pub rising_at : (pairs : List (ℕ × ℕ)) (n : ℕ) (p : ℕ × ℕ) → IsRising pairs → slice_get pairs n ≡ Some p → (p.0 < p.1) × (p.1 < 2048)
-rising_at [] n p r e = absurd (none_is_not_some p e)
+rising_at [] n p r e = absurd (none-some p e)
 rising_at (q ∷ rest) zero p r e = subst (λ (x : ℕ × ℕ). (x.0 < x.1) × (x.1 < 2048)) (some_is e) r.0
 rising_at (q ∷ rest) (suc n) p r e = rising_at rest n p r.1.1 e
 
@@ -304,15 +265,10 @@ named_next cells name pairs n p old mid new r e f s =
 pub named_none : (cells : List (ℕ × Cell)) (name : ℕ → ℕ) (old : List (ℕ × ℕ)) → Gains cells (IsImage name (λ x y. has x y [] ≡ true)) old old
 named_none cells name old = gain_nothing cells _ old (λ a b j w. false≢true w.were)
 
-pub past_end : (pairs : List (ℕ × ℕ)) (n : ℕ) → slice_get pairs n ≡ None → length pairs ≤ n
-past_end [] n e = omega arith
-past_end (p ∷ pairs) zero e = absurd (none_is_not_some p (sym e))
-past_end (p ∷ pairs) (suc n) e = let h = past_end pairs n e in omega (arith, h)
-
 pub named_all : (cells : List (ℕ × Cell)) (name : ℕ → ℕ) (pairs : List (ℕ × ℕ)) (n : ℕ) (old new : List (ℕ × ℕ)) → slice_get pairs n ≡ None
     → Gains cells (IsImage name (λ x y. has x y (take n pairs) ≡ true)) old new
     → Gains cells (IsImage name (λ x y. has x y pairs ≡ true)) old new
-named_all cells name pairs n old new e g = subst (λ (ps : List (ℕ × ℕ)). Gains cells (IsImage name (λ x y. has x y ps ≡ true)) old new) (take_all n pairs (past_end pairs n e)) g
+named_all cells name pairs n old new e g = subst (λ (ps : List (ℕ × ℕ)). Gains cells (IsImage name (λ x y. has x y ps ≡ true)) old new) (take_all n pairs (get_past pairs n e)) g
 
 -- there are at most as many pairs as pairs of numbers
 abbrev key_of : ℕ × ℕ → ℕ
@@ -345,18 +301,14 @@ partner_next id pairs n p m old new e f g = g ∙ ap (λ (b : Bool). is_same (pa
     turned false false = refl
 
 pub partners_all : (id : ℕ) (pairs : List (ℕ × ℕ)) (n m : ℕ) (b : Bool) → slice_get pairs n ≡ None → b ≡ has id m (take n pairs) → b ≡ has id m pairs
-partners_all id pairs n m b e f = f ∙ ap (has id m) (take_all n pairs (past_end pairs n e))
+partners_all id pairs n m b e f = f ∙ ap (has id m) (take_all n pairs (get_past pairs n e))
 
 -- ---- as code reads it
 
-any_cell : (test : Cell → Bool) (o : Option Cell) → is_of_sort test o ≡ true → is_of_sort (λ _. true) o ≡ true
-any_cell test None h = h
-any_cell test (Some cell) h = refl
-
 pub pair_low : (cells : List (ℕ × Cell)) (a b : ℕ) → AreIdsRising 0 cells → may_join cells a b ≡ true → (a < 2048) × (b < 2048)
 pair_low cells a b r j = (
-  has_cell_low cells a r (any_cell is_reference (cell_in cells a) (joins_left cells a b j)),
-  has_cell_low cells b r (any_cell is_reference (cell_in cells b) (joins_right cells a b j)),
+  has_cell_low cells a r (any_sort is_reference (cell_in cells a) (joins_left cells a b j)),
+  has_cell_low cells b r (any_sort is_reference (cell_in cells b) (joins_right cells a b j)),
 )
 
 pub named_this : (cells : List (ℕ × Cell)) (a b c d : ℕ) (old new : List (ℕ × ℕ)) → a ≡ c → b ≡ d → Gains cells (IsThis a b) old new → Gains cells (IsThis c d) old new

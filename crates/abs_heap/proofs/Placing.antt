@@ -2,14 +2,13 @@
 use Rattle.std.proofs.Common.{◌≡◌, ℕ, zero, suc, ◌+◌, ◌<◌, ◌≤◌, true, eqb, ltb, List, [], ◌∷◌, ◌++◌, length, get_or, drop, map, take, Option, Some, None, All, ◌⊎◌, inl, inr, refl, sym, ap, subst, ◌∙◌, arith, eq-eqb, drop-cons, add-one}
 use Rattle.std.specs.Prelude.{slice_get, ◌↔◌, ◌==◌}
 use Rattle.std.specs.List.{insert}
-use Rattle.std.proofs.lemmas.Bool.{false≢true, eqb-true, ltb-true, lt-ltb, ne_eqb}
+use Rattle.std.proofs.lemmas.Bool.{false≢true, eqb-true, ltb-true, lt-ltb, ne_eqb, cond-true, cond-false, cases_Bool, cases_eq}
 use Rattle.std.proofs.lemmas.List.{drop_all, map_more}
-use Rattle.std.proofs.lemmas.Option.{slice_get-get_or}
-use Rattle.jvm_values.proofs.Options.{some_is, none_is_not_some}
+use Rattle.std.proofs.lemmas.Option.{slice_get-get_or, none-some}
+use Rattle.jvm_values.proofs.Options.{some_is}
 use Rattle.abs_cells.specs.declared.cells.Cell.{Cell}
 use Rattle.abs_cells.specs.Cells.{cell_in}
 use Rattle.abs_cells.specs.Sound.{AreIdsRising}
-use Rattle.abs_cells.proofs.PairLaws.{cond_true, cond_false, bool_cases}
 use Rattle.abs_cells.proofs.Checking.{id_is_low}
 use Rattle.abs_heap.specs.Names.{name_in}
 use Rattle.abs_heap.specs.Given.{first_cell}
@@ -18,28 +17,22 @@ use Rattle.abs_heap.specs.Building.{place_in, IsIdAt, IsOver}
 -- ---- looks
 
 pub cell_here : (c : ℕ × Cell) (cells : List (ℕ × Cell)) (id : ℕ) → c.0 ≡ id → cell_in (c ∷ cells) id ≡ Some c.1
-cell_here c cells id e = cond_true (eqb c.0 id) _ _ (eq-eqb c.0 id e)
+cell_here c cells id e = cond-true (eqb c.0 id) _ _ (eq-eqb c.0 id e)
 
 pub cell_later : (c : ℕ × Cell) (cells : List (ℕ × Cell)) (id : ℕ) → (c.0 ≡ id → ⊥) → cell_in (c ∷ cells) id ≡ cell_in cells id
-cell_later c cells id n = cond_false (eqb c.0 id) _ _ (ne_eqb c.0 id n)
-
-pub same_or_not : (m n : ℕ) → (m ≡ n) ⊎ (m ≡ n → ⊥)
-same_or_not m n = elim (bool_cases (eqb m n)) [
-  | inl e ↦ inl (eqb-true m n e)
-  | inr e ↦ inr (λ s. false≢true (sym e ∙ eq-eqb m n s))
-]
+cell_later c cells id n = cond-false (eqb c.0 id) _ _ (ne_eqb c.0 id n)
 
 pub absent : (low : ℕ) (cells : List (ℕ × Cell)) (id : ℕ) → AreIdsRising low cells → id < low → cell_in cells id ≡ None
 absent low [] id r l = refl
 absent low (c ∷ cells) id r l = cell_later c cells id (λ e. omega (arith, r.0, l, e)) ∙ absent (suc c.0) cells id r.1.1 (omega (arith, r.0, l))
 
 pub low_there : (low : ℕ) (cells : List (ℕ × Cell)) (id k : ℕ) (cell : Cell) → AreIdsRising low cells → slice_get cells k ≡ Some (id, cell) → low ≤ id
-low_there low [] id k cell r e = absurd (none_is_not_some (id, cell) e)
+low_there low [] id k cell r e = absurd (none-some (id, cell) e)
 low_there low (c ∷ cells) id zero cell r e = let f : c.0 ≡ id = ap (λ (x : ℕ × Cell). x.0) (some_is e) in omega (arith, r.0, f)
 low_there low (c ∷ cells) id (suc k) cell r e = let h = low_there (suc c.0) cells id k cell r.1.1 e in omega (arith, r.0, h)
 
 pub cell_there : (low : ℕ) (cells : List (ℕ × Cell)) (id k : ℕ) (cell : Cell) → AreIdsRising low cells → slice_get cells k ≡ Some (id, cell) → cell_in cells id ≡ Some cell
-cell_there low [] id k cell r e = absurd (none_is_not_some (id, cell) e)
+cell_there low [] id k cell r e = absurd (none-some (id, cell) e)
 cell_there low (c ∷ cells) id zero cell r e = cell_here c cells id (ap (λ (x : ℕ × Cell). x.0) (some_is e)) ∙ ap (λ (x : ℕ × Cell). Some x.1) (some_is e)
 cell_there low (c ∷ cells) id (suc k) cell r e =
     let h = low_there (suc c.0) cells id k cell r.1.1 e in
@@ -48,12 +41,12 @@ cell_there low (c ∷ cells) id (suc k) cell r e =
 -- ---- places
 
 place_later : (id : ℕ) (c : ℕ × Cell) (cells : List (ℕ × Cell)) → c.0 < id → place_in id (c ∷ cells) ≡ suc (place_in id cells)
-place_later id c cells l = cond_true (ltb c.0 id) _ _ (lt-ltb c.0 id l)
+place_later id c cells l = cond-true (ltb c.0 id) _ _ (lt-ltb c.0 id l)
 
 place_here : (id : ℕ) (c : ℕ × Cell) (cells : List (ℕ × Cell)) → id ≤ c.0 → place_in id (c ∷ cells) ≡ 0
-place_here id c cells l = elim (bool_cases (ltb c.0 id)) [
+place_here id c cells l = elim (cases_Bool (ltb c.0 id)) [
   | inl e ↦ absurd (omega (arith, ltb-true c.0 id e, l))
-  | inr e ↦ cond_false (ltb c.0 id) _ _ e
+  | inr e ↦ cond-false (ltb c.0 id) _ _ e
 ]
 
 pub gone_by : (id : ℕ) (cells : List (ℕ × Cell)) (i : ℕ) (d : ℕ × Cell) → i < length cells → (get_or cells i d).0 < id → place_in id cells ≡ i + place_in id (drop i cells) → place_in id cells ≡ (i + 1) + place_in id (drop (i + 1) cells)
@@ -73,9 +66,9 @@ at_the_end id cells i l m e =
 
 pub place_within : (id : ℕ) (cells : List (ℕ × Cell)) → place_in id cells ≤ length cells
 place_within id [] = omega arith
-place_within id (c ∷ cells) = elim (bool_cases (ltb c.0 id)) [
+place_within id (c ∷ cells) = elim (cases_Bool (ltb c.0 id)) [
   | inl e ↦ omega (arith, place_later id c cells (ltb-true c.0 id e), place_within id cells)
-  | inr e ↦ let h : place_in id (c ∷ cells) ≡ 0 = cond_false (ltb c.0 id) _ _ e in omega (arith, h)
+  | inr e ↦ let h : place_in id (c ∷ cells) ≡ 0 = cond-false (ltb c.0 id) _ _ e in omega (arith, h)
 ]
 
 -- ---- a cell put in
@@ -97,13 +90,13 @@ not_here c cells id h e = h (c.1, ap (λ (n : ℕ). Some (n, c.1)) e)
 -- where the id has no cell at its place, in it goes
 pub inserted_rises : (low : ℕ) (cells : List (ℕ × Cell)) (id : ℕ) (cell : Cell) → AreIdsRising low cells → low ≤ id → id < 2048 → (IsIdAt cells (place_in id cells) id → ⊥) → AreIdsRising low (insert cells (place_in id cells) (id, cell))
 inserted_rises low [] id cell r l m h = (l, (m, tt))
-inserted_rises low (c ∷ cells) id cell r l m h = elim (bool_cases (ltb c.0 id)) [
+inserted_rises low (c ∷ cells) id cell r l m h = elim (cases_Bool (ltb c.0 id)) [
   | inl e ↦
       let p = place_later id c cells (ltb-true c.0 id e) in
       subst (λ (k : ℕ). AreIdsRising low (insert (c ∷ cells) k (id, cell))) (sym p)
       (r.0, (r.1.0, inserted_rises (suc c.0) cells id cell r.1.1 (let h = ltb-true c.0 id e in omega (arith, h)) m (λ s. h (subst (λ (k : ℕ). IsIdAt (c ∷ cells) k id) (sym p) s))))
   | inr e ↦
-      let p : place_in id (c ∷ cells) ≡ 0 = cond_false (ltb c.0 id) _ _ e in
+      let p : place_in id (c ∷ cells) ≡ 0 = cond-false (ltb c.0 id) _ _ e in
       let apart : c.0 ≡ id → ⊥ = not_here c cells id (λ s. h (subst (λ (k : ℕ). IsIdAt (c ∷ cells) k id) (sym p) s)) in
       let not_below : c.0 < id → ⊥ = λ b. false≢true (sym e ∙ lt-ltb c.0 id b) in
       let above : suc id ≤ c.0 = omega (arith, apart, not_below) in
@@ -112,21 +105,21 @@ inserted_rises low (c ∷ cells) id cell r l m h = elim (bool_cases (ltb c.0 id)
 
 pub inserted_is : (low : ℕ) (cells : List (ℕ × Cell)) (id : ℕ) (cell : Cell) → AreIdsRising low cells → (IsIdAt cells (place_in id cells) id → ⊥) → (n : ℕ) → cell_in (insert cells (place_in id cells) (id, cell)) n ≡ first_cell (cell_in cells n) (cell_in ((id, cell) ∷ []) n)
 inserted_is low [] id cell r h n = refl
-inserted_is low (c ∷ cells) id cell r h n = elim (bool_cases (ltb c.0 id)) [
+inserted_is low (c ∷ cells) id cell r h n = elim (cases_Bool (ltb c.0 id)) [
   | inl e ↦
       let p = place_later id c cells (ltb-true c.0 id e) in
       ap (λ (k : ℕ). cell_in (insert (c ∷ cells) k (id, cell)) n) p
-      ∙ elim (same_or_not c.0 n) [
+      ∙ elim (cases_eq c.0 n) [
         | inl s ↦ cell_here c (insert cells (place_in id cells) (id, cell)) n s ∙ ap (λ (o : Option Cell). first_cell o (cell_in ((id, cell) ∷ []) n)) (sym (cell_here c cells n s))
         | inr s ↦ cell_later c (insert cells (place_in id cells) (id, cell)) n s ∙ inserted_is (suc c.0) cells id cell r.1.1 (λ s. h (subst (λ (k : ℕ). IsIdAt (c ∷ cells) k id) (sym p) s)) n ∙ ap (λ (o : Option Cell). first_cell o (cell_in ((id, cell) ∷ []) n)) (sym (cell_later c cells n s))
       ]
   | inr e ↦
-      let p : place_in id (c ∷ cells) ≡ 0 = cond_false (ltb c.0 id) _ _ e in
+      let p : place_in id (c ∷ cells) ≡ 0 = cond-false (ltb c.0 id) _ _ e in
       let apart : c.0 ≡ id → ⊥ = not_here c cells id (λ s. h (subst (λ (k : ℕ). IsIdAt (c ∷ cells) k id) (sym p) s)) in
       let not_below : c.0 < id → ⊥ = λ b. false≢true (sym e ∙ lt-ltb c.0 id b) in
       let above : id < c.0 = omega (arith, apart, not_below) in
       ap (λ (k : ℕ). cell_in (insert (c ∷ cells) k (id, cell)) n) p
-      ∙ elim (same_or_not id n) [
+      ∙ elim (cases_eq id n) [
         | inl s ↦
             let none : cell_in (c ∷ cells) n ≡ None = absent c.0 (c ∷ cells) n (omega arith, (r.1.0, r.1.1)) (omega (arith, above, s)) in
             cell_here (id, cell) (c ∷ cells) n s ∙ ap (λ (o : Option Cell). first_cell o (Some cell)) (sym none) ∙ ap (λ (o : Option Cell). first_cell (cell_in (c ∷ cells) n) o) (sym (cell_here (id, cell) [] n s))
@@ -146,7 +139,7 @@ put_in cells id place cell all r l e h f =
 pub stays_out : (cells : List (ℕ × Cell)) (id place : ℕ) (cell : Cell) → AreIdsRising 0 cells → IsIdAt cells place id → IsOver cells ((id, cell) ∷ []) cells
 stays_out cells id place cell r h = record {
   rising = r;
-  is = λ n. elim (same_or_not id n) [
+  is = λ n. elim (cases_eq id n) [
     | inl s ↦
         let there : cell_in cells n ≡ Some h.0 = ap (λ (i : ℕ). cell_in cells i) (sym s) ∙ cell_there 0 cells id place h.0 r h.1 in
         there ∙ ap (λ (o : Option Cell). first_cell o (cell_in ((id, cell) ∷ []) n)) (sym there)
@@ -158,7 +151,7 @@ stays_out cells id place cell r h = record {
 
 pub joined_is : (xs ys : List (ℕ × Cell)) (n : ℕ) → cell_in (xs ++ ys) n ≡ first_cell (cell_in xs n) (cell_in ys n)
 joined_is [] ys n = refl
-joined_is (c ∷ xs) ys n = elim (same_or_not c.0 n) [
+joined_is (c ∷ xs) ys n = elim (cases_eq c.0 n) [
   | inl s ↦ cell_here c (xs ++ ys) n s ∙ ap (λ (o : Option Cell). first_cell o (cell_in ys n)) (sym (cell_here c xs n s))
   | inr s ↦ cell_later c (xs ++ ys) n s ∙ joined_is xs ys n ∙ ap (λ (o : Option Cell). first_cell o (cell_in ys n)) (sym (cell_later c xs n s))
 ]

@@ -1,12 +1,13 @@
 -- A state in which one id's cell tells less, or that the value is null.
 use Rattle.std.proofs.Common.{◌≡◌, ℕ, Bool, true, false, [], ◌∷◌, Option, Some, None, ◌⊎◌, inl, inr, refl, sym, ap, subst, ◌∙◌}
-use Rattle.std.proofs.lemmas.Bool.{false≢true}
+use Rattle.std.proofs.lemmas.Bool.{false≢true, cases_eq}
 use Rattle.std.proofs.lemmas.List.Elements.{All-nil}
+use Rattle.std.proofs.lemmas.Option.{none-some}
 use Rattle.jvm_values.specs.declared.shape.Shape.{Shape}
 use Rattle.jvm_values.specs.Heaps.{HasShape}
 use Rattle.jvm_values.specs.States.{MachineState}
 use Rattle.jvm_values.specs.TypedHeaps.{WorldTypes}
-use Rattle.jvm_values.proofs.Options.{some_is, none_is_not_some}
+use Rattle.jvm_values.proofs.Options.{some_is}
 use Rattle.abs_cells.specs.declared.cells.Cell.{Cell}
 use Rattle.abs_cells.specs.declared.cells.Cell.TheVariants as cells
 use Rattle.abs_cells.specs.AbstractStates.{AbstractState}
@@ -18,7 +19,7 @@ use Rattle.term_graph.specs.Edges.{Edge, HoldsBetween}
 use Rattle.abs_heap.specs.Given.{first_cell, with_cells}
 use Rattle.abs_heap.specs.Refining.{IsWithCell}
 use Rattle.abs_heap.specs.Laws.{plain_link, Goes, NullSplits}
-use Rattle.abs_heap.proofs.Placing.{cell_here, cell_later, same_or_not}
+use Rattle.abs_heap.proofs.Placing.{cell_here, cell_later}
 use Rattle.abs_heap.proofs.Fitted.{FitsBy, fits_given}
 use Rattle.abs_heap.proofs.SameTerms.{same_size}
 
@@ -32,7 +33,7 @@ same_edge state machine m step child = record {
 
 -- the cell of an id is the new one, or as it was
 pub replaced_cases : (state : AbstractState) (x : ℕ) (new : Cell) (id : ℕ) (c : Cell) → with_cells ((x, new) ∷ []) state id ≡ Some c → ((id ≡ x) × (c ≡ new)) ⊎ ((id ≡ x → ⊥) × (cell_at state id ≡ Some c))
-replaced_cases state x new id c e = elim (same_or_not x id) [
+replaced_cases state x new id c e = elim (cases_eq x id) [
   | inl s ↦ inl (sym s, some_is (sym e ∙ ap (λ (o : Option Cell). first_cell o (cell_at state id)) (cell_here (x, new) [] id s)))
   | inr s ↦ inr (λ t. s (sym t), ap (λ (o : Option Cell). first_cell o (cell_at state id)) (sym (cell_later (x, new) [] id s)) ∙ e)
 ]
@@ -83,6 +84,6 @@ module _ (types : WorldTypes) (state : AbstractState) (machine : MachineState) (
 
 pub null_splits : NullSplits
 null_splits types state first second machine m x bound shape good h at one two = elim (h.cells x (cells.Unk bound true shape) at) [
-  | inl d ↦ inl (replaced_goes types state machine m good h x (cells.Unk bound true shape) cells.Null at refl (λ e. absurd (false≢true e)) (λ s e. absurd (none_is_not_some s e)) d.1 first one)
+  | inl d ↦ inl (replaced_goes types state machine m good h x (cells.Unk bound true shape) cells.Null at refl (λ e. absurd (false≢true e)) (λ s e. absurd (none-some s e)) d.1 first one)
   | inr d ↦ inr (replaced_goes types state machine m good h x (cells.Unk bound true shape) (cells.Unk bound false shape) at refl (λ e. e) (λ s e. e) (inr d) second two)
 ]

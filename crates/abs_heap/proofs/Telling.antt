@@ -1,8 +1,10 @@
 -- Two cells that describe one object are compatible.
 use Rattle.std.proofs.Common.{◌≡◌, ℕ, ◌+◌, ◌<◌, ◌||◌, Bool, true, false, not, List, [], ◌∷◌, Option, Some, inl, inr, refl, sym, ap, subst, ◌∙◌, arith, All, IsTrue}
 use Rattle.std.specs.Prelude.{slice_get}
-use Rattle.std.proofs.lemmas.Bool.{false≢true, and_from, or_left, or_right}
+use Rattle.std.proofs.lemmas.Bool.{false≢true, and_from, or_left, or_right, cases_eq}
 use Rattle.std.proofs.lemmas.List.Elements.{All-head, All-tail}
+use Rattle.std.proofs.lemmas.Option.{none-some}
+use Rattle.list_views.proofs.Quantified.{all_at}
 use Rattle.jvm_values.specs.declared.heap.Value.{Value}
 use Rattle.jvm_values.specs.declared.heap.Value.TheVariants as values
 use Rattle.jvm_values.specs.declared.heap.Object.{Object}
@@ -14,15 +16,14 @@ use Rattle.jvm_values.specs.declared.types.Base.TheVariants as bases
 use Rattle.jvm_values.specs.Heaps.{target}
 use Rattle.jvm_values.specs.Subtyping.{class_type, array_of, array_of_numbers, IsErased, IsReference, IsReferenceBase}
 use Rattle.jvm_values.specs.TypedHeaps.{WorldTypes, AreLawful, type_of, IsTypedHeap, IsTypedObject}
-use Rattle.jvm_values.proofs.Options.{some_is, none_is_not_some}
+use Rattle.jvm_values.proofs.Options.{some_is}
 use Rattle.abs_cells.specs.declared.cells.Cell.{Cell}
 use Rattle.abs_cells.specs.declared.cells.Cell.TheVariants as cells
 use Rattle.abs_cells.specs.AbstractStates.{AbstractState}
 use Rattle.abs_cells.specs.Cells.{is_known, type_of_cell, are_compatible, are_compatible_types, is_comparable, cell_in, cell_at}
 use Rattle.abs_cells.specs.Sound.{IsSound, IsSoundCell}
 use Rattle.abs_cells.specs.Fits.{Meaning, Describes}
-use Rattle.abs_heap.proofs.Placing.{cell_here, cell_later, same_or_not}
-use Rattle.abs_heap.proofs.Growing.{all_got}
+use Rattle.abs_heap.proofs.Placing.{cell_here, cell_later}
 
 -- what a cell tells of the type of the object that it describes
 pub record Tells (types : WorldTypes) (c : Cell) (object : Object) : Type 0 where
@@ -33,8 +34,8 @@ pub record Tells (types : WorldTypes) (c : Cell) (object : Object) : Type 0 wher
   pub exact : is_known c ≡ true → t ≡ type_of object
 
 sound_in : (types : WorldTypes) (state : AbstractState) (list : List (ℕ × Cell)) (id : ℕ) (c : Cell) → All (λ e. IsSoundCell types state e.1) list → cell_in list id ≡ Some c → IsSoundCell types state c
-sound_in types state [] id c a e = absurd (none_is_not_some c e)
-sound_in types state (x ∷ list) id c a e = elim (same_or_not x.0 id) [
+sound_in types state [] id c a e = absurd (none-some c e)
+sound_in types state (x ∷ list) id c a e = elim (cases_eq x.0 id) [
   | inl s ↦ subst (λ (d : Cell). IsSoundCell types state d) (some_is (sym (cell_here x list id s) ∙ e)) (All-head (λ (y : ℕ × Cell). IsSoundCell types state y.1) x list a)
   | inr s ↦ sound_in types state list id c (All-tail (λ (y : ℕ × Cell). IsSoundCell types state y.1) x list a) (sym (cell_later x list id s) ∙ e)
 ]
@@ -44,7 +45,7 @@ sound_at types state id c sound e = sound_in types state state.cells id c sound.
 
 -- the array's item type of an object in a typed heap
 pub array_typed : (types : WorldTypes) (heap : Heap) (o : ℕ) (item : Ty) (items : List Value) → IsTypedHeap types heap → slice_get heap.objects o ≡ Some (objects.Refs item items) → IsTypedObject types heap (objects.Refs item items)
-array_typed types heap o item items typed e = all_got (IsTypedObject types heap) heap.objects o (objects.Refs item items) typed e
+array_typed types heap o item items typed e = all_at (IsTypedObject types heap) heap.objects o (objects.Refs item items) typed e
 
 pub array_reference : (types : WorldTypes) (item : Ty) → item.dims < 255 → IsReference types.classes item → IsReference types.classes (array_of item)
 array_reference types item l r = (omega (arith, l), based types.classes item.dims item.base r.1)
@@ -57,8 +58,8 @@ same_place : (value : Value) (place o : ℕ) → value ≡ values.Ref place → 
 same_place value place o e t = some_is (sym (ap target e) ∙ t)
 
 pub tells : (types : WorldTypes) (state : AbstractState) (heap : Heap) (m : Meaning) (laws : AreLawful types) (typed : IsTypedHeap types heap) (c : Cell) (value : Value) (o : ℕ) (object : Object) → IsSoundCell types state c → Describes types heap m c value → target value ≡ Some o → slice_get heap.objects o ≡ Some object → Tells types c object
-tells types state heap m laws typed (cells.Int interval) value o object s d t e = absurd (none_is_not_some o (ap target (sym d.1.0) ∙ t))
-tells types state heap m laws typed cells.Null value o object s d t e = absurd (none_is_not_some o (ap target (sym d) ∙ t))
+tells types state heap m laws typed (cells.Int interval) value o object s d t e = absurd (none-some o (ap target (sym d.1.0) ∙ t))
+tells types state heap m laws typed cells.Null value o object s d t e = absurd (none-some o (ap target (sym d) ∙ t))
 tells types state heap m laws typed (cells.Obj class ids) value o object s d t e =
     let same : d.object ≡ object = some_is (sym d.stands ∙ ap (slice_get heap.objects) (same_place value d.place o d.names t) ∙ e) in
     let is : class_type class ≡ type_of object = ap type_of (sym d.holds ∙ same) in
@@ -90,7 +91,7 @@ tells types state heap m laws typed (cells.Refs element len shape) value o objec
       erased = s.1.1.1;
       exact = λ k. absurd (false≢true k);
     }
-tells types state heap m laws typed (cells.Unk bound nullable shape) value o object s (inl d) t e = absurd (none_is_not_some o (ap target (sym d.1) ∙ t))
+tells types state heap m laws typed (cells.Unk bound nullable shape) value o object s (inl d) t e = absurd (none-some o (ap target (sym d.1) ∙ t))
 tells types state heap m laws typed (cells.Unk bound nullable shape) value o object s (inr d) t e =
     let same : d.object ≡ object = some_is (sym d.stands ∙ ap (slice_get heap.objects) (same_place value d.place o d.names t) ∙ e) in
     record {

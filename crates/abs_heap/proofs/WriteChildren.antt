@@ -3,9 +3,11 @@ use Rattle.std.proofs.Common.{◌≡◌, ℕ, ◌||◌, Bool, true, false, not, 
 use Rattle.std.specs.Prelude.{◌↔◌, slice_get}
 use Rattle.std.specs.Option.{option_map}
 use Rattle.std.specs.List.{list_any}
-use Rattle.std.proofs.lemmas.Bool.{false≢true, or_cases, or_left, or_right}
+use Rattle.std.proofs.lemmas.Bool.{false≢true, or_cases, or_left, or_right, cases_Bool, cases_eq}
+use Rattle.std.proofs.lemmas.Option.{none-some}
+use Rattle.list_views.proofs.Options.{then_some}
 use Rattle.jvm_values.specs.Paths.{follow}
-use Rattle.jvm_values.proofs.Options.{given, some_is, none_is_not_some}
+use Rattle.jvm_values.proofs.Options.{some_is}
 use Rattle.abs_cells.specs.declared.cells.Cell.{Cell}
 use Rattle.abs_cells.specs.declared.cells.Cell.TheVariants as cells
 use Rattle.abs_cells.specs.AbstractStates.{AbstractState}
@@ -14,7 +16,6 @@ use Rattle.abs_cells.specs.Closures.{cell_steps, KnownFrom, MayBeIn, IsFiniteId}
 use Rattle.abs_cells.specs.IdSets.{has_id}
 use Rattle.abs_cells.specs.PairLists.{has}
 use Rattle.abs_cells.specs.Sound.{IsWellFormed}
-use Rattle.abs_cells.proofs.PairLaws.{bool_cases}
 use Rattle.abs_reach.proofs.Answering.{share_counts}
 use Rattle.abs_reach.proofs.Walks.{named_has_cell, some_cell}
 use Rattle.abs_heap.specs.Names.{name_in, frame_named, IsImage}
@@ -24,15 +25,14 @@ use Rattle.abs_heap.specs.Writing.{Write, IsAffected, IsMet, IsNullId, MakesNoCy
 use Rattle.abs_heap.proofs.Affected.{affected_there}
 use Rattle.abs_heap.proofs.After.{any_named, named_any}
 use Rattle.abs_heap.proofs.PairGains.{gain_both, gain_as, gains_on}
-use Rattle.abs_heap.proofs.Placing.{same_or_not}
 use Rattle.abs_heap.proofs.Giving.{pairs_given, state_of}
 
 -- what known cells lead to has cells
 known_there : (state : AbstractState) → IsWellFormed state → (path : List ℕ) (x z : ℕ) → HasCell (λ _. true) state x → follow (cell_steps state) path x ≡ Some z → HasCell (λ _. true) state z
 known_there state good [] x z h e = subst (λ (i : ℕ). HasCell (λ _. true) state i) (some_is e) h
 known_there state good (i ∷ path) x z h e =
-    let q = given (follow (cell_steps state) path) (cell_steps state x i) z e in
-    let c = given (λ (cell : Cell). slice_get (ids_of cell) i) (cell_at state x) q.0 q.1.0 in
+    let q = then_some (follow (cell_steps state) path) (cell_steps state x i) z e in
+    let c = then_some (λ (cell : Cell). slice_get (ids_of cell) i) (cell_at state x) q.0 q.1.0 in
     known_there state good path q.0 z (named_has_cell state good x i q.0 c.0 c.1.0 (named_too c.0 i q.0 c.1.1)) q.1.1
   where
     named_too : (cell : Cell) (i y : ℕ) → slice_get (ids_of cell) i ≡ Some y → slice_get (ids_in cell) i ≡ Some y
@@ -40,8 +40,8 @@ known_there state good (i ∷ path) x z h e =
     named_too cells.Null i y f = f
     named_too (cells.Obj class ids) i y f = f
     named_too (cells.Nums kind len) i y f = f
-    named_too (cells.Refs element len shape) i y f = absurd (none_is_not_some y f)
-    named_too (cells.Unk bound nullable shape) i y f = absurd (none_is_not_some y f)
+    named_too (cells.Refs element len shape) i y f = absurd (none-some y f)
+    named_too (cells.Unk bound nullable shape) i y f = absurd (none-some y f)
 
 pub no_cycle_is : (state : AbstractState) (k w : ℕ) (inside : Bool) → IsFiniteId state w → (inside ≡ true) ↔ MayBeIn state k w → (not inside ≡ true) ↔ MakesNoCycle state k w
 no_cycle_is state k w true finite is = (λ t. absurd (false≢true t), λ h. absurd (h.apart (is.0 refl)))
@@ -107,7 +107,7 @@ module _ (state : AbstractState) (write : Write) (ns names : List (ℕ × ℕ)) 
       let from = known_there state good h.known.path write.value h.from value h.known.leads in
       elim h.meets [
         | inl e ↦ subst (λ (i : ℕ). HasCell (λ _. true) state i) (sym e) from
-        | inr s ↦ elim (same_or_not h.from z) [
+        | inr s ↦ elim (cases_eq h.from z) [
           | inl e ↦ subst (λ (i : ℕ). HasCell (λ _. true) state i) e from
           | inr e ↦ some_cell state z (share_counts state good h.from z e s).1
         ]
@@ -143,7 +143,7 @@ module _ (state : AbstractState) (write : Write) (ns names : List (ℕ × ℕ)) 
       (gains_on list all (λ _ c d. (null ≡ false) × ((has_id ids c ≡ true) × (has_id met d ≡ true))) sh0 sh1 listed gained))
     where
       not_null : (IsNullId state write.value → ⊥) → null ≡ false
-      not_null n = elim (bool_cases null) [ inl t ↦ absurd (n (null_is.0 t)) | inr f ↦ f ]
+      not_null n = elim (cases_Bool null) [ inl t ↦ absurd (n (null_is.0 t)) | inr f ↦ f ]
 
   equals : Gains all (IsImage (name_in names) (AreEqual state)) [] eq
   equals = subst (λ (ps : List (ℕ × ℕ)). Gains all (IsImage (name_in names) (λ x y. has x y ps ≡ true)) [] eq) eq_is (gains_on list all (λ _. IsImage (name_in names) (λ x y. has x y old_eq ≡ true)) [] eq listed named_eq)

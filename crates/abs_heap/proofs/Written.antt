@@ -3,8 +3,12 @@ use Rattle.std.proofs.Common.{◌≡◌, ◌≢◌, ℕ, zero, suc, ◌<◌, Boo
 use Rattle.std.specs.Prelude.{slice_get, slice_set}
 use Rattle.std.specs.List.{flat_map}
 use Rattle.std.specs.Option.{option_map, option_and_then}
-use Rattle.std.proofs.lemmas.Bool.{false≢true, cases_Bool, eqb-true, or_cases}
+use Rattle.std.proofs.lemmas.Bool.{false≢true, cases_Bool, eqb-true, or_cases, cond-true, cond-false, cases_eq}
 use Rattle.std.proofs.lemmas.List.Elements.{All-nil, All-head, All-tail}
+use Rattle.std.proofs.lemmas.Option.{none-some}
+use Rattle.list_views.proofs.Quantified.{every_back, every_front}
+use Rattle.list_views.proofs.Items.{length_set, get_set}
+use Rattle.list_views.proofs.Options.{then_some}
 use Rattle.jvm_values.specs.declared.heap.Value.{Value}
 use Rattle.jvm_values.specs.declared.heap.Value.TheVariants as values
 use Rattle.jvm_values.specs.declared.heap.Object.{Object}
@@ -19,8 +23,8 @@ use Rattle.jvm_values.specs.Heaps.{target, Region, HasShape}
 use Rattle.jvm_values.specs.TypedHeaps.{WorldTypes, type_of}
 use Rattle.jvm_values.specs.Writes.{IsWritten, with_value, IsKept}
 use Rattle.jvm_values.proofs.AfterWrites.{keeps, gains, no_cycle, null_keeps}
-use Rattle.jvm_values.proofs.Options.{given, some_is, none_is_not_some}
-use Rattle.jvm_values.proofs.Lists.{same_or_not, get_set_other}
+use Rattle.jvm_values.proofs.Options.{some_is}
+use Rattle.jvm_values.proofs.Lists.{get_set_other}
 use Rattle.abs_cells.specs.declared.cells.Cell.{Cell}
 use Rattle.abs_cells.specs.declared.cells.Cell.TheVariants as cells
 use Rattle.abs_cells.specs.AbstractStates.{AbstractState}
@@ -29,10 +33,10 @@ use Rattle.abs_cells.specs.Closures.{cell_steps, KnownFrom}
 use Rattle.abs_cells.specs.Sound.{IsWellFormed, AreIdsRising, ids_used, ids_of_frame, given_ids}
 use Rattle.abs_cells.specs.Fits.{Meaning, Describes, Fits, with_statics}
 use Rattle.abs_cells.proofs.Fitting.{known_apart}
-use Rattle.abs_cells.proofs.PairLaws.{cond_true, cond_false, has_swapped}
+use Rattle.abs_cells.proofs.PairLaws.{has_swapped}
 use Rattle.abs_reach.specs.Ways.{Way}
 use Rattle.abs_reach.proofs.Sound.{ways, may_meet, may_be_in, finite}
-use Rattle.abs_reach.proofs.Walks.{named_has_cell, all_front, all_behind, counted_is_known, some_cell, hazy_is_reference}
+use Rattle.abs_reach.proofs.Walks.{named_has_cell, counted_is_known, some_cell, hazy_is_reference}
 use Rattle.abs_cells.specs.Patterns.{Pattern, IsSized, pattern_within, pattern_of_cell}
 use Rattle.term_graph.specs.Edges.{HoldsBetween, is_size_variable, HasSameSize}
 use Rattle.abs_heap.specs.Names.{name_in, frame_named, cell_named, IsImage}
@@ -41,7 +45,7 @@ use Rattle.abs_heap.specs.Laws.{plain_link, IsClosedState, IsWriteOf, Goes, with
 use Rattle.abs_heap.proofs.Placing.{cell_here, cell_later, absent}
 use Rattle.abs_heap.proofs.Fitted.{FitsBy, fits_given}
 use Rattle.abs_heap.proofs.SameTerms.{size_kept}
-use Rattle.abs_heap.proofs.Renamed.{named_here, named_later, unnamed_stays, old_in, back_again, renamed_is, is_renamed_of, maps_move, frames_move, thrown_moves, mapped_set, set_member, set_long, set_here, tree_is_dag}
+use Rattle.abs_heap.proofs.Renamed.{named_here, named_later, unnamed_stays, old_in, back_again, renamed_is, is_renamed_of, maps_move, frames_move, thrown_moves, mapped_set, set_member, tree_is_dag}
 
 -- ---- cells after the write
 
@@ -54,8 +58,8 @@ record Was (state : AbstractState) (names : List (ℕ × ℕ)) (change : Shape �
   now : (cell_after names change write (x, old)).1 ≡ c
 
 was_in : (state : AbstractState) (names : List (ℕ × ℕ)) (change : Shape → Shape) (write : Write) (low : ℕ) (list : List (ℕ × Cell)) → AreIdsRising low list → ((x : ℕ) (c : Cell) → cell_in list x ≡ Some c → cell_at state x ≡ Some c) → (id : ℕ) (c : Cell) → cell_in (map (cell_after names change write) list) id ≡ Some c → Was state names change write id c
-was_in state names change write low [] r there id c e = absurd (none_is_not_some c e)
-was_in state names change write low (d ∷ list) r there id c e = elim (same_or_not (name_in names d.0) id) [
+was_in state names change write low [] r there id c e = absurd (none-some c e)
+was_in state names change write low (d ∷ list) r there id c e = elim (cases_eq (name_in names d.0) id) [
   | inl s ↦ record {
     x = d.0;
     old = d.1;
@@ -69,7 +73,7 @@ was_in state names change write low (d ∷ list) r there id c e = elim (same_or_
 ]
   where
     not_first : (n x : ℕ) (y : Cell) (list : List (ℕ × Cell)) → AreIdsRising (suc n) list → n ≡ x → cell_in list x ≡ Some y → ⊥
-    not_first n x y list q t f = none_is_not_some y (sym (absent (suc n) list x q (omega (arith, t))) ∙ f)
+    not_first n x y list q t f = none-some y (sym (absent (suc n) list x q (omega (arith, t))) ∙ f)
 
 known_shaped : (change : Shape → Shape) (c : Cell) → is_known (with_shape change c) ≡ is_known c
 known_shaped change (cells.Int interval) = refl
@@ -142,7 +146,7 @@ shape_named f (cells.Unk bound nullable shape) = refl
 abbrev inner : List (ℕ × ℕ) → (Shape → Shape) → Write → ℕ → Cell → Cell
 inner names change write x c = if x == write.object then with_field write.field write.value (reshaped names change (x, c)) else reshaped names change (x, c)
 
-either : {A : Type 0} (P : A → Type 0) (b : Bool) (p q : A) → P p → P q → P (cond b p q)
+pub either : {A : Type 0} (P : A → Type 0) (b : Bool) (p q : A) → P p → P q → P (cond b p q)
 either P true p q a c = a
 either P false p q a c = c
 
@@ -165,10 +169,10 @@ shape_is_after names change write x c =
     ∙ either (λ (d : Cell). shape_of d ≡ shape_of (reshaped names change (x, c))) (x == write.object) (with_field write.field write.value (reshaped names change (x, c))) (reshaped names change (x, c)) (shape_fielded write.field write.value (reshaped names change (x, c))) refl
 
 shape_changed : (change : Shape → Shape) (c : Cell) (s : Shape) → shape_of (with_shape change c) ≡ Some s → (t : Shape) × ((shape_of c ≡ Some t) × (s ≡ change t))
-shape_changed change (cells.Int interval) s e = absurd (none_is_not_some s e)
-shape_changed change cells.Null s e = absurd (none_is_not_some s e)
-shape_changed change (cells.Obj class ids) s e = absurd (none_is_not_some s e)
-shape_changed change (cells.Nums kind len) s e = absurd (none_is_not_some s e)
+shape_changed change (cells.Int interval) s e = absurd (none-some s e)
+shape_changed change cells.Null s e = absurd (none-some s e)
+shape_changed change (cells.Obj class ids) s e = absurd (none-some s e)
+shape_changed change (cells.Nums kind len) s e = absurd (none-some s e)
 shape_changed change (cells.Refs element len shape) s e = (shape, (refl, sym (some_is e)))
 shape_changed change (cells.Unk bound nullable shape) s e = (shape, (refl, sym (some_is e)))
 
@@ -187,17 +191,17 @@ only_itself state y q h r = go r.path r.leads
     go : (p : List ℕ) → follow (cell_steps state) p y ≡ Some q → q ≡ y
     go [] e = sym (some_is e)
     go (i ∷ p) e =
-        let s = given (follow (cell_steps state) p) (cell_steps state y i) q e in
+        let s = then_some (follow (cell_steps state) p) (cell_steps state y i) q e in
         let none : cell_steps state y i ≡ None = ap (option_and_then (λ (cell : Cell). slice_get (ids_of cell) i)) h.is ∙ no_steps h.cell h.sort_is i in
-        absurd (none_is_not_some s.0 (sym none ∙ s.1.0))
+        absurd (none-some s.0 (sym none ∙ s.1.0))
 
 -- an object of the new heap
 object_after : (heap after : Heap) (o place : ℕ) (value : Value) (w : IsWritten heap o place value after) (r : ℕ) (ob : Object) → slice_get heap.objects r ≡ Some ob
     → ((r ≡ o → ⊥) × (slice_get after.objects r ≡ Some ob)) ⊎ ((r ≡ o) × ((ob ≡ w.object) × (slice_get after.objects r ≡ Some (with_value place value ob))))
-object_after heap after o place value w r ob e = elim (same_or_not r o) [
+object_after heap after o place value w r ob e = elim (cases_eq r o) [
   | inl s ↦
       let same : ob ≡ w.object = some_is (sym e ∙ ap (slice_get heap.objects) s ∙ w.stands) in
-      inr (s, (same, ap (λ (xs : List Object). slice_get xs r) w.objects ∙ ap (λ (i : ℕ). slice_get (slice_set heap.objects o (with_value place value w.object)) i) s ∙ set_here heap.objects o (with_value place value w.object) w.object w.stands ∙ ap (λ (x : Object). Some (with_value place value x)) (sym same)))
+      inr (s, (same, ap (λ (xs : List Object). slice_get xs r) w.objects ∙ ap (λ (i : ℕ). slice_get (slice_set heap.objects o (with_value place value w.object)) i) s ∙ get_set heap.objects o (with_value place value w.object) w.object w.stands ∙ ap (λ (x : Object). Some (with_value place value x)) (sym same)))
   | inr n ↦ inl (n, ap (λ (xs : List Object). slice_get xs r) w.objects ∙ get_set_other heap.objects o r (with_value place value w.object) n ∙ e)
 ]
 
@@ -252,7 +256,7 @@ module _ (types : WorldTypes) (heap after : Heap) (o place : ℕ) (value : Value
   ]
   described_after (cells.Refs element len shape) v d other moves = elim (object_after heap after o place value w d.place d.object d.stands) [
     | inl e ↦ record { place = d.place; object = d.object; names = d.names; stands = e.1; holds = record { item = d.holds.item; items = d.holds.items; is = d.holds.is; below = d.holds.below; length_is = moves 0 len refl ∙ d.holds.length_is } }
-    | inr e ↦ record { place = d.place; object = with_value place value d.object; names = d.names; stands = e.1.1; holds = record { item = d.holds.item; items = slice_set d.holds.items place value; is = ap (with_value place value) d.holds.is; below = d.holds.below; length_is = moves 0 len refl ∙ d.holds.length_is ∙ ap (λ (l : ℕ). values.Int (pos l)) (sym (set_long d.holds.items place value)) } }
+    | inr e ↦ record { place = d.place; object = with_value place value d.object; names = d.names; stands = e.1.1; holds = record { item = d.holds.item; items = slice_set d.holds.items place value; is = ap (with_value place value) d.holds.is; below = d.holds.below; length_is = moves 0 len refl ∙ d.holds.length_is ∙ ap (λ (l : ℕ). values.Int (pos l)) (sym (length_set d.holds.items place value)) } }
   ]
   described_after (cells.Unk bound nullable shape) v (inl d) other moves = inl d
   described_after (cells.Unk bound nullable shape) v (inr d) other moves = elim (object_after heap after o place value w d.place d.object d.stands) [
@@ -333,7 +337,7 @@ module _ (types : WorldTypes) (state child : AbstractState) (machine : MachineSt
   affected_if : (x : ℕ) → HasCell is_hazy state x → Region machine.heap (m x) o → IsAffected state k x
   affected_if x z r = elim sort_of_k [
     | inl i ↦ inl (h.inside k x o (known_k i) z to r, z)
-    | inr a ↦ elim (same_or_not x k) [
+    | inr a ↦ elim (cases_eq x k) [
       | inl e ↦ inr (e, array_k k refl a.0)
       | inr e ↦ inl (h.meeting k x o (hazy_k a.0) z (λ s. e (sym s)) in_k r, z)
     ]
@@ -359,7 +363,7 @@ module _ (types : WorldTypes) (state child : AbstractState) (machine : MachineSt
   null_value e = h.cells write.value cells.Null e
 
   not_null : (p : ℕ) → Region machine.heap (m write.value) p → IsNullId state write.value → ⊥
-  not_null p r e = none_is_not_some r.start (sym (ap target (null_value e)) ∙ r.names)
+  not_null p r e = none-some r.start (sym (ap target (null_value e)) ∙ r.names)
 
   met_hazy : (y p : ℕ) → HasCell is_hazy state y → Region machine.heap (m y) p → Region machine.heap (m write.value) p → IsMet state write.value y
   met_hazy y p z ry rw_ =
@@ -401,7 +405,7 @@ module _ (types : WorldTypes) (state child : AbstractState) (machine : MachineSt
       by_way a (inr b) =
           let from : KnownFrom state write.value b.q = record { path = b.front; leads = counted_is_known state b.front write.value b.q b.leads } in
           let region : Region machine.heap (m b.q) o = record { start = b.c; names = b.names; reaches = record { path = b.back; leads = b.rest } } in
-          elim (same_or_not b.q k) [
+          elim (cases_eq b.q k) [
             | inl e ↦ none.apart (record { counts = counts a; there = inl (subst (λ (i : ℕ). KnownFrom state write.value i) e from) })
             | inr e ↦ none.apart (record { counts = counts a; there = inr (record { q = b.q; from_x = from; hazy = b.hazy; share = h.meeting k b.q o (hazy_k a) b.hazy (λ s. e (sym s)) in_k region }) })
           ]
@@ -425,10 +429,10 @@ module _ (types : WorldTypes) (state child : AbstractState) (machine : MachineSt
   shaped_at : (x : ℕ) (c : Cell) (s : Shape) → cell_at state x ≡ Some c → is_hazy c ≡ true → shape_of (reshaped is.names (shape_after is.null is.no_cycle) (x, c)) ≡ Some s → HasShape s heap (m x)
   shaped_at x c s e z g = elim (cases_Bool (is_renamed is.names x)) [
     | inl r ↦
-        let t = shape_changed (shape_after is.null is.no_cycle) c s (ap shape_of (sym (cond_true (is_renamed is.names x) (with_shape (shape_after is.null is.no_cycle) c) c r)) ∙ g) in
+        let t = shape_changed (shape_after is.null is.no_cycle) c s (ap shape_of (sym (cond-true (is_renamed is.names x) (with_shape (shape_after is.null is.no_cycle) c) c r)) ∙ g) in
         subst (λ (y : Shape). HasShape y heap (m x)) (sym t.1.1) (shape_now x is.null is.no_cycle refl refl t.0 (h.shapes x c t.0 e t.1.0))
     | inr r ↦
-        let g2 : shape_of c ≡ Some s = ap shape_of (sym (cond_false (is_renamed is.names x) (with_shape (shape_after is.null is.no_cycle) c) c r)) ∙ g in
+        let g2 : shape_of c ≡ Some s = ap shape_of (sym (cond-false (is_renamed is.names x) (with_shape (shape_after is.null is.no_cycle) c) c r)) ∙ g in
         ((kept x (record { cell = c; is = e; sort_is = z }) r).shape s).1 (h.shapes x c s e g2)
   ]
 
@@ -473,8 +477,8 @@ module _ (types : WorldTypes) (state child : AbstractState) (machine : MachineSt
       ]
 
   cell_now : (x : ℕ) (c : Cell) → cell_at state x ≡ Some c → Describes types heap n (cell_after is.names (shape_after is.null is.no_cycle) write (x, c)).1 (m x)
-  cell_now x c e = elim (same_or_not x k) [
-    | inr other ↦ subst (λ (d : Cell). Describes types heap n (cell_named (name_in is.names) d) (m x)) (sym (cond_false (eqb x k) _ (reshaped is.names (shape_after is.null is.no_cycle) (x, c)) (ne_eqb x k other)))
+  cell_now x c e = elim (cases_eq x k) [
+    | inr other ↦ subst (λ (d : Cell). Describes types heap n (cell_named (name_in is.names) d) (m x)) (sym (cond-false (eqb x k) _ (reshaped is.names (shape_after is.null is.no_cycle) (x, c)) (ne_eqb x k other)))
         (same_cell_after x c e (λ z t. known_other x (record { cell = c; is = e; sort_is = z }) other t))
     | inl same ↦
         let is_cell : c ≡ cell = some_is (sym e ∙ ap (cell_at state) same ∙ at) in
@@ -482,13 +486,13 @@ module _ (types : WorldTypes) (state child : AbstractState) (machine : MachineSt
           | inl i ↦
               let shaped : reshaped is.names (shape_after is.null is.no_cycle) (x, c) ≡ cells.Obj i.class i.ids = ap (λ (d : Cell). reshaped is.names (shape_after is.null is.no_cycle) (x, d)) (is_cell ∙ i.is_instance) ∙ either (λ (d : Cell). d ≡ cells.Obj i.class i.ids) (is_renamed is.names x) (cells.Obj i.class i.ids) (cells.Obj i.class i.ids) refl refl in
               let inside : inner is.names (shape_after is.null is.no_cycle) write x c ≡ cells.Obj i.class (slice_set i.ids i.field write.value) =
-              cond_true (eqb x k) (with_field write.field write.value (reshaped is.names (shape_after is.null is.no_cycle) (x, c))) _ (eq-eqb x k same)
+              cond-true (eqb x k) (with_field write.field write.value (reshaped is.names (shape_after is.null is.no_cycle) (x, c))) _ (eq-eqb x k same)
               ∙ ap (λ (q : Option ℕ). with_field q write.value (reshaped is.names (shape_after is.null is.no_cycle) (x, c))) i.field_is
               ∙ ap (with_field (Some i.field) write.value) shaped in
               subst (λ (d : Cell). Describes types heap n (cell_named (name_in is.names) d) (m x)) (sym inside) (subst (λ (y : ℕ). Describes types heap n (cell_named (name_in is.names) (cells.Obj i.class (slice_set i.ids i.field write.value))) (m y)) (sym same) (instance_after i))
           | inr a ↦
               let inside : inner is.names (shape_after is.null is.no_cycle) write x c ≡ reshaped is.names (shape_after is.null is.no_cycle) (x, c) =
-              cond_true (eqb x k) (with_field write.field write.value (reshaped is.names (shape_after is.null is.no_cycle) (x, c))) _ (eq-eqb x k same)
+              cond-true (eqb x k) (with_field write.field write.value (reshaped is.names (shape_after is.null is.no_cycle) (x, c))) _ (eq-eqb x k same)
               ∙ ap (λ (q : Option ℕ). with_field q write.value (reshaped is.names (shape_after is.null is.no_cycle) (x, c))) a.1 in
               subst (λ (d : Cell). Describes types heap n (cell_named (name_in is.names) d) (m x)) (sym inside) (same_cell_after x c e (λ z t. false≢true (ap is_known (sym (is_cell ∙ a.0.is_array)) ∙ z)))
         ]
@@ -551,10 +555,10 @@ module _ (types : WorldTypes) (state child : AbstractState) (machine : MachineSt
       (IsImage (name_in is.names) (AreEqual state)) (λ a b. IsImage (name_in is.names) (Share state) a b ⊎ GainsPair state is.names write a b) (with_heap machine heap) (λ i. m (old_in is.names i))
   written_fits = record {
     positions = frames_move m (λ i. m (old_in is.names i)) (name_in is.names) state.frames (with_statics machine.statics machine.frames)
-        (all_front (λ id. m (old_in is.names (name_in is.names id)) ≡ m id) (flat_map ids_of_frame state.frames) (given_ids (state.throwing ∷ []) ++ flat_map (λ c. ids_in c.1) state.cells) all_move) h.positions;
+        (every_front (λ id. m (old_in is.names (name_in is.names id)) ≡ m id) (flat_map ids_of_frame state.frames) (given_ids (state.throwing ∷ []) ++ flat_map (λ c. ids_in c.1) state.cells) all_move) h.positions;
     mode = thrown_moves m (λ i. m (old_in is.names i)) (name_in is.names) state.throwing machine.mode
-        (all_front (λ id. m (old_in is.names (name_in is.names id)) ≡ m id) (given_ids (state.throwing ∷ [])) (flat_map (λ c. ids_in c.1) state.cells)
-        (all_behind (λ id. m (old_in is.names (name_in is.names id)) ≡ m id) (flat_map ids_of_frame state.frames) (given_ids (state.throwing ∷ []) ++ flat_map (λ c. ids_in c.1) state.cells) all_move)) h.mode;
+        (every_front (λ id. m (old_in is.names (name_in is.names id)) ≡ m id) (given_ids (state.throwing ∷ [])) (flat_map (λ c. ids_in c.1) state.cells)
+        (every_back (λ id. m (old_in is.names (name_in is.names id)) ≡ m id) (flat_map ids_of_frame state.frames) (given_ids (state.throwing ∷ []) ++ flat_map (λ c. ids_in c.1) state.cells) all_move)) h.mode;
     cells = λ id c e.
         let a = was id c e in
         subst (λ (u : Value). Describes types heap n c u) (sym (value_of_new id a.x (there id c a) a.named)) (subst (λ (d : Cell). Describes types heap n d (m a.x)) a.now (cell_now a.x a.old a.old_is));
@@ -583,10 +587,10 @@ module _ (types : WorldTypes) (state child : AbstractState) (machine : MachineSt
   }
     where
       hazy_of : (c : Cell) (s : Shape) → shape_of c ≡ Some s → is_hazy c ≡ true
-      hazy_of (cells.Int interval) s g = absurd (none_is_not_some s g)
-      hazy_of cells.Null s g = absurd (none_is_not_some s g)
-      hazy_of (cells.Obj class ids) s g = absurd (none_is_not_some s g)
-      hazy_of (cells.Nums kind len) s g = absurd (none_is_not_some s g)
+      hazy_of (cells.Int interval) s g = absurd (none-some s g)
+      hazy_of cells.Null s g = absurd (none-some s g)
+      hazy_of (cells.Obj class ids) s g = absurd (none-some s g)
+      hazy_of (cells.Nums kind len) s g = absurd (none-some s g)
       hazy_of (cells.Refs element len shape) s g = refl
       hazy_of (cells.Unk bound nullable shape) s g = refl
 
@@ -625,7 +629,7 @@ module _ (types : WorldTypes) (state child : AbstractState) (machine : MachineSt
 
   new_free : (ns : List (ℕ × ℕ)) → All (λ id. cell_at state id ≡ None) (map (λ e. e.1) ns) → (x : ℕ) → is_renamed ns x ≡ true → cell_at state (name_in ns x) ≡ None
   new_free [] a x e = absurd (false≢true e)
-  new_free (p ∷ ns) a x e = elim (same_or_not p.0 x) [
+  new_free (p ∷ ns) a x e = elim (cases_eq p.0 x) [
     | inl s ↦ ap (cell_at state) (named_here p ns x s) ∙ All-head (λ i. cell_at state i ≡ None) p.1 (map (λ q. q.1) ns) a
     | inr s ↦ ap (cell_at state) (named_later p ns x s) ∙ new_free ns (All-tail (λ i. cell_at state i ≡ None) p.1 (map (λ q. q.1) ns) a) x (elim (or_cases (eqb p.0 x) (is_renamed ns x) e) [ inl t ↦ absurd (s (eqb-true p.0 x t)) | inr t ↦ t ])
   ]
@@ -633,13 +637,13 @@ module _ (types : WorldTypes) (state child : AbstractState) (machine : MachineSt
   -- an id that both have kept its number
   stays_there : (id : ℕ) (c : Cell) → HasCell (λ _. true) state id → Was state is.names (shape_after is.null is.no_cycle) write id c → is_renamed is.names id ≡ false
   stays_there id c e a = elim (cases_Bool (is_renamed is.names a.x)) [
-    | inl r ↦ absurd (none_is_not_some e.cell (sym (new_free is.names is.renamed.fresh.free a.x r) ∙ ap (cell_at state) a.named ∙ e.is))
+    | inl r ↦ absurd (none-some e.cell (sym (new_free is.names is.renamed.fresh.free a.x r) ∙ ap (cell_at state) a.named ∙ e.is))
     | inr r ↦ subst (λ (i : ℕ). is_renamed is.names i ≡ false) (sym (unnamed_stays is.names a.x r) ∙ a.named) r
   ]
 
   pattern_cell : (depth id : ℕ) (pattern : Pattern) → pattern_within depth child id ≡ Some (Some pattern) → (c : Cell) × (cell_at child id ≡ Some c)
-  pattern_cell zero id pattern e = absurd (none_is_not_some (Some pattern) e)
-  pattern_cell (suc depth) id pattern e = let g = given (pattern_of_cell (pattern_within depth child) id) (cell_at child id) (Some pattern) e in (g.0, g.1.0)
+  pattern_cell zero id pattern e = absurd (none-some (Some pattern) e)
+  pattern_cell (suc depth) id pattern e = let g = then_some (pattern_of_cell (pattern_within depth child) id) (cell_at child id) (Some pattern) e in (g.0, g.1.0)
 
   variable_hazy : (c : Cell) → is_size_variable c ≡ true → is_hazy c ≡ true
   variable_hazy (cells.Int interval) p = p

@@ -5,6 +5,7 @@ use Rattle.std.specs.List.{Any}
 use Rattle.std.specs.Ordering.{int_eq}
 use Rattle.std.proofs.lemmas.Int.{ints}
 use Rattle.std.proofs.lemmas.Bool.Decides.{Decides-int_eq}
+use Rattle.std.proofs.lemmas.Bool.{and_parts}
 use Rattle.lin_core.specs.Intervals.{Bounds, IsIn}
 use Rattle.jvm_values.specs.Ints.{int_result}
 use Rattle.jvm_values.specs.declared.ints.IntOp.{IntOp}
@@ -18,7 +19,7 @@ use Rattle.abs_ints.proofs.BitCases.{and_covers, or_covers, xor_covers}
 use Rattle.abs_ints.proofs.Covering.{no_rows, any_first}
 use Rattle.abs_ints.proofs.DivisionCases.{quotient_covers, remainder_covers}
 use Rattle.abs_ints.proofs.NarrowCases.{narrow_covers}
-use Rattle.abs_ints.proofs.OperatorCases.{if_either, both_true, single_is, in_inside, in_zero}
+use Rattle.abs_ints.proofs.OperatorCases.{if_either, single_is, in_inside, in_zero}
 use Rattle.abs_ints.proofs.ProductCases.{product_covers}
 use Rattle.abs_ints.proofs.ShiftCases.{shift_left_covers, shift_right_covers, shift_zeros_covers}
 use Rattle.abs_ints.proofs.SumCases.{sum_covers, difference_covers}
@@ -50,7 +51,7 @@ single_falls op a b m n (Some r) p q exact e = in_inside op a b (Some (just r)) 
 single_or_covers : (op : IntOp) (a b : Bounds) (m n : ℤ) (cases : List IntCase) → IsIn m a → IsIn n b → exact_result op m n ≡ None → Any (FallsUnder op m n) cases → Any (FallsUnder op m n) (single_or op a b cases)
 single_or_covers op a b m n cases p q exact h =
     if_either (λ (l : List IntCase). Any (FallsUnder op m n) l) (is_single a && is_single b) (only (single_case a b (int_result op a.lo b.lo))) cases (λ t.
-    let both = both_true (is_single a) (is_single b) t in
+    let both = and_parts (is_single a) (is_single b) t in
     let left : a.lo ≡ m = single_is a m both.0 p in
     let right : b.lo ≡ n = single_is b n both.1 q in
     let same : int_result op m n ≡ int_result op a.lo b.lo = ap (λ (x : ℤ). int_result op x n) (sym left) ∙ ap (λ (y : ℤ). int_result op a.lo y) (sym right) in
@@ -62,7 +63,7 @@ single_or_covers op a b m n cases p q exact h =
 abbrev pub AreInts : Bounds → Type 0
 AreInts a = (all_ints.lo ≤ℤ a.lo) × (a.hi ≤ℤ all_ints.hi)
 
-is_int : (a : Bounds) (m : ℤ) → AreInts a → IsIn m a → IsIn m all_ints
+pub is_int : (a : Bounds) (m : ℤ) → AreInts a → IsIn m a → IsIn m all_ints
 is_int a m f p =
     let fl = f.0 in
     let fh = f.1 in

@@ -5,6 +5,8 @@ use Rattle.std.specs.List.{Any}
 use Rattle.std.specs.Int.{int_min, int_max, int_bit_and, int_bit_or, int_bit_xor, leading_zeros}
 use Rattle.std.proofs.lemmas.Nat.{and_le_l, and_le_r, or_lt, xor_lt, le_or_l, le_or_r, leading_length}
 use Rattle.std.proofs.lemmas.Int.{ints, clamps}
+use Rattle.std.proofs.lemmas.Bool.{and_parts}
+use Rattle.list_views.proofs.Orders.{int_through}
 use Rattle.lin_core.specs.Intervals.{Bounds, IsIn, interval_of}
 use Rattle.jvm_values.specs.declared.ints.IntOp.TheVariants.{And, Or, Xor}
 use Rattle.abs_ints.specs.Bits.{is_natural, below_left, below_right, and_case, and_cases, ones_over, or_case, or_cases, xor_case, xor_cases}
@@ -13,7 +15,7 @@ use Rattle.abs_ints.specs.Falling.{FallsUnder}
 use Rattle.abs_ints.specs.IntIntervals.{all_ints, meet_of}
 use Rattle.abs_ints.specs.declared.cases.IntCase.{IntCase}
 use Rattle.abs_ints.proofs.Covering.{bounds, in_interval, in_meet, no_rows, more_rows, any_first}
-use Rattle.abs_ints.proofs.OperatorCases.{AreTrue, if_either, both_true, in_inside}
+use Rattle.abs_ints.proofs.OperatorCases.{AreTrue, if_either, in_inside}
 
 -- 32 bits are some int
 bits_in_all : (n : ℕ) → IsSomeAnd (Some all_ints) (λ x. IsIn (to_z w32 n) x)
@@ -44,9 +46,6 @@ above_left m n r h = omega (arith, ints)
 above_right : (m n r : ℤ) → n ≤ℤ r → IsTrueOf m n r (at_least_zero (pos 0) (negsuc 0) (pos 1) (pos 0))
 above_right m n r h = omega (arith, ints)
 
-under : (r m h : ℤ) → r ≤ℤ m → m ≤ℤ h → r ≤ℤ h
-under r m h i j = omega (arith, ints)
-
 under_both : (r m n x y : ℤ) → r ≤ℤ m → r ≤ℤ n → m ≤ℤ x → n ≤ℤ y → r ≤ℤ int_min x y
 under_both r m n x y h i j k = omega (arith, ints, clamps)
 
@@ -62,7 +61,7 @@ and_falls a b m n f g p q =
     let ql = q.0 in
     let qh = q.1 in
     if_either P (is_natural a && is_natural b) (inside a b (interval_of (pos 0) (int_min a.hi b.hi)) (below_left ∷ below_right ∷ [])) _ (λ t.
-    let both = both_true (is_natural a) (is_natural b) t in
+    let both = and_parts (is_natural a) (is_natural b) t in
     let one = both.0 in
     let two = both.1 in
     let i = and_left m (of_z w32 n) f (omega (arith, ints)) in
@@ -70,10 +69,10 @@ and_falls a b m n f g p q =
     in_inside And a b (interval_of (pos 0) (int_min a.hi b.hi)) (below_left ∷ below_right ∷ []) m n r p q refl refl (in_interval r (pos 0) (int_min a.hi b.hi) i.0 (under_both r m n a.hi b.hi i.1 j.1 ph qh)) (more_rows m n r below_left (below_right ∷ []) (left_row m n r i.1) (right_true m n r j.1))) (λ _.
     if_either P (is_natural a) (inside a b (interval_of (pos 0) a.hi) (below_left ∷ [])) _ (λ t.
     let i = and_left m (of_z w32 n) f (omega (arith, ints)) in
-    in_inside And a b (interval_of (pos 0) a.hi) (below_left ∷ []) m n r p q refl refl (in_interval r (pos 0) a.hi i.0 (under r m a.hi i.1 ph)) (left_true m n r i.1)) (λ _.
+    in_inside And a b (interval_of (pos 0) a.hi) (below_left ∷ []) m n r p q refl refl (in_interval r (pos 0) a.hi i.0 (int_through r m a.hi i.1 ph)) (left_true m n r i.1)) (λ _.
     if_either P (is_natural b) (inside a b (interval_of (pos 0) b.hi) (below_right ∷ [])) _ (λ t.
     let j = and_right (of_z w32 m) n g (omega (arith, ints)) in
-    in_inside And a b (interval_of (pos 0) b.hi) (below_right ∷ []) m n r p q refl refl (in_interval r (pos 0) b.hi j.0 (under r n b.hi j.1 qh)) (right_true m n r j.1)) (λ _.
+    in_inside And a b (interval_of (pos 0) b.hi) (below_right ∷ []) m n r p q refl refl (in_interval r (pos 0) b.hi j.0 (int_through r n b.hi j.1 qh)) (right_true m n r j.1)) (λ _.
     in_inside And a b (Some all_ints) [] m n r p q refl refl (bits_in_all (bit_and (of_z w32 m) (of_z w32 n))) (no_rows m n r))))
 
 pub and_covers : (a b : Bounds) (m n : ℤ) → IsIn m all_ints → IsIn n all_ints → IsIn m a → IsIn n b → Any (FallsUnder And m n) (and_cases a b)
@@ -109,7 +108,7 @@ or_joined (pos x) (pos y) (pos k) s =
     let sw = s.whole in
     let power = below_power k (omega (arith, ints)) in
     let small = or_lt 31 x y (omega (arith, ints)) (omega (arith, ints)) in
-    let under = or_lt (32 - leading_zeros w32 k) x y (omega (arith, ints)) (omega (arith, ints)) in
+    let int_through = or_lt (32 - leading_zeros w32 k) x y (omega (arith, ints)) (omega (arith, ints)) in
     let l = le_or_l x y in
     let r = le_or_r x y in
     (record { low = omega (arith, ints); whole = omega (arith, ints); high = omega (arith, ints) }, omega (arith, ints), omega (arith, ints))
@@ -124,7 +123,7 @@ xor_joined (pos x) (pos y) (pos k) s =
     let sw = s.whole in
     let power = below_power k (omega (arith, ints)) in
     let small = xor_lt 31 x y (omega (arith, ints)) (omega (arith, ints)) in
-    let under = xor_lt (32 - leading_zeros w32 k) x y (omega (arith, ints)) (omega (arith, ints)) in
+    let int_through = xor_lt (32 - leading_zeros w32 k) x y (omega (arith, ints)) (omega (arith, ints)) in
     record { low = omega (arith, ints); whole = omega (arith, ints); high = omega (arith, ints) }
 xor_joined (pos x) (pos y) (negsuc k) s = let sl = s.left_below in absurd (omega (arith, ints))
 xor_joined (pos x) (negsuc y) h s = let sr = s.right in absurd (omega (arith, ints))
@@ -132,7 +131,7 @@ xor_joined (negsuc x) n h s = let sl = s.left in absurd (omega (arith, ints))
 
 naturals : (a b : Bounds) (m n : ℤ) → a.hi ≤ℤ all_ints.hi → b.hi ≤ℤ all_ints.hi → IsIn m a → IsIn n b → (is_natural a && is_natural b) ≡ true → Naturals m n (int_max a.hi b.hi)
 naturals a b m n ah bh p q t =
-    let both = both_true (is_natural a) (is_natural b) t in
+    let both = and_parts (is_natural a) (is_natural b) t in
     let one = both.0 in
     let two = both.1 in
     let pl = p.0 in

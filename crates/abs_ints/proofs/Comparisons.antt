@@ -6,6 +6,8 @@ use Rattle.std.specs.List.{Any}
 use Rattle.std.specs.Int.{int_max, int_min}
 use Rattle.std.proofs.lemmas.Int.{ints, clamps, by_lt_z}
 use Rattle.std.proofs.lemmas.Bool.Decides.{Decides-int_eq}
+use Rattle.std.proofs.lemmas.Bool.{false_from_ne_true}
+use Rattle.list_views.proofs.Orders.{int_le_from, int_eq_from}
 use Rattle.lin_core.specs.Intervals.{Bounds, IsIn}
 use Rattle.jvm_values.specs.Ints.{cond_holds}
 use Rattle.jvm_values.specs.declared.ints.Cond.{Cond}
@@ -63,15 +65,8 @@ order_of : (m n : ℤ) → Order m n
 order_of m n =
     by_lt_z m n (λ h. less h) (λ h. by_lt_z n m (λ k. more k) (λ k. same (omega (arith, ints))))
 
-equal_true : (m n : ℤ) → m ≡ n → int_eq m n ≡ true
-equal_true m n e = (Decides-int_eq m n).1 e
-
-is_false : (t : Bool) → (t ≡ true → ⊥) → t ≡ false
-is_false true h = absurd (h refl)
-is_false false h = refl
-
 equal_false : (m n : ℤ) → (m ≡ n → ⊥) → int_eq m n ≡ false
-equal_false m n h = is_false (int_eq m n) (λ t. h ((Decides-int_eq m n).0 t))
+equal_false m n h = false_from_ne_true (int_eq m n) (λ t. h ((Decides-int_eq m n).0 t))
 
 apart_less : (m n : ℤ) → m <ℤ n → int_eq m n ≡ false
 apart_less m n h = equal_false m n (λ e. omega (arith, ints))
@@ -85,23 +80,20 @@ is_less m n h = let e : true ≡ int_lt m n = omega (arith, ints) in sym e
 is_not_less : (m n : ℤ) → n ≤ℤ m → int_lt m n ≡ false
 is_not_less m n h = let e : false ≡ int_lt m n = omega (arith, ints) in sym e
 
-is_at_most : (m n : ℤ) → m ≤ℤ n → int_le m n ≡ true
-is_at_most m n h = let e : true ≡ int_le m n = omega (arith, ints) in sym e
-
 is_not_at_most : (m n : ℤ) → n <ℤ m → int_le m n ≡ false
 is_not_at_most m n h = let e : false ≡ int_le m n = omega (arith, ints) in sym e
 
 -- ---- the conditions
 
 covers_eq : (a b : Bounds) (m n : ℤ) → IsIn m a → IsIn n b → Order m n → Any (FallsBetween Eq m n) (cases_between Eq a b)
-covers_eq a b m n p q (same h) = any_first _ (related Equal Taken a b) _ (in_relation Eq Equal Taken a b m n p q h (equal_true m n h))
+covers_eq a b m n p q (same h) = any_first _ (related Equal Taken a b) _ (in_relation Eq Equal Taken a b m n p q h (int_eq_from m n h))
 covers_eq a b m n p q (less h) = any_rest _ (related Equal Taken a b) _ (any_first _ (related Below Next a b) _ (in_relation Eq Below Next a b m n p q h (apart_less m n h)))
 covers_eq a b m n p q (more h) = any_rest _ (related Equal Taken a b) _ (any_rest _ (related Below Next a b) _ (any_first _ (related Above Next a b) _ (in_relation Eq Above Next a b m n p q h (apart_more m n h))))
 
 covers_ne : (a b : Bounds) (m n : ℤ) → IsIn m a → IsIn n b → Order m n → Any (FallsBetween Ne m n) (cases_between Ne a b)
 covers_ne a b m n p q (less h) = any_first _ (related Below Taken a b) _ (in_relation Ne Below Taken a b m n p q h (ap not (apart_less m n h)))
 covers_ne a b m n p q (more h) = any_rest _ (related Below Taken a b) _ (any_first _ (related Above Taken a b) _ (in_relation Ne Above Taken a b m n p q h (ap not (apart_more m n h))))
-covers_ne a b m n p q (same h) = any_rest _ (related Below Taken a b) _ (any_rest _ (related Above Taken a b) _ (any_first _ (related Equal Next a b) _ (in_relation Ne Equal Next a b m n p q h (ap not (equal_true m n h)))))
+covers_ne a b m n p q (same h) = any_rest _ (related Below Taken a b) _ (any_rest _ (related Above Taken a b) _ (any_first _ (related Equal Next a b) _ (in_relation Ne Equal Next a b m n p q h (ap not (int_eq_from m n h)))))
 
 -- a condition with a relation that it consists of, and one that breaks it
 covers_two : (condition : Cond) (holding failing : Relation) (first second : Way) (a b : Bounds) (m n : ℤ) → IsIn m a → IsIn n b → (Stands holding m n × GoesBetween first condition m n) ⊎ (Stands failing m n × GoesBetween second condition m n) → Any (FallsBetween condition m n) (both_of (related holding first a b) (related failing second a b))
@@ -112,13 +104,13 @@ lt_or_ge : (m n : ℤ) → (Stands Below m n × int_lt m n ≡ true) ⊎ (Stands
 lt_or_ge m n = by_lt_z m n (λ h. inl (h, is_less m n h)) (λ h. inr (h, is_not_less m n h))
 
 ge_or_lt : (m n : ℤ) → (Stands AtLeast m n × int_le n m ≡ true) ⊎ (Stands Below m n × int_le n m ≡ false)
-ge_or_lt m n = by_lt_z m n (λ h. inr (h, is_not_at_most n m h)) (λ h. inl (h, is_at_most n m h))
+ge_or_lt m n = by_lt_z m n (λ h. inr (h, is_not_at_most n m h)) (λ h. inl (h, int_le_from n m h))
 
 gt_or_le : (m n : ℤ) → (Stands Above m n × int_lt n m ≡ true) ⊎ (Stands AtMost m n × int_lt n m ≡ false)
 gt_or_le m n = by_lt_z n m (λ h. inl (h, is_less n m h)) (λ h. inr (h, is_not_less n m h))
 
 le_or_gt : (m n : ℤ) → (Stands AtMost m n × int_le m n ≡ true) ⊎ (Stands Above m n × int_le m n ≡ false)
-le_or_gt m n = by_lt_z n m (λ h. inr (h, is_not_at_most m n h)) (λ h. inl (h, is_at_most m n h))
+le_or_gt m n = by_lt_z n m (λ h. inr (h, is_not_at_most m n h)) (λ h. inl (h, int_le_from m n h))
 
 covers_cond : (condition : Cond) (a b : Bounds) (m n : ℤ) → IsIn m a → IsIn n b → Any (FallsBetween condition m n) (cases_between condition a b)
 covers_cond Eq a b m n p q = covers_eq a b m n p q (order_of m n)
@@ -129,12 +121,12 @@ covers_cond Gt a b m n p q = covers_two Gt Above AtMost Taken Next a b m n p q (
 covers_cond Le a b m n p q = covers_two Le AtMost Above Taken Next a b m n p q (le_or_gt m n)
 
 goes_with_itself : (condition : Cond) (m : ℤ) → GoesBetween (cond (cond_holds condition (pos 0) (pos 0)) Taken Next) condition m m
-goes_with_itself Eq m = equal_true m m refl
-goes_with_itself Ne m = ap not (equal_true m m refl)
+goes_with_itself Eq m = int_eq_from m m refl
+goes_with_itself Ne m = ap not (int_eq_from m m refl)
 goes_with_itself Lt m = is_not_less m m (omega (arith, ints))
-goes_with_itself Ge m = is_at_most m m (omega (arith, ints))
+goes_with_itself Ge m = int_le_from m m (omega (arith, ints))
 goes_with_itself Gt m = is_not_less m m (omega (arith, ints))
-goes_with_itself Le m = is_at_most m m (omega (arith, ints))
+goes_with_itself Le m = int_le_from m m (omega (arith, ints))
 
 covers_one : (condition : Cond) (a b : Bounds) (m : ℤ) → IsIn m a → IsIn m b → Any (FallsBetween condition m m) (cases_of_one condition a b)
 covers_one condition a b m p q = (0, _, omega arith, refl, record { left_in = p; right_in = q; rows_hold = no_rows m m (pos 0); way_taken = goes_with_itself condition m })

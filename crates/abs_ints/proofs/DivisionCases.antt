@@ -8,8 +8,11 @@ use Rattle.std.specs.Ordering.{int_eq}
 use Rattle.std.proofs.Math.Nat.{div-le_self, div-mul-le_self, mul-le-mul_left, mod-le}
 use Rattle.std.proofs.lemmas.Nat.{le-div, div-add-mod', mod_below}
 use Rattle.std.proofs.lemmas.Int.{ints, clamps, int_wrap_fits, rem_below, SFits-int_wrap}
-use Rattle.std.proofs.lemmas.Bool.{cases_lt}
+use Rattle.std.proofs.lemmas.Bool.{cases_lt, and_parts}
 use Rattle.std.proofs.lemmas.Bool.Decides.{Decides-int_eq}
+use Rattle.jvm_values.proofs.IntLaws.{abs_quotient}
+use Rattle.jvm_values.proofs.IntRanges.{remainder_near}
+use Rattle.list_views.proofs.Orders.{int_le_from}
 use borrow.Author.Differences.{product_is}
 use Rattle.list_views.proofs.Ring.{neg_times}
 use Rattle.lin_core.specs.Intervals.{Bounds, IsIn, interval_of}
@@ -22,7 +25,7 @@ use Rattle.abs_ints.specs.Falling.{FallsUnder}
 use Rattle.abs_ints.specs.IntIntervals.{all_ints, is_single, meet_of}
 use Rattle.abs_ints.specs.declared.cases.IntCase.{IntCase}
 use Rattle.abs_ints.proofs.Covering.{bounds, in_interval, in_meet, no_rows, more_rows, covers_and_then, any_first, any_rest}
-use Rattle.abs_ints.proofs.OperatorCases.{AreTrue, if_either, both_true, single_is, in_inside, in_zero, in_all, dividend_rows_true}
+use Rattle.abs_ints.proofs.OperatorCases.{AreTrue, if_either, single_is, in_inside, in_zero, in_all, dividend_rows_true}
 
 -- ---- the two cases
 
@@ -119,7 +122,7 @@ single_divisor_true b m n r q h =
 quotient_rows_true : (a b d : Bounds) (m n r : ℤ) → IsIn m a → IsIn n b → (pos 1 ≤ℤ d.lo → pos 0 ≤ℤ m → (d.lo *ℤ r) ≤ℤ m) → (pos 1 ≤ℤ d.lo → pos 0 ≤ℤ m → m <ℤ (n *ℤ r +ℤ n)) → AreTrue m n r (quotient_rows a b d)
 quotient_rows_true a b d m n r p q least own =
     if_either (AreTrue m n r) (are_positive d && int_le (pos 0) a.lo) (at_least_zero (pos 1) (pos 0) (neg_ℤ d.lo) (pos 0) ∷ single_divisor_rows b) [] (λ t.
-    let both = both_true (are_positive d) (int_le (pos 0) a.lo) t in
+    let both = and_parts (are_positive d) (int_le (pos 0) a.lo) t in
     let one = both.0 in
     let two = both.1 in
     let pl = p.0 in
@@ -129,12 +132,6 @@ quotient_rows_true a b d m n r p q least own =
     more_rows m n r (at_least_zero (pos 1) (pos 0) (neg_ℤ d.lo) (pos 0)) (single_divisor_rows b) (omega (arith, ints, neg_times d.lo r)) (single_divisor_true b m n r q (own above natural))) (λ _. no_rows m n r)
 
 -- ---- quotients by other divisors
-
-abs_quotient : (m n : ℤ) → unsigned_abs (int_div m n) ≤ unsigned_abs m
-abs_quotient (pos x) (pos q) = div-le_self x q
-abs_quotient (pos x) (negsuc q) = omega (arith, ints, div-le_self x (suc q))
-abs_quotient (negsuc x) (pos q) = omega (arith, ints, div-le_self (suc x) q)
-abs_quotient (negsuc x) (negsuc q) = div-le_self (suc x) (suc q)
 
 -- a quotient of ints is an int, but for the least int by -1
 by_minus_one : (x : ℕ) → IsIn (negsuc x) all_ints → (x < 2147483647) ⊎ (2147483647 ≤ x) → FitsSigned w32 (int_div (negsuc x) (negsuc 0)) ⊎ ((negsuc x ≡ negsuc 2147483647) × (negsuc 0 ≡ negsuc 0))
@@ -157,15 +154,12 @@ three_true true true false h i j = j
 three_true true false u h i j = absurd cc
 three_true false t u h i j = absurd cc
 
-is_at_most : (x y : ℤ) → x ≤ℤ y → int_le x y ≡ true
-is_at_most x y h = let e : true ≡ int_le x y = omega (arith, ints) in sym e
-
 wraps : (a d : Bounds) (m n : ℤ) → all_ints.lo ≤ℤ a.lo → IsIn m a → IsIn n d → m ≡ negsuc 2147483647 → n ≡ negsuc 0 → may_wrap a d ≡ true
 wraps a d m n low p q e g =
     let pl = p.0 in
     let ql = q.0 in
     let qh = q.1 in
-    three_true (int_eq a.lo all_ints.lo) (int_le d.lo (negsuc 0)) (int_le (negsuc 0) d.hi) ((Decides-int_eq a.lo (negsuc 2147483647)).1 (omega (arith, ints))) (is_at_most d.lo (negsuc 0) (omega (arith, ints))) (is_at_most (negsuc 0) d.hi (omega (arith, ints)))
+    three_true (int_eq a.lo all_ints.lo) (int_le d.lo (negsuc 0)) (int_le (negsuc 0) d.hi) ((Decides-int_eq a.lo (negsuc 2147483647)).1 (omega (arith, ints))) (int_le_from d.lo (negsuc 0) (omega (arith, ints))) (int_le_from (negsuc 0) d.hi (omega (arith, ints)))
 
 other_fits : (a d : Bounds) (m n : ℤ) → all_ints.lo ≤ℤ a.lo → IsIn m all_ints → IsIn m a → IsIn n d → may_wrap a d ≡ false → FitsSigned w32 (int_div m n)
 other_fits a d m n low f p q t =
@@ -207,10 +201,6 @@ quotient_covers a b m n low f p q =
     in_inside Div a d (quotients_of a d) (quotient_rows a b d) m n (int_wrap w32 (int_div m n)) p i (some_result _ n apart) refl (in_quotients a d m n low f p i) (quotient_true a b d m n f p q i))
 
 -- ---- remainders
-
-remainder_near : (m n : ℤ) → (int_min m (pos 0) ≤ℤ int_rem m n) × (int_rem m n ≤ℤ int_max m (pos 0))
-remainder_near (pos x) n = let h = mod-le x (unsigned_abs n) in (omega (arith, ints, clamps), omega (arith, ints, clamps))
-remainder_near (negsuc x) n = let h = mod-le (suc x) (unsigned_abs n) in (omega (arith, ints, clamps), omega (arith, ints, clamps))
 
 size_above_zero : (n : ℤ) → ¬ (n ≡ pos 0) → 0 < unsigned_abs n
 size_above_zero (pos zero) h = absurd (h refl)

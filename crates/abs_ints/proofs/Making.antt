@@ -3,6 +3,7 @@ use Rattle.std.proofs.Common.{◌≡◌, ℕ, ◌≤◌, ℤ, ◌*ℤ◌, ◌≤
 use Rattle.std.specs.Prelude.{int_le, unsigned_abs}
 use Rattle.std.specs.Int.{int_max, int_min}
 use Rattle.std.proofs.lemmas.Int.{ints, fits_signed_mul}
+use Rattle.jvm_values.proofs.IntLaws.{abs_of_int}
 use Rattle.lin_core.specs.Intervals.{Bounds, interval_of}
 
 abbrev bounds : ℤ → ℤ → Bounds
@@ -41,12 +42,9 @@ some_is x y lo hi l h o = ap (λ (b : Bounds). Some b) (ends_are x y lo hi l h) 
 fits_more : (z : ℤ) → FitsSigned w32 z → FitsSigned w64 z
 fits_more z f = omega (arith, ints)
 
-abs_fits : (z : ℤ) → FitsSigned w32 z → unsigned_abs z ≤ 2147483648
-abs_fits z f = omega (arith, ints)
-
 -- the product of two ints has room
 pub product_fits : (x y : ℤ) → FitsSigned w32 x → FitsSigned w32 y → FitsSigned w64 (x *ℤ y)
-product_fits x y f g = fits_signed_mul w64 x y 2147483648 2147483648 (abs_fits x f) (abs_fits y g) (lit< tt)
+product_fits x y f g = fits_signed_mul w64 x y 2147483648 2147483648 (abs_of_int x f) (abs_of_int y g) (lit< tt)
 
 pub factors_are : (u v x y : ℤ) → u ≡ x → v ≡ y → FitsSigned w32 x → FitsSigned w32 y → to_z w64 (of_z w64 u) *ℤ to_z w64 (of_z w64 v) ≡ x *ℤ y
 factors_are u v x y e h f g =

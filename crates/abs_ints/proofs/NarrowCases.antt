@@ -4,6 +4,8 @@ use Rattle.std.specs.Prelude.{IsSomeAnd, int_le}
 use Rattle.std.specs.List.{Any}
 use Rattle.std.specs.Int.{int_wrap, int_rem_euclid}
 use Rattle.std.proofs.lemmas.Int.{ints, SFits-int_wrap, int_wrap_fits}
+use Rattle.std.proofs.lemmas.Bool.{and_parts}
+use Rattle.jvm_values.proofs.IntRanges.{bit_in, char_in}
 use Rattle.lin_core.specs.Intervals.{Bounds, IsIn, interval_of}
 use Rattle.jvm_values.specs.Kinds.{IsOfKind, least_of, greatest_of, narrowed}
 use Rattle.jvm_values.specs.declared.ints.IntOp.TheVariants.{Narrow}
@@ -16,7 +18,7 @@ use Rattle.abs_ints.specs.IntIntervals.{all_ints}
 use Rattle.abs_ints.specs.declared.cases.IntCase.{IntCase}
 use Rattle.abs_ints.specs.declared.cases.Way.TheVariants.{Inside}
 use Rattle.abs_ints.proofs.Covering.{in_interval, no_rows, any_first}
-use Rattle.abs_ints.proofs.OperatorCases.{if_either, both_true, in_inside}
+use Rattle.abs_ints.proofs.OperatorCases.{if_either, in_inside}
 
 bit_kept : (m : ℤ) → pos 0 ≤ℤ m → m ≤ℤ pos 1 → int_rem_euclid m (pos 2) ≡ m
 bit_kept (pos n) l h = omega (arith, ints)
@@ -33,14 +35,6 @@ kept Char m h = char_kept m h.0 h.1
 kept Byte m h = let l = h.0 in let k = h.1 in int_wrap_fits w8 m (omega (arith, ints))
 kept Short m h = let l = h.0 in let k = h.1 in int_wrap_fits w16 m (omega (arith, ints))
 kept Int m h = refl
-
-bit_in : (m : ℤ) → (pos 0 ≤ℤ int_rem_euclid m (pos 2)) × (int_rem_euclid m (pos 2) ≤ℤ pos 1)
-bit_in (pos n) = (omega (arith, ints), omega (arith, ints))
-bit_in (negsuc n) = (omega (arith, ints), omega (arith, ints))
-
-char_in : (m : ℤ) → (pos 0 ≤ℤ int_rem_euclid m (pos 65536)) × (int_rem_euclid m (pos 65536) ≤ℤ pos 65535)
-char_in (pos n) = (omega (arith, ints), omega (arith, ints))
-char_in (negsuc n) = (omega (arith, ints), omega (arith, ints))
 
 -- what is narrowed is of the kind
 of_kind : (kind : Kind) (m : ℤ) → IsIn m all_ints → IsOfKind kind (narrowed kind m)
@@ -62,7 +56,7 @@ pub narrow_covers : (kind : Kind) (a b : Bounds) (m n : ℤ) → IsIn m all_ints
 narrow_covers kind a b m n f p q =
     any_first _ (cond (are_of_kind kind a) (case_between Inside (Some a) (Some b) []) (inside a b (interval_of (least_of kind) (greatest_of kind)) [])) [] (
     if_either (λ (o : Option IntCase). IsSomeAnd o (FallsUnder (Narrow kind) m n)) (are_of_kind kind a) _ _ (λ e.
-    let t = both_true (int_le (least_of kind) a.lo) (int_le a.hi (greatest_of kind)) e in
+    let t = and_parts (int_le (least_of kind) a.lo) (int_le a.hi (greatest_of kind)) e in
     let low = t.0 in
     let high = t.1 in
     falls_as_it_is kind a b m n p q (omega (arith, ints), omega (arith, ints))) (λ e.

@@ -5,6 +5,7 @@ use Rattle.std.specs.Int.{int_wrap}
 use Rattle.std.specs.Ordering.{int_eq}
 use Rattle.std.proofs.lemmas.Int.{ints, SFits-int_wrap, int_wrap_fits}
 use Rattle.std.proofs.lemmas.Bool.Decides.{Decides-int_eq}
+use Rattle.std.proofs.lemmas.Bool.{and_parts}
 use Rattle.lin_core.specs.Intervals.{Bounds, IsIn}
 use Rattle.jvm_values.specs.Ints.{int_result}
 use Rattle.jvm_values.specs.declared.ints.IntOp.{IntOp}
@@ -20,12 +21,6 @@ use Rattle.abs_ints.proofs.Covering.{in_meet, no_rows, more_rows, covers_between
 pub if_either : {A : Type 0} (P : A → Type 0) (test : Bool) (x y : A) → (test ≡ true → P x) → (test ≡ false → P y) → P (cond test x y)
 if_either P true x y p q = p refl
 if_either P false x y p q = q refl
-
--- what two tests say together
-pub both_true : (s t : Bool) → (s && t) ≡ true → (s ≡ true) × (t ≡ true)
-both_true true true h = (refl, refl)
-both_true true false h = (refl, h)
-both_true false t h = absurd cc
 
 pub single_is : (a : Bounds) (m : ℤ) → is_single a ≡ true → IsIn m a → a.lo ≡ m
 single_is a m e p =
@@ -74,7 +69,7 @@ in_all z = let f : FitsSigned w32 (int_wrap w32 z) = SFits-int_wrap w32 z in (om
 
 an_int : (z : ℤ) (h : Bounds) → IsIn z h → are_ints h ≡ true → IsIn z all_ints
 an_int z h p e =
-    let t = both_true (int_le all_ints.lo h.lo) (int_le h.hi all_ints.hi) e in
+    let t = and_parts (int_le all_ints.lo h.lo) (int_le h.hi all_ints.hi) e in
     let low = t.0 in
     let high = t.1 in
     let pl = p.0 in

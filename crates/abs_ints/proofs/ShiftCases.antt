@@ -7,6 +7,7 @@ use Rattle.std.proofs.Math.Nat.{div-le_self, div-mul-le_self, mod-lt, div-one, m
 use Rattle.std.proofs.lemmas.Nat.{pow_pos, le-div, shr_below, div-add-mod', mod_below}
 use Rattle.std.proofs.lemmas.Int.{ints, clamps}
 use Rattle.std.proofs.lemmas.Bool.Decides.{Decides-eqb}
+use Rattle.jvm_values.proofs.IntRanges.{shift_near}
 use lib.IntN.{*ℤ_comm}
 use Rattle.list_views.proofs.Ring.{neg_times}
 use Rattle.lin_core.specs.Intervals.{Bounds, IsIn, interval_of}
@@ -85,11 +86,6 @@ shr_by : (op : IntOp) (a b : Bounds) (m n : ℤ) (k : ℕ) → IsIn m a → IsIn
 shr_by op a b m n k p q is exact =
     in_inside op a b (shifted_right_by a k) (shifted_right_rows (pos (2 ^ k))) m n (int_shr m k) p q is exact (in_interval (int_shr m k) (int_shr a.lo k) (int_shr a.hi k) (shr_rises a.lo m k p.0) (shr_rises m a.hi k p.1)) (rows_of_shift (pos (2 ^ k)) m n (int_shr m k) (low_row m k) (high_row m k))
 
--- a shift to the right leads nearer to 0, or to -1
-shr_near : (m : ℤ) (k : ℕ) → (int_min m (pos 0) ≤ℤ int_shr m k) × (int_shr m k ≤ℤ int_max m (negsuc 0))
-shr_near (pos x) k = let h = div-le_self x (2 ^ k) in (omega (arith, ints, clamps), omega (arith, ints, clamps))
-shr_near (negsuc x) k = let h = div-le_self x (2 ^ k) in (omega (arith, ints, clamps), omega (arith, ints, clamps))
-
 nearer : (a : Bounds) (m r : ℤ) → IsIn m a → int_min m (pos 0) ≤ℤ r → r ≤ℤ int_max m (negsuc 0) → (int_min a.lo (pos 0) ≤ℤ r) × (r ≤ℤ int_max a.hi (negsuc 0))
 nearer a m r p l h =
     let pl = p.0 in
@@ -102,7 +98,7 @@ no_higher m r h k = omega (arith, ints, clamps)
 shr_any : (op : IntOp) (a b : Bounds) (m n : ℤ) → IsIn m a → IsIn n b → int_result op m n ≡ Some (int_shr m (shift_count n)) → exact_result op m n ≡ None → IsSomeAnd (inside a b (shifted_right a) (dividend_rows a)) (FallsUnder op m n)
 shr_any op a b m n p q is exact =
     let r : ℤ = int_shr m (shift_count n) in
-    let near = shr_near m (shift_count n) in
+    let near = shift_near m (shift_count n) in
     let i = nearer a m r p near.0 near.1 in
     in_inside op a b (shifted_right a) (dividend_rows a) m n r p q is exact (in_interval r (int_min a.lo (pos 0)) (int_max a.hi (negsuc 0)) i.0 i.1) (dividend_rows_true a m n r p (no_higher m r near.1))
 

@@ -4,6 +4,8 @@ use Rattle.std.proofs.lemmas.Int.{ints}
 use Rattle.std.proofs.lemmas.Bool.{cases_eq, false≢true}
 use Rattle.std.proofs.lemmas.Slice.Zip.{AllZip-long}
 use Rattle.std.specs.List.{AllZip}
+use Rattle.std.proofs.lemmas.Option.{none-some}
+use Rattle.list_views.proofs.Zipped.{zip_right}
 use Rattle.jvm_values.specs.declared.heap.Value.{Value}
 use Rattle.jvm_values.specs.declared.heap.Value.TheVariants as values
 use Rattle.jvm_values.specs.declared.heap.Object.{Object}
@@ -17,7 +19,7 @@ use Rattle.jvm_values.specs.Heaps.{target, Region, HasShape}
 use Rattle.jvm_values.specs.States.{MachineFrame, MachineState}
 use Rattle.jvm_values.specs.Subtyping.{class_type, array_of, array_of_numbers}
 use Rattle.jvm_values.specs.TypedHeaps.{WorldTypes, AreLawful, type_of}
-use Rattle.jvm_values.proofs.Options.{some_is, none_is_not_some}
+use Rattle.jvm_values.proofs.Options.{some_is}
 use Rattle.abs_cells.specs.declared.cells.Cell.{Cell}
 use Rattle.abs_cells.specs.declared.cells.Cell.TheVariants.{Int, Null, Obj, Nums, Refs, Unk}
 use Rattle.abs_cells.specs.AbstractStates.{AbstractFrame, AbstractState}
@@ -29,14 +31,6 @@ use Rattle.abs_reach.proofs.Sound.{may_meet, may_be_in, finite, tree}
 use Rattle.abs_reach.proofs.Walks.{not_one}
 use Rattle.abs_match.specs.Laws.{MatchesCarryFitting, HasArraysOfWorld, value_of_image, after}
 use Rattle.abs_match.proofs.Positions.{IsFrameUnder, zipped, same_maps, as_many, frame_under}
-
--- the partner of an item of the second of two related lists
-partner : {A B : Type 0} (R : A → B → Type 0) (xs : List A) (ys : List B) → AllZip R xs ys → (n : ℕ) (y : B) → slice_get ys n ≡ Some y → (x : A) × ((slice_get xs n ≡ Some x) × R x y)
-partner R [] [] z n y e = absurd (none_is_not_some y e)
-partner R [] (b ∷ ys) z n y e = absurd z
-partner R (a ∷ xs) [] z n y e = absurd z
-partner R (a ∷ xs) (b ∷ ys) z zero y e = (a, (refl, subst (R a) (some_is e) z.0))
-partner R (a ∷ xs) (b ∷ ys) z (suc n) y e = partner R xs ys z.1 n y e
 
 module _ (types : WorldTypes) (state target_state : AbstractState) (entries : List (ℕ × ℕ)) (machine : MachineState) (meaning : Meaning) (laws : AreLawful types) (arrays : HasArraysOfWorld types machine.heap) (good : IsWellFormed state) (is : InstanceOf types.sub state target_state entries) (h : Fits types state machine meaning) where
   m : Meaning
@@ -83,7 +77,7 @@ module _ (types : WorldTypes) (state target_state : AbstractState) (entries : Li
 
       each : (n : ℕ) (under : AbstractFrame) (machine_frame : MachineFrame) → slice_get target_state.frames n ≡ Some under → slice_get (with_statics machine.statics machine.frames) n ≡ Some machine_frame → FitsFrame (after meaning entries) under machine_frame
       each n under machine_frame e f =
-          let p = partner (FitsFrame meaning) state.frames (with_statics machine.statics machine.frames) h.positions n machine_frame f in
+          let p = zip_right (FitsFrame meaning) state.frames (with_statics machine.statics machine.frames) h.positions n machine_frame f in
           frame_fits p.0 under machine_frame (frame_under state target_state entries heads (is positions).1 n p.0 under p.1.0 e) p.1.1
 
   mode_fits : (thrown target_thrown : Option ℕ) (now : Mode) → is_thrown thrown ≡ is_thrown target_thrown → ((id : ℕ) → target_thrown ≡ Some id → (image : ℕ) × ((image_in entries id ≡ Some image) × (thrown ≡ Some image))) → FitsMode meaning thrown now → FitsMode (after meaning entries) target_thrown now
@@ -100,7 +94,7 @@ module _ (types : WorldTypes) (state target_state : AbstractState) (entries : Li
 
   below_bound : (bound : Ty) (nullable : Bool) (below : Cell) (value : Value) → (can_be_null below ≡ true → nullable ≡ true) → IsNullOrBelow types.sub bound below → Describes types machine.heap meaning below value → ((nullable ≡ true) × (value ≡ values.Null)) ⊎ IsObject machine.heap value (λ object. IsTrue (types.sub (type_of object) bound))
   below_bound bound nullable (Int interval) value n (inl e) d = absurd (cc)
-  below_bound bound nullable (Int interval) value n (inr t) d = absurd (none_is_not_some t.0 t.1.0)
+  below_bound bound nullable (Int interval) value n (inr t) d = absurd (none-some t.0 t.1.0)
   below_bound bound nullable Null value n t d = inl (n refl, d)
   below_bound bound nullable (Obj class ids) value n (inl e) d = absurd (cc)
   below_bound bound nullable (Obj class ids) value n (inr t) d =
@@ -151,8 +145,8 @@ module _ (types : WorldTypes) (state target_state : AbstractState) (entries : Li
   -- ---- pairs and shapes
 
   names_object : (n : Meaning) (cell : Cell) (value : Value) (o : ℕ) → Describes types machine.heap n cell value → target value ≡ Some o → is_reference cell ≡ true
-  names_object n (Int interval) value o d t = absurd (none_is_not_some o (sym (ap target d.1.0) ∙ t))
-  names_object n Null value o d t = absurd (none_is_not_some o (sym (ap target d) ∙ t))
+  names_object n (Int interval) value o d t = absurd (none-some o (sym (ap target d.1.0) ∙ t))
+  names_object n Null value o d t = absurd (none-some o (sym (ap target d) ∙ t))
   names_object n (Obj class ids) value o d t = refl
   names_object n (Nums kind len) value o d t = refl
   names_object n (Refs element len shape) value o d t = refl

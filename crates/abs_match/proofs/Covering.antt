@@ -2,7 +2,6 @@
 use Rattle.std.proofs.Common.{◌≡◌, ℕ, ◌≤ℤ◌, eqb, Bool, true, false, not, ◌&&◌, ◌||◌, IsTrue, List, Option, Some, None, ◌⊎◌, inl, inr, ◌↔◌, ℤ, refl, sym, ap, subst, ◌∙◌}
 use Rattle.std.proofs.lemmas.Bool.{false≢true, not-true, eqb-true, eq-eqb, and_parts, and_from, or_cases, or_left, or_right, not_from_false, cases_Bool}
 use Rattle.std.specs.Prelude.{int_le}
-use Rattle.abs_cells.specs.declared.cells.Cell.{Cell}
 use Rattle.abs_match.specs.Matching.{image_is}
 
 pub image_is_true : (found : Option ℕ) (image : ℕ) → image_is found image ≡ true → found ≡ Some image

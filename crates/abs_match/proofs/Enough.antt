@@ -2,7 +2,8 @@
 -- which the id is no pair.
 use Rattle.std.proofs.Common.{◌≡◌, ◌≢◌, ℕ, Bool, true, false, not, List, Option, Some, None, ◌⊎◌, inl, inr, ◌↔◌, refl, sym, ap, subst, ◌∙◌}
 use Rattle.std.proofs.lemmas.Bool.{false≢true, not-true, not_from_false, cases_Bool}
-use Rattle.jvm_values.proofs.Options.{some_is, none_is_not_some}
+use Rattle.std.proofs.lemmas.Option.{none-some}
+use Rattle.jvm_values.proofs.Options.{some_is}
 use Rattle.abs_cells.specs.declared.cells.Cell.{Cell}
 use Rattle.abs_cells.specs.declared.cells.Cell.TheVariants.{Int, Null, Obj, Nums, Refs, Unk}
 use Rattle.abs_cells.specs.AbstractStates.{AbstractState}
@@ -70,7 +71,7 @@ int_is_free state target entries id cell at int other image other_image mp one =
     absurd (false≢true (sym (ap not int) ∙ ap is_no_int (sym same) ∙ mp.is.sort_is))
 
 pub unmapped_is_free : (state target : AbstractState) (entries : List (ℕ × ℕ)) (id : ℕ) → image_in entries id ≡ None → PairsEnough state target entries id
-unmapped_is_free state target entries id e other image other_image mp one = absurd (none_is_not_some image (sym e ∙ mp.maps))
+unmapped_is_free state target entries id e other image other_image mp one = absurd (none-some image (sym e ∙ mp.maps))
 
 -- ---- sharing
 
@@ -90,7 +91,7 @@ known_not_hazy (Unk bound nullable shape) k = absurd (false≢true k)
 
 pub shares_nothing : (state target : AbstractState) (entries : List (ℕ × ℕ)) (id : ℕ) → ((HasCell is_known target id → ⊥) × (HasCell is_hazy target id → ⊥)) ⊎ (image_in entries id ≡ None) → SharesEnough state target entries id
 shares_nothing state target entries id (inl n) = record { meets = λ o i oi mp r. absurd (n.1 mp.is); is_in = λ o i oi mp r. absurd (n.0 mp.is); holds = λ o i oi mp r. absurd (n.1 mp.is) }
-shares_nothing state target entries id (inr e) = record { meets = λ o i oi mp r. absurd (none_is_not_some i (sym e ∙ mp.maps)); is_in = λ o i oi mp r. absurd (none_is_not_some i (sym e ∙ mp.maps)); holds = λ o i oi mp r. absurd (none_is_not_some i (sym e ∙ mp.maps)) }
+shares_nothing state target entries id (inr e) = record { meets = λ o i oi mp r. absurd (none-some i (sym e ∙ mp.maps)); is_in = λ o i oi mp r. absurd (none-some i (sym e ∙ mp.maps)); holds = λ o i oi mp r. absurd (none-some i (sym e ∙ mp.maps)) }
 
 module _ (state target : AbstractState) (entries : List (ℕ × ℕ)) (id image : ℕ) (maps : image_in entries id ≡ Some image) where
   named : (sort other_sort : Cell → Bool) (other im other_image : ℕ) → AreMapped target entries sort other_sort id other im other_image → im ≡ image

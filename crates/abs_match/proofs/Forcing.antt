@@ -3,10 +3,11 @@ use Rattle.std.proofs.Common.{◌≡◌, ◌≢◌, ℕ, zero, suc, ◌+◌, ◌
 use Rattle.std.specs.List.{list_all, flat_map, AllByRecursion}
 use Rattle.std.specs.Bool.{MatchBool}
 use Rattle.std.proofs.lemmas.Bool.{and_parts, and_from, or_left, or_right, MatchBool-at_true, MatchBool-at_false}
-use Rattle.std.proofs.lemmas.Option.{get_or_from_slice_get}
+use Rattle.std.proofs.lemmas.Option.{get_or_from_slice_get, none-some}
 use Rattle.std.proofs.lemmas.List.{take_all, drop_all, drop_more}
 use Rattle.std.proofs.lemmas.List.Folds.{list_all-append, list_all_more}
-use Rattle.jvm_values.proofs.Options.{some_is, none_is_not_some}
+use Rattle.list_views.proofs.Truths.{and_true}
+use Rattle.jvm_values.proofs.Options.{some_is}
 use Rattle.abs_cells.specs.AbstractStates.{AbstractFrame}
 use Rattle.abs_cells.specs.Sound.{given_ids, ids_of_frame}
 use Rattle.abs_cells.proofs.Checking.{all_reversed, all_flat}
@@ -45,7 +46,7 @@ module _ (id image : ℕ) where
   one_more old new e = let l : length new ≡ suc (length old) = ap length e in omega (arith, l)
 
 pub no_place : (id : ℕ) → NoneDoes (place_asks (Some id) None)
-no_place id entries a = let there = a id refl in none_is_not_some there.0 there.1.1
+no_place id entries a = let there = a id refl in none-some there.0 there.1.1
 
 -- the same of places, whatever they are called
 module _ (theirs ours : Option ℕ) (old : List (ℕ × ℕ)) where
@@ -101,18 +102,14 @@ module _ {X : Type 0} (asks : List (ℕ × ℕ) → Type 0) (names : X → List 
     wait = same (waits new) ∙ sym (ap (list_all (λ (item : X). list_all (waits new) (names item))) (take_all n items l)) ∙ p.wait;
   }
 
-and_truth : (b : Bool) → (b && true) ≡ b
-and_truth true = refl
-and_truth false = refl
-
 pub locals_flat : (locals : List (Option ℕ)) (test : ℕ → Bool) → list_all test (given_ids locals) ≡ list_all (λ (local : Option ℕ). list_all test (given_ids (local ∷ []))) locals
 locals_flat [] test = refl
 locals_flat (None ∷ locals) test = locals_flat locals test
-locals_flat (Some id ∷ locals) test = ap (λ (b : Bool). b && list_all test (given_ids locals)) (sym (and_truth (test id))) ∙ ap (λ (b : Bool). (test id && true) && b) (locals_flat locals test)
+locals_flat (Some id ∷ locals) test = ap (λ (b : Bool). b && list_all test (given_ids locals)) (sym (and_true (test id))) ∙ ap (λ (b : Bool). (test id && true) && b) (locals_flat locals test)
 
 pub entries_flat : (stack : List ℕ) (test : ℕ → Bool) → list_all test stack ≡ list_all (λ (id : ℕ). list_all test (given_ids (Some id ∷ []))) stack
 entries_flat [] test = refl
-entries_flat (id ∷ stack) test = ap (λ (b : Bool). b && list_all test stack) (sym (and_truth (test id))) ∙ ap (λ (b : Bool). (test id && true) && b) (entries_flat stack test)
+entries_flat (id ∷ stack) test = ap (λ (b : Bool). b && list_all test stack) (sym (and_true (test id))) ∙ ap (λ (b : Bool). (test id && true) && b) (entries_flat stack test)
 
 pub reversed_ids : (stack : List ℕ) (test : ℕ → Bool) → list_all test stack ≡ list_all test (reverse stack)
 reversed_ids stack test = sym (all_reversed test stack)

@@ -4,7 +4,8 @@ use Rattle.std.specs.Bool.{MatchBool}
 use Rattle.std.specs.List.{list_all, flat_map}
 use Rattle.std.proofs.lemmas.List.{length-map}
 use Rattle.std.proofs.lemmas.Bool.{MatchBool-at_true, MatchBool-at_false}
-use Rattle.jvm_values.proofs.Options.{some_is, none_is_not_some}
+use Rattle.std.proofs.lemmas.Option.{none-some}
+use Rattle.jvm_values.proofs.Options.{some_is}
 use Rattle.jvm_values.specs.declared.types.Kind.{Kind}
 use Rattle.jvm_values.specs.declared.types.Ty.{Ty}
 use Rattle.jvm_values.specs.declared.shape.Shape.{Shape}
@@ -85,7 +86,7 @@ fields_put ids images below false old new is n =
     λ entries a. n (sym (length-map ids (image_in entries)) ∙ ap (λ (xs : List (Option ℕ)). length xs) a.1.1 ∙ length-map a.0 Some ∙ ap (λ (xs : List ℕ). length xs) (some_is (sym a.1.0 ∙ is)))
 
 pub no_fields : (ids : List ℕ) (below : Cell) → fields_of below ≡ None → NoneDoes (fields_ask ids below)
-no_fields ids below e entries a = none_is_not_some a.0 (sym e ∙ a.1.0)
+no_fields ids below e entries a = none-some a.0 (sym e ∙ a.1.0)
 
 pub instance_put : (sub : Ty → Ty → Bool) (cell below : Cell) (class : ℕ) (ids given : List ℕ) (r : Bool) (old new : List (ℕ × ℕ)) → cell ≡ Obj class ids → given ≡ ids → MatchBool r (ArePut (fields_ask given below) given old new × (length new ≤ length old + length given)) (NoneDoes (fields_ask given below)) → MatchBool r (ArePut (cell_asks sub cell below) (ids_in cell) old new × (length new ≤ length old + length (ids_in cell))) (NoneDoes (cell_asks sub cell below))
 instance_put sub cell below class ids given r old new is same h =

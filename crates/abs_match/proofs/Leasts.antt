@@ -1,10 +1,10 @@
 -- The least of ids of which something does not hold.
 use Rattle.std.proofs.Common.{◌≡◌, ℕ, zero, suc, ◌+◌, ◌<◌, ◌≤◌, Bool, true, false, List, [], ◌∷◌, length, get_or, Option, Some, None, slice_get, inl, inr, refl, sym, ap, subst, ◌∙◌, arith, cond, ltb}
 use Rattle.std.proofs.lemmas.Bool.{cases_lt, false≢true, ltb-true, lt-ltb}
-use Rattle.std.proofs.lemmas.Option.{slice_get_past, slice_get-get_or}
+use Rattle.std.proofs.lemmas.Option.{slice_get_past, slice_get-get_or, none-some}
 use Rattle.std.specs.Prelude.{map}
 use Rattle.std.specs.Option.{option_map, option_and_then}
-use Rattle.jvm_values.proofs.Options.{some_is, none_is_not_some}
+use Rattle.jvm_values.proofs.Options.{some_is}
 use Rattle.abs_cells.specs.declared.cells.Cell.{Cell}
 use Rattle.abs_cells.specs.AbstractStates.{AbstractFrame}
 use Rattle.abs_cells.specs.Cells.{cell_in, is_of_sort}
@@ -61,7 +61,7 @@ places_past entries theirs ours count r past h =
     turned (FirstMeet (λ n id. theirs n ≡ Some id → HasImage entries id (ours n)) count) (PlacesMeet entries theirs ours) r
     (λ id all n e. elim (cases_lt n count) [
       | inl l ↦ all n l e
-      | inr l ↦ absurd (none_is_not_some id (sym (past n (omega (arith, l))) ∙ e))
+      | inr l ↦ absurd (none-some id (sym (past n (omega (arith, l))) ∙ e))
     ])
     (λ id all n low e. all n e)
     h

@@ -2,9 +2,11 @@
 use Rattle.std.proofs.Common.{◌≡◌, ◌≢◌, ℕ, zero, suc, ◌+◌, ◌<◌, ◌≤◌, ◌==◌, eqb, Bool, true, false, not, ◌&&◌, ◌||◌, List, [], ◌∷◌, length, get_or, map, Option, Some, None, slice_get, ◌⊎◌, inl, inr, ◌↔◌, refl, sym, ap, subst, ◌∙◌, arith, if◌then◌else◌}
 use Rattle.std.proofs.lemmas.Bool.{false≢true, not-true, eqb-true, eqb-false, eq-eqb, ne_eqb, and_parts, and_from, or_cases, or_left, or_right, not_from_false, cases_lt, cases_Bool}
 use Rattle.std.proofs.lemmas.List.{length-map}
-use Rattle.std.proofs.lemmas.Option.{slice_get_within, get_or_from_slice_get, slice_get-map}
+use Rattle.std.proofs.lemmas.Option.{slice_get_within, get_or_from_slice_get, slice_get-map, none-some}
 use Rattle.std.specs.Option.{option_map}
-use Rattle.jvm_values.proofs.Options.{some_is, none_is_not_some}
+use Rattle.abs_cells.proofs.CellLaws.{place_of_cell}
+use Rattle.list_views.proofs.Options.{map_some}
+use Rattle.jvm_values.proofs.Options.{some_is}
 use Rattle.abs_cells.specs.declared.cells.Cell.{Cell}
 use Rattle.abs_cells.specs.IdSets.{has_id}
 use Rattle.abs_cells.specs.PairLists.{has}
@@ -51,21 +53,9 @@ stands_in given n c r e =
     let is : get_or given n c ≡ c = get_or_from_slice_get given n c c e in
     finding.stands 0 given c.0 n c r low (ap id_of is) ∙ ap (λ (x : ℕ × Cell). Some x.1) is
 
-pub place_of_cell : (given : List (ℕ × Cell)) (y : ℕ) (cell : Cell) → cell_in given y ≡ Some cell → (n : ℕ) × (slice_get given n ≡ Some (y, cell))
-place_of_cell [] y cell e = absurd (none_is_not_some cell e)
-place_of_cell (c ∷ given) y cell e = go (eqb c.0 y) refl e (place_of_cell given y cell)
-  where
-    go : (t : Bool) → eqb c.0 y ≡ t → (if t then Some c.1 else cell_in given y) ≡ Some cell → (cell_in given y ≡ Some cell → (n : ℕ) × (slice_get given n ≡ Some (y, cell))) → (n : ℕ) × (slice_get (c ∷ given) n ≡ Some (y, cell))
-    go true f h later = (0, ap (λ (id : ℕ). Some (id, c.1)) (eqb-true c.0 y f) ∙ ap (λ (x : Cell). Some (y, x)) (some_is h))
-    go false f h later = let rest = later h in (suc rest.0, rest.1)
-
-pub mapped : {A B : Type 0} (f : A → B) (x : Option A) (b : B) → option_map f x ≡ Some b → (a : A) × ((x ≡ Some a) × (f a ≡ b))
-mapped f None b e = absurd (none_is_not_some b e)
-mapped f (Some a) b e = (a, (refl, some_is e))
-
 pub entry_beside : (entries : List (ℕ × ℕ)) (given : List (ℕ × Cell)) (n : ℕ) (c : ℕ × Cell) → map key entries ≡ map id_of given → slice_get given n ≡ Some c → (entry : ℕ × ℕ) × ((slice_get entries n ≡ Some entry) × (entry.0 ≡ c.0))
 entry_beside entries given n c same e =
-    mapped key (slice_get entries n) c.0 (sym (slice_get-map key entries n) ∙ ap (λ (ids : List ℕ). slice_get ids n) same ∙ slice_get-map id_of given n ∙ ap (option_map id_of) e)
+    map_some key (slice_get entries n) c.0 (sym (slice_get-map key entries n) ∙ ap (λ (ids : List ℕ). slice_get ids n) same ∙ slice_get-map id_of given n ∙ ap (option_map id_of) e)
 
 -- ---- the set, cell by cell
 

@@ -4,7 +4,8 @@ use Rattle.std.proofs.lemmas.List.{get_or-reverse, length-reverse, reverse-rever
 use Rattle.std.proofs.lemmas.Option.{slice_get-get_or, get_or_from_slice_get, slice_get_within, slice_get-map}
 use Rattle.std.specs.Option.{option_and_then, option_map}
 use Rattle.std.specs.List.{AllZip}
-use Rattle.jvm_values.proofs.Options.{given, some_is}
+use Rattle.list_views.proofs.Options.{then_some}
+use Rattle.jvm_values.proofs.Options.{some_is}
 use Rattle.abs_cells.specs.AbstractStates.{AbstractFrame, AbstractState}
 use Rattle.abs_reach.specs.Instances.{image_in, Place, local, entry, frame_at, id_at, FrameHead, head_of}
 
@@ -71,7 +72,7 @@ module _ (state target : AbstractState) (entries : List (ℕ × ℕ)) (heads : m
           let stands : id_at target (local k m) ≡ Some id = ap (λ (found : Option AbstractFrame). local_of found m) in_target ∙ ap (option_and_then (λ (x : Option ℕ). x)) h in
           let got = meets id (local k m) stands in
           let there : option_and_then (λ (x : Option ℕ). x) (slice_get frame.locals m) ≡ Some got.0 = sym (ap (λ (found : Option AbstractFrame). local_of found m) in_state) ∙ got.1.1 in
-          let one = given (λ (x : Option ℕ). x) (slice_get frame.locals m) got.0 there in
+          let one = then_some (λ (x : Option ℕ). x) (slice_get frame.locals m) got.0 there in
           (got.0, (got.1.0, one.1.0 ∙ ap Some one.1.1))
 
       entry_of : Option AbstractFrame → ℕ → Option ℕ

@@ -2,7 +2,7 @@
 use Rattle.std.proofs.Common.{◌≡◌, ℕ, true, List, [], ◌∷◌, ◌++◌, Option, Some, slice_get, refl, ap, ◌∙◌}
 use Rattle.std.specs.List.{flat_map}
 use Rattle.std.specs.Option.{option_and_then}
-use Rattle.jvm_values.proofs.Options.{given}
+use Rattle.list_views.proofs.Options.{then_some}
 use Rattle.jvm_values.proofs.PathLaws.{joined}
 use Rattle.jvm_values.specs.Paths.{follow}
 use Rattle.abs_cells.specs.declared.cells.Cell.{Cell}
@@ -27,7 +27,7 @@ module _ (whole part : AbstractState) (d : IsDropped whole part) where
   walk : (path : List ℕ) (x y : ℕ) → IsReached whole x → follow (named_steps whole) path x ≡ Some y → follow (named_steps part) path x ≡ Some y
   walk [] x y r e = e
   walk (n ∷ path) x y r e =
-      let to = given (follow (named_steps whole) path) (named_steps whole x n) y e in
+      let to = then_some (follow (named_steps whole) path) (named_steps whole x n) y e in
       ap (option_and_then (follow (named_steps part) path)) (step x n to.0 r to.1.0) ∙ walk path to.0 y (next x n to.0 r to.1.0) to.1.1
 
   same_positions : positions part ≡ positions whole

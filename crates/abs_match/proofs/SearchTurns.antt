@@ -7,8 +7,10 @@ use Rattle.std.specs.List.{list_all}
 use Rattle.std.specs.Option.{option_map, option_and_then}
 use Rattle.std.proofs.lemmas.Bool.{false≢true, eqb-true, eqb-false, and_parts, or_cases, or_left, or_right, cases_Bool, MatchBool-at_true, MatchBool-at_false}
 use Rattle.std.proofs.lemmas.List.{get_or-set_same, length-set, length-map}
-use Rattle.std.proofs.lemmas.Option.{slice_get_within, slice_get-get_or, slice_get-map}
-use Rattle.jvm_values.proofs.Options.{given, some_is, none_is_not_some}
+use Rattle.std.proofs.lemmas.Option.{slice_get_within, slice_get-get_or, slice_get-map, none-some}
+use Rattle.list_views.proofs.Quantified.{holds_at}
+use Rattle.list_views.proofs.Options.{map_some, then_some as given}
+use Rattle.jvm_values.proofs.Options.{some_is}
 use Rattle.jvm_values.specs.Paths.{follow}
 use Rattle.jvm_values.specs.declared.types.Ty.{Ty}
 use Rattle.abs_cells.specs.declared.cells.Cell.{Cell}
@@ -26,7 +28,7 @@ use Rattle.abs_match.specs.Forced.{waits, ArePut, NoneDoes, state_asks, cell_ask
 use Rattle.abs_match.proofs.Entries.{entry_of, image_is_there}
 use Rattle.abs_match.proofs.Forcing.{weaker}
 use Rattle.abs_match.proofs.Keys.{stands}
-use Rattle.abs_match.proofs.Partners.{key, id_of, keys_rise, stands_in, entry_beside, mapped}
+use Rattle.abs_match.proofs.Partners.{key, id_of, keys_rise, stands_in, entry_beside}
 
 -- ---- one entry is written
 
@@ -61,7 +63,7 @@ same_entry x y e f = ap (λ (a : ℕ). (a, x.1)) e ∙ ap (λ (b : ℕ). (y.0, b
 
 cell_beside : (entries : List (ℕ × ℕ)) (held : List (ℕ × Cell)) (n : ℕ) (entry : ℕ × ℕ) → map key entries ≡ map id_of held → slice_get entries n ≡ Some entry → (c : ℕ × Cell) × ((slice_get held n ≡ Some c) × (c.0 ≡ entry.0))
 cell_beside entries held n entry same e =
-    mapped id_of (slice_get held n) entry.0 (sym (slice_get-map id_of held n) ∙ ap (λ (ids : List ℕ). slice_get ids n) (sym same) ∙ slice_get-map key entries n ∙ ap (option_map key) e)
+    map_some id_of (slice_get held n) entry.0 (sym (slice_get-map id_of held n) ∙ ap (λ (ids : List ℕ). slice_get ids n) (sym same) ∙ slice_get-map key entries n ∙ ap (option_map key) e)
 
 as_many : (entries : List (ℕ × ℕ)) (held : List (ℕ × Cell)) → map key entries ≡ map id_of held → length entries ≡ length held
 as_many entries held e = sym (length-map entries key) ∙ ap (λ (ids : List ℕ). length ids) e ∙ length-map held id_of
@@ -87,14 +89,9 @@ has_image found matching held id image rising f m e n =
     let c = cell_beside matching held there.0 there.1.0 m there.1.1.0 in
     let other = entry_beside found held there.0 c.0 f c.1.0 in
     let key_is : other.0.0 ≡ id = other.1.1 ∙ c.1.1 ∙ there.1.1.1.0 in
-    none_is_not_some other.0.1 (sym n ∙ ap (image_in found) (sym key_is) ∙ image_is_there found there.0 other.0 (keys_rise found held 0 f rising) other.1.0)
+    none-some other.0.1 (sym n ∙ ap (image_in found) (sym key_is) ∙ image_is_there found there.0 other.0 (keys_rise found held 0 f rising) other.1.0)
 
 -- ---- turns
-
-all_get : (test : ℕ → Bool) (xs : List ℕ) (n x : ℕ) → list_all test xs ≡ true → slice_get xs n ≡ Some x → test x ≡ true
-all_get test [] n x h f = absurd (none_is_not_some x f)
-all_get test (y ∷ xs) zero x h f = subst (λ (z : ℕ). test z ≡ true) (some_is f) (and_parts (test y) (list_all test xs) h).0
-all_get test (y ∷ xs) (suc n) x h f = all_get test xs n x (and_parts (test y) (list_all test xs) h).1 f
 
 pub met_or_waits : (met now : List ℕ) (todo new : List (ℕ × ℕ)) → ((id : ℕ) → has_id met id ≡ true → has_id now id ≡ true) → ((id : ℕ) → waits todo id ≡ true → (has_id now id || waits new id) ≡ true) → (id : ℕ) → (has_id met id || waits todo id) ≡ true → (has_id now id || waits new id) ≡ true
 met_or_waits met now todo new m w id t = elim (or_cases (has_id met id) (waits todo id) t) [
@@ -136,12 +133,12 @@ module _ (state target : AbstractState) where
   no_target_cell met entries todo id image s n sub matching i =
       let there = entry_of matching id image (image_given met entries todo id image s sub matching i) in
       let c = cell_beside matching target.cells there.0 there.1.0 (i whole_map).0.each there.1.1.0 in
-      none_is_not_some c.0.1 (sym n ∙ ap (cell_in target.cells) (sym (c.1.1 ∙ there.1.1.1.0)) ∙ stands_in target.cells there.0 c.0 (i whole_map).0.rise c.1.0)
+      none-some c.0.1 (sym n ∙ ap (cell_in target.cells) (sym (c.1.1 ∙ there.1.1.1.0)) ∙ stands_in target.cells there.0 c.0 (i whole_map).0.rise c.1.0)
 
   pub no_cell : (met : List ℕ) (entries todo : List (ℕ × ℕ)) (id image : ℕ) → IsSearching state target met entries ((id, image) ∷ todo) → cell_in state.cells image ≡ None → NoneMatches state target
   no_cell met entries todo id image s n sub matching i =
       let there = (i whole_map).1 id image (image_given met entries todo id image s sub matching i) in
-      none_is_not_some there.cell (sym n ∙ there.is)
+      none-some there.cell (sym n ∙ there.is)
 
   module _ (met now : List ℕ) (entries todo : List (ℕ × ℕ)) (id image place : ℕ) (d : ℕ × ℕ) (cell below : Cell) (rising : AreIdsRising 0 target.cells) (s : IsSearching state target met entries ((id, image) ∷ todo)) (fresh : has_id met id ≡ false) (one_more : IsWith now met id) (low : place < length entries) (key_is : (get_or entries place d).0 ≡ id) (cell_is : cell_in target.cells id ≡ Some cell) (below_is : cell_in state.cells image ≡ Some below) where
     no_sub : Ty → Ty → Bool
@@ -198,7 +195,7 @@ module _ (state target : AbstractState) where
         closed_now z n other t e = elim (cases_Bool (z == id)) [
           | inl f ↦
               let there : slice_get (ids_in cell) n ≡ Some other = sym (ap (option_and_then (λ (c : Cell). slice_get (ids_in c) n)) (ap (cell_in target.cells) (eqb-true z id f) ∙ cell_is)) ∙ e in
-              or_right (has_id now other) (waits new other) (all_get (waits new) (ids_in cell) n other (put no_sub).wait there)
+              or_right (has_id now other) (waits new other) (holds_at (waits new) (ids_in cell) n other (put no_sub).wait there)
           | inr f ↦ still_there other (s.closed z n other (sym (one_more z ∙ ap (λ (b : Bool). b || has_id met z) f) ∙ t) e)
         ]
 
@@ -233,7 +230,7 @@ module _ (state target : AbstractState) where
         met_from path next.0 y (only_met next.0 (s.closed x n next.0 m next.1.0)) next.1.1
 
     met_reached : (id : ℕ) → IsReached target id → has_id met id ≡ true
-    met_reached id r = met_from r.reaches.path r.start id (only_met r.start (all_get (λ z. has_id met z || waits [] z) (positions target) r.place r.start s.starts r.stands)) r.reaches.leads
+    met_reached id r = met_from r.reaches.path r.start id (only_met r.start (holds_at (λ z. has_id met z || waits [] z) (positions target) r.place r.start s.starts r.stands)) r.reaches.leads
 
     pub only : AreIdsRising 0 target.cells → ((id : ℕ) → HasCell (λ _. true) target id → IsReached target id) → IsOnlyMatch state target entries
     only rising all sub matching i = same_maps entries matching target.cells rising s.keys (i whole_map).0.each (λ id cell e. s.noted sub matching i id (met_reached id (all id (record { cell = cell; is = e; sort_is = refl }))))

@@ -2,9 +2,11 @@
 use Rattle.std.proofs.Common.{◌≡◌, ℕ, zero, suc, ◌+◌, ◌<◌, ◌≤◌, Bool, true, false, List, [], ◌∷◌, ◌++◌, length, map, reverse, Option, Some, None, slice_get, ◌⊎◌, inl, inr, ◌↔◌, refl, sym, ap, subst, ◌∙◌, arith}
 use Rattle.std.proofs.lemmas.Bool.{false≢true, cases_lt}
 use Rattle.std.proofs.lemmas.List.{length-reverse, map-append, reverse-append, reverse-reverse}
-use Rattle.std.proofs.lemmas.Option.{slice_get_within, slice_get-get_or, slice_get_past}
+use Rattle.std.proofs.lemmas.Option.{slice_get_within, slice_get-get_or, slice_get_past, none-some}
 use Rattle.std.specs.Option.{option_and_then}
-use Rattle.jvm_values.proofs.Options.{given, some_is, none_is_not_some}
+use Rattle.abs_cells.proofs.CellLaws.{place_of_cell}
+use Rattle.list_views.proofs.Options.{then_some}
+use Rattle.jvm_values.proofs.Options.{some_is}
 use Rattle.jvm_values.specs.declared.types.Ty.{Ty}
 use Rattle.abs_cells.specs.declared.cells.Cell.{Cell}
 use Rattle.abs_cells.specs.AbstractStates.{AbstractFrame, AbstractState}
@@ -15,7 +17,7 @@ use Rattle.abs_match.specs.Matching.{IsLeastOf, lower_of, FramesMeet, FirstMeet,
 use Rattle.abs_match.specs.declared.clauses.IdClause.{IdClause}
 use Rattle.abs_match.specs.declared.clauses.IdClause.TheVariants.{Cells, Aliases, Sharing, Shapes}
 use Rattle.abs_match.proofs.Leasts.{turned, next_asked}
-use Rattle.abs_match.proofs.Partners.{key, id_of, stands_in, place_of_cell}
+use Rattle.abs_match.proofs.Partners.{key, id_of, stands_in}
 
 heads_turned : (xs : List AbstractFrame) → map head_of (reverse xs) ≡ reverse (map head_of xs)
 heads_turned [] = refl
@@ -99,12 +101,12 @@ module _ (sub : Ty → Ty → Bool) (state target : AbstractState) (entries : Li
     places_to : (id : ℕ) → FirstMeet (FramesMeet entries (reverse target.frames) (reverse state.frames)) (length (reverse target.frames)) id → Meets sub state target entries positions id
     unfolding local_of entry_of
     places_to id all (local f n) e =
-        let there = given (λ (frame : AbstractFrame). option_and_then (λ (i : Option ℕ). i) (slice_get frame.locals n)) (frame_at target f) id e in
+        let there = then_some (λ (frame : AbstractFrame). option_and_then (λ (i : Option ℕ). i) (slice_get frame.locals n)) (frame_at target f) id e in
         let own = same_frame f there.0 there.1.0 in
         let met = (all f (slice_get_within (reverse target.frames) f there.0 there.1.0) there.0 own.0 there.1.0 own.1).0 n there.1.1 in
         (met.0, (met.1.0, ap (λ (found : Option AbstractFrame). local_of found n) own.1 ∙ met.1.1))
     places_to id all (entry f n) e =
-        let there = given (λ (frame : AbstractFrame). slice_get (reverse frame.stack) n) (frame_at target f) id e in
+        let there = then_some (λ (frame : AbstractFrame). slice_get (reverse frame.stack) n) (frame_at target f) id e in
         let own = same_frame f there.0 there.1.0 in
         let met = (all f (slice_get_within (reverse target.frames) f there.0 there.1.0) there.0 own.0 there.1.0 own.1).1 n there.1.1 in
         (met.0, (met.1.0, ap (λ (found : Option AbstractFrame). entry_of found n) own.1 ∙ met.1.1))
@@ -215,10 +217,10 @@ module _ (sub : Ty → Ty → Bool) (state target : AbstractState) (entries : Li
   -- ---- ids without cells ask nothing
 
   pub vacuous : (clause : IdClause) (id : ℕ) → cell_in target.cells id ≡ None → Meets sub state target entries (clause_of clause) id
-  vacuous Cells id e = λ cell f. absurd (none_is_not_some cell (sym e ∙ f))
-  vacuous Aliases id e = λ other image other_image mp one. absurd (none_is_not_some mp.is.cell (sym e ∙ mp.is.is))
-  vacuous Sharing id e = record { meets = λ o i oi mp r. absurd (none_is_not_some mp.is.cell (sym e ∙ mp.is.is)); is_in = λ o i oi mp r. absurd (none_is_not_some mp.is.cell (sym e ∙ mp.is.is)); holds = λ o i oi mp r. absurd (none_is_not_some mp.is.cell (sym e ∙ mp.is.is)) }
-  vacuous Shapes id e = λ cell shape image f g h. absurd (none_is_not_some cell (sym e ∙ f))
+  vacuous Cells id e = λ cell f. absurd (none-some cell (sym e ∙ f))
+  vacuous Aliases id e = λ other image other_image mp one. absurd (none-some mp.is.cell (sym e ∙ mp.is.is))
+  vacuous Sharing id e = record { meets = λ o i oi mp r. absurd (none-some mp.is.cell (sym e ∙ mp.is.is)); is_in = λ o i oi mp r. absurd (none-some mp.is.cell (sym e ∙ mp.is.is)); holds = λ o i oi mp r. absurd (none-some mp.is.cell (sym e ∙ mp.is.is)) }
+  vacuous Shapes id e = λ cell shape image f g h. absurd (none-some cell (sym e ∙ f))
 
   pub all_cells : (clause : IdClause) (count : ℕ) (r : Option ℕ) → length target.cells ≤ count → IsLeastOf (FirstMeet (CellMeets (Meets sub state target entries (clause_of clause)) target.cells) count) r → IsLeastOf (Meets sub state target entries (clause_of clause)) r
   all_cells clause count r l h =

@@ -3,10 +3,11 @@ use Rattle.std.proofs.Common.{◌≡◌, ◌≢◌, ℕ, suc, ◌<◌, ◌≤◌
 use Rattle.std.specs.Prelude.{◌↔◌, slice_get}
 use Rattle.std.specs.List.{list_any}
 use Rattle.std.proofs.lemmas.Bool.{false≢true, cases_eq, cases_lt, cases_Bool, and_parts, and_from, or_cases, or_left, or_right, eqb-true}
+use Rattle.std.proofs.lemmas.Option.{none-some}
+use Rattle.list_views.proofs.Options.{then_some}
 use Rattle.jvm_values.specs.declared.shape.Shape.{Shape}
 use Rattle.jvm_values.specs.declared.shape.Shape.TheVariants.{Tree, Dag, Any}
 use Rattle.jvm_values.specs.Paths.{follow, Reaches, IsDagFrom, IsTreeFrom}
-use Rattle.jvm_values.proofs.Options.{given, none_is_not_some}
 use Rattle.abs_cells.specs.declared.cells.Cell.{Cell}
 use Rattle.abs_cells.specs.declared.cells.Cell.TheVariants as cells
 use Rattle.abs_cells.specs.AbstractStates.{AbstractState}
@@ -30,17 +31,17 @@ names_in (cells.Int interval) i c e = e
 names_in cells.Null i c e = e
 names_in (cells.Obj class ids) i c e = e
 names_in (cells.Nums kind len) i c e = e
-names_in (cells.Refs element len shape) i c e = absurd (none_is_not_some c e)
+names_in (cells.Refs element len shape) i c e = absurd (none-some c e)
 names_in (cells.Unk bound nullable shape) i c e = e
 
 named_there : (state : AbstractState) → IsWellFormed state → AreNamedThere Known state.cells
 named_there state good a i c e =
-    let cell = given (λ (cell : Cell). slice_get (ids_of cell) i) (cell_in state.cells a) c e in
+    let cell = then_some (λ (cell : Cell). slice_get (ids_of cell) i) (cell_in state.cells a) c e in
     has_cell_to (λ _. true) state c (named_has_cell state good a i c cell.0 cell.1.0 (names_in cell.0 i c cell.1.1))
 
 pub all_named_there : (state : AbstractState) → IsWellFormed state → AreNamedThere All state.cells
 all_named_there state good a i c e =
-    let cell = given (λ (cell : Cell). slice_get (ids_in cell) i) (cell_in state.cells a) c e in
+    let cell = then_some (λ (cell : Cell). slice_get (ids_in cell) i) (cell_in state.cells a) c e in
     has_cell_to (λ _. true) state c (named_has_cell state good a i c cell.0 cell.1.0 cell.1.1)
 
 module _ (state : AbstractState) (good : IsWellFormed state) (list : List (ℕ × Cell)) (is : list ≡ state.cells) where
@@ -94,7 +95,7 @@ later_apart low id (c ∷ list) r h = elim (cases_eq c.0 id) [
       omega (arith, k, r.0)
 ]
 
-any_sort : (test : Cell → Bool) (o : Option Cell) → is_of_sort test o ≡ true → is_of_sort (λ _. true) o ≡ true
+pub any_sort : (test : Cell → Bool) (o : Option Cell) → is_of_sort test o ≡ true → is_of_sort (λ _. true) o ≡ true
 any_sort test None h = h
 any_sort test (Some cell) h = refl
 
@@ -188,7 +189,7 @@ touch_from x y pairs a b f s h = touched_by (joins x y) (pair_of a b) pairs (bot
 abbrev pub is_hazy_here : List ℕ → ℕ → ℕ × Cell → Bool
 is_hazy_here set n c = (c.0 == n) && (has_id set c.0 && is_hazy c.1)
 
-none_hazy : (h : Bool) → false ≡ (h && false)
+pub none_hazy : (h : Bool) → false ≡ (h && false)
 none_hazy true = refl
 none_hazy false = refl
 
@@ -276,7 +277,7 @@ module _ (state : AbstractState) (good : IsWellFormed state) where
     dag_of : IsDagFrom (counted_steps state) x → IsDagFrom (cell_steps state) x
     dag_of d p b h [] k = refl
     dag_of d p b h (i ∷ q) k =
-        let step = given (follow (cell_steps state) q) (cell_steps state b i) b k in
+        let step = then_some (follow (cell_steps state) q) (cell_steps state b i) b k in
         d p b (counted_path Known state.cells p x b i step.0 h step.1.0) (i ∷ q) (counted_path Known state.cells (i ∷ q) b b i step.0 k step.1.0)
 
     pub has_cycle : (cyclic : Bool) → (cyclic ≡ false) ↔ IsDagFrom (cell_steps state) x → cyclic ≡ true → IsFiniteId state x → ⊥

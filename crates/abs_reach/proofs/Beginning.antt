@@ -3,6 +3,8 @@ use Rattle.std.proofs.Common.{◌≡◌, ℕ, zero, suc, ◌+◌, ◌<◌, ◌�
 use Rattle.std.specs.Prelude.{◌↔◌}
 use Rattle.std.specs.List.{list_any}
 use Rattle.std.proofs.lemmas.Bool.{false≢true, cases_eq, and_parts, and_from}
+use Rattle.abs_reach.proofs.Answering.{none_hazy}
+use Rattle.list_views.proofs.Truths.{or_false, and_true, and_false, or_swapped}
 use Rattle.jvm_values.specs.Paths.{Steps, Reaches}
 use Rattle.abs_cells.specs.declared.cells.Cell.{Cell}
 use Rattle.abs_cells.specs.IdSets.{has_id}
@@ -79,12 +81,8 @@ absorbed : (h b : Bool) → (h || (h && b)) ≡ (h && true)
 absorbed true b = refl
 absorbed false b = refl
 
-none_there : (h : Bool) → false ≡ (h && false)
-none_there true = refl
-none_there false = refl
-
 pub starts_are : (starts : List ℕ) (n : ℕ) (cells : List (ℕ × Cell)) → list_any (is_start starts n) cells ≡ (has_id starts n && is_of_sort (λ _. true) (cell_in cells n))
-starts_are starts n [] = none_there (has_id starts n)
+starts_are starts n [] = none_hazy (has_id starts n)
 starts_are starts n (c ∷ cells) = elim (cases_eq c.0 n) [
   | inl e ↦
       let t : eqb c.0 n ≡ true = eq-eqb c.0 n e in
@@ -126,31 +124,13 @@ module _ (cells : List (ℕ × Cell)) (starts : List ℕ) (k : ℕ) (c : ℕ × 
 
 -- ---- one item more
 
-or_with_false : (b : Bool) → (b || false) ≡ b
-or_with_false true = refl
-or_with_false false = refl
-
 or_grouped : (x y z : Bool) → (x || (y || z)) ≡ ((x || y) || z)
 or_grouped true y z = refl
 or_grouped false y z = refl
 
-or_turned : (x y : Bool) → (x || y) ≡ (y || x)
-or_turned true true = refl
-or_turned true false = refl
-or_turned false true = refl
-or_turned false false = refl
-
-and_with_true : (b : Bool) → (b && true) ≡ b
-and_with_true true = refl
-and_with_true false = refl
-
-and_with_false : (b : Bool) → (b && false) ≡ false
-and_with_false true = refl
-and_with_false false = refl
-
 any_take : (p : ℕ × Cell → Bool) (cells : List (ℕ × Cell)) (k : ℕ) (d : ℕ × Cell) → k < length cells → list_any p (take (suc k) cells) ≡ (list_any p (take k cells) || p (get_or cells k d))
 any_take p [] k d l = absurd (omega (arith, l))
-any_take p (c ∷ cells) zero d l = or_with_false (p c)
+any_take p (c ∷ cells) zero d l = or_false (p c)
 any_take p (c ∷ cells) (suc k) d l = ap (λ (b : Bool). p c || b) (any_take p cells k d (omega (arith, l))) ∙ or_grouped (p c) (list_any p (take k cells)) (p (get_or cells k d))
 
 eqb_turned : (a b : ℕ) → eqb a b ≡ eqb b a
@@ -170,7 +150,7 @@ module _ (starts : List ℕ) (cells : List (ℕ × Cell)) (k : ℕ) (c : ℕ × 
 
   pub one_started : (now : List ℕ) → has_id starts c.0 ≡ true → IsWith now met c.0 → (n : ℕ) → has_id now n ≡ list_any (is_start starts n) (take (k + 1) cells)
   one_started now e w n =
-      w n ∙ or_turned (eqb n c.0) (has_id met n) ∙ ap (λ (y : Bool). has_id met n || y) (eqb_turned n c.0 ∙ sym (and_with_true (eqb c.0 n))) ∙ sym (with_item n true e)
+      w n ∙ or_swapped (eqb n c.0) (has_id met n) ∙ ap (λ (y : Bool). has_id met n || y) (eqb_turned n c.0 ∙ sym (and_true (eqb c.0 n))) ∙ sym (with_item n true e)
 
   pub none_started : has_id starts c.0 ≡ false → (n : ℕ) → has_id met n ≡ list_any (is_start starts n) (take (k + 1) cells)
-  none_started e n = sym (or_with_false (has_id met n)) ∙ ap (λ (y : Bool). has_id met n || y) (sym (and_with_false (eqb c.0 n))) ∙ sym (with_item n false e)
+  none_started e n = sym (or_false (has_id met n)) ∙ ap (λ (y : Bool). has_id met n || y) (sym (and_false (eqb c.0 n))) ∙ sym (with_item n false e)

@@ -7,8 +7,10 @@ use Rattle.std.proofs.lemmas.Bool.{false≢true, cases_eq, cases_lt, cases_Bool,
 use Rattle.std.proofs.lemmas.List.{reverse-append, drop_all}
 use Rattle.std.proofs.lemmas.List.Folds.{list_any-append}
 use Rattle.std.proofs.lemmas.List.Elements.{All-append}
-use Rattle.std.proofs.lemmas.Option.{slice_get-get_or}
-use Rattle.jvm_values.proofs.Options.{some_is, none_is_not_some}
+use Rattle.std.proofs.lemmas.Option.{slice_get-get_or, none-some}
+use Rattle.list_views.proofs.Quantified.{all_at, every_front}
+use Rattle.list_views.proofs.Truths.{or_false, or_assoc, or_swapped}
+use Rattle.jvm_values.proofs.Options.{some_is}
 use Rattle.jvm_values.proofs.PathLaws.{here, one_more, onward}
 use Rattle.abs_cells.specs.declared.cells.Cell.{Cell}
 use Rattle.abs_cells.specs.AbstractStates.{AbstractFrame, AbstractState}
@@ -24,7 +26,6 @@ use Rattle.abs_reach.specs.Reached.{named_steps, positions, IsReached, IsDropped
 use Rattle.abs_reach.proofs.Finding.{stands}
 use Rattle.abs_reach.proofs.Room.{has_cell_low, reached_there}
 use Rattle.abs_reach.proofs.Answering.{all_named_there}
-use Rattle.abs_reach.proofs.Walks.{all_at, all_front}
 
 -- ---- ids that stand in a list
 
@@ -36,29 +37,15 @@ any_stands n (x ∷ xs) h = elim (or_cases (eqb x n) (list_any (λ y. y == n) xs
 ]
 
 pub stands_any : (n k : ℕ) (xs : List ℕ) → slice_get xs k ≡ Some n → list_any (λ x. x == n) xs ≡ true
-stands_any n k [] e = absurd (none_is_not_some n e)
+stands_any n k [] e = absurd (none-some n e)
 stands_any n zero (x ∷ xs) e = or_left (eqb x n) (list_any (λ y. y == n) xs) (eq-eqb x n (some_is e))
 stands_any n (suc k) (x ∷ xs) e = or_right (eqb x n) (list_any (λ y. y == n) xs) (stands_any n k xs e)
-
-or_turned : (a b : Bool) → (a || b) ≡ (b || a)
-or_turned true true = refl
-or_turned true false = refl
-or_turned false true = refl
-or_turned false false = refl
-
-or_grouped : (a b c : Bool) → ((a || b) || c) ≡ (a || (b || c))
-or_grouped true b c = refl
-or_grouped false b c = refl
-
-or_false : (a : Bool) → (a || false) ≡ a
-or_false true = refl
-or_false false = refl
 
 pub any_reversed : {X : Type 0} (test : X → Bool) (xs : List X) → list_any test (reverse xs) ≡ list_any test xs
 any_reversed test [] = refl
 any_reversed test (x ∷ xs) =
     ap (list_any test) (reverse-append (x ∷ []) xs) ∙ list_any-append test (reverse xs) (x ∷ []) ∙ ap (λ (b : Bool). list_any test (reverse xs) || b) (or_false (test x))
-    ∙ ap (λ (b : Bool). b || test x) (any_reversed test xs) ∙ or_turned (list_any test xs) (test x)
+    ∙ ap (λ (b : Bool). b || test x) (any_reversed test xs) ∙ or_swapped (list_any test xs) (test x)
 
 pub any_flat : {X Y : Type 0} (test : Y → Bool) (f : X → List Y) (xs : List X) → list_any test (flat_map f xs) ≡ list_any (λ x. list_any test (f x)) xs
 any_flat test f [] = refl
@@ -69,7 +56,7 @@ any_flat test f (x ∷ xs) = list_any-append test (f x) (flat_map f xs) ∙ ap (
 pub next_any : {X : Type 0} (p : X → Bool) (xs : List X) (i : ℕ) (d : X) → i < length xs → (b now w : Bool) → now ≡ (b || p (get_or xs i d)) → (b || list_any p (drop i xs)) ≡ w → (now || list_any p (drop (i + 1) xs)) ≡ w
 next_any p xs i d l b now w e h =
     let step : list_any p (drop i xs) ≡ (p (get_or xs i d) || list_any p (drop (i + 1) xs)) = rw (drop-cons xs i d, add-one) refl in
-    ap (λ (x : Bool). x || list_any p (drop (i + 1) xs)) e ∙ or_grouped b (p (get_or xs i d)) (list_any p (drop (i + 1) xs)) ∙ ap (λ (x : Bool). b || x) (sym step) ∙ h
+    ap (λ (x : Bool). x || list_any p (drop (i + 1) xs)) e ∙ or_assoc b (p (get_or xs i d)) (list_any p (drop (i + 1) xs)) ∙ ap (λ (x : Bool). b || x) (sym step) ∙ h
 
 pub end_any : {X : Type 0} (p : X → Bool) (xs : List X) (i : ℕ) → length xs ≤ i → (b w : Bool) → (b || list_any p (drop i xs)) ≡ w → b ≡ w
 end_any p xs i l b w h = sym (or_false b) ∙ ap (λ (ys : List _). b || list_any p ys) (sym (drop_all i xs l)) ∙ h
@@ -91,7 +78,7 @@ frame_has n frame = list_any (λ x. x == n) (ids_of_frame frame)
 pub frame_in : (n : ℕ) (frame : AbstractFrame) (old some now : Bool) → some ≡ (old || list_any (λ x. x == n) (given_ids frame.locals)) → now ≡ (some || list_any (λ x. x == n) (reverse frame.stack)) → now ≡ (old || list_any (λ x. x == n) (ids_of_frame frame))
 frame_in n frame old some now e f =
     f ∙ ap (λ (b : Bool). some || b) (any_reversed (λ (x : ℕ). x == n) frame.stack) ∙ ap (λ (b : Bool). b || list_any (λ x. x == n) frame.stack) e
-    ∙ or_grouped old (list_any (λ x. x == n) (given_ids frame.locals)) (list_any (λ x. x == n) frame.stack)
+    ∙ or_assoc old (list_any (λ x. x == n) (given_ids frame.locals)) (list_any (λ x. x == n) frame.stack)
     ∙ ap (λ (b : Bool). old || b) (sym (list_any-append (λ (x : ℕ). x == n) (given_ids frame.locals) frame.stack))
 
 pub state_in : (n : ℕ) (state : AbstractState) (none some now : Bool) → none ≡ false → some ≡ (none || list_any (λ frame. list_any (λ x. x == n) (ids_of_frame frame)) (reverse state.frames)) → now ≡ (some || list_any (λ x. x == n) (given_ids (state.throwing ∷ []))) → now ≡ list_any (λ x. x == n) (positions state)
@@ -174,7 +161,7 @@ all_names P (c ∷ cells) h = All-append P (ids_in c.1) (flat_map (λ x. ids_in 
 module _ (state : AbstractState) (good : IsWellFormed state) (starts met : List ℕ) (starts_are : (n : ℕ) → n < 2048 → has_id starts n ≡ list_any (λ x. x == n) (positions state)) (met_is : (id : ℕ) → (has_id met id ≡ true) ↔ IsReachedInside AllNames state.cells starts id) where
   positions_there : All (HasCell (λ _. true) state) (positions state)
   positions_there =
-      all_front (HasCell (λ _. true) state) (flat_map ids_of_frame state.frames ++ given_ids (state.throwing ∷ [])) (flat_map (λ c. ids_in c.1) state.cells)
+      every_front (HasCell (λ _. true) state) (flat_map ids_of_frame state.frames ++ given_ids (state.throwing ∷ [])) (flat_map (λ c. ids_in c.1) state.cells)
       (subst (λ (xs : List ℕ). All (HasCell (λ _. true) state) xs) (sym (append_assoc (flat_map ids_of_frame state.frames) (given_ids (state.throwing ∷ [])) (flat_map (λ c. ids_in c.1) state.cells))) good.used)
 
   reached : (id : ℕ) → (has_id met id ≡ true) ↔ IsReached state id
@@ -196,7 +183,7 @@ module _ (state : AbstractState) (good : IsWellFormed state) (starts met : List 
   met_if_there : (id : ℕ) → HasCell (λ _. true) part id → has_id met id ≡ true
   met_if_there id h = elim (cases_Bool (has_id met id)) [
     | inl t ↦ t
-    | inr f ↦ absurd (none_is_not_some h.cell (sym (cell_gone met state.cells id f) ∙ h.is))
+    | inr f ↦ absurd (none-some h.cell (sym (cell_gone met state.cells id f) ∙ h.is))
   ]
 
   pub dropped : IsDropped state part

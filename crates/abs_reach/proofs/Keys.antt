@@ -1,6 +1,7 @@
 -- Where an id stands among pairs whose keys rise.
 use Rattle.std.proofs.Common.{◌≡◌, ℕ, zero, suc, ◌+◌, ◌-◌, ◌/◌, ◌<◌, ◌≤◌, ◌==◌, Bool, List, [], ◌∷◌, length, get_or, Option, Some, None, inl, inr, refl, ap, ◌∙◌, arith, eq-eqb, ne_eqb, if◌then◌else◌}
 use Rattle.std.proofs.lemmas.Bool.{cases_lt}
+use Rattle.std.proofs.lemmas.List.{get_or_default}
 use Rattle.abs_reach.specs.Keys.{AreKeysRising, IsKeyAt, IsNoKey}
 
 -- keys are at least where they begin
@@ -44,11 +45,6 @@ module _ {X : Type 0} (look : List (ℕ × X) → ℕ → Option X) (empty : (id
 
 -- ---- halving
 
-same_get : {X : Type 0} (pairs : List (ℕ × X)) (k : ℕ) (d e : ℕ × X) → k < length pairs → get_or pairs k d ≡ get_or pairs k e
-same_get [] k d e l = absurd (omega (arith, l))
-same_get (c ∷ pairs) zero d e l = refl
-same_get (c ∷ pairs) (suc k) d e l = same_get pairs k d e (omega (arith, l))
-
 abbrev pub middle : ℕ → ℕ → ℕ
 middle low high = low + (high - low) / 2
 
@@ -60,7 +56,7 @@ module _ {X : Type 0} (pairs : List (ℕ × X)) (id low high : ℕ) (r : ℕ × 
   inside = let h = middle_in low high l in omega (arith, h.1, m)
 
   id_there : (d : ℕ × X) → (get_or pairs (middle low high) d).0 ≡ (get_or pairs (middle low high) r).0
-  id_there d = ap (λ (c : ℕ × X). c.0) (same_get pairs (middle low high) d r inside)
+  id_there d = ap (λ (c : ℕ × X). c.0) (get_or_default pairs (middle low high) d r inside)
 
   pub found : (get_or pairs (middle low high) r).0 ≡ id → IsKeyAt pairs id (middle low high)
   found e = (inside, λ d. id_there d ∙ e)

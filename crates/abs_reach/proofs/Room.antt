@@ -3,8 +3,9 @@ use Rattle.std.proofs.Common.{◌≡◌, ℕ, zero, suc, ◌+◌, ◌-◌, ◌<�
 use Rattle.std.specs.Option.{option_and_then}
 use Rattle.std.specs.Prelude.{slice_get}
 use Rattle.std.proofs.lemmas.Bool.{false≢true, cases_Bool, eqb-true, cond-true, cond-false}
-use Rattle.std.proofs.lemmas.Option.{slice_get_within}
-use Rattle.jvm_values.proofs.Options.{given, some_is, none_is_not_some}
+use Rattle.std.proofs.lemmas.Option.{slice_get_within, none-some}
+use Rattle.list_views.proofs.Options.{then_some}
+use Rattle.jvm_values.proofs.Options.{some_is}
 use Rattle.jvm_values.specs.Paths.{follow}
 use Rattle.abs_cells.specs.declared.cells.Cell.{Cell}
 use Rattle.abs_cells.specs.IdSets.{has_id}
@@ -33,7 +34,7 @@ fewer weight (c ∷ cells) now met h =
     omega (arith, here, rest)
 
 pub one_fewer : (weight : Cell → ℕ) (cells : List (ℕ × Cell)) (now met : List ℕ) (id : ℕ) (cell : Cell) → IsWith now met id → has_id met id ≡ false → cell_in cells id ≡ Some cell → still weight cells now + weight cell ≤ still weight cells met
-one_fewer weight [] now met id cell w m e = absurd (none_is_not_some cell e)
+one_fewer weight [] now met id cell w m e = absurd (none-some cell e)
 one_fewer weight (c ∷ cells) now met id cell w m e = elim (cases_Bool (eqb c.0 id)) [
   | inl t ↦
       let is : c.1 ≡ cell = some_is (sym (ap (λ (b : Bool). if b then Some c.1 else cell_in cells id) t) ∙ e) in
@@ -50,7 +51,7 @@ one_fewer weight (c ∷ cells) now met id cell w m e = elim (cases_Bool (eqb c.0
 ]
 
 pub not_none : (cells : List (ℕ × Cell)) (met : List ℕ) (id : ℕ) (cell : Cell) → has_id met id ≡ false → cell_in cells id ≡ Some cell → 1 ≤ still one cells met
-not_none [] met id cell m e = absurd (none_is_not_some cell e)
+not_none [] met id cell m e = absurd (none-some cell e)
 not_none (c ∷ cells) met id cell m e = elim (cases_Bool (eqb c.0 id)) [
   | inl t ↦
       let was = cond-false {A = ℕ} (has_id met c.0) 0 1 (ap (has_id met) (eqb-true c.0 id t) ∙ m) in
@@ -72,7 +73,7 @@ pub count_low : (cells : List (ℕ × Cell)) → AreIdsRising 0 cells → length
 count_low cells r = let h = count_from 0 cells (omega arith) r in omega (arith, h)
 
 id_low : (low : ℕ) (cells : List (ℕ × Cell)) (id : ℕ) (cell : Cell) → AreIdsRising low cells → cell_in cells id ≡ Some cell → id < 2048
-id_low low [] id cell r e = absurd (none_is_not_some cell e)
+id_low low [] id cell r e = absurd (none-some cell e)
 id_low low (c ∷ cells) id cell r e = elim (cases_Bool (eqb c.0 id)) [
   | inl t ↦ let at : c.0 ≡ id = eqb-true c.0 id t in omega (arith, at, r.1.0)
   | inr t ↦ id_low (suc c.0) cells id cell r.1.1 (sym (ap (λ (b : Bool). if b then Some c.1 else cell_in cells id) t) ∙ e)
@@ -90,7 +91,7 @@ module _ (names : Names) where
   pub reached_there : (cells : List (ℕ × Cell)) → AreNamedThere names cells → (path : List ℕ) (x y : ℕ) → is_of_sort (λ _. true) (cell_in cells x) ≡ true → follow (steps_in names cells) path x ≡ Some y → is_of_sort (λ _. true) (cell_in cells y) ≡ true
   reached_there cells named [] x y h e = subst (λ (z : ℕ). is_of_sort (λ _. true) (cell_in cells z) ≡ true) (some_is e) h
   reached_there cells named (i ∷ path) x y h e =
-      let p = given (follow (steps_in names cells) path) (steps_in names cells x i) y e in
+      let p = then_some (follow (steps_in names cells) path) (steps_in names cells x i) y e in
       reached_there cells named path p.0 y (named x i p.0 p.1.0) p.1.1
 
   -- ---- steps that were not gone
@@ -107,12 +108,12 @@ module _ (names : Names) where
   work cell = length (names_by names cell) + 2
 
   pub step_within : (o : Option Cell) (i c : ℕ) → option_and_then (λ cell. slice_get (names_by names cell) i) o ≡ Some c → i < length (names_of o)
-  step_within None i c e = absurd (none_is_not_some c e)
+  step_within None i c e = absurd (none-some c e)
   step_within (Some cell) i c e = slice_get_within (names_by names cell) i c e
 
   get_past : (xs : List ℕ) (i j : ℕ) → slice_get xs i ≡ None → i ≤ j → slice_get xs j ≡ None
   get_past [] i j e l = refl
-  get_past (x ∷ xs) zero j e l = absurd (none_is_not_some x (sym e))
+  get_past (x ∷ xs) zero j e l = absurd (none-some x (sym e))
   get_past (x ∷ xs) (suc i) zero e l = absurd (omega (arith, l))
   get_past (x ∷ xs) (suc i) (suc j) e l = get_past xs i j e (omega (arith, l))
 

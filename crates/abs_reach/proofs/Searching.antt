@@ -3,10 +3,13 @@ use Rattle.std.proofs.Common.{◌≡◌, ℕ, ◌+◌, ◌<◌, ◌≤◌, eqb, 
 use Rattle.std.specs.Prelude.{◌↔◌}
 use Rattle.std.specs.Option.{option_and_then}
 use Rattle.std.proofs.lemmas.Bool.{false≢true, cases_lt, or_cases, or_left, or_right, eqb-true}
+use Rattle.std.proofs.lemmas.List.{same_from_push}
+use Rattle.std.proofs.lemmas.Option.{none-some}
+use Rattle.list_views.proofs.Options.{then_some}
 use Rattle.jvm_values.specs.Paths.{Steps, follow, Reaches, IsDagFrom, IsTreeFrom}
-use Rattle.jvm_values.proofs.Options.{given, some_is, none_is_not_some}
+use Rattle.jvm_values.proofs.Options.{some_is}
 use Rattle.jvm_values.proofs.PathLaws.{here, one_more, onward, joined}
-use Rattle.jvm_heaps.proofs.TreePaths.{nil_is_not_last, same_last, tree_from}
+use Rattle.jvm_heaps.proofs.TreePaths.{nil_is_not_last, tree_from}
 use Rattle.abs_cells.specs.IdSets.{has_id}
 use Rattle.abs_reach.specs.Steps.{IsIn, IsReachedFrom}
 use Rattle.abs_reach.specs.Turns.{IsWith, IsOpen, IsPassed, AreApart}
@@ -93,7 +96,7 @@ module _ (steps : Steps) (start met left : List ℕ) (rest : List (ℕ × ℕ)) 
     left_back b j c (inl k) s = elim (put_only now left a b w k) [
       | inl e ↦ elim (cases_lt j i) [
         | inl l ↦ inr (inl (sym e, l))
-        | inr l ↦ absurd (none_is_not_some c (sym (over j l) ∙ step_at steps a b j (Some c) e s))
+        | inr l ↦ absurd (none-some c (sym (over j l) ∙ step_at steps a b j (Some c) e s))
       ]
       | inr d ↦ inl d
     ]
@@ -221,7 +224,7 @@ module _ (steps : Steps) (start met left : List ℕ) (h : IsSearch steps start m
   along : (path : List ℕ) (a b : ℕ) → IsIn met a → follow steps path a ≡ Some b → IsIn met b
   along [] a b m e = subst (λ (y : ℕ). IsIn met y) (some_is e) m
   along (i ∷ path) a b m e =
-      let p = given (follow steps path) (steps a i) b e in
+      let p = then_some (follow steps path) (steps a i) b e in
       along path p.0 b (h.followed a i p.0 (inl (all_left a m)) p.1.0) p.1.1
 
   pub exact : (b : ℕ) → IsIn met b ↔ IsReachedFrom steps start b
@@ -270,7 +273,7 @@ linked_still steps left now keeps b (e ∷ trail) l = (
 along_left : (steps : Steps) (left : List ℕ) → ((a i c : ℕ) → IsIn left a → steps a i ≡ Some c → IsIn left c) → (path : List ℕ) (a b : ℕ) → IsIn left a → follow steps path a ≡ Some b → IsIn left b
 along_left steps left down [] a b m e = subst (λ (y : ℕ). IsIn left y) (some_is e) m
 along_left steps left down (i ∷ path) a b m e =
-    let p = given (follow steps path) (steps a i) b e in
+    let p = then_some (follow steps path) (steps a i) b e in
     along_left steps left down path p.0 b (down a i p.0 m p.1.0) p.1.1
 
 -- from a place on the trail a path leads to its top
@@ -284,19 +287,19 @@ module _ (steps : Steps) (left : List ℕ) (rest : List (ℕ × ℕ)) (a i : ℕ
     below : (j c : ℕ) → steps a j ≡ Some c → IsIn left c
     below j c s = elim (cases_lt j i) [
       | inl l ↦ h.chain.0 j c l s
-      | inr l ↦ absurd (none_is_not_some c (sym (over j l) ∙ s))
+      | inr l ↦ absurd (none-some c (sym (over j l) ∙ s))
     ]
 
     round : (q : List ℕ) → follow steps q a ≡ Some a → q ≡ []
     round [] e = refl
     round (j ∷ q) e =
-        let p = given (follow steps q) (steps a j) a e in
+        let p = then_some (follow steps q) (steps a j) a e in
         absurd (fresh (along_left steps left h.down q p.0 a (below j p.0 p.1.0) p.1.1))
 
     top_dag : IsDagFrom steps a
     top_dag [] b e q f = round q (subst (λ (y : ℕ). follow steps q y ≡ Some y) (sym (some_is e)) f)
     top_dag (j ∷ p) b e q f =
-        let g = given (follow steps p) (steps a j) b e in
+        let g = then_some (follow steps p) (steps a j) b e in
         h.dag g.0 (below j g.0 g.1.0) p b g.1.1 q f
 
     next_chain : (trail : List (ℕ × ℕ)) → AreLinked steps left a trail → IsChain steps now trail
@@ -369,7 +372,7 @@ counting steps count a i = option_and_then count (steps a i)
 module _ (steps : Steps) (count : ℕ → Option ℕ) (same : (c d : ℕ) → count c ≡ Some d → c ≡ d) (x : ℕ) where
   is_step : (a i d : ℕ) → counting steps count a i ≡ Some d → steps a i ≡ Some d
   is_step a i d e =
-      let p = given count (steps a i) d e in
+      let p = then_some count (steps a i) d e in
       p.1.0 ∙ ap Some (same p.0 d p.1.1)
 
   pub once_yet : (left : List ℕ) → ((n : ℕ) → has_id left n ≡ false) → IsOnce (counting steps count) x left ((x, 0) ∷ [])
@@ -396,9 +399,9 @@ module _ (steps : Steps) (count : ℕ → Option ℕ) (same : (c d : ℕ) → co
       | inl k ↦ k
       | inr e ↦
           let there : c ≡ d = step_is steps start met left rest a i h b j c d e s (is_step b j d t) in
-          let p = given count (steps b j) d t in
+          let p = then_some count (steps b j) d t in
           let at : p.0 ≡ c = same p.0 d p.1.1 ∙ sym there in
-          absurd (none_is_not_some d (sym n ∙ subst (λ (y : ℕ). count y ≡ Some d) at p.1.1))
+          absurd (none-some d (sym n ∙ subst (λ (y : ℕ). count y ≡ Some d) at p.1.1))
     ]) o
 
     pub enter_once : (c : ℕ) → steps a i ≡ Some c → has_id met c ≡ false → IsOnce (counting steps count) x left ((a, i) ∷ rest) → IsOnce (counting steps count) x left ((c, 0) ∷ (a, i + 1) ∷ rest)
@@ -436,7 +439,7 @@ module _ (steps : Steps) (count : ℕ → Option ℕ) (same : (c d : ℕ) → co
               let from = known v.from v.place c (onward_from v.from v.gone) v.leads in
               let way : counting steps count v.from v.place ≡ Some d = ap (option_and_then count) v.leads ∙ n in
               let too : follow (counting steps count) (from.path ++ v.place ∷ []) x ≡ Some d = joined (counting steps count) from.path (v.place ∷ []) x v.from d from.leads (ap (option_and_then (follow (counting steps count) [])) way) in
-              let lasts = same_last from.path top.path v.place i (tree (from.path ++ v.place ∷ []) (top.path ++ i ∷ []) d too there) in
+              let lasts = same_from_push from.path top.path v.place i (tree (from.path ++ v.place ∷ []) (top.path ++ i ∷ []) d too there) in
               let starts : v.from ≡ a = some_is (sym from.leads ∙ ap (λ (p : List ℕ). follow (counting steps count) p x) lasts.0 ∙ top.leads) in
               not_gone steps start met left rest a i h (subst (λ (k : ℕ). IsGone left ((a, i) ∷ rest) a k) lasts.1 (subst (λ (b : ℕ). IsGone left ((a, i) ∷ rest) b v.place) starts v.gone))
         ]
@@ -456,5 +459,5 @@ module _ (steps : Steps) (count : ℕ → Option ℕ) (same : (c d : ℕ) → co
       counted_reach : (path : List ℕ) (b e : ℕ) → follow (counting steps count) path b ≡ Some e → Reaches steps b e
       counted_reach [] b e p = here steps b e (some_is p)
       counted_reach (j ∷ path) b e p =
-          let g = given (follow (counting steps count) path) (counting steps count b j) e p in
+          let g = then_some (follow (counting steps count) path) (counting steps count b j) e p in
           one_more steps b j g.0 e (is_step b j g.0 g.1.0) (counted_reach path g.0 e g.1.1)

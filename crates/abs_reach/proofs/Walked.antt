@@ -3,8 +3,10 @@ use Rattle.std.proofs.Common.{◌≡◌, ℕ, suc, ◌+◌, ◌-◌, ◌<◌, �
 use Rattle.std.specs.Prelude.{◌↔◌, slice_get}
 use Rattle.std.specs.Option.{option_and_then}
 use Rattle.std.proofs.lemmas.Bool.{false≢true, cases_Bool, or_cases, or_parts, not-true, not-false}
+use Rattle.std.proofs.lemmas.Option.{none-some}
+use Rattle.list_views.proofs.Options.{then_some}
 use Rattle.jvm_values.specs.Paths.{follow, Reaches, IsDagFrom, IsTreeFrom}
-use Rattle.jvm_values.proofs.Options.{given, some_is, none_is_not_some}
+use Rattle.jvm_values.proofs.Options.{some_is}
 use Rattle.abs_cells.specs.declared.cells.Cell.{Cell}
 use Rattle.abs_cells.specs.declared.cells.Cell.TheVariants.{Int, Null, Obj, Nums, Refs, Unk}
 use Rattle.abs_cells.specs.IdSets.{has_id}
@@ -22,12 +24,12 @@ use Rattle.abs_reach.proofs.Room.{one_fewer, not_none, count_low, the_cell, has_
 
 pub counted_is : (cells : List (ℕ × Cell)) (c d : ℕ) → counted_in cells c ≡ Some d → c ≡ d
 counted_is cells c d e =
-    let cell = given (λ (cell : Cell). if is_reference cell then Some c else None) (cell_in cells c) d e in
+    let cell = then_some (λ (cell : Cell). if is_reference cell then Some c else None) (cell_in cells c) d e in
     go (is_reference cell.0) cell.1.1
   where
     go : (b : Bool) → (if b then Some c else None) ≡ Some d → c ≡ d
     go true e = some_is e
-    go false e = absurd (none_is_not_some d e)
+    go false e = absurd (none-some d e)
 
 counts_by : (c : ℕ) (o : Option Cell) → is_of_sort is_reference o ≡ true → option_and_then (λ cell. if is_reference cell then Some c else None) o ≡ Some c
 counts_by c None e = absurd (false≢true e)
@@ -38,20 +40,20 @@ counts_not_by c None e = refl
 counts_not_by c (Some cell) e = ap (λ (b : Bool). if b then Some c else None) e
 
 in_is_reference : (cell : Cell) (i c : ℕ) → slice_get (ids_in cell) i ≡ Some c → is_reference cell ≡ true
-in_is_reference (Int interval) i c e = absurd (none_is_not_some c e)
-in_is_reference Null i c e = absurd (none_is_not_some c e)
+in_is_reference (Int interval) i c e = absurd (none-some c e)
+in_is_reference Null i c e = absurd (none-some c e)
 in_is_reference (Obj class ids) i c e = refl
 in_is_reference (Nums kind len) i c e = refl
 in_is_reference (Refs element len shape) i c e = refl
-in_is_reference (Unk bound nullable shape) i c e = absurd (none_is_not_some c e)
+in_is_reference (Unk bound nullable shape) i c e = absurd (none-some c e)
 
 of_is_reference : (cell : Cell) (i c : ℕ) → slice_get (ids_of cell) i ≡ Some c → is_reference cell ≡ true
-of_is_reference (Int interval) i c e = absurd (none_is_not_some c e)
-of_is_reference Null i c e = absurd (none_is_not_some c e)
+of_is_reference (Int interval) i c e = absurd (none-some c e)
+of_is_reference Null i c e = absurd (none-some c e)
 of_is_reference (Obj class ids) i c e = refl
 of_is_reference (Nums kind len) i c e = refl
-of_is_reference (Refs element len shape) i c e = absurd (none_is_not_some c e)
-of_is_reference (Unk bound nullable shape) i c e = absurd (none_is_not_some c e)
+of_is_reference (Refs element len shape) i c e = absurd (none-some c e)
+of_is_reference (Unk bound nullable shape) i c e = absurd (none-some c e)
 
 named_is_reference : (names : Names) (cell : Cell) (i c : ℕ) → slice_get (names_by names cell) i ≡ Some c → is_reference cell ≡ true
 named_is_reference ways.Known cell i c e = of_is_reference cell i c e
@@ -60,14 +62,14 @@ named_is_reference ways.All cell i c e = in_is_reference cell i c e
 module _ (names : Names) where
   stepping_counts : (cells : List (ℕ × Cell)) (b j e : ℕ) → steps_in names cells b j ≡ Some e → counted_in cells b ≡ Some b
   stepping_counts cells b j e s =
-      let cell = given (λ (cell : Cell). slice_get (names_by names cell) j) (cell_in cells b) e s in
+      let cell = then_some (λ (cell : Cell). slice_get (names_by names cell) j) (cell_in cells b) e s in
       counts_by b (cell_in cells b) (ap (is_of_sort is_reference) cell.1.0 ∙ named_is_reference names cell.0 j e cell.1.1)
 
   -- a path to an id with a step goes by ids that count
   pub counted_path : (cells : List (ℕ × Cell)) (path : List ℕ) (x b j e : ℕ) → follow (steps_in names cells) path x ≡ Some b → steps_in names cells b j ≡ Some e → follow (counted_steps_in names cells) path x ≡ Some b
   counted_path cells [] x b j e p s = p
   counted_path cells (i ∷ path) x b j e p s =
-      let g = given (follow (steps_in names cells) path) (steps_in names cells x i) b p in
+      let g = then_some (follow (steps_in names cells) path) (steps_in names cells x i) b p in
       let counts : counted_in cells g.0 ≡ Some g.0 = next path g.1.1 in
       ap (λ (o : Option ℕ). option_and_then (follow (counted_steps_in names cells) path) (option_and_then (counted_in cells) o)) g.1.0
       ∙ ap (option_and_then (follow (counted_steps_in names cells) path)) counts
@@ -76,7 +78,7 @@ module _ (names : Names) where
       next : {c : ℕ} (path : List ℕ) → follow (steps_in names cells) path c ≡ Some b → counted_in cells c ≡ Some c
       next {c} [] p = subst (λ (y : ℕ). counted_in cells y ≡ Some y) (sym (some_is p)) (stepping_counts cells b j e s)
       next {c} (k ∷ path) p =
-          let g = given (follow (steps_in names cells) path) (steps_in names cells c k) b p in
+          let g = then_some (follow (steps_in names cells) path) (steps_in names cells c k) b p in
           stepping_counts cells c k g.0 g.1.0
 
   counted_reach : (cells : List (ℕ × Cell)) (x b j e : ℕ) → Reaches (steps_in names cells) x b → steps_in names cells b j ≡ Some e → Reaches (counted_steps_in names cells) x b

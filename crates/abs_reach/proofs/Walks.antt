@@ -3,9 +3,11 @@ use Rattle.std.proofs.Common.{◌≡◌, ℕ, zero, suc, ◌+◌, Bool, true, fa
 use Rattle.std.specs.Prelude.{slice_get, nat_eq, if◌then◌else◌, ℤ}
 use Rattle.std.specs.Option.{option_and_then, option_map}
 use Rattle.std.specs.List.{flat_map}
-use Rattle.std.proofs.lemmas.Bool.{false≢true}
-use Rattle.std.proofs.lemmas.Option.{slice_get-map, slice_get_within, get_or_from_slice_get}
+use Rattle.std.proofs.lemmas.Bool.{false≢true, cases_Bool}
+use Rattle.std.proofs.lemmas.Option.{slice_get-map, slice_get_within, get_or_from_slice_get, none-some}
 use Rattle.std.proofs.lemmas.List.{get_or-append-add, get_or_append_left, length-append}
+use Rattle.list_views.proofs.Quantified.{all_at, every_back, every_front}
+use Rattle.list_views.proofs.Options.{then_some}
 use Rattle.jvm_values.specs.declared.heap.Value.{Value}
 use Rattle.jvm_values.specs.declared.heap.Value.TheVariants as values
 use Rattle.jvm_values.specs.declared.heap.Object.{Object}
@@ -14,7 +16,7 @@ use Rattle.jvm_values.specs.Paths.{follow}
 use Rattle.jvm_values.specs.Heaps.{target, values_of, heap_steps}
 use Rattle.jvm_values.specs.States.{MachineState}
 use Rattle.jvm_values.specs.TypedHeaps.{WorldTypes}
-use Rattle.jvm_values.proofs.Options.{given, some_is, none_is_not_some}
+use Rattle.jvm_values.proofs.Options.{some_is}
 use Rattle.abs_cells.specs.declared.cells.Cell.{Cell}
 use Rattle.abs_cells.specs.declared.cells.Cell.TheVariants.{Int, Null, Obj, Nums, Refs, Unk}
 use Rattle.abs_cells.specs.AbstractStates.{AbstractState}
@@ -22,30 +24,20 @@ use Rattle.abs_cells.specs.Cells.{is_known, is_hazy, is_reference, ids_of, ids_i
 use Rattle.abs_cells.specs.Closures.{cell_steps, counted, counted_steps, KnownFrom}
 use Rattle.abs_cells.specs.Sound.{given_ids, ids_of_frame, IsWellFormed}
 use Rattle.abs_cells.specs.Fits.{Meaning, Describes, IsObject, Fits}
-use Rattle.abs_cells.proofs.PairLaws.{bool_cases}
 use Rattle.abs_reach.specs.Ways.{Way}
 
 -- ---- the ids that cells name have cells
 
-pub all_at : (P : ℕ → Type 0) (xs : List ℕ) (i id : ℕ) → All P xs → slice_get xs i ≡ Some id → P id
-all_at P xs i id h e = subst P (get_or_from_slice_get xs i id id e) (h i id (slice_get_within xs i id e))
-
-pub all_behind : (P : ℕ → Type 0) (xs ys : List ℕ) → All P (xs ++ ys) → All P ys
-all_behind P xs ys h = λ k d l. subst P (get_or-append-add xs ys k d) (h (length xs + k) d (omega (arith, l, length-append xs ys)))
-
-pub all_front : (P : ℕ → Type 0) (xs ys : List ℕ) → All P (xs ++ ys) → All P xs
-all_front P xs ys h = λ k d l. subst P (get_or_append_left xs ys d k l) (h k d (omega (arith, l, length-append xs ys)))
-
 all_of_cell : (P : ℕ → Type 0) (cells : List (ℕ × Cell)) (id : ℕ) (cell : Cell) → All P (flat_map (λ c. ids_in c.1) cells) → cell_in cells id ≡ Some cell → All P (ids_in cell)
-all_of_cell P [] id cell h e = absurd (none_is_not_some cell e)
-all_of_cell P (c ∷ cells) id cell h e = elim (bool_cases (nat_eq c.0 id)) [
-  | inl f ↦ subst (λ (x : Cell). All P (ids_in x)) (some_is (sym (ap (λ (b : Bool). cond b (Some c.1) (cell_in cells id)) f) ∙ e)) (all_front P (ids_in c.1) (flat_map (λ x. ids_in x.1) cells) h)
-  | inr f ↦ all_of_cell P cells id cell (all_behind P (ids_in c.1) (flat_map (λ x. ids_in x.1) cells) h) (sym (ap (λ (b : Bool). cond b (Some c.1) (cell_in cells id)) f) ∙ e)
+all_of_cell P [] id cell h e = absurd (none-some cell e)
+all_of_cell P (c ∷ cells) id cell h e = elim (cases_Bool (nat_eq c.0 id)) [
+  | inl f ↦ subst (λ (x : Cell). All P (ids_in x)) (some_is (sym (ap (λ (b : Bool). cond b (Some c.1) (cell_in cells id)) f) ∙ e)) (every_front P (ids_in c.1) (flat_map (λ x. ids_in x.1) cells) h)
+  | inr f ↦ all_of_cell P cells id cell (every_back P (ids_in c.1) (flat_map (λ x. ids_in x.1) cells) h) (sym (ap (λ (b : Bool). cond b (Some c.1) (cell_in cells id)) f) ∙ e)
 ]
 
 pub named_has_cell : (state : AbstractState) → IsWellFormed state → (x i id : ℕ) (cell : Cell) → cell_at state x ≡ Some cell → slice_get (ids_in cell) i ≡ Some id → HasCell (λ _. true) state id
 named_has_cell state good x i id cell e f =
-    let cells : All (HasCell (λ _. true) state) (flat_map (λ c. ids_in c.1) state.cells) = all_behind (HasCell (λ _. true) state) (given_ids (state.throwing ∷ [])) (flat_map (λ c. ids_in c.1) state.cells) (all_behind (HasCell (λ _. true) state) (flat_map ids_of_frame state.frames) (given_ids (state.throwing ∷ []) ++ flat_map (λ c. ids_in c.1) state.cells) good.used) in
+    let cells : All (HasCell (λ _. true) state) (flat_map (λ c. ids_in c.1) state.cells) = every_back (HasCell (λ _. true) state) (given_ids (state.throwing ∷ [])) (flat_map (λ c. ids_in c.1) state.cells) (every_back (HasCell (λ _. true) state) (flat_map ids_of_frame state.frames) (given_ids (state.throwing ∷ []) ++ flat_map (λ c. ids_in c.1) state.cells) good.used) in
     all_at (HasCell (λ _. true) state) (ids_in cell) i id (all_of_cell (HasCell (λ _. true) state) state.cells x cell cells e) f
 
 -- ---- known, hazy, or without an object
@@ -70,8 +62,8 @@ pub no_target : (types : WorldTypes) (state : AbstractState) (machine : MachineS
 no_target types state machine meaning h x a n e = go n.cell n.none (h.cells x n.cell n.is)
   where
     go : (cell : Cell) → is_reference cell ≡ false → Describes types machine.heap meaning cell (meaning x) → ⊥
-    go (Int interval) f d = none_is_not_some a (sym (ap target d.1.0) ∙ e)
-    go Null f d = none_is_not_some a (sym (ap target d) ∙ e)
+    go (Int interval) f d = none-some a (sym (ap target d.1.0) ∙ e)
+    go Null f d = none-some a (sym (ap target d) ∙ e)
     go (Obj class ids) f d = false≢true (sym f)
     go (Nums kind len) f d = false≢true (sym f)
     go (Refs element len shape) f d = false≢true (sym f)
@@ -110,15 +102,15 @@ not_one state x y h k e =
 pub counted_is_known : (state : AbstractState) (path : List ℕ) (x y : ℕ) → follow (counted_steps state) path x ≡ Some y → follow (cell_steps state) path x ≡ Some y
 counted_is_known state [] x y e = e
 counted_is_known state (i ∷ path) x y e =
-    let step = given (follow (counted_steps state) path) (counted_steps state x i) y e in
-    let first = given (counted state) (cell_steps state x i) step.0 step.1.0 in
-    let cell = given (λ (cell : Cell). if is_reference cell then Some first.0 else None) (cell_at state first.0) step.0 first.1.1 in
+    let step = then_some (follow (counted_steps state) path) (counted_steps state x i) y e in
+    let first = then_some (counted state) (cell_steps state x i) step.0 step.1.0 in
+    let cell = then_some (λ (cell : Cell). if is_reference cell then Some first.0 else None) (cell_at state first.0) step.0 first.1.1 in
     let same : first.0 ≡ step.0 = if_some (is_reference cell.0) first.0 step.0 cell.1.1 in
     ap (option_and_then (follow (cell_steps state) path)) (first.1.0 ∙ ap Some same) ∙ counted_is_known state path step.0 y step.1.1
   where
     if_some : (b : Bool) (c d : ℕ) → (if b then Some c else None) ≡ Some d → c ≡ d
     if_some true c d e = some_is e
-    if_some false c d e = absurd (none_is_not_some d e)
+    if_some false c d e = absurd (none-some d e)
 
 pub counted_reaches : (state : AbstractState) (path : List ℕ) (x y : ℕ) → follow (counted_steps state) path x ≡ Some y → KnownFrom state x y
 counted_reaches state path x y e = record { path = path; leads = counted_is_known state path x y e }
@@ -158,11 +150,11 @@ module _ (types : WorldTypes) (state : AbstractState) (machine : MachineState) (
       go (Unk bound nullable shape) c t d = absurd (false≢true t)
       go (Nums kind len) c t d =
           let stands = ap (slice_get machine.heap.objects) (sym (place_is d)) ∙ d.stands in
-          absurd (none_is_not_some b (sym (array_step a i d.object stands (ap values_of d.holds.is)) ∙ f))
+          absurd (none-some b (sym (array_step a i d.object stands (ap values_of d.holds.is)) ∙ f))
       go (Obj class ids) c t d =
           let stands = ap (slice_get machine.heap.objects) (sym (place_is d)) ∙ d.stands ∙ ap Some d.holds in
           let step = sym (instance_step a i class ids stands) ∙ f in
-          let value = given target (option_map meaning (slice_get ids i)) b step in
+          let value = then_some target (option_map meaning (slice_get ids i)) b step in
           let id = named ids value.0 value.1.0 in
           let at : target (meaning id.0) ≡ Some b = ap target id.1.1 ∙ value.1.1 in
           let has = named_has_cell state good x i id.0 (Obj class ids) c id.1.0 in
@@ -173,18 +165,18 @@ module _ (types : WorldTypes) (state : AbstractState) (machine : MachineState) (
           named ids value e = from (slice_get ids i) e
             where
               from : (o : Option ℕ) → option_map meaning o ≡ Some value → (id : ℕ) × ((o ≡ Some id) × (meaning id ≡ value))
-              from None e = absurd (none_is_not_some value e)
+              from None e = absurd (none-some value e)
               from (Some id) e = (id, (refl, some_is e))
 
   -- an id that counts stands for no int
   int_counts_not : (id z : ℕ) (n : ℤ) → meaning id ≡ values.Int n → counted state id ≡ Some z → ⊥
   int_counts_not id z n e f =
-      let cell = given (λ (cell : Cell). if is_reference cell then Some id else None) (cell_at state id) z f in
+      let cell = then_some (λ (cell : Cell). if is_reference cell then Some id else None) (cell_at state id) z f in
       go cell.0 (is_true (is_reference cell.0) cell.1.1) (h.cells id cell.0 cell.1.0)
     where
       is_true : (b : Bool) → (if b then Some id else None) ≡ Some z → b ≡ true
       is_true true g = refl
-      is_true false g = absurd (none_is_not_some z g)
+      is_true false g = absurd (none-some z g)
 
       apart : {r : ℕ} → values.Int n ≡ values.Ref r → ⊥
       apart g = cc
@@ -203,16 +195,16 @@ module _ (types : WorldTypes) (state : AbstractState) (machine : MachineState) (
 
   counted_one : (id y : ℕ) → counted state id ≡ Some y → id ≡ y
   counted_one id y f =
-      let cell = given (λ (cell : Cell). if is_reference cell then Some id else None) (cell_at state id) y f in
+      let cell = then_some (λ (cell : Cell). if is_reference cell then Some id else None) (cell_at state id) y f in
       go (is_reference cell.0) cell.1.1
     where
       go : (b : Bool) → (if b then Some id else None) ≡ Some y → id ≡ y
       go true e = some_is e
-      go false e = absurd (none_is_not_some y e)
+      go false e = absurd (none-some y e)
 
   only : (len i id : ℕ) → slice_get (len ∷ []) i ≡ Some id → len ≡ id
   only len zero id e = some_is e
-  only len (suc i) id e = absurd (none_is_not_some id e)
+  only len (suc i) id e = absurd (none-some id e)
 
   -- a step of ids from a known id is one of its object
   pub step_back : (x a i y : ℕ) → HasCell is_known state x → target (meaning x) ≡ Some a → counted_steps state x i ≡ Some y → heap_steps machine.heap a i ≡ target (meaning y)
@@ -227,29 +219,29 @@ module _ (types : WorldTypes) (state : AbstractState) (machine : MachineState) (
       go (Refs element len shape) c t d = absurd (false≢true t)
       go (Unk bound nullable shape) c t d = absurd (false≢true t)
       go (Nums kind len) c t d =
-          let first = given (counted state) (cell_steps state x i) y f in
+          let first = then_some (counted state) (cell_steps state x i) y f in
           let is : len ≡ first.0 = only len i first.0 (sym (ap (option_and_then (λ (cell : Cell). slice_get (ids_of cell) i)) c) ∙ first.1.0) in
           absurd (int_counts_not first.0 y _ (ap meaning (sym is) ∙ d.holds.length_is) first.1.1)
       go (Obj class ids) c t d =
           let stands = ap (slice_get machine.heap.objects) (sym (place_is d)) ∙ d.stands ∙ ap Some d.holds in
-          let first = given (counted state) (cell_steps state x i) y f in
+          let first = then_some (counted state) (cell_steps state x i) y f in
           let at : slice_get ids i ≡ Some first.0 = sym (ap (option_and_then (λ (cell : Cell). slice_get (ids_of cell) i)) c) ∙ first.1.0 in
           instance_step a i class ids stands ∙ ap (λ (o : Option ℕ). option_and_then target (option_map meaning o)) at ∙ ap (λ (z : ℕ). target (meaning z)) (counted_one first.0 y first.1.1)
 
   -- ids with a step are known
   pub steps_are_known : (x i y : ℕ) → counted_steps state x i ≡ Some y → HasCell is_known state x
   steps_are_known x i y f =
-      let first = given (counted state) (cell_steps state x i) y f in
-      let cell = given (λ (cell : Cell). slice_get (ids_of cell) i) (cell_at state x) first.0 first.1.0 in
+      let first = then_some (counted state) (cell_steps state x i) y f in
+      let cell = then_some (λ (cell : Cell). slice_get (ids_of cell) i) (cell_at state x) first.0 first.1.0 in
       go cell.0 first.0 cell.1.0 cell.1.1
     where
       go : (cell : Cell) (id : ℕ) → cell_at state x ≡ Some cell → slice_get (ids_of cell) i ≡ Some id → HasCell is_known state x
-      go (Int interval) id c e = absurd (none_is_not_some id e)
-      go Null id c e = absurd (none_is_not_some id e)
+      go (Int interval) id c e = absurd (none-some id e)
+      go Null id c e = absurd (none-some id e)
       go (Obj class ids) id c e = record { cell = Obj class ids; is = c; sort_is = refl }
       go (Nums kind len) id c e = record { cell = Nums kind len; is = c; sort_is = refl }
-      go (Refs element len shape) id c e = absurd (none_is_not_some id e)
-      go (Unk bound nullable shape) id c e = absurd (none_is_not_some id e)
+      go (Refs element len shape) id c e = absurd (none-some id e)
+      go (Unk bound nullable shape) id c e = absurd (none-some id e)
 
   pub known_has_target : (x : ℕ) → HasCell is_known state x → (a : ℕ) × (target (meaning x) ≡ Some a)
   known_has_target x k = go k.cell k.sort_is (h.cells x k.cell k.is)
@@ -265,14 +257,14 @@ module _ (types : WorldTypes) (state : AbstractState) (machine : MachineState) (
   starts_at : (path : List ℕ) (x y c : ℕ) → follow (counted_steps state) path x ≡ Some y → target (meaning y) ≡ Some c → (a : ℕ) × (target (meaning x) ≡ Some a)
   starts_at [] x y c f e = (c, ap (λ (z : ℕ). target (meaning z)) (some_is f) ∙ e)
   starts_at (i ∷ path) x y c f e =
-      let step = given (follow (counted_steps state) path) (counted_steps state x i) y f in
+      let step = then_some (follow (counted_steps state) path) (counted_steps state x i) y f in
       known_has_target x (steps_are_known x i step.0 step.1.0)
 
   -- a path of ids is one of the objects
   pub path_back : (path : List ℕ) (x a y c : ℕ) → target (meaning x) ≡ Some a → follow (counted_steps state) path x ≡ Some y → target (meaning y) ≡ Some c → follow (heap_steps machine.heap) path a ≡ Some c
   path_back [] x a y c e f g = ap Some (some_is (sym e ∙ ap (λ (z : ℕ). target (meaning z)) (some_is f) ∙ g))
   path_back (i ∷ path) x a y c e f g =
-      let step = given (follow (counted_steps state) path) (counted_steps state x i) y f in
+      let step = then_some (follow (counted_steps state) path) (counted_steps state x i) y f in
       let next = starts_at path step.0 y c step.1.1 g in
       let first : heap_steps machine.heap a i ≡ Some next.0 = step_back x a i step.0 (steps_are_known x i step.0 step.1.0) e step.1.0 ∙ next.1 in
       ap (option_and_then (follow (heap_steps machine.heap) path)) first ∙ path_back path step.0 next.0 y c next.1 step.1.1 g
@@ -288,7 +280,7 @@ module _ (types : WorldTypes) (state : AbstractState) (machine : MachineState) (
   way (i ∷ path) x a b c e f = elim (sort_of state x c) [
     | inl s ↦ elim s [
       | inl k ↦
-          let step = given (follow (heap_steps machine.heap) path) (heap_steps machine.heap a i) b f in
+          let step = then_some (follow (heap_steps machine.heap) path) (heap_steps machine.heap a i) b f in
           let next = step_of x a i step.0 k e step.1.0 in
           elim (way path next.0 step.0 b next.1.1.1 next.1.1.0 step.1.1) [
             | inl w ↦ inl (record { y = w.y; leads = ap (option_and_then (follow (counted_steps state) path)) next.1.0 ∙ w.leads; known = w.known; names = w.names })

@@ -3,6 +3,7 @@ use Rattle.std.proofs.Common.{◌≡◌, ◌≢◌, ◌<◌, ◌≤◌, ◌+◌,
 use Rattle.std.proofs.lemmas.Bool.{false≢true, and_parts, and_from, cases_eq}
 use Rattle.std.proofs.lemmas.List.{drop_all, drop_more}
 use Rattle.std.specs.List.{AllZip}
+use Rattle.list_views.proofs.Items.{any_default}
 use Rattle.abs_sound.specs.Zips.{all_zip}
 
 -- one place more
@@ -41,11 +42,6 @@ zip_given test R told (x ∷ xs) [] z = absurd z
 zip_given test R told (x ∷ xs) (y ∷ ys) z = and_from (test x y) (all_zip test xs ys) (told x y z.0) (zip_given test R told xs ys z.1)
 
 -- ---- each item
-
-any_default : {X : Type 0} (xs : List X) (k : ℕ) (d e : X) → k < length xs → slice_index_or xs k d ≡ slice_index_or xs k e
-any_default [] k d e l = absurd (omega (arith, l))
-any_default (x ∷ xs) zero d e l = refl
-any_default (x ∷ xs) (suc k) d e l = any_default xs k d e (omega (arith, l))
 
 -- one item more of which something holds
 pub one_more : {X : Type 0} (P : X → Type 0) (xs : List X) (i : ℕ) (x : X) → i < length xs → x ≡ slice_index_or xs i x → P x → ((k : ℕ) (d : X) → k < i → P (slice_index_or xs k d)) → (k : ℕ) (d : X) → k < i + 1 → P (slice_index_or xs k d)

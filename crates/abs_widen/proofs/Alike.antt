@@ -5,7 +5,9 @@ use Rattle.std.specs.List.{AllZip, AllByRecursion}
 use Rattle.std.specs.Option.{option_map_or}
 use Rattle.std.proofs.lemmas.Bool.{or_left, or_right, or_cases, and_from, and_parts, cases_Bool, cases_eq, ne_eqb, eq-eqb, false≢true, not_from_true}
 use Rattle.std.proofs.lemmas.List.Elements.{All-head, All-tail, length_all_zip}
-use Rattle.jvm_values.proofs.Options.{some_is, none_is_not_some}
+use Rattle.std.proofs.lemmas.Option.{none-some}
+use Rattle.list_views.proofs.Quantified.{all_joined}
+use Rattle.jvm_values.proofs.Options.{some_is}
 use Rattle.jvm_values.specs.declared.types.Ty.{Ty}
 use Rattle.jvm_values.specs.declared.types.Kind.{Kind}
 use Rattle.jvm_values.specs.declared.types.Slot.{Slot}
@@ -18,7 +20,6 @@ use Rattle.abs_cells.specs.AbstractStates.{AbstractFrame, AbstractState}
 use Rattle.abs_cells.specs.Cells.{is_int, is_of_sort, cell_in, cell_at, HasCell, is_null}
 use Rattle.abs_cells.specs.Sound.{IsSound, IsSoundCell, IsOfSlot, is_object}
 use Rattle.abs_cells.proofs.Checking.{has_cell_from, has_cell_to}
-use Rattle.abs_cells.proofs.PairLaws.{bool_cases}
 use Rattle.abs_reach.specs.Instances.{is_no_int}
 use Rattle.abs_widen.specs.Rows.{Row, ints, nulls, instances, numbers, arrays, unlike, interval_in, fields_in, length_in, array_in, row_of, pairs_of}
 use Rattle.abs_widen.specs.Visits.{are_alike, local_pair, some_in, local_pairs, frame_pairs, frames_pairs, thrown_pair, position_pairs, row_of_cells, pairs_in, pairs_below, IsPaired}
@@ -27,14 +28,13 @@ use Rattle.abs_widen.specs.Widening.{AreFramesAlike, AreAlike}
 use Rattle.abs_widen.specs.Visiting.{AreAsLong, ArePairCells}
 use Rattle.abs_widen.proofs.Closed.{holds_among}
 use Rattle.abs_widen.proofs.Sides.{field_cell}
-use Rattle.abs_widen.proofs.Visiting.{all_joined}
 use Rattle.abs_widen.proofs.Zips.{all_reversed}
 
 -- ---- cells of a sound state
 
 pub holds_in : (P : Cell → Type 0) (cells : List (ℕ × Cell)) (id : ℕ) (cell : Cell) → All (λ c. P c.1) cells → cell_in cells id ≡ Some cell → P cell
-holds_in P [] id cell h e = absurd (none_is_not_some cell e)
-holds_in P (c ∷ cells) id cell h e = elim (bool_cases (nat_eq c.0 id)) [
+holds_in P [] id cell h e = absurd (none-some cell e)
+holds_in P (c ∷ cells) id cell h e = elim (cases_Bool (nat_eq c.0 id)) [
   | inl t ↦ subst P (some_is (sym (ap (λ (b : Bool). cond b (Some c.1) (cell_in cells id)) t) ∙ e)) (All-head (λ (x : ℕ × Cell). P x.1) c cells h)
   | inr f ↦ holds_in P cells id cell (All-tail (λ (x : ℕ × Cell). P x.1) c cells h) (sym (ap (λ (b : Bool). cond b (Some c.1) (cell_in cells id)) f) ∙ e)
 ]
@@ -55,23 +55,23 @@ null_pairs P none false = none
 
 -- an array of numbers of the kind; of references
 pub length_cell : (kind : Kind) (q : Cell) (more : ℕ) → length_in kind q ≡ Some more → (other : Kind) × ((q ≡ Nums other more) × (kind_code kind ≡ kind_code other))
-length_cell kind (Int i) more e = absurd (none_is_not_some more e)
-length_cell kind Null more e = absurd (none_is_not_some more e)
-length_cell kind (Obj class ids) more e = absurd (none_is_not_some more e)
+length_cell kind (Int i) more e = absurd (none-some more e)
+length_cell kind Null more e = absurd (none-some more e)
+length_cell kind (Obj class ids) more e = absurd (none-some more e)
 length_cell kind (Nums other len) more e = elim (cases_eq (kind_code kind) (kind_code other)) [
   | inl same ↦ (other, (ap (Nums other) (some_is (sym (ap (λ (t : Bool). cond t (Some len) None) (eq-eqb (kind_code kind) (kind_code other) same)) ∙ e)), same))
-  | inr differ ↦ absurd (none_is_not_some more (sym (ap (λ (t : Bool). cond t (Some len) None) (ne_eqb (kind_code kind) (kind_code other) differ)) ∙ e))
+  | inr differ ↦ absurd (none-some more (sym (ap (λ (t : Bool). cond t (Some len) None) (ne_eqb (kind_code kind) (kind_code other) differ)) ∙ e))
 ]
-length_cell kind (Refs element len shape) more e = absurd (none_is_not_some more e)
-length_cell kind (Unk bound nullable shape) more e = absurd (none_is_not_some more e)
+length_cell kind (Refs element len shape) more e = absurd (none-some more e)
+length_cell kind (Unk bound nullable shape) more e = absurd (none-some more e)
 
 pub array_cell : (q : Cell) (array : Ty × ℕ) → array_in q ≡ Some array → (shape : _) × (q ≡ Refs array.0 array.1 shape)
-array_cell (Int i) array e = absurd (none_is_not_some array e)
-array_cell Null array e = absurd (none_is_not_some array e)
-array_cell (Obj class ids) array e = absurd (none_is_not_some array e)
-array_cell (Nums kind len) array e = absurd (none_is_not_some array e)
+array_cell (Int i) array e = absurd (none-some array e)
+array_cell Null array e = absurd (none-some array e)
+array_cell (Obj class ids) array e = absurd (none-some array e)
+array_cell (Nums kind len) array e = absurd (none-some array e)
 array_cell (Refs element len shape) array e = (shape, ap (λ (x : Ty × ℕ). Refs x.0 x.1 shape) (some_is e))
-array_cell (Unk bound nullable shape) array e = absurd (none_is_not_some array e)
+array_cell (Unk bound nullable shape) array e = absurd (none-some array e)
 
 -- ---- ids beside one another
 

@@ -4,8 +4,8 @@ use Rattle.std.specs.Prelude.{slice_get}
 use Rattle.std.specs.List.{AllByRecursion}
 use Rattle.std.proofs.lemmas.Bool.{or_left, or_right, or_cases, cases_Bool, false≢true}
 use Rattle.std.proofs.lemmas.List.Folds.{list_any-append}
-use Rattle.std.proofs.lemmas.Option.{slice_get_within}
-use Rattle.jvm_values.proofs.Options.{some_is, none_is_not_some}
+use Rattle.std.proofs.lemmas.Option.{slice_get_within, none-some}
+use Rattle.jvm_values.proofs.Options.{some_is}
 use Rattle.abs_cells.specs.AbstractStates.{AbstractState}
 use Rattle.abs_cells.specs.PairLists.{is_same}
 use Rattle.abs_cells.proofs.PairLaws.{same_is, is_same_from}
@@ -63,13 +63,13 @@ number_low pairs p h = slice_get_within pairs (number_of pairs p) p (number_at p
 
 -- what stands at a place is among them
 pub among_at : (pairs : List (ℕ × ℕ)) (n : ℕ) (p : ℕ × ℕ) → slice_get pairs n ≡ Some p → is_among p pairs ≡ true
-among_at [] n p e = absurd (none_is_not_some p e)
+among_at [] n p e = absurd (none-some p e)
 among_at (x ∷ xs) zero p e = among_first p x xs (sym (some_is e))
 among_at (x ∷ xs) (suc n) p e = or_right (is_same p x) (is_among p xs) (among_at xs n p e)
 
 -- no pair stands at two places
 pub one_place : (pairs : List (ℕ × ℕ)) → AreDifferent pairs → (m n : ℕ) (p : ℕ × ℕ) → slice_get pairs m ≡ Some p → slice_get pairs n ≡ Some p → m ≡ n
-one_place [] h m n p e f = absurd (none_is_not_some p e)
+one_place [] h m n p e f = absurd (none-some p e)
 one_place (x ∷ xs) h zero zero p e f = refl
 one_place (x ∷ xs) h zero (suc n) p e f = absurd (false≢true (sym h.0 ∙ ap (λ (q : ℕ × ℕ). is_among q xs) (some_is e) ∙ among_at xs n p f))
 one_place (x ∷ xs) h (suc m) zero p e f = absurd (false≢true (sym h.0 ∙ ap (λ (q : ℕ × ℕ). is_among q xs) (some_is f) ∙ among_at xs m p e))

@@ -3,10 +3,10 @@ use Rattle.std.proofs.Common.{◌≡◌, ℕ, suc, ℤ, ◌≤ℤ◌, Bool, true
 use Rattle.std.specs.Prelude.{slice_get, if◌then◌else◌}
 use Rattle.std.specs.List.{list_any}
 use Rattle.std.specs.Option.{option_map, option_map_or}
-use Rattle.std.proofs.lemmas.Option.{slice_get-map}
+use Rattle.std.proofs.lemmas.Option.{slice_get-map, none-some}
 use Rattle.std.proofs.lemmas.Bool.{or_left, or_right, and_parts, false≢true}
 use Rattle.std.proofs.lemmas.List.{append-nil, append_cancel_left}
-use Rattle.jvm_values.proofs.Options.{some_is, none_is_not_some}
+use Rattle.jvm_values.proofs.Options.{some_is}
 use Rattle.jvm_values.proofs.PathLaws.{joined}
 use Rattle.jvm_values.specs.declared.types.Ty.{Ty}
 use Rattle.jvm_values.specs.declared.types.Kind.{Kind}
@@ -125,10 +125,10 @@ seconds (x ∷ xs) (y ∷ ys) e = ap (λ (rest : List (Option ℕ)). Some y ∷ 
 null_of : (p : Cell) → is_int p ≡ false → type_of_cell p ≡ None → p ≡ Null
 null_of (Int i) e f = absurd (false≢true (sym e))
 null_of Null e f = refl
-null_of (Obj class ids) e f = absurd (none_is_not_some _ (sym f))
-null_of (Nums kind len) e f = absurd (none_is_not_some _ (sym f))
-null_of (Refs element len shape) e f = absurd (none_is_not_some _ (sym f))
-null_of (Unk bound nullable shape) e f = absurd (none_is_not_some _ (sym f))
+null_of (Obj class ids) e f = absurd (none-some _ (sym f))
+null_of (Nums kind len) e f = absurd (none-some _ (sym f))
+null_of (Refs element len shape) e f = absurd (none-some _ (sym f))
+null_of (Unk bound nullable shape) e f = absurd (none-some _ (sym f))
 
 module _ (types : WorldTypes) (a b : AbstractState) (pairs : List (ℕ × ℕ)) (pair : ℕ × ℕ) (p q : Cell) (of : AreCellsOf types a b pair p q) where
   -- the cells of two references of which type and shape are known
@@ -161,10 +161,10 @@ module _ (types : WorldTypes) (a b : AbstractState) (pairs : List (ℕ × ℕ)) 
     worse_told made_shape shape e h = subst (IsWorseShape a b pair) (some_is e) h
 
     row_shape : (row : Row) (shape : Shape) → IsRowCell types a b pairs pair p q row cell → shape_of cell ≡ Some shape → IsWorseShape a b pair shape
-    row_shape (ints i j) shape h e = absurd (none_is_not_some shape (shape_told (Int h.interval) None shape h.is refl e))
-    row_shape nulls shape h e = absurd (none_is_not_some shape (shape_told Null None shape h refl e))
-    row_shape (instances class ids more) shape h e = absurd (none_is_not_some shape (shape_told (Obj class (map (number_of pairs) (zip ids more))) None shape h refl e))
-    row_shape (numbers kind len more) shape h e = absurd (none_is_not_some shape (shape_told (Nums kind (number_of pairs (len, more))) None shape h refl e))
+    row_shape (ints i j) shape h e = absurd (none-some shape (shape_told (Int h.interval) None shape h.is refl e))
+    row_shape nulls shape h e = absurd (none-some shape (shape_told Null None shape h refl e))
+    row_shape (instances class ids more) shape h e = absurd (none-some shape (shape_told (Obj class (map (number_of pairs) (zip ids more))) None shape h refl e))
+    row_shape (numbers kind len more) shape h e = absurd (none-some shape (shape_told (Nums kind (number_of pairs (len, more))) None shape h refl e))
     row_shape (arrays element other len more) shape h e = worse_told h.shape shape (shape_told (Refs h.join (number_of pairs (len, more)) h.shape) (Some h.shape) shape h.is refl e) h.shape_is
     row_shape unlike shape h e = worse_told h.shape shape (shape_told (Unk h.bound (can_be_null p || can_be_null q) h.shape) (Some h.shape) shape h.is refl e) h.shape_is
 

@@ -4,9 +4,12 @@ use Rattle.std.specs.Prelude.{slice_get}
 use Rattle.std.specs.List.{AllZip, list_any, flat_map}
 use Rattle.std.specs.Option.{option_and_then}
 use Rattle.std.proofs.lemmas.Bool.{or_left, or_right, cases_eq, eq-eqb, ne_eqb}
-use Rattle.std.proofs.lemmas.Option.{get_or_from_slice_get}
+use Rattle.std.proofs.lemmas.Option.{get_or_from_slice_get, none-some}
 use Rattle.std.proofs.lemmas.List.Folds.{list_any-append}
-use Rattle.jvm_values.proofs.Options.{some_is, none_is_not_some, given}
+use Rattle.std.proofs.lemmas.Map.Keys.{any_passes_from_place}
+use Rattle.list_views.proofs.Quantified.{all_at, every_front}
+use Rattle.list_views.proofs.Options.{then_some}
+use Rattle.jvm_values.proofs.Options.{some_is}
 use Rattle.jvm_values.proofs.PathLaws.{here, one_more, onward}
 use Rattle.jvm_values.specs.Paths.{follow}
 use Rattle.jvm_values.specs.TypedHeaps.{WorldTypes}
@@ -17,7 +20,7 @@ use Rattle.abs_cells.specs.Sound.{given_ids, ids_of_frame, IsWellFormed, IsSound
 use Rattle.abs_reach.specs.Reached.{named_steps, positions, IsReached}
 use Rattle.abs_reach.specs.Instances.{image_in, Place, local, entry, frame_at, id_at}
 use Rattle.abs_reach.proofs.Dropped.{any_stands, any_reversed, any_flat}
-use Rattle.abs_reach.proofs.Walks.{all_at, all_front, named_has_cell}
+use Rattle.abs_reach.proofs.Walks.{named_has_cell}
 use Rattle.abs_widen.specs.Rows.{Row, pairs_of}
 use Rattle.abs_widen.specs.Visits.{is_among, pairs_in}
 use Rattle.abs_widen.specs.Visiting.{AreAsLong, AreCellsOf}
@@ -26,16 +29,10 @@ use Rattle.abs_widen.proofs.Alike.{sound_at, paired_cells, all_as_long}
 use Rattle.abs_widen.proofs.Closed.{among_at, below_among, among_paired}
 use Rattle.abs_widen.proofs.Whole.{at_number, pair_at, numbered, merged_is_good}
 
--- an item that passes
-pub any_at : {X : Type 0} (test : X → Bool) (xs : List X) (n : ℕ) (x : X) → slice_get xs n ≡ Some x → test x ≡ true → list_any test xs ≡ true
-any_at test [] n x e t = absurd (none_is_not_some x e)
-any_at test (y ∷ xs) zero x e t = or_left (test y) (list_any test xs) (ap test (some_is e) ∙ t)
-any_at test (y ∷ xs) (suc n) x e t = or_right (test y) (list_any test xs) (any_at test xs n x e t)
-
 -- ---- maps over cells
 
 pub image_mapped : (f : ℕ → ℕ) (cells : List (ℕ × Cell)) (n : ℕ) (c : Cell) → cell_in cells n ≡ Some c → image_in (map (λ (x : ℕ × Cell). (x.0, f x.0)) cells) n ≡ Some (f n)
-image_mapped f [] n c e = absurd (none_is_not_some c e)
+image_mapped f [] n c e = absurd (none-some c e)
 image_mapped f (x ∷ cells) n c e = elim (cases_eq x.0 n) [
   | inl same ↦ ap (λ (t : Bool). cond t (Some (f x.0)) (image_in (map (λ (y : ℕ × Cell). (y.0, f y.0)) cells) n)) (eq-eqb x.0 n same) ∙ ap (λ (k : ℕ). Some (f k)) same
   | inr differ ↦
@@ -45,7 +42,7 @@ image_mapped f (x ∷ cells) n c e = elim (cases_eq x.0 n) [
 ]
 
 pub mapped_image : (f : ℕ → ℕ) (cells : List (ℕ × Cell)) (n image : ℕ) → image_in (map (λ (x : ℕ × Cell). (x.0, f x.0)) cells) n ≡ Some image → (c : Cell) × ((cell_in cells n ≡ Some c) × (image ≡ f n))
-mapped_image f [] n image e = absurd (none_is_not_some image e)
+mapped_image f [] n image e = absurd (none-some image e)
 mapped_image f (x ∷ cells) n image e = elim (cases_eq x.0 n) [
   | inl same ↦
       let t : eqb x.0 n ≡ true = eq-eqb x.0 n same in
@@ -65,8 +62,8 @@ same_ids f (x ∷ cells) = ap (λ (rest : List ℕ). x.0 ∷ rest) (same_ids f c
 
 module _ (state : AbstractState) where
   in_given : (locals : List (Option ℕ)) (n id : ℕ) → slice_get locals n ≡ Some (Some id) → list_any (λ x. x == id) (given_ids locals) ≡ true
-  in_given [] n id e = absurd (none_is_not_some (Some id) e)
-  in_given (None ∷ locals) zero id e = absurd (none_is_not_some id (some_is e))
+  in_given [] n id e = absurd (none-some (Some id) e)
+  in_given (None ∷ locals) zero id e = absurd (none-some id (some_is e))
   in_given (Some x ∷ locals) zero id e = or_left (x == id) (list_any (λ y. y == id) (given_ids locals)) (eq-eqb x id (some_is (some_is e)))
   in_given (None ∷ locals) (suc n) id e = in_given locals n id e
   in_given (Some x ∷ locals) (suc n) id e = or_right (x == id) (list_any (λ y. y == id) (given_ids locals)) (in_given locals n id e)
@@ -77,22 +74,22 @@ module _ (state : AbstractState) where
       ∙ or_left (list_any (λ x. x == id) (flat_map ids_of_frame state.frames)) (list_any (λ x. x == id) (given_ids (state.throwing ∷ [])))
       (any_flat (λ (x : ℕ). x == id) ids_of_frame state.frames
       ∙ sym (any_reversed (λ (g : AbstractFrame). list_any (λ x. x == id) (ids_of_frame g)) state.frames)
-      ∙ any_at (λ (g : AbstractFrame). list_any (λ x. x == id) (ids_of_frame g)) (reverse state.frames) f frame e h)
+      ∙ any_passes_from_place (λ (g : AbstractFrame). list_any (λ x. x == id) (ids_of_frame g)) (reverse state.frames) f frame e h)
 
   pub in_places : (place : Place) (id : ℕ) → id_at state place ≡ Some id → list_any (λ x. x == id) (positions state) ≡ true
   in_places (local f n) id e =
-      let frame = given (λ (g : AbstractFrame). option_and_then (λ (x : Option ℕ). x) (slice_get g.locals n)) (frame_at state f) id e in
-      let found = given (λ (x : Option ℕ). x) (slice_get frame.0.locals n) id frame.1.1 in
+      let frame = then_some (λ (g : AbstractFrame). option_and_then (λ (x : Option ℕ). x) (slice_get g.locals n)) (frame_at state f) id e in
+      let found = then_some (λ (x : Option ℕ). x) (slice_get frame.0.locals n) id frame.1.1 in
       let stands : slice_get frame.0.locals n ≡ Some (Some id) = found.1.0 ∙ ap Some found.1.1 in
       in_frame f frame.0 id frame.1.0
       (list_any-append (λ (x : ℕ). x == id) (given_ids frame.0.locals) frame.0.stack
       ∙ or_left (list_any (λ x. x == id) (given_ids frame.0.locals)) (list_any (λ x. x == id) frame.0.stack) (in_given frame.0.locals n id stands))
   in_places (entry f n) id e =
-      let frame = given (λ (g : AbstractFrame). slice_get (reverse g.stack) n) (frame_at state f) id e in
+      let frame = then_some (λ (g : AbstractFrame). slice_get (reverse g.stack) n) (frame_at state f) id e in
       in_frame f frame.0 id frame.1.0
       (list_any-append (λ (x : ℕ). x == id) (given_ids frame.0.locals) frame.0.stack
       ∙ or_right (list_any (λ x. x == id) (given_ids frame.0.locals)) (list_any (λ x. x == id) frame.0.stack)
-      (sym (any_reversed (λ (x : ℕ). x == id) frame.0.stack) ∙ any_at (λ (x : ℕ). x == id) (reverse frame.0.stack) n id frame.1.1 (eq-eqb id id refl)))
+      (sym (any_reversed (λ (x : ℕ). x == id) frame.0.stack) ∙ any_passes_from_place (λ (x : ℕ). x == id) (reverse frame.0.stack) n id frame.1.1 (eq-eqb id id refl)))
 
   pub in_thrown : (id : ℕ) → state.throwing ≡ Some id → list_any (λ x. x == id) (positions state) ≡ true
   in_thrown id e =
@@ -104,14 +101,14 @@ module _ (state : AbstractState) where
   module _ (good : IsWellFormed state) where
     positions_there : All (HasCell (λ _. true) state) (positions state)
     positions_there =
-        all_front (HasCell (λ _. true) state) (flat_map ids_of_frame state.frames ++ given_ids (state.throwing ∷ [])) (flat_map (λ c. ids_in c.1) state.cells)
+        every_front (HasCell (λ _. true) state) (flat_map ids_of_frame state.frames ++ given_ids (state.throwing ∷ [])) (flat_map (λ c. ids_in c.1) state.cells)
         (subst (λ (xs : List ℕ). All (HasCell (λ _. true) state) xs) (sym (append_assoc (flat_map ids_of_frame state.frames) (given_ids (state.throwing ∷ [])) (flat_map (λ c. ids_in c.1) state.cells))) good.used)
 
     path_there : (path : List ℕ) (x y : ℕ) → HasCell (λ _. true) state x → follow (named_steps state) path x ≡ Some y → HasCell (λ _. true) state y
     path_there [] x y h e = subst (HasCell (λ _. true) state) (some_is e) h
     path_there (i ∷ path) x y h e =
-        let step = given (follow (named_steps state) path) (named_steps state x i) y e in
-        let cell = given (λ (c : Cell). slice_get (ids_in c) i) (cell_at state x) step.0 step.1.0 in
+        let step = then_some (follow (named_steps state) path) (named_steps state x i) y e in
+        let cell = then_some (λ (c : Cell). slice_get (ids_in c) i) (cell_at state x) step.0 step.1.0 in
         path_there path step.0 y (named_has_cell state good x i step.0 cell.0 cell.1.0 cell.1.1) step.1.1
 
     pub reached_has : (id : ℕ) → IsReached state id → HasCell (λ _. true) state id

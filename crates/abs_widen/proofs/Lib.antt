@@ -1,6 +1,6 @@
 mod Alike
 mod Bounds
-mod Closed
+pub mod Closed
 mod Counting
 mod Covered
 mod Ends

@@ -2,7 +2,8 @@
 use Rattle.std.proofs.Common.{◌≡◌, ◌⊎◌, ℕ, zero, suc, ◌+◌, ◌<◌, ◌≤◌, List, [], ◌∷◌, ◌++◌, length, get_or, length-append, Option, Some, refl, sym, ap, subst, ◌∙◌, inl, inr, arith}
 use Rattle.std.specs.Prelude.{slice_get, MatchOption}
 use Rattle.std.specs.List.{AllByRecursion}
-use Rattle.jvm_values.proofs.Options.{none_is_not_some, some_is}
+use Rattle.std.proofs.lemmas.Option.{none-some}
+use Rattle.jvm_values.proofs.Options.{some_is}
 use Rattle.jvm_values.specs.TypedHeaps.{WorldTypes}
 use Rattle.abs_cells.specs.declared.cells.Cell.{Cell}
 use Rattle.abs_cells.specs.AbstractStates.{AbstractState}
@@ -11,7 +12,7 @@ use Rattle.abs_widen.specs.Widening.{IsMergedCell, AreMergedCells}
 -- an item of a list with one more item
 slice_last : {A : Type 0} (xs : List A) (x : A) (k : ℕ) (y : A) → slice_get (xs ++ x ∷ []) k ≡ Some y → (slice_get xs k ≡ Some y) ⊎ ((k ≡ length xs) × (x ≡ y))
 slice_last [] x zero y e = inr (refl, some_is e)
-slice_last [] x (suc k) y e = absurd (none_is_not_some y e)
+slice_last [] x (suc k) y e = absurd (none-some y e)
 slice_last (u ∷ xs) x zero y e = inl e
 slice_last (u ∷ xs) x (suc k) y e = elim (slice_last xs x k y e) [
   | inl h ↦ inl h
@@ -26,7 +27,7 @@ holds_at P (x ∷ xs) (suc n) d h l = holds_at P xs n d h.1 (omega (arith, l))
 
 module _ (types : WorldTypes) (a b : AbstractState) (pairs : List (ℕ × ℕ)) where
   pub merged_none : AreMergedCells types a b pairs []
-  merged_none n pair entry e f = absurd (none_is_not_some entry f)
+  merged_none n pair entry e f = absurd (none-some entry f)
 
   pub merged_more : (cells : List (ℕ × Cell)) (n : ℕ) (pair : ℕ × ℕ) (cell : Cell) → length cells ≡ n → slice_get pairs n ≡ Some pair → IsMergedCell types a b pairs pair cell
       → AreMergedCells types a b pairs cells → AreMergedCells types a b pairs (cells ++ (n, cell) ∷ [])

@@ -4,47 +4,35 @@ use Rattle.std.specs.Prelude.{slice_get, if◌then◌else◌}
 use Rattle.std.specs.List.{AllZip, flat_map}
 use Rattle.std.specs.Option.{option_and_then, option_map}
 use Rattle.std.proofs.lemmas.List.{length-map}
-use Rattle.std.proofs.lemmas.Option.{slice_get-map}
+use Rattle.std.proofs.lemmas.Option.{slice_get-map, none-some}
 use Rattle.std.proofs.lemmas.List.Elements.{length_all_zip}
-use Rattle.jvm_values.proofs.Options.{some_is, none_is_not_some, given}
+use Rattle.list_views.proofs.Zipped.{zip_at}
+use Rattle.list_views.proofs.Items.{map_reversed}
+use Rattle.list_views.proofs.Options.{map_some, then_some}
+use Rattle.jvm_values.proofs.Options.{some_is}
 use Rattle.abs_cells.specs.AbstractStates.{AbstractFrame, AbstractState}
 use Rattle.abs_reach.specs.Instances.{Place, local, entry, frame_at, id_at, FrameHead, head_of, is_thrown}
 use Rattle.abs_widen.specs.Visits.{is_among, are_alike, local_pair, some_in, local_pairs, frame_pairs, frames_pairs, thrown_pair, ArePairs}
 use Rattle.abs_widen.specs.Visiting.{AreAsLong}
 use Rattle.abs_widen.specs.Widening.{number_of, merged_locals, merged_frame, merged_frames, AreFramesAlike}
-use Rattle.abs_widen.proofs.Closed.{among_front, among_back, among_first, positions_among}
-use Rattle.abs_widen.proofs.Zips.{zip_reversed, map_reversed, all_reversed}
+use Rattle.abs_widen.proofs.Closed.{among_front, among_back, among_first, positions_among, among_at}
+use Rattle.abs_widen.proofs.Zips.{zip_reversed, all_reversed}
 
 -- ---- items of lists
 
-mapped_from : {A B : Type 0} (f : A → B) (o : Option A) (y : B) → option_map f o ≡ Some y → (x : A) × ((o ≡ Some x) × (f x ≡ y))
-mapped_from f None y e = absurd (none_is_not_some y e)
-mapped_from f (Some x) y e = (x, (refl, some_is e))
-
 mapped_at : {A B : Type 0} (f : A → B) (xs : List A) (n : ℕ) (y : B) → slice_get (map f xs) n ≡ Some y → (x : A) × ((slice_get xs n ≡ Some x) × (f x ≡ y))
-mapped_at f xs n y e = mapped_from f (slice_get xs n) y (sym (slice_get-map f xs n) ∙ e)
+mapped_at f xs n y e = map_some f (slice_get xs n) y (sym (slice_get-map f xs n) ∙ e)
 
 zipped_at : {A B : Type 0} (xs : List A) (ys : List B) (n : ℕ) (z : A × B) → slice_get (zip xs ys) n ≡ Some z → (slice_get xs n ≡ Some z.0) × (slice_get ys n ≡ Some z.1)
-zipped_at [] ys n z e = absurd (none_is_not_some z e)
-zipped_at (x ∷ xs) [] n z e = absurd (none_is_not_some z e)
+zipped_at [] ys n z e = absurd (none-some z e)
+zipped_at (x ∷ xs) [] n z e = absurd (none-some z e)
 zipped_at {A} {B} (x ∷ xs) (y ∷ ys) zero z e = (ap (λ (p : A × B). Some p.0) (some_is e), ap (λ (p : A × B). Some p.1) (some_is e))
 zipped_at (x ∷ xs) (y ∷ ys) (suc n) z e = zipped_at xs ys n z e
 
-related_at : {A B : Type 0} (R : A → B → Type 0) (xs : List A) (ys : List B) (n : ℕ) (x : A) (y : B) → AllZip R xs ys → slice_get xs n ≡ Some x → slice_get ys n ≡ Some y → R x y
-related_at R [] ys n x y h e f = absurd (none_is_not_some x e)
-related_at R (u ∷ xs) [] n x y h e f = absurd h
-related_at R (u ∷ xs) (v ∷ ys) zero x y h e f = subst (λ (s : _). R s y) (some_is e) (subst (R u) (some_is f) h.0)
-related_at R (u ∷ xs) (v ∷ ys) (suc n) x y h e f = related_at R xs ys n x y h.1 e f
-
 among_flat : {X : Type 0} (f : X → List (ℕ × ℕ)) (xs : List X) (n : ℕ) (x : X) (p : ℕ × ℕ) → slice_get xs n ≡ Some x → is_among p (f x) ≡ true → is_among p (flat_map f xs) ≡ true
-among_flat f [] n x p e h = absurd (none_is_not_some x e)
+among_flat f [] n x p e h = absurd (none-some x e)
 among_flat f (y ∷ xs) zero x p e h = among_front p (f y) (flat_map f xs) (ap (λ (z : _). is_among p (f z)) (some_is e) ∙ h)
 among_flat f (y ∷ xs) (suc n) x p e h = among_back p (f y) (flat_map f xs) (among_flat f xs n x p e h)
-
-among_listed : (xs : List (ℕ × ℕ)) (n : ℕ) (p : ℕ × ℕ) → slice_get xs n ≡ Some p → is_among p xs ≡ true
-among_listed [] n p e = absurd (none_is_not_some p e)
-among_listed (x ∷ xs) zero p e = among_first p x xs (sym (some_is e))
-among_listed (x ∷ xs) (suc n) p e = among_back p (x ∷ []) xs (among_listed xs n p e)
 
 -- ---- heads of frames
 
@@ -82,18 +70,18 @@ thrown_same pairs (Some x) None e = e
 thrown_same pairs (Some x) (Some y) e = refl
 
 thrown_is : (x y : Option ℕ) (p : ℕ × ℕ) → thrown_pair x y ≡ Some p → (x ≡ Some p.0) × (y ≡ Some p.1)
-thrown_is None y p e = absurd (none_is_not_some p e)
-thrown_is (Some x) None p e = absurd (none_is_not_some p e)
+thrown_is None y p e = absurd (none-some p e)
+thrown_is (Some x) None p e = absurd (none-some p e)
 thrown_is (Some x) (Some y) p e = (ap (λ (q : ℕ × ℕ). Some q.0) (some_is e), ap (λ (q : ℕ × ℕ). Some q.1) (some_is e))
 
 local_is : (a b : AbstractState) (x y : Option ℕ) (p : ℕ × ℕ) → local_pair a b x y ≡ Some p → (x ≡ Some p.0) × (y ≡ Some p.1)
-local_is a b None y p e = absurd (none_is_not_some p e)
-local_is a b (Some x) None p e = absurd (none_is_not_some p e)
+local_is a b None y p e = absurd (none-some p e)
+local_is a b (Some x) None p e = absurd (none-some p e)
 local_is a b (Some x) (Some y) p e = go (are_alike a b x y) e
   where
     go : (t : Bool) → (if t then Some (x, y) else None) ≡ Some p → (Some x ≡ Some p.0) × (Some y ≡ Some p.1)
     go true f = (ap (λ (q : ℕ × ℕ). Some q.0) (some_is f), ap (λ (q : ℕ × ℕ). Some q.1) (some_is f))
-    go false f = absurd (none_is_not_some p f)
+    go false f = absurd (none-some p f)
 
 -- ---- places
 
@@ -133,13 +121,13 @@ module _ (a b result : AbstractState) (pairs : List (ℕ × ℕ)) (are : ArePair
 
     local_stands : (f n id : ℕ) → id_at result (local f n) ≡ Some id → StandsFor pairs (id_at a (local f n)) (id_at b (local f n)) id
     local_stands f n id e =
-        let frame = given (λ (g : AbstractFrame). option_and_then (λ (x : Option ℕ). x) (slice_get g.locals n)) (frame_at result f) id e in
-        let found = given (λ (x : Option ℕ). x) (slice_get frame.0.locals n) id frame.1.1 in
+        let frame = then_some (λ (g : AbstractFrame). option_and_then (λ (x : Option ℕ). x) (slice_get g.locals n)) (frame_at result f) id e in
+        let found = then_some (λ (x : Option ℕ). x) (slice_get frame.0.locals n) id frame.1.1 in
         let from = frame_from f frame.0 frame.1.0 in
         let there : slice_get (merged_locals a b pairs from.0.0.locals from.0.1.locals) n ≡ Some (Some id) =
         ap (λ (g : AbstractFrame). slice_get g.locals n) from.1.1 ∙ found.1.0 ∙ ap Some found.1.1 in
         let local = mapped_at (λ both. option_map (number_of pairs) (local_pair a b both.0 both.1)) (zip from.0.0.locals from.0.1.locals) n (Some id) there in
-        let pair = mapped_from (number_of pairs) (local_pair a b local.0.0 local.0.1) id local.1.1 in
+        let pair = map_some (number_of pairs) (local_pair a b local.0.0 local.0.1) id local.1.1 in
         let ids = local_is a b local.0.0 local.0.1 pair.0 pair.1.0 in
         let sides = zipped_at from.0.0.locals from.0.1.locals n local.0 local.1.0 in
         let frames = zipped_at (reverse a.frames) (reverse b.frames) f from.0 from.1.0 in
@@ -156,10 +144,10 @@ module _ (a b result : AbstractState) (pairs : List (ℕ × ℕ)) (are : ArePair
 
     entry_stands : (f n id : ℕ) → id_at result (entry f n) ≡ Some id → StandsFor pairs (id_at a (entry f n)) (id_at b (entry f n)) id
     entry_stands f n id e =
-        let frame = given (λ (g : AbstractFrame). slice_get (reverse g.stack) n) (frame_at result f) id e in
+        let frame = then_some (λ (g : AbstractFrame). slice_get (reverse g.stack) n) (frame_at result f) id e in
         let from = frame_from f frame.0 frame.1.0 in
         let frames = zipped_at (reverse a.frames) (reverse b.frames) f from.0 from.1.0 in
-        let as_long = related_at AreAsLong (reverse a.frames) (reverse b.frames) f from.0.0 from.0.1 (all_reversed AreAsLong a.frames b.frames long) frames.0 frames.1 in
+        let as_long = zip_at AreAsLong (reverse a.frames) (reverse b.frames) f from.0.0 from.0.1 (all_reversed AreAsLong a.frames b.frames long) frames.0 frames.1 in
         let turned : reverse (map (number_of pairs) (zip from.0.0.stack from.0.1.stack)) ≡ map (number_of pairs) (zip (reverse from.0.0.stack) (reverse from.0.1.stack)) =
         sym (map_reversed (number_of pairs) (zip from.0.0.stack from.0.1.stack)) ∙ ap (map (number_of pairs)) (sym (zip_reversed from.0.0.stack from.0.1.stack as_long.stacks)) in
         let there : slice_get (map (number_of pairs) (zip (reverse from.0.0.stack) (reverse from.0.1.stack))) n ≡ Some id =
@@ -171,7 +159,7 @@ module _ (a b result : AbstractState) (pairs : List (ℕ × ℕ)) (are : ArePair
           number = pair.1.1;
           among = frame_among f from.0 pair.0 from.1.0
               (among_back pair.0 (local_pairs a b from.0.0.locals from.0.1.locals) (zip (reverse from.0.0.stack) (reverse from.0.1.stack))
-              (among_listed (zip (reverse from.0.0.stack) (reverse from.0.1.stack)) n pair.0 pair.1.0));
+              (among_at (zip (reverse from.0.0.stack) (reverse from.0.1.stack)) n pair.0 pair.1.0));
           first_is = ap (entry_in n) frames.0 ∙ sides.0;
           second_is = ap (entry_in n) frames.1 ∙ sides.1;
         }
@@ -182,7 +170,7 @@ module _ (a b result : AbstractState) (pairs : List (ℕ × ℕ)) (are : ArePair
 
   pub thrown_stands : result.throwing ≡ option_map (number_of pairs) (thrown_pair a.throwing b.throwing) → (id : ℕ) → result.throwing ≡ Some id → StandsFor pairs a.throwing b.throwing id
   thrown_stands is id e =
-      let pair = mapped_from (number_of pairs) (thrown_pair a.throwing b.throwing) id (sym is ∙ e) in
+      let pair = map_some (number_of pairs) (thrown_pair a.throwing b.throwing) id (sym is ∙ e) in
       let ids = thrown_is a.throwing b.throwing pair.0 pair.1.0 in
       record {
         pair = pair.0;

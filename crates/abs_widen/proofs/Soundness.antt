@@ -4,8 +4,10 @@ use Rattle.std.specs.Prelude.{slice_get, int_le, if◌then◌else◌}
 use Rattle.std.specs.List.{AllZip, AllByRecursion, flat_map}
 use Rattle.std.proofs.lemmas.Bool.{or_from, false≢true, cases_Bool, not_from_true}
 use Rattle.std.proofs.lemmas.Int.{ints}
-use Rattle.std.proofs.lemmas.Option.{slice_get_within, get_or_from_slice_get}
-use Rattle.jvm_values.proofs.Options.{some_is, none_is_not_some}
+use Rattle.std.proofs.lemmas.Option.{slice_get_within, get_or_from_slice_get, none-some}
+use Rattle.std.proofs.lemmas.Map.Keys.{any_passes_from_place}
+use Rattle.list_views.proofs.Quantified.{all_joined, all_places}
+use Rattle.jvm_values.proofs.Options.{some_is}
 use Rattle.jvm_values.proofs.Joining.{arrays_join}
 use Rattle.jvm_values.specs.declared.types.Ty.{Ty}
 use Rattle.jvm_values.specs.declared.types.Kind.TheVariants as kinds
@@ -30,9 +32,8 @@ use Rattle.abs_widen.specs.Laws.{WideningsAreSound}
 use Rattle.abs_widen.proofs.Closed.{among_at, number_at}
 use Rattle.abs_widen.proofs.Covered.{AreAllAmong, MadeAs, made_as}
 use Rattle.abs_widen.proofs.Covered.MadeAs.{hazed, both_ints, both_null, both_instances, both_numbers, both_arrays}
-use Rattle.abs_widen.proofs.Left.{IsLeft, any_at, long, left, position_there, thrown_there, cells_of, closed_at}
+use Rattle.abs_widen.proofs.Left.{IsLeft, long, left, position_there, thrown_there, cells_of, closed_at}
 use Rattle.abs_widen.proofs.Placed.{thrown_stands}
-use Rattle.abs_widen.proofs.Visiting.{all_joined}
 use Rattle.abs_widen.proofs.Whole.{all_from}
 
 -- ---- bounds of 32 bits
@@ -81,13 +82,9 @@ hi_bound old new h = chosen (int_le new old) old (bound_above new) h (above_boun
 
 -- ---- lists
 
-all_items : {X : Type 0} (P : X → Type 0) (xs : List X) → ((n : ℕ) (x : X) → slice_get xs n ≡ Some x → P x) → AllByRecursion P xs
-all_items P [] h = tt
-all_items P (x ∷ xs) h = (h 0 x refl, all_items P xs (λ n y e. h (suc n) y e))
-
 all_of_each : {X : Type 0} (P : ℕ → Type 0) (f : X → List ℕ) (xs : List X) → ((n : ℕ) (x : X) → slice_get xs n ≡ Some x → (i y : ℕ) → slice_get (f x) i ≡ Some y → P y) → AllByRecursion P (flat_map f xs)
 all_of_each P f [] h = tt
-all_of_each P f (x ∷ xs) h = all_joined P (f x) (flat_map f xs) (all_items P (f x) (h 0 x refl)) (all_of_each P f xs (λ n y e. h (suc n) y e))
+all_of_each P f (x ∷ xs) h = all_joined P (f x) (flat_map f xs) (all_places P (f x) (h 0 x refl)) (all_of_each P f xs (λ n y e. h (suc n) y e))
 
 -- ---- sorts of cells
 
@@ -217,7 +214,7 @@ module _ (types : WorldTypes) (a b result : AbstractState) (laws : AreLawful typ
       (made_of n c l)
     where
       mapped_one : (some : List (ℕ × ℕ)) (i : ℕ) (r : ℕ × ℕ) → slice_get some i ≡ Some r → slice_get (map (number_of w.pairs) some) i ≡ Some (number_of w.pairs r)
-      mapped_one [] i r h = absurd (none_is_not_some r h)
+      mapped_one [] i r h = absurd (none-some r h)
       mapped_one (x ∷ some) zero r h = ap (λ (y : ℕ × ℕ). Some (number_of w.pairs y)) (some_is h)
       mapped_one (x ∷ some) (suc i) r h = mapped_one some i r h
 
@@ -231,7 +228,7 @@ module _ (types : WorldTypes) (a b result : AbstractState) (laws : AreLawful typ
       subst (λ (xs : List ℕ). AllByRecursion (HasCell (λ _. true) result) xs)
       (append_assoc (flat_map ids_of_frame result.frames) (given_ids (result.throwing ∷ [])) (flat_map (λ c. ids_in c.1) result.cells))
       (all_joined (HasCell (λ _. true) result) (positions result) (flat_map (λ c. ids_in c.1) result.cells)
-      (all_items (HasCell (λ _. true) result) (positions result) (λ n id e. position_there types a b result alike w id (any_at (λ (x : ℕ). x == id) (positions result) n id e (eq-eqb id id refl))))
+      (all_places (HasCell (λ _. true) result) (positions result) (λ n id e. position_there types a b result alike w id (any_passes_from_place (λ (x : ℕ). x == id) (positions result) n id e (eq-eqb id id refl))))
       (all_of_each (HasCell (λ _. true) result) (λ (c : ℕ × Cell). ids_in c.1) result.cells
       (λ n entry e i y f. (left types a b result alike w entry.0 entry.1 (entry_there n entry e)).named i y f)))
 
@@ -265,7 +262,7 @@ module _ (types : WorldTypes) (a b result : AbstractState) (laws : AreLawful typ
   sound_result = record {
     well_formed = good_result;
     framed = λ e. no_frames a b w.pairs a.frames b.frames alike.frames first.framed (sym (w.is.dropped.frames ∙ w.is.is_merged.frames) ∙ e);
-    cells = all_from (λ (c : ℕ × Cell). IsSoundCell types result c.1) result.cells (all_items (λ (c : ℕ × Cell). IsSoundCell types result c.1) result.cells (λ n entry e. sound_there entry.0 entry.1 (entry_there n entry e)));
+    cells = all_from (λ (c : ℕ × Cell). IsSoundCell types result c.1) result.cells (all_places (λ (c : ℕ × Cell). IsSoundCell types result c.1) result.cells (λ n entry e. sound_there entry.0 entry.1 (entry_there n entry e)));
     thrown = thrown_object;
   }
 

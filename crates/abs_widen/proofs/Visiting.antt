@@ -3,6 +3,7 @@ use Rattle.std.proofs.Common.{◌≡◌, ℕ, ◌+◌, ◌<◌, ◌≤◌, ◌==
 use Rattle.std.specs.List.{AllByRecursion, flat_map}
 use Rattle.std.proofs.lemmas.Bool.{or_left, or_right, or_from, or_parts, and_from, and_parts, eq-eqb, eqb-true, both_ways, false_from_ne_true}
 use Rattle.std.proofs.lemmas.List.Folds.{list_any-append}
+use Rattle.list_views.proofs.Quantified.{all_joined, all_front, all_back}
 use Rattle.abs_cells.specs.AbstractStates.{AbstractFrame, AbstractState}
 use Rattle.abs_cells.specs.PairLists.{is_same}
 use Rattle.abs_widen.specs.Visits.{is_among, Visits, AreDifferent, IsPaired, AreTooMany, pairs_below, ArePairs, position_pairs, frames_pairs, some_in, thrown_pair}
@@ -12,18 +13,6 @@ use Rattle.abs_widen.proofs.Zips.{zip_more}
 use Rattle.abs_widen.specs.Visiting.{Continues, IsNext, IsLeft, IsLeftOf, IsWithRest, AreMet, AreFew, ArePaired}
 
 -- ---- lists
-
-pub all_joined : {X : Type 0} (holds : X → Type 0) (xs ys : List X) → AllByRecursion holds xs → AllByRecursion holds ys → AllByRecursion holds (xs ++ ys)
-all_joined holds [] ys h k = k
-all_joined holds (x ∷ xs) ys h k = (h.0, all_joined holds xs ys h.1 k)
-
-pub all_left : {X : Type 0} (holds : X → Type 0) (xs ys : List X) → AllByRecursion holds (xs ++ ys) → AllByRecursion holds xs
-all_left holds [] ys h = tt
-all_left holds (x ∷ xs) ys h = (h.0, all_left holds xs ys h.1)
-
-pub all_right : {X : Type 0} (holds : X → Type 0) (xs ys : List X) → AllByRecursion holds (xs ++ ys) → AllByRecursion holds ys
-all_right holds [] ys h = h
-all_right holds (x ∷ xs) ys h = all_right holds xs ys h.1
 
 -- a pair is itself
 pub is_itself : (p : ℕ × ℕ) → is_same p p ≡ true
@@ -151,7 +140,7 @@ module _ (a b : AbstractState) (begun whole : List (ℕ × ℕ)) where
   pub rest_on : (met front left new : List (ℕ × ℕ)) → IsWithRest a b begun whole met (front ++ left) → AreFew a b new → Continues a b met front new → IsWithRest a b begun whole new left
   rest_on met front left new r few on = record {
     few = few;
-    paired = all_right (IsPaired a b) front left r.paired;
+    paired = all_back (IsPaired a b) front left r.paired;
     visits = λ rest all v. r.visits rest all (subst (λ (l : List (ℕ × ℕ)). Visits a b met l all) (sym (append_assoc front left rest)) (on (left ++ rest) all v));
   }
 
@@ -169,7 +158,7 @@ module _ {A B : Type 0} (f : A × B → List (ℕ × ℕ)) (xs : List A) (ys : L
       ∙ ap (λ (v : B). f (x, v) ++ flat_map f (zip (drop (n + 1) xs) (drop (n + 1) ys))) (sym y_is)
 
   pub paired_here : (a b : AbstractState) → ArePaired a b (flat_map f (zip (drop n xs) (drop n ys))) → ArePaired a b (f (x, y))
-  paired_here a b h = all_left (IsPaired a b) (f (x, y)) (flat_map f (zip (drop (n + 1) xs) (drop (n + 1) ys))) (subst (ArePaired a b) here h)
+  paired_here a b h = all_front (IsPaired a b) (f (x, y)) (flat_map f (zip (drop (n + 1) xs) (drop (n + 1) ys))) (subst (ArePaired a b) here h)
 
   pub gone_past : (a b : AbstractState) (begun whole met new : List (ℕ × ℕ)) → IsWithRest a b begun whole met (flat_map f (zip (drop n xs) (drop n ys)))
       → AreFew a b new × Continues a b met (f (x, y)) new → IsWithRest a b begun whole new (flat_map f (zip (drop (n + 1) xs) (drop (n + 1) ys)))
@@ -186,12 +175,12 @@ module _ (a b : AbstractState) where
   frames_paired frames others e f =
       subst (λ (l : List AbstractFrame). ArePaired a b (frames_pairs a b l others)) (sym e)
       (subst (λ (l : List AbstractFrame). ArePaired a b (frames_pairs a b (reverse a.frames) l)) (sym f)
-      (all_left (IsPaired a b) (frames_pairs a b (reverse a.frames) (reverse b.frames)) (some_in (thrown_pair a.throwing b.throwing)) all_placed))
+      (all_front (IsPaired a b) (frames_pairs a b (reverse a.frames) (reverse b.frames)) (some_in (thrown_pair a.throwing b.throwing)) all_placed))
 
   pub thrown_paired : (pair : Option (ℕ × ℕ)) → pair ≡ thrown_pair a.throwing b.throwing → ArePaired a b (some_in pair)
   thrown_paired pair e =
       subst (λ (p : Option (ℕ × ℕ)). ArePaired a b (some_in p)) (sym e)
-      (all_right (IsPaired a b) (frames_pairs a b (reverse a.frames) (reverse b.frames)) (some_in (thrown_pair a.throwing b.throwing)) all_placed)
+      (all_back (IsPaired a b) (frames_pairs a b (reverse a.frames) (reverse b.frames)) (some_in (thrown_pair a.throwing b.throwing)) all_placed)
 
   pub pairs_are : (begun mid new : List (ℕ × ℕ)) (frames others : List AbstractFrame) (pair : Option (ℕ × ℕ)) → begun ≡ [] → frames ≡ reverse a.frames → others ≡ reverse b.frames → pair ≡ thrown_pair a.throwing b.throwing
       → Continues a b begun (frames_pairs a b frames others) mid → Continues a b mid (some_in pair) new → ArePairs a b new

@@ -2,8 +2,8 @@
 use Rattle.std.proofs.Common.{◌≡◌, ◌⊎◌, ℕ, ◌<◌, Bool, true, false, List, length, Some, None, Result, Ok, Err, OnOk, refl, sym, subst, ◌∙◌, inl, inr}
 use Rattle.std.specs.Prelude.{◌↔◌, slice_get, IsTrue, if◌then◌else◌}
 use Rattle.std.proofs.lemmas.Bool.{false≢true}
-use Rattle.std.proofs.lemmas.Option.{slice_get_within}
-use Rattle.jvm_values.proofs.Options.{some_is, none_is_not_some}
+use Rattle.std.proofs.lemmas.Option.{slice_get_within, none-some}
+use Rattle.jvm_values.proofs.Options.{some_is}
 use Rattle.abs_cells.specs.declared.cells.Cell.{Cell}
 use Rattle.abs_cells.specs.AbstractStates.{AbstractState}
 use Rattle.abs_cells.specs.PairLists.{added}
@@ -76,20 +76,15 @@ module _ (a b : AbstractState) (pairs : List (ℕ × ℕ)) (cells : List (ℕ ×
 module _ (a b : AbstractState) (pairs : List (ℕ × ℕ)) (cells : List (ℕ × Cell)) where
   pub low_unwanted : (m n : ℕ) → cell_in cells m ≡ None → (eq shared : List (ℕ × ℕ)) → IsPut (WantsOne a b pairs cells) m n eq eq × IsPut (WantsShare a b pairs cells) m n shared shared
   low_unwanted m n e eq shared = (
-    inr ((λ w. none_is_not_some w.c (sym e ∙ w.at.c_is)), refl),
-    inr ((λ w. none_is_not_some w.c (sym e ∙ w.at.c_is)), refl),
+    inr ((λ w. none-some w.c (sym e ∙ w.at.c_is)), refl),
+    inr ((λ w. none-some w.c (sym e ∙ w.at.c_is)), refl),
   )
 
   pub one_unwanted : (i n : ℕ) → cell_in cells n ≡ None → WantsOne a b pairs cells i n → ⊥
-  one_unwanted i n e w = none_is_not_some w.d (sym e ∙ w.at.d_is)
+  one_unwanted i n e w = none-some w.d (sym e ∙ w.at.d_is)
 
   pub share_unwanted : (i n : ℕ) → cell_in cells n ≡ None → WantsShare a b pairs cells i n → ⊥
-  share_unwanted i n e w = none_is_not_some w.d (sym e ∙ w.at.d_is)
-
--- what follows where a call succeeds
-pub ok_as : {A E P Q : Type 0} (r : Result A E) → (P → Q) → OnOk r P → OnOk r Q
-ok_as (Ok v) f h = f h
-ok_as (Err e) f h = h
+  share_unwanted i n e w = none-some w.d (sym e ∙ w.at.d_is)
 
 -- wanted ids have pairs
 pub one_within : (a b : AbstractState) (pairs : List (ℕ × ℕ)) (cells : List (ℕ × Cell)) (i j : ℕ) → WantsOne a b pairs cells i j → j < length pairs

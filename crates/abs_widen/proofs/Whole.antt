@@ -5,8 +5,9 @@ use Rattle.std.specs.List.{AllZip, AllByRecursion, list_any, flat_map}
 use Rattle.std.specs.Option.{option_map}
 use Rattle.std.proofs.lemmas.Bool.{or_left, or_right, and_parts, and_from, false≢true, cases_lt, cases_eq, eq-eqb, ne_eqb, not_from_true}
 use Rattle.std.proofs.lemmas.List.Elements.{All-nil, All-cons, length_all_zip}
-use Rattle.std.proofs.lemmas.Option.{slice_get-get_or, slice_get_within, get_or_from_slice_get}
-use Rattle.jvm_values.proofs.Options.{some_is, none_is_not_some}
+use Rattle.std.proofs.lemmas.Option.{slice_get-get_or, slice_get_within, get_or_from_slice_get, none-some}
+use Rattle.abs_cells.proofs.CellLaws.{place_of_cell}
+use Rattle.list_views.proofs.Quantified.{all_joined, all_weaker}
 use Rattle.jvm_values.specs.TypedHeaps.{WorldTypes}
 use Rattle.abs_cells.specs.declared.cells.Cell.{Cell}
 use Rattle.abs_cells.specs.declared.cells.Cell.TheVariants.{Int, Null, Obj, Nums, Refs, Unk}
@@ -24,16 +25,11 @@ use Rattle.abs_widen.specs.Widening.{number_of, merged_locals, merged_frame, mer
 use Rattle.abs_widen.specs.Pairing.{may_join_cells, AreJoined, AreNumbered}
 use Rattle.abs_widen.proofs.Closed.{among_front, among_back, among_either, number_low, among_at, positions_among, below_among}
 use Rattle.abs_widen.proofs.Rising.{never_itself}
-use Rattle.abs_widen.proofs.Visiting.{all_joined}
 use Rattle.abs_widen.proofs.Zips.{zip_reversed}
 
 pub all_from : {X : Type 0} (P : X → Type 0) (xs : List X) → AllByRecursion P xs → All P xs
 all_from P [] h = All-nil P
 all_from P (x ∷ xs) h = All-cons P x xs h.0 (all_from P xs h.1)
-
-all_onward : {X : Type 0} (P Q : X → Type 0) (xs : List X) → ((x : X) → P x → Q x) → AllByRecursion P xs → AllByRecursion Q xs
-all_onward P Q [] f h = tt
-all_onward P Q (x ∷ xs) f h = (f x h.0, all_onward P Q xs f h.1)
 
 -- ---- pairs at positions, in the order of the lists
 
@@ -152,18 +148,6 @@ numbers_rise low (c ∷ cells) h l =
       ),
     )
 
--- a cell stands at a place
-pub cell_placed : (cells : List (ℕ × Cell)) (id : ℕ) (cell : Cell) → cell_in cells id ≡ Some cell → (k : ℕ) × (slice_get cells k ≡ Some (id, cell))
-cell_placed [] id cell e = absurd (none_is_not_some cell e)
-cell_placed (c ∷ cells) id cell e = elim (cases_eq c.0 id) [
-  | inl same ↦
-      let is : c.1 ≡ cell = some_is (sym (ap (λ (t : Bool). cond t (Some c.1) (cell_in cells id)) (eq-eqb c.0 id same)) ∙ e) in
-      (0, ap (λ (k : ℕ). Some (k, c.1)) same ∙ ap (λ (x : Cell). Some (id, x)) is)
-  | inr differ ↦
-      let rest = cell_placed cells id cell (sym (ap (λ (t : Bool). cond t (Some c.1) (cell_in cells id)) (ne_eqb c.0 id differ)) ∙ e) in
-      (suc rest.0, rest.1)
-]
-
 module _ (pairs : List (ℕ × ℕ)) (cells : List (ℕ × Cell)) (numbered : AreNumbered pairs cells) where
   pub rising_numbers : AreIdsRising 0 cells
   rising_numbers =
@@ -174,7 +158,7 @@ module _ (pairs : List (ℕ × ℕ)) (cells : List (ℕ × Cell)) (numbered : Ar
   -- the cell of a number stands at it, and the other way round
   pub at_number : (n : ℕ) (cell : Cell) → cell_in cells n ≡ Some cell → slice_get cells n ≡ Some (n, cell)
   at_number n cell e =
-      let placed = cell_placed cells n cell e in
+      let placed = place_of_cell cells n cell e in
       let same : n ≡ placed.0 = numbered.each placed.0 (n, cell) placed.1 in
       subst (λ (k : ℕ). slice_get cells k ≡ Some (n, cell)) (sym same) placed.1
 
@@ -252,7 +236,7 @@ module _ (types : WorldTypes) (a b : AbstractState) (pairs : List (ℕ × ℕ)) 
   pub merged_is_good : IsWellFormed merged
   merged_is_good = record {
     rising = rising_numbers pairs merged.cells numbered;
-    used = all_from (HasCell (λ _. true) merged) (ids_used merged) (all_onward (λ (id : ℕ). id < length pairs) (HasCell (λ _. true) merged) (ids_used merged) low_cell used_low);
+    used = all_from (HasCell (λ _. true) merged) (ids_used merged) (all_weaker (λ (id : ℕ). id < length pairs) (HasCell (λ _. true) merged) low_cell (ids_used merged) used_low);
     shared = λ i j h. absurd (no_equals i j h);
     left = λ i j l h. absurd (no_shares i j h);
     right = λ i j l h. absurd (no_shares i j h);

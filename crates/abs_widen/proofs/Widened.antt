@@ -4,10 +4,10 @@ use Rattle.std.specs.Prelude.{◌↔◌, slice_get}
 use Rattle.std.specs.List.{AllByRecursion}
 use Rattle.std.specs.Option.{option_map}
 use Rattle.std.proofs.lemmas.Bool.{and_from, cases_lt, or_cases, false≢true, false_from_ne_true}
+use Rattle.abs_cells.proofs.CellLaws.{hazy_not_known}
 use Rattle.jvm_values.proofs.Options.{some_is}
 use Rattle.jvm_values.specs.TypedHeaps.{WorldTypes}
 use Rattle.abs_cells.specs.declared.cells.Cell.{Cell}
-use Rattle.abs_cells.specs.declared.cells.Cell.TheVariants.{Int, Null, Obj, Nums, Refs, Unk}
 use Rattle.abs_cells.specs.AbstractStates.{AbstractFrame, AbstractState}
 use Rattle.abs_cells.specs.Cells.{is_known, is_hazy, is_reference, cell_in, cell_at, HasCell, AreEqual, Share}
 use Rattle.abs_cells.specs.Closures.{MayMeet, MayBeIn}
@@ -72,14 +72,6 @@ module _ (a b : AbstractState) (pairs : List (ℕ × ℕ)) where
     said_share_turned m n h = (joins_turned m n h.0, must_turned m n h.1)
 
 -- ---- sorts of cells
-
-hazy_not_known : (c : Cell) → is_hazy c ≡ true → is_known c ≡ false
-hazy_not_known (Int i) e = refl
-hazy_not_known Null e = refl
-hazy_not_known (Obj class ids) e = absurd (false≢true e)
-hazy_not_known (Nums kind len) e = absurd (false≢true e)
-hazy_not_known (Refs element len shape) e = refl
-hazy_not_known (Unk bound nullable shape) e = refl
 
 hazy_of : (c : Cell) → is_reference c ≡ true → is_known c ≡ false → is_hazy c ≡ true
 hazy_of c e f = elim (or_cases (is_known c) (is_hazy c) e) [

@@ -3,6 +3,7 @@ use Rattle.std.proofs.Common.{◌≡◌, ◌⊎◌, ℕ, ◌<◌, ◌==◌, Bool
 use Rattle.std.specs.Prelude.{slice_get}
 use Rattle.std.specs.List.{list_any}
 use Rattle.std.proofs.lemmas.Bool.{and_from, or_left, or_right, cases_eq, cases_lt, false≢true, false_from_ne_true, not_from_false}
+use Rattle.std.proofs.lemmas.Map.Keys.{any_passes_from_place}
 use Rattle.jvm_values.proofs.Options.{some_is}
 use Rattle.jvm_values.specs.declared.shape.Shape.{Shape}
 use Rattle.jvm_values.specs.TypedHeaps.{WorldTypes}
@@ -21,7 +22,7 @@ use Rattle.abs_widen.specs.Widening.{number_of, merged_frames, AreAlike, IsRowCe
 use Rattle.abs_widen.specs.Laws.{IsInstance, AreProper, WideningsAreWider}
 use Rattle.abs_widen.proofs.Closed.{number_at, one_place, pairs_differ}
 use Rattle.abs_widen.proofs.Covered.{made_as, first_over, second_over, first_shaped, second_shaped}
-use Rattle.abs_widen.proofs.Left.{IsLeft, any_at, long, left, place_there, thrown_there, entries, image_at, image_of, image_cell, entries_list, cells_of, closed_at}
+use Rattle.abs_widen.proofs.Left.{IsLeft, long, left, place_there, thrown_there, entries, image_at, image_of, image_cell, entries_list, cells_of, closed_at}
 use Rattle.abs_widen.proofs.Placed.{StandsFor, first_heads, same_heads, thrown_same, stands_for, thrown_stands}
 
 -- ---- sorts of cells
@@ -78,7 +79,7 @@ module _ (types : WorldTypes) (a b : AbstractState) (pairs : List (ℕ × ℕ)) 
       let clash : clashes_with a b x y ≡ true =
       and_from (is_known_pair a b y) (not (is_same x y) && ((x.0 == y.0) || (x.1 == y.1))) second.1
       (and_from (not (is_same x y)) ((x.0 == y.0) || (x.1 == y.1)) (not_from_false (is_same x y) apart) touches) in
-      let some : list_any (clashes_with a b x) pairs ≡ true = any_at (clashes_with a b x) pairs n y f clash in
+      let some : list_any (clashes_with a b x) pairs ≡ true = any_passes_from_place (clashes_with a b x) pairs n y f clash in
       false≢true (sym first.0 ∙ and_from (is_known_pair a b x) (list_any (clashes_with a b x) pairs) first.1 some)
 
 -- ---- one side

@@ -3,8 +3,9 @@ use Rattle.std.proofs.Common.{◌≡◌, ℕ, suc, ◌+◌, ◌<◌, ◌≤◌, 
 use Rattle.std.specs.List.{AllZip, position, position_or_len}
 use Rattle.std.proofs.lemmas.Bool.{cases_lt, lt-ltb}
 use Rattle.std.proofs.lemmas.List.Sums.{prefix_len-le-length}
-use Rattle.jvm_values.proofs.Options.{none_is_not_some}
-use Rattle.std.proofs.lemmas.List.{drop_more, drop_all, length-reverse, reverse-append, reverse-reverse}
+use Rattle.std.proofs.lemmas.List.{drop_more, drop_all, length-reverse, reverse-append, reverse-reverse, map_push}
+use Rattle.std.proofs.lemmas.Option.{none-some}
+use Rattle.list_views.proofs.Items.{map_reversed}
 
 module _ {A B : Type 0} where
   pub zip_end : (xs : List A) (ys : List B) (n : ℕ) → length xs ≤ n → zip (drop n xs) (drop n ys) ≡ []
@@ -73,14 +74,6 @@ module _ {A B : Type 0} where
   all_at R (u ∷ xs) (v ∷ ys) zero x y h l = h.0
   all_at R (u ∷ xs) (v ∷ ys) (suc n) x y h l = all_at R xs ys n x y h.1 (omega (arith, l))
 
-map_last : {A B : Type 0} (f : A → B) (xs : List A) (x : A) → map f (xs ++ x ∷ []) ≡ map f xs ++ f x ∷ []
-map_last f [] x = refl
-map_last f (y ∷ xs) x = ap (λ (rest : List _). f y ∷ rest) (map_last f xs x)
-
-pub map_reversed : {A B : Type 0} (f : A → B) (xs : List A) → map f (reverse xs) ≡ reverse (map f xs)
-map_reversed f [] = refl
-map_reversed f (x ∷ xs) = ap (map f) (reverse-append (x ∷ []) xs) ∙ map_last f (reverse xs) x ∙ ap (λ (l : List _). l ++ f x ∷ []) (map_reversed f xs) ∙ sym (reverse-append (f x ∷ []) (map f xs))
-
 -- from the least of two lengths on there are no pairs
 pub zip_least : (xs ys : List ℕ) (n : ℕ) (rest : List (ℕ × ℕ)) → n ≡ min (length xs) (length ys) → (n ≤ length xs) × ((n ≤ length ys) × (rest ≡ zip (drop n xs) (drop n ys) ++ rest))
 zip_least xs ys n rest e = elim (cases_lt (length xs) (length ys)) [
@@ -109,6 +102,6 @@ made_at {A} {B} f done whole xs ys n x y z l m x_is y_is e is =
 -- a place that isn't found
 pub unplaced : {A : Type 0} (p : A → Bool) (xs : List A) → position p xs ≡ None → position_or_len p xs ≡ length xs
 unplaced p xs e = elim (cases_lt (position_or_len p xs) (length xs)) [
-  | inl l ↦ absurd (none_is_not_some (position_or_len p xs) (sym e ∙ ap (λ (t : Bool). cond t (Some (position_or_len p xs)) None) (lt-ltb (position_or_len p xs) (length xs) l)))
+  | inl l ↦ absurd (none-some (position_or_len p xs) (sym e ∙ ap (λ (t : Bool). cond t (Some (position_or_len p xs)) None) (lt-ltb (position_or_len p xs) (length xs) l)))
   | inr l ↦ let m = prefix_len-le-length (λ x. not (p x)) xs in omega (arith, l, m)
 ]

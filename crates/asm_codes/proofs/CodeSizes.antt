@@ -6,6 +6,7 @@ use Rattle.std.proofs.lemmas.List.{append-nil, length-append}
 use Rattle.std.proofs.lemmas.List.Concat.{flat_map-append}
 use Rattle.std.proofs.lemmas.List.Sums.{sum_by-append, sum_by-cons}
 use Rattle.std.specs.List.{cons_option}
+use Rattle.list_views.proofs.Options.{both_none}
 use Rattle.code_forms.specs.declared.insn.Insn.{Insn}
 use Rattle.class_base.specs.declared.handler.Handler.{Handler}
 use Rattle.code_decode.specs.Encoding.{plain_text, code_of}
@@ -19,7 +20,7 @@ use Rattle.asm_codes.specs.Places.{size_at, end_from, places_of, placed, insns_f
 use Rattle.asm_codes.specs.LineFaults.{is_catch, entries_of, line_fault, first_fault_from, first_fault}
 use Rattle.asm_codes.specs.MethodCodes.{code_at, has_end, IsSized}
 use Rattle.asm_codes.proofs.FirstFaults.{sound, more_entries}
-use Rattle.asm_codes.proofs.Written.{both_none, item_size, placed_size, end_small, grows}
+use Rattle.asm_codes.proofs.Written.{item_size, placed_size, end_small, grows}
 
 -- ---- bytes
 

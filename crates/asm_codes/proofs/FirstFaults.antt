@@ -12,6 +12,7 @@ use Rattle.std.specs.Prelude.{nat_le}
 use Rattle.std.specs.Option.{option_or, option_map_or, option_and_then}
 use Rattle.std.specs.List.{list_any}
 use Rattle.std.specs.Str.{bytes_eq}
+use Rattle.list_views.proofs.Truths.{or_false}
 use Rattle.asm_lines.specs.declared.fault.AsmFault.{AsmFault}
 use Rattle.asm_lines.specs.declared.fault.AsmFault.TheVariants.{UnknownLabel, DuplicateLabel, OutOfRange}
 use Rattle.asm_lines.specs.declared.item.Item.{Item}
@@ -99,10 +100,6 @@ one_counted true lines i x l h = sym (count_by_more_yes (λ y. is_catch y.code.i
 one_counted false lines i x l h = sym (count_by_more_no (λ y. is_catch y.code.item) lines i x l h)
 
 -- ---- labels
-
-or_false : (a : Bool) → a || false ≡ a
-or_false true = refl
-or_false false = refl
 
 more_seen : (seen : List ℕ → Bool) (label : Option (List ℕ)) (other : List ℕ) → with_seen seen label other ≡ (seen other || option_map_or (bytes_eq other) label false)
 more_seen seen None other = sym (or_false (seen other))

@@ -8,13 +8,10 @@ use Rattle.std.specs.Option.{option_or}
 use Rattle.std.specs.List.{list_any}
 use Rattle.std.specs.Map.{lookup}
 use Rattle.std.specs.Str.{bytes_eq}
+use Rattle.list_views.proofs.Truths.{or_false}
 use Rattle.asm_codes.specs.Instructions.{Places}
 use Rattle.asm_codes.specs.Places.{place_in, with_place}
 use Rattle.asm_codes.specs.LineFaults.{is_among, with_label}
-
-pub none_is : {A : Type 0} (o : Option A) → is_some o ≡ false → o ≡ None
-none_is None h = refl
-none_is (Some x) h = absurd cc
 
 -- ---- places
 
@@ -61,10 +58,6 @@ kept es label place there = fun_ext (λ other. seen_before (place_in es other) (
 or_more : (a b c : Bool) → (a || b) || c ≡ a || (b || c)
 or_more true b c = refl
 or_more false b c = refl
-
-or_false : (a : Bool) → a || false ≡ a
-or_false true = refl
-or_false false = refl
 
 any-push : (test : List ℕ → Bool) (xs : List (List ℕ)) (x : List ℕ) → list_any test (xs ++ x ∷ []) ≡ (list_any test xs || test x)
 any-push test [] x = or_false (test x)

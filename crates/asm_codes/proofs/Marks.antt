@@ -5,6 +5,8 @@ use Rattle.std.proofs.Math.Path.{fun_ext}
 use Rattle.std.proofs.Math.Seq.{drop-cons}
 use Rattle.std.specs.Option.{option_or, option_map_or}
 use Rattle.std.specs.Str.{bytes_eq}
+use Rattle.asm_codes.proofs.FirstFaults.{next_line}
+use Rattle.list_views.proofs.Options.{or_none}
 use Rattle.asm_codes.specs.Pooled.{Pooled}
 use Rattle.asm_codes.specs.Instructions.{Places}
 use Rattle.asm_codes.specs.Places.{size_at, place_from, with_mark}
@@ -12,15 +14,6 @@ use Rattle.asm_codes.specs.Places.{size_at, place_from, with_mark}
 -- the places of the first, and where they have none of the second
 abbrev pub followed : Places → Places → Places
 followed first second label = option_or (first label) (second label)
-
-or_none : (o : Option ℕ) → option_or o None ≡ o
-or_none None = refl
-or_none (Some p) = refl
-
-next_line : (lines : List Pooled) (i : ℕ) (x : Pooled) → i < length lines → x ≡ get_or lines i x → drop i lines ≡ x ∷ drop (i + 1) lines
-next_line lines i x l at =
-    let d : drop i lines ≡ get_or lines i x ∷ drop (i + 1) lines = rw (add-one) (drop-cons lines i x l) in
-    d ∙ ap (λ (y : Pooled). y ∷ drop (i + 1) lines) (sym at)
 
 chosen_place : (o : Option ℕ) (b : Bool) (pc : ℕ) (rest : Option ℕ) → option_or (option_or o (cond b (Some pc) None)) rest ≡ option_or o (cond b (Some pc) rest)
 chosen_place None true pc rest = refl

@@ -8,6 +8,9 @@ use Rattle.std.specs.Int.RustNames.{FitsSigned, int_le, int_lt}
 use Rattle.std.proofs.lemmas.Bool.{ltb-true, and_parts}
 use Rattle.std.proofs.lemmas.Bool.Decides.{nat_tests}
 use Rattle.std.proofs.lemmas.Int.{ints}
+use Rattle.list_views.proofs.Orders.{nat_lt_true}
+use Rattle.list_views.proofs.Items.{length_mapped}
+use Rattle.list_views.proofs.Options.{map_some, cond_guarded, cond_either}
 use Rattle.code_forms.specs.declared.insn.Case.{Case}
 use Rattle.code_forms.specs.declared.insn.Insn.{Insn}
 use Rattle.code_forms.specs.declared.insn.Insn.TheVariants as insns
@@ -17,12 +20,12 @@ use Rattle.code_forms.specs.Cases.{rises_from, is_rising}
 use Rattle.code_decode.specs.Texts.{padding_of, zeros, spelling_text, Reaches, IsTable, IsLookup, FitsSpelling, Fits}
 use Rattle.code_decode.specs.Encoding.{plain_text}
 use Rattle.code_forms.specs.Opcodes.{opcode_of, find, find_by, plain_low, plain_high, plain, with_byte, with_pair, with_jump, wide_local, first_of}
-use Rattle.code_decode.proofs.Takes.{chosen, some_is, found_by}
+use Rattle.code_decode.proofs.Takes.{some_is, found_by}
 use Rattle.code_decode.proofs.Lengths.{table_len, lookup_len}
 use Rattle.asm_lines.specs.declared.number.Number.{Number}
 use Rattle.asm_lines.specs.declared.operation.Operation.{Operation}
 use Rattle.asm_lines.specs.declared.operation.Operation.TheVariants.{Plain, Local, Bipush, Sipush, LoadInt, LoadString, Member, Class, Newarray, Iinc, Jump, GotoW, Tableswitch, Lookupswitch}
-use Rattle.asm_lines.proofs.NumberFits.{chained, guarded, lies, int_fits}
+use Rattle.asm_lines.proofs.NumberFits.{chained, lies, int_fits}
 use Rattle.asm_codes.specs.declared.pooled.PoolOperand.{PoolOperand}
 use Rattle.asm_lines.specs.Numbers.{signed_of, unsigned_of, pair_of, int_of}
 use Rattle.asm_codes.specs.Instructions.{Places, target, between, byte_value, pair_value, with_operand, local_insn, entry_insn, load_insn, interface_insn, member_insn, array_insn, increment, increment_insn, highest_fits, table_of_low, table_insn, make_case, cases_of, lookup_of, lookup_insn, insn_of}
@@ -30,10 +33,6 @@ use Rattle.asm_codes.specs.Places.{IsNear}
 use Rattle.asm_codes.specs.LineFaults.{is_within, is_far, reaches}
 
 -- ---- options and tests
-
-pub mapped : {A B : Type 0} (f : A → B) (o : Option A) (y : B) → option_map f o ≡ Some y → (x : A) × (o ≡ Some x) × (f x ≡ y)
-mapped f None y h = absurd cc
-mapped f (Some x) y h = (x, refl, some_is (f x) y h)
 
 -- ---- spellings
 
@@ -61,7 +60,7 @@ high_rows = (refl, (refl, (refl, (refl, (refl, (refl, (refl, (refl, (refl, (refl
 found : (is : List Insn) (op : ℕ) (i : Insn) → AllByRecursion IsPlain is → find is op ≡ Some i → IsPlain i
 found [] op i rows e = absurd cc
 found (j ∷ js) op i rows e =
-    elim (chosen (eqb op (opcode_of (spelling j))) (Some j) (find js op) (Some i) e) [
+    elim (cond_either (eqb op (opcode_of (spelling j))) (Some j) (find js op) (Some i) e) [
       | inl p ↦ subst IsPlain (some_is j i p.1) rows.0
       | inr p ↦ found js op i rows.1 p.1
     ]
@@ -75,8 +74,8 @@ plain_spelling op i e = either (find plain_low op) (find plain_high op) op i ref
 
 pub operand : (S : ℕ → ℕ → Spelling) (table : List (ℕ → Insn)) (op n : ℕ) (i : Insn) → AllByRecursion (λ make. (n : ℕ) → spelling (make n) ≡ S (opcode_of (spelling (make 0))) n) table → with_operand table op n ≡ Some i → spelling i ≡ S op n
 operand S table op n i rows e =
-    let m = mapped (λ (make : ℕ → Insn). make n) (find_by table op) i e in
-    ap spelling (sym m.2) ∙ found_by S table op m.0 rows m.1 n
+    let m = map_some (λ (make : ℕ → Insn). make n) (find_by table op) i e in
+    ap spelling (sym m.1.1) ∙ found_by S table op m.0 rows m.1.0 n
 
 -- ---- what has bytes
 
@@ -86,54 +85,51 @@ FitsAs pc i s = spelling i ≡ s → FitsSpelling pc s → Fits pc i
 fits_as : (pc : ℕ) (i : Insn) (s : Spelling) → FitsAs pc i s
 fits_as pc i s e h = subst (λ (t : Spelling). FitsSpelling pc t) (sym e) h
 
-below : (n limit : ℕ) → nat_lt n limit ≡ true → n < limit
-below n limit h = ltb-true n limit h
-
 pair_small : (n : Number) (m : ℕ) → pair_of n ≡ Some m → m < 2 ^ 16
 pair_small n m h =
     let c = chained (λ k. if nat_lt k (2 ^ 16) then Some k else None) (unsigned_of n) m h in
-    let g = guarded (nat_lt c.0 (2 ^ 16)) (Some c.0) m c.2 in
-    subst (λ (k : ℕ). k < 2 ^ 16) (some_is c.0 m g.1) (below c.0 (2 ^ 16) g.0)
+    let g = cond_guarded (nat_lt c.0 (2 ^ 16)) (Some c.0) m c.2 in
+    subst (λ (k : ℕ). k < 2 ^ 16) (some_is c.0 m g.1) (nat_lt_true c.0 (2 ^ 16) g.0)
 
 local_fits : (pc op n : ℕ) (i : Insn) → n < 2 ^ 16 → local_insn op n ≡ Some i → Fits pc i
 local_fits pc op n i small h =
-    elim (chosen (nat_lt n 256) (with_operand with_byte op n) (with_operand wide_local op n) (Some i) h) [
-      | inl p ↦ fits_as pc i (spellings.Byte op n) (operand spellings.Byte with_byte op n i byte_rows p.1) (below n 256 p.0)
+    elim (cond_either (nat_lt n 256) (with_operand with_byte op n) (with_operand wide_local op n) (Some i) h) [
+      | inl p ↦ fits_as pc i (spellings.Byte op n) (operand spellings.Byte with_byte op n i byte_rows p.1) (nat_lt_true n 256 p.0)
       | inr p ↦ fits_as pc i (spellings.WideLocal op n) (operand spellings.WideLocal wide_local op n i local_rows p.1) small
     ]
 
 entry_fits : (pc op n : ℕ) (i : Insn) → entry_insn op n ≡ Some i → Fits pc i
 entry_fits pc op n i h =
-    let g = guarded (nat_lt n 65536) (with_operand with_pair op n) i h in
-    fits_as pc i (spellings.Pair op n) (operand spellings.Pair with_pair op n i pair_rows g.1) (below n 65536 g.0)
+    let g = cond_guarded (nat_lt n 65536) (with_operand with_pair op n) i h in
+    fits_as pc i (spellings.Pair op n) (operand spellings.Pair with_pair op n i pair_rows g.1) (nat_lt_true n 65536 g.0)
 
 load_fits : (pc op n : ℕ) (i : Insn) → load_insn op n ≡ Some i → Fits pc i
 load_fits pc op n i h =
-    elim (chosen (eqb op 18 && nat_lt n 256) (Some (insns.Ldc n)) (entry_insn 19 n) (Some i) h) [
-      | inl p ↦ subst (Fits pc) (some_is (insns.Ldc n) i p.1) (below n 256 (and_parts (eqb op 18) (nat_lt n 256) p.0).1)
+    elim (cond_either (eqb op 18 && nat_lt n 256) (Some (insns.Ldc n)) (entry_insn 19 n) (Some i) h) [
+      | inl p ↦ subst (Fits pc) (some_is (insns.Ldc n) i p.1) (nat_lt_true n 256 (and_parts (eqb op 18) (nat_lt n 256) p.0).1)
       | inr p ↦ entry_fits pc 19 n i p.1
     ]
 
 member_fits : (pc op n words : ℕ) (i : Insn) → member_insn op n words ≡ Some i → Fits pc i
 member_fits pc op n words i h =
-    elim (chosen (eqb op 185) (interface_insn n words) (entry_insn op n) (Some i) h) [
+    elim (cond_either (eqb op 185) (interface_insn n words) (entry_insn op n) (Some i) h) [
       | inl p ↦
-          let g = guarded (nat_lt n 65536 && nat_lt words 256) (Some (insns.Invokeinterface n words)) i p.1 in
+          let g = cond_guarded (nat_lt n 65536 && nat_lt words 256) (Some (insns.Invokeinterface n words)) i p.1 in
           let t = and_parts (nat_lt n 65536) (nat_lt words 256) g.0 in
-          subst (Fits pc) (some_is (insns.Invokeinterface n words) i g.1) (below n 65536 t.0, below words 256 t.1)
+          subst (Fits pc) (some_is (insns.Invokeinterface n words) i g.1) (nat_lt_true n 65536 t.0, nat_lt_true words 256 t.1)
       | inr p ↦ entry_fits pc op n i p.1
     ]
 
 array_fits : (pc code : ℕ) (i : Insn) → array_insn code ≡ Some i → Fits pc i
 array_fits pc code i h =
-    let g = guarded (nat_le 4 code && nat_le code 11) (Some (insns.Newarray code)) i h in
+    let g = cond_guarded (nat_le 4 code && nat_le code 11) (Some (insns.Newarray code)) i h in
     let t = and_parts (nat_le 4 code) (nat_le code 11) g.0 in
     subst (Fits pc) (some_is (insns.Newarray code) i g.1) (grind (arith, nat_tests), grind (arith, nat_tests))
 
 byte_value_fits : (n : Number) (v : ℤ) → byte_value n ≡ Some v → FitsSigned w8 v
 byte_value_fits n v h =
     let c = chained (λ x. if between (negsuc 127) (pos 127) x then Some x else None) (signed_of n) v h in
-    let g = guarded (between (negsuc 127) (pos 127) c.0) (Some c.0) v c.2 in
+    let g = cond_guarded (between (negsuc 127) (pos 127) c.0) (Some c.0) v c.2 in
     let l = lies (negsuc 127) (pos 127) c.0 g.0 in
     let e : c.0 ≡ v = some_is c.0 v g.1 in
     subst (FitsSigned w8) e (omega (arith, ints, l.0, l.1))
@@ -141,26 +137,26 @@ byte_value_fits n v h =
 pair_value_fits : (n : Number) (v : ℤ) → pair_value n ≡ Some v → FitsSigned w16 v
 pair_value_fits n v h =
     let c = chained (λ x. if between (negsuc 32767) (pos 32767) x then Some x else None) (signed_of n) v h in
-    let g = guarded (between (negsuc 32767) (pos 32767) c.0) (Some c.0) v c.2 in
+    let g = cond_guarded (between (negsuc 32767) (pos 32767) c.0) (Some c.0) v c.2 in
     let l = lies (negsuc 32767) (pos 32767) c.0 g.0 in
     let e : c.0 ≡ v = some_is c.0 v g.1 in
     subst (FitsSigned w16) e (omega (arith, ints, l.0, l.1))
 
 increment_fits : (pc n : ℕ) (v : ℤ) → n < 2 ^ 16 → FitsSigned w16 v → Fits pc (increment n v)
 increment_fits pc n v small fits =
-    elim (chosen (nat_lt n 256 && between (negsuc 127) (pos 127) v) (insns.Iinc n v) (insns.WideIinc n v) (increment n v) refl) [
+    elim (cond_either (nat_lt n 256 && between (negsuc 127) (pos 127) v) (insns.Iinc n v) (insns.WideIinc n v) (increment n v) refl) [
       | inl p ↦
           let t = and_parts (nat_lt n 256) (between (negsuc 127) (pos 127) v) p.0 in
           let l = lies (negsuc 127) (pos 127) v t.1 in
-          subst (Fits pc) p.1 (below n 256 t.0, omega (arith, ints, l.0, l.1))
+          subst (Fits pc) p.1 (nat_lt_true n 256 t.0, omega (arith, ints, l.0, l.1))
       | inr p ↦ subst (Fits pc) p.1 (small, fits)
     ]
 
 increment_insn_fits : (pc : ℕ) (n m : Number) (i : Insn) → increment_insn n m ≡ Some i → Fits pc i
 increment_insn_fits pc n m i h =
     let c = chained (λ k. option_map (λ v. increment k v) (pair_value m)) (pair_of n) i h in
-    let d = mapped (λ v. increment c.0 v) (pair_value m) i c.2 in
-    subst (Fits pc) d.2 (increment_fits pc c.0 d.0 (pair_small n c.0 c.1) (pair_value_fits m d.0 d.1))
+    let d = map_some (λ v. increment c.0 v) (pair_value m) i c.2 in
+    subst (Fits pc) d.1.1 (increment_fits pc c.0 d.0 (pair_small n c.0 c.1) (pair_value_fits m d.0 d.1.0))
 
 -- ---- targets
 
@@ -175,10 +171,6 @@ far_reaches pc place small h =
     record { place = small; fits = grind (arith, ints, nat_tests) }
 
 -- ---- switches
-
-pub length-map : {A B : Type 0} (f : A → B) (xs : List A) → length (map f xs) ≡ length xs
-length-map f [] = refl
-length-map f (x ∷ xs) = ap suc (length-map f xs)
 
 all_far : (places : Places) (pc : ℕ) (labels : List (List ℕ)) → IsNear places → list_all (is_far places pc) labels ≡ true → AllByRecursion (Reaches w32 pc) (map (target places) labels)
 all_far places pc [] near h = tt
@@ -195,14 +187,14 @@ table_fits : (places : Places) (pc : ℕ) (low : Number) (default : List ℕ) (l
     → is_far places pc default ≡ true → list_all (is_far places pc) labels ≡ true → table_insn places low default labels ≡ Some i → Fits pc i
 table_fits places pc low default labels i near far all h =
     let c = chained (table_of_low places default labels) (int_of low) i h in
-    let g = guarded (highest_fits c.0 (length labels)) (Some (insns.Tableswitch (target places default) c.0 (map (target places) labels))) i c.2 in
+    let g = cond_guarded (highest_fits c.0 (length labels)) (Some (insns.Tableswitch (target places default) c.0 (map (target places) labels))) i c.2 in
     let t = and_parts (nat_lt 0 (length labels)) (int_le (c.0 +ℤ pos (length labels - 1)) (pos 2147483647)) g.0 in
-    let same = length-map (target places) labels in
+    let same = length_mapped (target places) labels in
     let lowest = int_fits low c.0 c.1 in
     let is_table : IsTable pc (target places default) c.0 (map (target places) labels) = record {
       otherwise = far_reaches pc (target places default) (near default) far;
       lowest = lowest;
-      some = subst (λ (n : ℕ). 0 < n) (sym same) (below 0 (length labels) t.0);
+      some = subst (λ (n : ℕ). 0 < n) (sym same) (nat_lt_true 0 (length labels) t.0);
       highest = subst (λ (n : ℕ). FitsSigned w32 (c.0 +ℤ pos (n - 1))) (sym same) (highest c.0 (length labels) lowest t.1);
       each = all_far places pc labels near all;
     } in
@@ -216,19 +208,19 @@ cases_fit : (places : Places) (pc : ℕ) (cs : List (Number × List ℕ)) (cases
 cases_fit places pc [] cases near all h = subst (AllByRecursion (IsFitCase pc)) (some_is [] cases h) tt
 cases_fit places pc (c ∷ cs) cases near all h =
     let k = chained (λ key. option_map (λ rest. make_case key (target places c.1) ∷ rest) (cases_of places cs)) (int_of c.0) cases h in
-    let m = mapped (λ (rest : List Case). make_case k.0 (target places c.1) ∷ rest) (cases_of places cs) cases k.2 in
+    let m = map_some (λ (rest : List Case). make_case k.0 (target places c.1) ∷ rest) (cases_of places cs) cases k.2 in
     let t = and_parts (is_far places pc c.1) (list_all (λ (d : Number × List ℕ). is_far places pc d.1) cs) all in
-    subst (AllByRecursion (IsFitCase pc)) m.2 ((int_fits c.0 k.0 k.1, far_reaches pc (target places c.1) (near c.1) t.0), cases_fit places pc cs m.0 near t.1 m.1)
+    subst (AllByRecursion (IsFitCase pc)) m.1.1 ((int_fits c.0 k.0 k.1, far_reaches pc (target places c.1) (near c.1) t.0), cases_fit places pc cs m.0 near t.1 m.1.0)
 
 lookup_fits : (places : Places) (pc : ℕ) (default : List ℕ) (cs : List (Number × List ℕ)) (i : Insn) → IsNear places
     → is_far places pc default ≡ true → list_all (λ c. is_far places pc c.1) cs ≡ true → lookup_insn places default cs ≡ Some i → Fits pc i
 lookup_fits places pc default cs i near far all h =
     let c = chained (lookup_of (target places default)) (cases_of places cs) i h in
-    let g = guarded (nat_lt (length c.0) (2 ^ 31) && is_rising c.0) (Some (insns.Lookupswitch (target places default) c.0)) i c.2 in
+    let g = cond_guarded (nat_lt (length c.0) (2 ^ 31) && is_rising c.0) (Some (insns.Lookupswitch (target places default) c.0)) i c.2 in
     let t = and_parts (nat_lt (length c.0) (2 ^ 31)) (is_rising c.0) g.0 in
     let is_lookup : IsLookup pc (target places default) c.0 = record {
       otherwise = far_reaches pc (target places default) (near default) far;
-      few = below (length c.0) (2 ^ 31) t.0;
+      few = nat_lt_true (length c.0) (2 ^ 31) t.0;
       each = cases_fit places pc cs c.0 near all c.1;
       rising = t.1;
     } in
@@ -243,11 +235,11 @@ fits places need (Local op n) pc i near r h =
     let c = chained (local_insn op) (pair_of n) i h in
     local_fits pc op c.0 i (pair_small n c.0 c.1) c.2
 fits places need (Bipush n) pc i near r h =
-    let m = mapped insns.Bipush (byte_value n) i h in
-    subst (Fits pc) m.2 (byte_value_fits n m.0 m.1)
+    let m = map_some insns.Bipush (byte_value n) i h in
+    subst (Fits pc) m.1.1 (byte_value_fits n m.0 m.1.0)
 fits places need (Sipush n) pc i near r h =
-    let m = mapped insns.Sipush (pair_value n) i h in
-    subst (Fits pc) m.2 (pair_value_fits n m.0 m.1)
+    let m = map_some insns.Sipush (pair_value n) i h in
+    subst (Fits pc) m.1.1 (pair_value_fits n m.0 m.1.0)
 fits places need (LoadInt op n) pc i near r h = load_fits pc op need.entry i h
 fits places need (LoadString op word) pc i near r h = load_fits pc op need.entry i h
 fits places need (Member op class name desc) pc i near r h = member_fits pc op need.entry need.words i h
@@ -288,7 +280,7 @@ table_alike p q default labels (Some low) =
     elim (highest_fits low (length labels)) as (λ b. Alike (cond b (Some (insns.Tableswitch (target p default) low (map (target p) labels))) None) (cond b (Some (insns.Tableswitch (target q default) low (map (target q) labels))) None)) [
       | true ↦ λ pc. ap suc (
           table_len pc (target p default) low (map (target p) labels)
-          ∙ ap (λ (n : ℕ). padding_of pc + 12 + 4 * n) (length-map (target p) labels ∙ sym (length-map (target q) labels))
+          ∙ ap (λ (n : ℕ). padding_of pc + 12 + 4 * n) (length_mapped (target p) labels ∙ sym (length_mapped (target q) labels))
           ∙ sym (table_len pc (target q default) low (map (target q) labels)))
       | false ↦ tt
     ]

@@ -4,6 +4,7 @@ use Rattle.std.specs.Option.{option_map_or, option_and_then}
 use Rattle.std.specs.List.{AllByRecursion, filter_map, cons_option}
 use Rattle.std.proofs.Math.Path.{fun_ext}
 use Rattle.std.proofs.lemmas.Bool.{not-false, or_parts}
+use Rattle.list_views.proofs.Options.{both_none}
 use Rattle.code_decode.specs.Codes.{Spells}
 use Rattle.code_decode.specs.Encoding.{plain_text, code_of}
 use Rattle.code_decode.specs.Texts.{padding_of, zeros}
@@ -28,7 +29,7 @@ use Rattle.asm_codes.proofs.CodeSizes.{code_long}
 use Rattle.asm_codes.proofs.FirstFaults.{IsSound, sound}
 use Rattle.asm_codes.proofs.Operands.{Alike, alike}
 use Rattle.asm_codes.proofs.SaidInsns.{insn_said, first_known, others_known}
-use Rattle.asm_codes.proofs.Written.{both_none, item_size, writable}
+use Rattle.asm_codes.proofs.Written.{item_size, writable}
 
 abbrev codes : List Pooled → List CodeLine
 codes lines = map (λ (x : Pooled). x.code) lines

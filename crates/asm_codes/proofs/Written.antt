@@ -6,6 +6,7 @@ use Rattle.std.proofs.lemmas.List.Concat.{flat_map-append}
 use Rattle.std.proofs.lemmas.Bool.{not-false, or_parts}
 use Rattle.std.specs.Option.{option_or, option_map_or, option_and_then, option_to_list}
 use Rattle.std.specs.List.{cons_option}
+use Rattle.list_views.proofs.Options.{both_none}
 use Rattle.code_forms.specs.declared.insn.Insn.{Insn}
 use Rattle.class_base.specs.declared.handler.Handler.{Handler}
 use Rattle.code_decode.specs.Encoding.{plain_text, code_of}
@@ -20,10 +21,6 @@ use Rattle.asm_codes.specs.LineFaults.{reaches, passes, item_is_out, entries_of,
 use Rattle.asm_codes.specs.MethodCodes.{FitsAt, IsWritable}
 use Rattle.asm_codes.proofs.Operands.{Alike, fits, alike}
 use Rattle.asm_codes.proofs.FirstFaults.{sound, stays, next_line}
-
-pub both_none : {A : Type 0} (o p : Option A) → option_or o p ≡ None → (o ≡ None) × (p ≡ None)
-both_none None p h = (refl, h)
-both_none (Some x) p h = absurd cc
 
 -- ---- what has bytes
 

@@ -5,20 +5,19 @@ use Rattle.std.specs.List.{position_or_len}
 use Rattle.std.proofs.lemmas.Bool.{cases_Bool, ltb-false}
 use Rattle.std.proofs.lemmas.Grind.{common_steps}
 use Rattle.std.proofs.Math.Seq.{take-length}
+use Rattle.list_views.proofs.Orders.{one_before}
+use Rattle.list_views.proofs.Options.{none_from_place}
 use Rattle.asm_lines.specs.LinesAndWords.{onto, parts}
 
 abbrev first_len : ℕ → List ℕ → ℕ
 first_len at bytes = position_or_len (λ b. eqb b at) bytes
-
-one_more : (n : ℕ) → 1 + n ≡ suc n
-one_more n = omega arith
 
 one_by_one : (at b : ℕ) (bytes : List ℕ) → parts at bytes ≡ take (first_len at bytes) bytes ∷ parts at (drop (suc (first_len at bytes)) bytes)
     → parts at (b ∷ bytes) ≡ take (first_len at (b ∷ bytes)) (b ∷ bytes) ∷ parts at (drop (suc (first_len at (b ∷ bytes))) (b ∷ bytes))
 one_by_one at b bytes more =
     elim (eqb b at) as (λ v. cond v ([] ∷ parts at bytes) (onto b (parts at bytes)) ≡ take (cond (not v) (1 + first_len at bytes) 0) (b ∷ bytes) ∷ parts at (drop (suc (cond (not v) (1 + first_len at bytes) 0)) (b ∷ bytes))) [
       | true ↦ refl
-      | false ↦ ap (onto b) more ∙ ap (λ n. take n (b ∷ bytes) ∷ parts at (drop (suc n) (b ∷ bytes))) (sym (one_more (first_len at bytes)))
+      | false ↦ ap (onto b) more ∙ ap (λ n. take n (b ∷ bytes) ∷ parts at (drop (suc n) (b ∷ bytes))) (sym (one_before (first_len at bytes)))
     ]
 
 first : (at : ℕ) (bytes : List ℕ) → 0 < length bytes → parts at bytes ≡ take (first_len at bytes) bytes ∷ parts at (drop (suc (first_len at bytes)) bytes)
@@ -28,12 +27,6 @@ first at (b ∷ c ∷ bytes) h = one_by_one at b (c ∷ bytes) (first at (c ∷ 
 
 place : (n len i : ℕ) → cond (ltb n len) (Some n) None ≡ Some i → n ≡ i
 place n len i h = elim (ltb n len) as (λ v. cond v (Some n) None ≡ Some i → n ≡ i) [ true ↦ λ e. cc | false ↦ λ e. absurd cc ] h
-
-no_place : (n len : ℕ) → cond (ltb n len) (Some n) None ≡ None → len ≤ n
-no_place n len h = elim (cases_Bool (ltb n len)) [
-  | inl less ↦ let e : Some n ≡ None = (rw less at h) in absurd cc
-  | inr not_less ↦ ltb-false n len not_less
-]
 
 drop_more : (i : ℕ) (bytes : List ℕ) → drop (suc i) bytes ≡ drop 1 (drop i bytes)
 drop_more zero bytes = refl
@@ -47,7 +40,7 @@ parts_at at bytes i h p =
 
 pub one_part : (at : ℕ) (bytes : List ℕ) → 0 < length bytes → position (λ b. eqb b at) bytes ≡ None → parts at bytes ≡ take (length bytes) bytes ∷ parts at (drop (length bytes) bytes)
 one_part at bytes h p =
-    let past : length bytes ≤ first_len at bytes = no_place (first_len at bytes) (length bytes) p in
+    let past : length bytes ≤ first_len at bytes = none_from_place (first_len at bytes) (length bytes) p in
     let front : take (first_len at bytes) bytes ≡ bytes = grind (arith, common_steps) in
     let rest : drop (suc (first_len at bytes)) bytes ≡ [] = grind (arith, common_steps) in
     let all : take (length bytes) bytes ≡ bytes = take-length bytes in

@@ -6,6 +6,7 @@ use Rattle.std.specs.Int.{w32}
 use Rattle.std.specs.Int.RustNames.{FitsSigned, int_le}
 use Rattle.std.proofs.lemmas.Int.{ints}
 use Rattle.std.proofs.lemmas.Bool.{and_parts}
+use Rattle.list_views.proofs.Options.{cond_guarded}
 use Rattle.code_decode.proofs.Takes.{some_is}
 use Rattle.asm_lines.specs.declared.number.Number.{Number}
 use Rattle.asm_lines.specs.Numbers.{signed_of, int_of}
@@ -14,17 +15,13 @@ pub chained : {A B : Type 0} (f : A → Option B) (o : Option A) (y : B) → opt
 chained f None y h = absurd cc
 chained f (Some x) y h = (x, refl, h)
 
-pub guarded : {A : Type 0} (b : Bool) (o : Option A) (y : A) → cond b o None ≡ Some y → (b ≡ true) × (o ≡ Some y)
-guarded true o y h = (refl, h)
-guarded false o y h = absurd cc
-
 pub lies : (low high v : ℤ) → (int_le low v && int_le v high) ≡ true → (low ≤ℤ v) × (v ≤ℤ high)
 lies low high v h = let p = and_parts (int_le low v) (int_le v high) h in (grind (arith, ints), grind (arith, ints))
 
 pub int_fits : (n : Number) (v : ℤ) → int_of n ≡ Some v → FitsSigned w32 v
 int_fits n v h =
     let c = chained (λ m. if int_le (negsuc (2 ^ 31 - 1)) m && int_le m (pos (2 ^ 31 - 1)) then Some m else None) (signed_of n) v h in
-    let g = guarded (int_le (negsuc (2 ^ 31 - 1)) c.0 && int_le c.0 (pos (2 ^ 31 - 1))) (Some c.0) v c.2 in
+    let g = cond_guarded (int_le (negsuc (2 ^ 31 - 1)) c.0 && int_le c.0 (pos (2 ^ 31 - 1))) (Some c.0) v c.2 in
     let l = lies (negsuc (2 ^ 31 - 1)) (pos (2 ^ 31 - 1)) c.0 g.0 in
     let e : c.0 ≡ v = some_is c.0 v g.1 in
     subst (FitsSigned w32) e (omega (arith, ints, l.0, l.1))

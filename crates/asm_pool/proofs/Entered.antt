@@ -25,9 +25,6 @@ equal_is _ _ = refl
 abbrev pub seen_need : Kept × ℕ → Entry × ℕ
 seen_need e = (seen e.0, e.1)
 
-one_more : (n : ℕ) → 1 + n ≡ suc n
-one_more n = omega arith
-
 -- where an entry stands among what is seen of the entries of a map
 before_is : (k : Kept) (es : List (Kept × ℕ)) → prefix_len (λ n. not (same (seen k) n.0)) (map seen_need es) ≡ prefix_len (λ x. not (equal k x)) (map (λ e. e.0) es)
 before_is k [] = refl
@@ -51,14 +48,6 @@ pub entry_position : (k : Kept) (es : List (Kept × ℕ)) → position (same (se
 entry_position k es =
     ap (λ n. cond (ltb n (length (map (λ e. seen e.0) es))) (Some n) None) (entry_before k es)
     ∙ ap (λ m. cond (ltb (prefix_len (λ x. not (equal k x)) (map (λ e. e.0) es)) m) (Some (prefix_len (λ x. not (equal k x)) (map (λ e. e.0) es))) None) (seen_length (λ e. seen e.0) (λ e. e.0) es)
-
-taken : {A : Type 0} (xs : List A) (i : ℕ) (x : A) → slice_get xs i ≡ Some x → take (suc i) xs ≡ take i xs ++ x ∷ []
-taken [] i x h = absurd cc
-taken (y ∷ ys) zero x h = let e : y ≡ x = cc in rw e refl
-taken (y ∷ ys) (suc i) x h = ap (λ zs. y ∷ zs) (taken ys i x h)
-
-pub take_more : {A : Type 0} (xs : List A) (i : ℕ) (x : A) → slice_get xs i ≡ Some x → take (i + 1) xs ≡ take i xs ++ x ∷ []
-take_more xs i x h = rw add-one (taken xs i x h)
 
 abbrev the_pair : List Entry → List ℕ → List Entry × List ℕ
 the_pair entries numbers = (entries, numbers)

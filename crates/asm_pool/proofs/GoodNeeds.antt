@@ -7,6 +7,7 @@ use Rattle.std.specs.Option.{option_map, option_and_then, option_to_list, unwrap
 use Rattle.std.proofs.lemmas.Int.{ints}
 use Rattle.std.proofs.lemmas.Bool.{ltb-true}
 use Rattle.std.proofs.lemmas.Bool.Decides.{nat_tests}
+use Rattle.list_views.proofs.Quantified.{all_joined}
 use Rattle.asm_lines.specs.declared.number.Number.{Number}
 use Rattle.asm_lines.specs.declared.operation.Operation.{Operation}
 use Rattle.asm_lines.specs.declared.operation.Operation.TheVariants as operations
@@ -25,7 +26,7 @@ use Rattle.asm_pool.specs.Needs.{member_tag, operation_entry, catch_entry, insn_
 use Rattle.asm_lines.proofs.GoodListings.{OpenMethod, GoodMethod, GoodListing}
 use Rattle.asm_lines.proofs.NumberFits.{int_fits}
 use Rattle.asm_lines.proofs.PlainWords.{IsPlain, ArePlain, PlainOption, IsCapped, PlainField, PlainAttribute, PlainConstant, PlainClass, PlainOperation, PlainItem}
-use Rattle.asm_pool.proofs.PoolEntries.{joined, to_needed}
+use Rattle.asm_pool.proofs.PoolEntries.{to_needed}
 use Rattle.asm_pool.proofs.PoolRules.{GoodEntry}
 
 abbrev pub GoodNeed : Need → Type 0
@@ -138,7 +139,7 @@ lines_good : (entries : Item → List Entry) → ((item : Item) → PlainItem it
     → AllByRecursion GoodNeed (flat_map (line_needs entries) lines)
 lines_good entries each [] h = tt
 lines_good entries each (code ∷ lines) h =
-    joined GoodNeed (line_needs entries code) (flat_map (line_needs entries) lines) (to_needed GoodEntry code.line (entries code.item) (each code.item h.0)) (lines_good entries each lines h.1)
+    all_joined GoodNeed (line_needs entries code) (flat_map (line_needs entries) lines) (to_needed GoodEntry code.line (entries code.item) (each code.item h.0)) (lines_good entries each lines h.1)
 
 code_good : (m : MethodLines) → OpenMethod m → AllByRecursion GoodNeed (code_needs m)
 code_good m h =
@@ -146,8 +147,8 @@ code_good m h =
     let catches = flat_map (line_needs catch_entries) m.lines in
     let attributes = flat_map (line_needs attribute_entries) m.lines in
     let name = needed m.line (Utf8 (codes "Code") ∷ []) in
-    joined GoodNeed (name ++ insns ++ catches) attributes
-    (joined GoodNeed (name ++ insns) catches (joined GoodNeed name insns (refl, tt) (lines_good insn_entries insns_good m.lines h.items)) (lines_good catch_entries catches_good m.lines h.items))
+    all_joined GoodNeed (name ++ insns ++ catches) attributes
+    (all_joined GoodNeed (name ++ insns) catches (all_joined GoodNeed name insns (refl, tt) (lines_good insn_entries insns_good m.lines h.items)) (lines_good catch_entries catches_good m.lines h.items))
     (lines_good attribute_entries attributes_good m.lines h.items)
 
 codes_by : (m : MethodLines) (b : Bool) → OpenMethod m → AllByRecursion GoodNeed (cond b (code_needs m) [])
@@ -156,7 +157,7 @@ codes_by m false h = tt
 
 method_good : (m : MethodLines) → GoodMethod m → AllByRecursion GoodNeed (method_needs m)
 method_good m h =
-    joined GoodNeed (needed m.line (Utf8 m.head.name ∷ Utf8 m.head.desc ∷ [])) (cond (is_some m.head.sizes) (code_needs m) [])
+    all_joined GoodNeed (needed m.line (Utf8 m.head.name ∷ Utf8 m.head.desc ∷ [])) (cond (is_some m.head.sizes) (code_needs m) [])
     (h.open_method.head.name, (h.open_method.head.desc, tt)) (codes_by m (is_some m.head.sizes) h.open_method)
 
 constant_good : (c : Constant) → PlainConstant c → GoodSome (constant_entry c)
@@ -169,7 +170,7 @@ constant_good (constants.Str text) h = (h, tt)
 
 each_good : {A : Type 0} (P : A → Type 0) (f : A → List Need) → ((x : A) → P x → AllByRecursion GoodNeed (f x)) → (xs : List A) → AllByRecursion P xs → AllByRecursion GoodNeed (flat_map f xs)
 each_good P f each [] h = tt
-each_good P f each (x ∷ xs) h = joined GoodNeed (f x) (flat_map f xs) (each x h.0) (each_good P f each xs h.1)
+each_good P f each (x ∷ xs) h = all_joined GoodNeed (f x) (flat_map f xs) (each x h.0) (each_good P f each xs h.1)
 
 supers : (o : Option (List ℕ)) → PlainOption o → IsPlain (unwrap_or o (codes "java/lang/Object"))
 supers None h = refl
@@ -186,10 +187,10 @@ needs_good line class listing c l =
     let methods = flat_map method_needs listing.methods in
     let attributes = flat_map attribute_needs listing.attributes in
     let rest = flat_map constant_needs listing.constants in
-    joined GoodNeed (own ++ fields ++ methods ++ attributes) rest
-    (joined GoodNeed (own ++ fields ++ methods) attributes
-    (joined GoodNeed (own ++ fields) methods
-    (joined GoodNeed own fields
+    all_joined GoodNeed (own ++ fields ++ methods ++ attributes) rest
+    (all_joined GoodNeed (own ++ fields ++ methods) attributes
+    (all_joined GoodNeed (own ++ fields) methods
+    (all_joined GoodNeed own fields
     (to_needed GoodEntry line (Class class.name ∷ Class (super_of class) ∷ map (λ name. Class name) class.interfaces) (c.0, (supers class.super_name c.1, interfaces_good class.interfaces c.2)))
     (each_good (λ f. PlainField f.1) field_needs (λ f h. (h.0, (h.1, tt))) listing.fields l.fields))
     (each_good GoodMethod method_needs method_good listing.methods l.methods))

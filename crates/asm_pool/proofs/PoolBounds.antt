@@ -3,12 +3,14 @@ use Rattle.std.proofs.Common.{◌≡◌, ℕ, ◌+◌, ◌<◌, ◌^◌, Bool, t
 use Rattle.std.proofs.lemmas.List.{length-append}
 use Rattle.std.specs.Prelude.{position, nat_lt, nat_le, is_some}
 use Rattle.std.specs.List.{flat_map, fold, AllByRecursion}
+use Rattle.list_views.proofs.Quantified.{all_joined}
+use Rattle.list_views.proofs.Orders.{nat_lt_true}
 use Rattle.class_pool.specs.Text.{slots_of, places_of}
 use Rattle.asm_pool.specs.declared.entry.Entry.{Entry as Kept}
 use Rattle.asm_pool.specs.Entries.{Entry, Utf8, Integer, Float, Long, Double, Class, Str, Member, NameAndType, same, with_named, has_text, width, seen}
 use Rattle.asm_lines.specs.Firsts.{unless}
 use Rattle.asm_pool.specs.Pools.{Need, needed, brought, with_first, count_faults, Numbered, pool_entry, firsts_in}
-use Rattle.asm_lines.proofs.Faultless.{left, right, is_good, is_less, first_of_both, second_of_both, both_true}
+use Rattle.asm_lines.proofs.Faultless.{left, right, is_good, first_of_both, second_of_both, both_true}
 
 -- ---- the count
 
@@ -20,7 +22,7 @@ pub counted : (next : ℕ) (needs : List Need) → next < 2 ^ 16 → count_fault
 counted next [] b h = omega (arith, b)
 counted next (n ∷ needs) b h =
     let rest = count_faults (next + width n.0) needs in
-    let own = is_less (next + width n.0) (2 ^ 16) (is_good _ n.1 (left (unless (nat_lt (next + width n.0) (2 ^ 16)) n.1) rest h)) in
+    let own = nat_lt_true (next + width n.0) (2 ^ 16) (is_good _ n.1 (left (unless (nat_lt (next + width n.0) (2 ^ 16)) n.1) rest h)) in
     let more = counted (next + width n.0) needs own (right (unless (nat_lt (next + width n.0) (2 ^ 16)) n.1) rest h) in
     omega (arith, more)
 
@@ -49,10 +51,6 @@ places_counted pool needs h = omega (arith, counted 1 needs (omega arith) h, all
 abbrev pub HasTextOf : Need → Type 0
 HasTextOf n = has_text n.0 ≡ true
 
-joined : (P : Need → Type 0) (xs ys : List Need) → AllByRecursion P xs → AllByRecursion P ys → AllByRecursion P (xs ++ ys)
-joined P [] ys p q = q
-joined P (x ∷ xs) ys p q = (p.0, joined P xs ys p.1 q)
-
 three : (a b c : Bool) → a && (b && c) ≡ true → (a ≡ true) × (b ≡ true) × (c ≡ true)
 three a b c h = (first_of_both a (b && c) h, first_of_both b c (second_of_both a (b && c) h), second_of_both b c (second_of_both a (b && c) h))
 
@@ -75,11 +73,11 @@ brought_text n false h = tt
 
 all_brought : (needs : List Need) → AllByRecursion HasTextOf (flat_map brought needs)
 all_brought [] = tt
-all_brought (n ∷ needs) = joined HasTextOf (brought n) (flat_map brought needs) (brought_text n (has_text n.0) refl) (all_brought needs)
+all_brought (n ∷ needs) = all_joined HasTextOf (brought n) (flat_map brought needs) (brought_text n (has_text n.0) refl) (all_brought needs)
 
 one_more : (found : List Need) (n : Need) (b : Bool) → AllByRecursion HasTextOf found → HasTextOf n → AllByRecursion HasTextOf (cond b found (found ++ n ∷ []))
 one_more found n true p q = p
-one_more found n false p q = joined HasTextOf found (n ∷ []) p (q, tt)
+one_more found n false p q = all_joined HasTextOf found (n ∷ []) p (q, tt)
 
 kept : (found needs : List Need) → AllByRecursion HasTextOf found → AllByRecursion HasTextOf needs → AllByRecursion HasTextOf (fold with_first found needs)
 kept found [] p q = p

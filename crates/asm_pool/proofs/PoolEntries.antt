@@ -11,6 +11,8 @@ use Rattle.std.proofs.lemmas.Iterator.Adapters.{position_from-zero}
 use Rattle.std.proofs.lemmas.List.{get_or-append-add, map-append}
 use Rattle.std.proofs.lemmas.List.Folds.{list_any-append}
 use Rattle.std.proofs.lemmas.Slice.Eq.{bytes_eq-Decides}
+use Rattle.list_views.proofs.Quantified.{all_joined, all_front, all_back}
+use Rattle.list_views.proofs.SameBytes.{bytes_eq_true, bytes_eq_self}
 use Rattle.class_pool.specs.declared.entry.PoolEntry.{PoolEntry}
 use Rattle.class_pool.specs.Text.{slots_of, entry_at}
 use Rattle.asm_pool.specs.Entries.{Entry, Utf8, Integer, Float, Long, Double, Class, Str, Member, NameAndType, same, with_named, has_text, width}
@@ -20,44 +22,38 @@ use Rattle.asm_pool.proofs.PoolBounds.{room, slots}
 
 -- ---- entries that say the same are one
 
-bytes_is : (a b : List ℕ) → bytes_eq a b ≡ true → a ≡ b
-bytes_is a b h = (bytes_eq-Decides a b).0 h
-
-bytes_same : (a : List ℕ) → bytes_eq a a ≡ true
-bytes_same a = (bytes_eq-Decides a a).1 refl
-
 pub same_is : (a b : Entry) → same a b ≡ true → a ≡ b
-same_is (Utf8 a) (Utf8 b) h = ap (λ x. Utf8 x) (bytes_is a b h)
+same_is (Utf8 a) (Utf8 b) h = ap (λ x. Utf8 x) (bytes_eq_true a b h)
 same_is (Integer a) (Integer b) h = ap (λ x. Integer x) ((Decides-int_eq a b).0 h)
 same_is (Float a) (Float b) h = ap (λ x. Float x) (eqb-true a b h)
 same_is (Long a) (Long b) h = ap (λ x. Long x) (eqb-true a b h)
 same_is (Double a) (Double b) h = ap (λ x. Double x) (eqb-true a b h)
-same_is (Class a) (Class b) h = ap (λ x. Class x) (bytes_is a b h)
-same_is (Str a) (Str b) h = ap (λ x. Str x) (bytes_is a b h)
+same_is (Class a) (Class b) h = ap (λ x. Class x) (bytes_eq_true a b h)
+same_is (Str a) (Str b) h = ap (λ x. Str x) (bytes_eq_true a b h)
 same_is (Member t c n d) (Member u e m f) h =
     let tag = eqb-true t u (first_of_both _ (bytes_eq c e && (bytes_eq n m && bytes_eq d f)) h) in
     let more = second_of_both _ (bytes_eq c e && (bytes_eq n m && bytes_eq d f)) h in
-    let class = bytes_is c e (first_of_both (bytes_eq c e) (bytes_eq n m && bytes_eq d f) more) in
+    let class = bytes_eq_true c e (first_of_both (bytes_eq c e) (bytes_eq n m && bytes_eq d f) more) in
     let last = second_of_both (bytes_eq c e) (bytes_eq n m && bytes_eq d f) more in
-    let name = bytes_is n m (first_of_both (bytes_eq n m) (bytes_eq d f) last) in
-    let desc = bytes_is d f (second_of_both (bytes_eq n m) (bytes_eq d f) last) in
+    let name = bytes_eq_true n m (first_of_both (bytes_eq n m) (bytes_eq d f) last) in
+    let desc = bytes_eq_true d f (second_of_both (bytes_eq n m) (bytes_eq d f) last) in
     ap (λ x. Member x c n d) tag ∙ ap (λ x. Member u x n d) class ∙ ap (λ x. Member u e x d) name ∙ ap (λ x. Member u e m x) desc
 same_is (NameAndType a b) (NameAndType c d) h =
-    ap (λ x. NameAndType x b) (bytes_is a c (first_of_both (bytes_eq a c) (bytes_eq b d) h)) ∙ ap (λ x. NameAndType c x) (bytes_is b d (second_of_both (bytes_eq a c) (bytes_eq b d) h))
+    ap (λ x. NameAndType x b) (bytes_eq_true a c (first_of_both (bytes_eq a c) (bytes_eq b d) h)) ∙ ap (λ x. NameAndType c x) (bytes_eq_true b d (second_of_both (bytes_eq a c) (bytes_eq b d) h))
 same_is _ _ h = absurd cc
 
 pub same_itself : (e : Entry) → same e e ≡ true
-same_itself (Utf8 a) = bytes_same a
+same_itself (Utf8 a) = bytes_eq_self a
 same_itself (Integer a) = (Decides-int_eq a a).1 refl
 same_itself (Float a) = eq-eqb a a refl
 same_itself (Long a) = eq-eqb a a refl
 same_itself (Double a) = eq-eqb a a refl
-same_itself (Class a) = bytes_same a
-same_itself (Str a) = bytes_same a
+same_itself (Class a) = bytes_eq_self a
+same_itself (Str a) = bytes_eq_self a
 same_itself (Member t c n d) =
     both_true _ (bytes_eq c c && (bytes_eq n n && bytes_eq d d)) (eq-eqb t t refl)
-    (both_true (bytes_eq c c) (bytes_eq n n && bytes_eq d d) (bytes_same c) (both_true (bytes_eq n n) (bytes_eq d d) (bytes_same n) (bytes_same d)))
-same_itself (NameAndType a b) = both_true (bytes_eq a a) (bytes_eq b b) (bytes_same a) (bytes_same b)
+    (both_true (bytes_eq c c) (bytes_eq n n && bytes_eq d d) (bytes_eq_self c) (both_true (bytes_eq n n) (bytes_eq d d) (bytes_eq_self n) (bytes_eq_self d)))
+same_itself (NameAndType a b) = both_true (bytes_eq a a) (bytes_eq b b) (bytes_eq_self a) (bytes_eq_self b)
 
 -- ---- an entry under its number
 
@@ -187,22 +183,9 @@ all_in : (found needs : List Need) → AllByRecursion (λ n. IsIn (entries_of (f
 all_in found [] = tt
 all_in found (n ∷ needs) = (in_fold (with_first found n) needs n.0 (new_in found n (is_some (position (λ m. same n.0 m.0) found)) refl), all_in (with_first found n) needs)
 
--- a property of needs that the first of each has
-pub joined : (P : Need → Type 0) (xs ys : List Need) → AllByRecursion P xs → AllByRecursion P ys → AllByRecursion P (xs ++ ys)
-joined P [] ys p q = q
-joined P (x ∷ xs) ys p q = (p.0, joined P xs ys p.1 q)
-
-pub front : (P : Need → Type 0) (xs ys : List Need) → AllByRecursion P (xs ++ ys) → AllByRecursion P xs
-front P [] ys h = tt
-front P (x ∷ xs) ys h = (h.0, front P xs ys h.1)
-
-pub back : (P : Need → Type 0) (xs ys : List Need) → AllByRecursion P (xs ++ ys) → AllByRecursion P ys
-back P [] ys h = h
-back P (x ∷ xs) ys h = back P xs ys h.1
-
 one_kept : (P : Need → Type 0) (found : List Need) (n : Need) (b : Bool) → AllByRecursion P found → P n → AllByRecursion P (cond b found (found ++ n ∷ []))
 one_kept P found n true p q = p
-one_kept P found n false p q = joined P found (n ∷ []) p (q, tt)
+one_kept P found n false p q = all_joined P found (n ∷ []) p (q, tt)
 
 pub firsts_keep : (P : Need → Type 0) (found needs : List Need) → AllByRecursion P found → AllByRecursion P needs → AllByRecursion P (fold with_first found needs)
 firsts_keep P found [] p q = p
@@ -229,7 +212,7 @@ brought_in es n false h e = absurd cc
 each_in : (es : List Entry) (needs : List Need) → AllByRecursion (λ m. IsIn es m.0) (flat_map brought needs) → AllByRecursion (λ n. has_text n.0 ≡ true → AllIn es n.0) needs
 each_in es [] h = tt
 each_in es (n ∷ needs) h =
-    (brought_in es n (has_text n.0) (front (λ m. IsIn es m.0) (brought n) (flat_map brought needs) h), each_in es needs (back (λ m. IsIn es m.0) (brought n) (flat_map brought needs) h))
+    (brought_in es n (has_text n.0) (all_front (λ m. IsIn es m.0) (brought n) (flat_map brought needs) h), each_in es needs (all_back (λ m. IsIn es m.0) (brought n) (flat_map brought needs) h))
 
 pub needs_in : (needs : List Need) → AllByRecursion (λ n. has_text n.0 ≡ true → AllIn (entries_in needs) n.0) needs
 needs_in needs = each_in (entries_in needs) needs (all_in [] (flat_map brought needs))

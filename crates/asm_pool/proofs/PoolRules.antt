@@ -7,16 +7,18 @@ use Rattle.std.specs.Option.{option_map_or, option_and_then}
 use Rattle.std.proofs.lemmas.Bool.{leb-true}
 use Rattle.std.proofs.lemmas.Bool.Decides.{nat_tests}
 use Rattle.std.proofs.lemmas.Iterator.Adapters.{position_from-zero}
+use Rattle.list_views.proofs.Quantified.{all_joined}
+use Rattle.list_views.proofs.Orders.{nat_lt_true}
 use Rattle.class_pool.specs.declared.entry.PoolEntry.{PoolEntry}
 use Rattle.class_pool.specs.Entry.{is_wide, is_barred, Fits}
 use Rattle.class_pool.specs.Text.{slots_of, places_of, stands, names_badly, text_of, utf8_at, class_of, class_name_at, IsPool}
 use Rattle.asm_pool.specs.Entries.{Entry, Utf8, Integer, Float, Long, Double, Class, Str, Member, NameAndType, with_named, has_text, is_short}
 use Rattle.asm_lines.specs.LinesAndWords.{is_plain_byte, is_plain}
 use Rattle.asm_pool.specs.Pools.{Need, needed, brought, count_faults, numbered, number_of, pool_entry, firsts_in}
-use Rattle.asm_lines.proofs.Faultless.{is_less, first_of_both, second_of_both}
+use Rattle.asm_lines.proofs.Faultless.{first_of_both, second_of_both}
 use Rattle.asm_lines.proofs.PlainWords.{IsPlain}
 use Rattle.asm_pool.proofs.PoolBounds.{room, counted, places_counted, all_have_text}
-use Rattle.asm_pool.proofs.PoolEntries.{IsIn, AllIn, in_file, entry_is, number_small, firsts_keep, entries_in, needs_in, to_needed, joined}
+use Rattle.asm_pool.proofs.PoolEntries.{IsIn, AllIn, in_file, entry_is, number_small, firsts_keep, entries_in, needs_in, to_needed}
 
 -- ---- entries whose texts are plain and whose numbers fit
 
@@ -48,7 +50,7 @@ brought_good n false h = tt
 
 all_good : (needs : List Need) → AllByRecursion (λ m. GoodEntry m.0) needs → AllByRecursion (λ m. GoodEntry m.0) (flat_map brought needs)
 all_good [] h = tt
-all_good (n ∷ needs) h = joined (λ m. GoodEntry m.0) (brought n) (flat_map brought needs) (brought_good n (has_text n.0) h.0) (all_good needs h.1)
+all_good (n ∷ needs) h = all_joined (λ m. GoodEntry m.0) (brought n) (flat_map brought needs) (brought_good n (has_text n.0) h.0) (all_good needs h.1)
 
 -- ---- what an entry names
 
@@ -80,7 +82,7 @@ brought_closed es n false h k = tt
 
 all_closed : (es : List Entry) (needs : List Need) → AllByRecursion (λ n. has_text n.0 ≡ true → AllIn es n.0) needs → AllByRecursion (λ m. IsClosed es m.0) (flat_map brought needs)
 all_closed es [] h = tt
-all_closed es (n ∷ needs) h = joined (λ m. IsClosed es m.0) (brought n) (flat_map brought needs) (brought_closed es n (has_text n.0) refl h.0) (all_closed es needs h.1)
+all_closed es (n ∷ needs) h = all_joined (λ m. IsClosed es m.0) (brought n) (flat_map brought needs) (brought_closed es n (has_text n.0) refl h.0) (all_closed es needs h.1)
 
 -- ---- each entry fits
 
@@ -99,7 +101,7 @@ each_allowed [] h = tt
 each_allowed (b ∷ text) h = (plain_allowed b (first_of_both (is_plain_byte b) (is_plain text) h), each_allowed text (second_of_both (is_plain_byte b) (is_plain text) h))
 
 fits : (es : List Entry) (e : Entry) → 1 + room es < 2 ^ 16 → has_text e ≡ true → GoodEntry e → IsClosed es e → Fits (pool_entry (numbered es) e)
-fits es (Utf8 text) small h g c = (is_less (length text) (2 ^ 16) h, none_at is_barred text (each_allowed text g))
+fits es (Utf8 text) small h g c = (nat_lt_true (length text) (2 ^ 16) h, none_at is_barred text (each_allowed text g))
 fits es (Integer value) small h g c = (g, tt)
 fits es (Float bits) small h g c = (g, tt)
 fits es (Long bits) small h g c = (g, tt)

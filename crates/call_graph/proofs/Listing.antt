@@ -4,6 +4,7 @@ use Rattle.std.specs.Prelude.{IsTrue, slice_get, option_and_then, option_map}
 use Rattle.std.specs.List.{filter_map, flat_map, range_with_len, cons_option}
 use Rattle.std.specs.Option.{option_map_or, option_to_list}
 use Rattle.std.proofs.lemmas.Bool.{false≢true, and_parts, eqb-true, cases_eq}
+use Rattle.list_views.proofs.Orders.{zero_before}
 use Rattle.class_world.specs.Fields.{can_be_made}
 use Rattle.class_world.specs.Types.{is_class_below}
 use Rattle.class_program.specs.declared.op.Call.{Call}
@@ -103,13 +104,10 @@ rows_none p k [] i e = refl
 rows_none p k (x ∷ methods) zero e = let no : ⊥ = cc in absurd no
 rows_none p k (x ∷ methods) (suc i) e = rows_none p (k + 1) methods i e
 
-no_start : (n : ℕ) → 0 + n ≡ n
-no_start n = omega arith
-
 row_is : (p : Program) (a : ℕ) (m : Method) → slice_get p.methods a ≡ Some m → row_at (graph_of p) a ≡ method_runs p a m.insns
 row_is p a m e =
     ap (λ (o : Option (List ℕ)). option_map_or (λ row. row) o []) (rows_get p 0 p.methods a m e)
-    ∙ ap (λ (n : ℕ). method_runs p n m.insns) (no_start a)
+    ∙ ap (λ (n : ℕ). method_runs p n m.insns) (zero_before a)
 
 row_none : (p : Program) (a : ℕ) → slice_get p.methods a ≡ None → row_at (graph_of p) a ≡ []
 row_none p a e = ap (λ (o : Option (List ℕ)). option_map_or (λ row. row) o []) (rows_none p 0 p.methods a e)

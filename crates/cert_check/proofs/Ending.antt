@@ -4,12 +4,12 @@ use Rattle.std.specs.Prelude.{All}
 use Rattle.std.specs.List.{AllZip, list_any}
 use Rattle.std.specs.Option.{option_map, option_and_then}
 use Rattle.std.proofs.Math.ListN.{length-set, length-replicate}
-use Rattle.std.proofs.lemmas.Bool.{false≢true}
-use Rattle.std.proofs.lemmas.Option.{slice_get_within, get_or_from_slice_get}
+use Rattle.std.proofs.lemmas.Bool.{false≢true, cases_Bool, or_left}
+use Rattle.std.proofs.lemmas.Option.{slice_get_within, get_or_from_slice_get, none-some}
 use Rattle.std.proofs.lemmas.List.{take_all}
 use Rattle.std.proofs.lemmas.List.Elements.{All-get_or, All-tail}
 use mathlib.Core.WellFounded.{Acc}
-use Rattle.jvm_values.proofs.Options.{some_is, none_is_not_some}
+use Rattle.jvm_values.proofs.Options.{some_is}
 use Rattle.jvm_values.specs.declared.heap.Value.{Value}
 use Rattle.jvm_values.specs.declared.heap.Heap.{Heap}
 use Rattle.jvm_values.specs.Heaps.{target, IsInHeap}
@@ -28,7 +28,6 @@ use Rattle.abs_cells.specs.AbstractStates.{AbstractState}
 use Rattle.abs_cells.specs.Cells.{is_int, cell_in}
 use Rattle.abs_cells.specs.Fits.{Meaning, Fits, Describes}
 use Rattle.abs_cells.specs.Patterns.{Pattern}
-use Rattle.abs_cells.proofs.PairLaws.{bool_cases, or_true}
 use Rattle.class_world.specs.WorldTypes.{types_of}
 use Rattle.class_program.specs.Programs.{Program, IsClosed}
 use Rattle.class_program.proofs.GoodPrograms.{good_program}
@@ -67,8 +66,8 @@ use Rattle.cert_check.proofs.Terms.{one_term}
 -- ---- states of ints
 
 pub found_int : (cells : List (ℕ × Cell)) (id : ℕ) (cell : Cell) → All (λ (c : ℕ × Cell). IsTrue (is_int c.1)) cells → cell_in cells id ≡ Some cell → is_int cell ≡ true
-found_int [] id cell ints e = absurd (none_is_not_some cell e)
-found_int (c ∷ cells) id cell ints e = elim (bool_cases (eqb c.0 id)) [
+found_int [] id cell ints e = absurd (none-some cell e)
+found_int (c ∷ cells) id cell ints e = elim (cases_Bool (eqb c.0 id)) [
   | inl t ↦
       let same : c.1 ≡ cell = some_is (ap (λ b. cond b (Some c.1) (cell_in cells id)) (sym t) ∙ e) in
       ap is_int (sym same) ∙ All-get_or (λ (d : ℕ × Cell). IsTrue (is_int d.1)) (c ∷ cells) 0 c (omega arith) ints
@@ -76,7 +75,7 @@ found_int (c ∷ cells) id cell ints e = elim (bool_cases (eqb c.0 id)) [
 ]
 
 int_in_heap : (types : WorldTypes) (heap : Heap) (meaning : Meaning) (cell : Cell) (value : Value) (count : ℕ) → is_int cell ≡ true → Describes types heap meaning cell value → IsInHeap count value
-int_in_heap types heap meaning (Int interval) value count i d = λ a t. absurd (none_is_not_some a (sym (ap target d.1.0) ∙ t))
+int_in_heap types heap meaning (Int interval) value count i d = λ a t. absurd (none-some a (sym (ap target d.1.0) ∙ t))
 int_in_heap types heap meaning Null value count i d = absurd (false≢true i)
 int_in_heap types heap meaning (Obj class ids) value count i d = absurd (false≢true i)
 int_in_heap types heap meaning (Nums kind len) value count i d = absurd (false≢true i)
@@ -247,7 +246,7 @@ module _ (p : Program) (typing : ℕ → CodeTypes) (nodes : List GraphNode) (cu
   walk zero marks s at size few passed arrives = absurd (omega (arith, few, fewer marks s at size passed))
   walk (suc depth) marks s at size few passed arrives = Acc.intro s (λ to g.
       let on = onward s to g g.at g.there in
-      elim (bool_cases (is_cut cuts to.node)) [
+      elim (cases_Bool (is_cut cuts to.node)) [
         | inl cut ↦ arrives_here s to g arrives cut
         | inr inside ↦ walk depth (set marks s.node true) to g.there (length-set marks s.node true ∙ size) (omega (arith, few, fewer marks s at size passed)) (passed_on marks s.node on.place to.node (inner_edge s.node on.place to.node on.edge inside) passed) (arrives_later s to g arrives inside)
       ])
@@ -308,8 +307,8 @@ module _ (p : Program) (typing : ℕ → CodeTypes) (nodes : List GraphNode) (cu
       ends_from a.turn (h a.turn (follows turn s.node s.spot to (last_of s.spot spots) e a)) (record { node = to; spot = last_of s.spot spots }) next a.ends_in there)
 
   first_cut : (list : List ℕ) → slice_get list 0 ≡ Some 0 → is_cut list 0 ≡ true
-  first_cut [] e = absurd (none_is_not_some 0 e)
-  first_cut (x ∷ xs) e = or_true (x == 0) (list_any (λ cut. cut == 0) xs) (eq-eqb x 0 (some_is e))
+  first_cut [] e = absurd (none-some 0 e)
+  first_cut (x ∷ xs) e = or_left (x == 0) (list_any (λ cut. cut == 0) xs) (eq-eqb x 0 (some_is e))
 
   pub walks_end_at_root : (spot : Spot) → At (record { node = 0; spot = spot }) → WalksEnd p typing nodes c.links (record { node = 0; spot = spot })
   walks_end_at_root spot at =

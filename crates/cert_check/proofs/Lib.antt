@@ -1,3 +1,4 @@
+pub mod Bounded
 pub mod Ending
 pub mod IntRuns
 pub mod Running

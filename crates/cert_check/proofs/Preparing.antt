@@ -5,6 +5,7 @@ use Rattle.std.specs.List.{AllByRecursion, AllZip}
 use Rattle.std.proofs.lemmas.Bool.{eqb-true}
 use Rattle.std.proofs.lemmas.Option.{slice_get_within, get_or_from_slice_get}
 use Rattle.std.proofs.lemmas.List.Elements.{All-get_or, All-from_recursion, recursion_from_All}
+use Rattle.abs_cells.proofs.CellLaws.{low_of_cell}
 use Rattle.abs_cells.specs.declared.cells.Cell.{Cell}
 use Rattle.abs_cells.specs.AbstractStates.{AbstractState}
 use Rattle.abs_cells.specs.Cells.{is_int, cell_in}
@@ -17,7 +18,6 @@ use Rattle.term_graph.specs.Graphs.{GraphNode, GraphChild}
 use Rattle.path_rules.specs.Conditions.{HasIntsAlone, IsLinkBetween, IsGoodChild, CutsRise, IsReady}
 use Rattle.abs_expand.specs.BadStates.{IsGoodState}
 use Rattle.abs_expand.specs.IntForms.{HasIntForms, IsIntState}
-use Rattle.abs_expand.proofs.CellLists.{at_least}
 use Rattle.graph_check.specs.Conditions.{HasIntStates}
 use Rattle.graph_check.specs.Good.{NamesChild, IsExpanded, IsLeftBy, IsGoodNode, GraphOk}
 use Rattle.graph_check.proofs.Excluding.{good_by}
@@ -34,7 +34,7 @@ found_later : (c : ℕ × Cell) (listed : List (ℕ × Cell)) (id : ℕ) (cell :
 found_later c listed id cell r e = at (c.0 == id) refl
   where
     at : (b : Bool) → eqb c.0 id ≡ b → (if b then Some c.1 else cell_in listed id) ≡ Some cell
-    at true f = absurd (omega (arith, at_least (suc c.0) id listed cell r e, eqb-true c.0 id f))
+    at true f = absurd (omega (arith, low_of_cell (suc c.0) id listed cell r e, eqb-true c.0 id f))
     at false f = e
 
 all_ints : (low : ℕ) (listed : List (ℕ × Cell)) → AreIdsRising low listed → ((id : ℕ) (cell : Cell) → cell_in listed id ≡ Some cell → is_int cell ≡ true) → AllByRecursion (λ (c : ℕ × Cell). IsTrue (is_int c.1)) listed

@@ -5,6 +5,7 @@ use Rattle.std.specs.List.{AllZip, AllByRecursion}
 use Rattle.std.proofs.lemmas.Bool.{false≢true}
 use Rattle.std.proofs.lemmas.Option.{slice_get_within, get_or_from_slice_get}
 use Rattle.std.proofs.lemmas.List.Elements.{All-get_or, All-from_recursion}
+use Rattle.int_links.proofs.Links.{no_and_int}
 use Rattle.descent.specs.Steps.{ClosedProofsEnd}
 use Rattle.abs_cells.specs.declared.cells.Cell.{Cell}
 use Rattle.abs_cells.specs.declared.cells.Cell.TheVariants.{Int, Null, Obj, Nums, Refs, Unk}
@@ -48,10 +49,6 @@ int_image sub entries state (Obj class ids) below image i over has = absurd (fal
 int_image sub entries state (Nums kind len) below image i over has = absurd (false≢true i)
 int_image sub entries state (Refs element len shape) below image i over has = absurd (false≢true i)
 int_image sub entries state (Unk bound nullable shape) below image i over has = absurd (false≢true i)
-
-no_and_int : (b : Bool) → b ≡ true → not b ≡ true → ⊥
-no_and_int true e f = false≢true f
-no_and_int false e f = false≢true e
 
 map_between : (sub : Ty → Ty → Bool) (state target : AbstractState) (entries : List (ℕ × ℕ)) → HasIntsAlone target → InstanceOf sub state target entries → IsMapBetween state target entries
 map_between sub state target entries ints match = record {

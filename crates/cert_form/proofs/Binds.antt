@@ -1,6 +1,7 @@
 -- What stands behind a good answer of a reader that is made of others.
 use Rattle.std.proofs.Common.{◌≡◌, ℕ, ◌<◌, ◌==◌, nat_lt, nat_le, Bool, true, false, cond, List, Result, Ok, Err, Option, Some, None, refl, sym, ap, ◌∙◌, subst, arith}
 use Rattle.std.proofs.lemmas.Bool.Decides.{nat_tests}
+use Rattle.list_views.proofs.Orders.{nat_lt_true, same_number}
 use Rattle.serde_json.specs.Data.{Data, null, boolean, number, string, array, object}
 use Rattle.serde_json.specs.Events.{items_len}
 use Rattle.list_views.proofs.Steps.{bind_ok}
@@ -52,9 +53,6 @@ pub order_ok : (stands : Bool) (here : Located) (u : Unit {0}) → in_order stan
 order_ok true here u e = refl
 order_ok false here u e = let no : ⊥ = cc in absurd no
 
-is_below : (n m : ℕ) → nat_lt n m ≡ true → n < m
-is_below n m e = grind (arith, nat_tests)
-
 -- ids are below 2,048
 pub id_ok : (here : Located) (n : ℕ) → an_id here ≡ Ok n → n < 2048
 unfolding an_id
@@ -62,7 +60,7 @@ id_ok here n e =
     let b = bind_ok (number_to 65535 here) (id_within here) n e in
     let t = test_ok (nat_lt b.0 2048) (Ok b.0) (past_limit here) n (λ f. never _ f) b.2 in
     let same : b.0 ≡ n = let s = t.1 in cc in
-    subst (λ (m : ℕ). m < 2048) same (is_below b.0 2048 t.0)
+    subst (λ (m : ℕ). m < 2048) same (nat_lt_true b.0 2048 t.0)
 
 -- a list has as many items as are counted
 pub items_counted : (here : Located) (count : ℕ) → json (items_of here) ≡ Ok count → count ≡ item_count here.value
@@ -77,13 +75,10 @@ items_counted here count e = go here.value refl
     go (object ms) t = let no : ⊥ = cc in absurd no
     go (array items) t = rw t (let same : items_len items ≡ count = cc in sym same)
 
-is_count : (n m : ℕ) → (n == m) ≡ true → n ≡ m
-is_count n m e = grind (arith, nat_tests)
-
 -- a list of one length has that many items
 pub length_is : {A : Type 0} (size : ℕ) (reader : Reader A) (here : Located) (x : A) → of_length size reader here ≡ Ok x → item_count here.value ≡ size
 unfolding of_length
 length_is size reader here x e =
     let b = bind_ok (json (items_of here)) (λ count. cond (count == size) (reader here) (wrong_kind here)) x e in
     let t = test_ok (b.0 == size) (reader here) (wrong_kind here) x (λ f. never _ f) b.2 in
-    sym (items_counted here b.0 b.1) ∙ is_count b.0 size t.0
+    sym (items_counted here b.0 b.1) ∙ same_number b.0 size t.0

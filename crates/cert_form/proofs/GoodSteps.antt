@@ -6,6 +6,7 @@ use Rattle.std.proofs.lemmas.Bool.Decides.{nat_tests}
 use Rattle.std.proofs.lemmas.Bool.{and_parts}
 use Rattle.std.proofs.lemmas.Int.{ints}
 use Rattle.std.proofs.lemmas.List.Elements.{All-nil, All-push}
+use Rattle.list_views.proofs.Orders.{int_le_true}
 use Rattle.json_view.specs.Located.{Located}
 use Rattle.json_view.specs.Reading.{items_of, int_of}
 use Rattle.lin_core.specs.Rows.{RiseFrom, Rise}
@@ -49,9 +50,6 @@ constant_ok : (here : Located) (n : ℤ) → a_constant here ≡ Ok n → unsign
 unfolding a_constant
 constant_ok here n e = long_ok 1099511627776 here n e
 
-is_within : (m n : ℤ) → int_le m n ≡ true → m ≤ℤ n
-is_within m n e = omega (arith, ints)
-
 weight_ok : (here : Located) (n : ℤ) → a_weight here ≡ Ok n → (pos 0 ≤ℤ n) × (n ≤ℤ pos 65535)
 unfolding a_weight
 weight_ok here n e =
@@ -59,7 +57,7 @@ weight_ok here n e =
     let t = test_ok (int_le (pos 0) b.0 && int_le b.0 (pos 65535)) (Ok b.0) (past_limit here) n (λ f. never _ f) b.2 in
     let both = and_parts (int_le (pos 0) b.0) (int_le b.0 (pos 65535)) t.0 in
     let same : b.0 ≡ n = let s = t.1 in cc in
-    subst (λ (m : ℤ). (pos 0 ≤ℤ m) × (m ≤ℤ pos 65535)) same (is_within (pos 0) b.0 both.0, is_within b.0 (pos 65535) both.1)
+    subst (λ (m : ℤ). (pos 0 ≤ℤ m) × (m ≤ℤ pos 65535)) same (int_le_true (pos 0) b.0 both.0, int_le_true b.0 (pos 65535) both.1)
 
 -- ---- lists of multipliers
 

@@ -1,6 +1,7 @@
 -- What holds of a list that was read: a fact that each entry keeps, the list's length, and each entry by its number.
 use Rattle.std.proofs.Common.{◌≡◌, ℕ, zero, suc, ◌+◌, ◌<◌, List, [], ◌∷◌, ◌++◌, length, length-append, Result, Ok, Err, Option, Some, None, slice_get, refl, sym, ap, ◌∙◌, subst, arith}
 use Rattle.std.specs.Prelude.{option_map}
+use Rattle.list_views.proofs.Items.{get_last}
 use Rattle.serde_json.specs.Data.{Data, null, boolean, number, string, array, object, Items, no_items, item}
 use Rattle.serde_json.specs.Events.{items_len}
 use Rattle.serde_json.specs.Find.{get_item, at}
@@ -38,10 +39,6 @@ front_stays [] x k y e = let no : ⊥ = cc in absurd no
 front_stays (z ∷ front) x zero y e = e
 front_stays (z ∷ front) x (suc k) y e = front_stays front x k y e
 
-last_is : {A : Type 0} (front : List A) (x : A) → slice_get (front ++ x ∷ []) (length front) ≡ Some x
-last_is [] x = refl
-last_is (z ∷ front) x = last_is front x
-
 stays_from : {A : Type 0} (reader : List A → Reader A) (place : List ℕ) (n : ℕ) (items : Items) (front xs : List A) (k : ℕ) (y : A) → entries_from reader front place n items ≡ Ok xs → slice_get front k ≡ Some y → slice_get xs k ≡ Some y
 stays_from reader place n no_items front xs k y e g = let same : front ≡ xs = cc in subst (λ (ys : List _). slice_get ys k ≡ Some y) same g
 stays_from reader place n (item value rest) front xs k y e g =
@@ -66,7 +63,7 @@ read_from reader place n no_items front xs k value l e g = let no : ⊥ = cc in 
 read_from reader place n (item other rest) front xs zero value l e g =
     let b = bind_ok (reader front (at_item place n other)) (λ x. entries_from reader (front ++ x ∷ []) place (suc n) rest) xs e in
     let same : other ≡ value = cc in
-    let at_front : slice_get (front ++ b.0 ∷ []) n ≡ Some b.0 = subst (λ (m : ℕ). slice_get (front ++ b.0 ∷ []) m ≡ Some b.0) l (last_is front b.0) in
+    let at_front : slice_get (front ++ b.0 ∷ []) n ≡ Some b.0 = subst (λ (m : ℕ). slice_get (front ++ b.0 ∷ []) m ≡ Some b.0) l (get_last front b.0) in
     let here : n ≡ n + zero = omega arith in
     let first : IsRead reader (at_item place n value) xs n = record { front = front; entry = b.0; read = subst (λ (v : Data). reader front (at_item place n v) ≡ Ok b.0) same b.1; stands = stays_from reader place (suc n) rest (front ++ b.0 ∷ []) xs n b.0 b.2 at_front } in
     subst (λ (m : ℕ). IsRead reader (at_item place m value) xs m) here first

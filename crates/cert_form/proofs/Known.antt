@@ -1,6 +1,7 @@
 -- What is known of a certificate by what was kept of it.
 use Rattle.std.proofs.Common.{◌≡◌, ℕ, ◌<◌, ◌≤◌, ◌==◌, nat_lt, Bool, true, false, cond, List, length, Result, Ok, Err, Option, Some, None, option_map, slice_get, codes, refl, sym, ap, ◌∙◌, subst, arith}
 use Rattle.std.proofs.lemmas.Bool.Decides.{nat_tests}
+use Rattle.list_views.proofs.Items.{get_within}
 use Rattle.serde_json.specs.Data.{Data}
 use Rattle.json_view.specs.Answers.{Reads}
 use Rattle.json_view.specs.Located.{Located, root_of}
@@ -19,7 +20,7 @@ use Rattle.cert_form.specs.Certificates.{CertContent, node_in, nodes_of, maybe_s
 use Rattle.cert_form.proofs.Clean.{faulty}
 use Rattle.cert_form.proofs.Keeping.{entries_count}
 use Rattle.cert_form.proofs.Lacking.{lacking_named, few_nodes, good_steps, kept_fault}
-use Rattle.cert_form.proofs.Parts.{IsPart, node_read, get_there}
+use Rattle.cert_form.proofs.Parts.{IsPart, node_read}
 
 -- ---- what was kept of a good certificate
 
@@ -59,7 +60,7 @@ ok_same (Err fault) y z e f = let no : ⊥ = cc in absurd no
 
 known : {A : Type 0} (names : List (List ℕ)) (root here : Located) (content : CertContent) (n : ℕ) (reader : Reader A) (of : GraphPart → A) (x : A) → cert_of names root ≡ Ok content → here ≡ root → n < length content.parts → of_node n reader here ≡ Ok x → ((part : GraphPart) (there : Located) → IsPart names there part → reader there ≡ Ok (of part)) → option_map of (slice_get content.parts n) ≡ Some x
 known {A = A} names root here content n reader of x cert same l said says =
-    let part = get_there content.parts n l in
+    let part = get_within content.parts n l in
     let read : of_node n reader root ≡ Ok (of part.0) = node_read names root content n part.0 reader (of part.0) cert part.1 l (says part.0) in
     let told : of_node n reader root ≡ Ok x = subst (λ (y : Located). of_node n reader y ≡ Ok x) same said in
     ap (λ (p : Option GraphPart). option_map of p) part.1 ∙ ap (λ y. Some y) (ok_same (of_node n reader root) (of part.0) x read told)

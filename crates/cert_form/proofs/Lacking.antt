@@ -2,6 +2,8 @@
 use Rattle.std.proofs.Common.{◌≡◌, ℕ, zero, suc, ◌<◌, ◌≤◌, ◌&&◌, ◌⊎◌, inl, inr, nat_lt, Bool, true, false, List, [], ◌∷◌, ◌++◌, length, take, Result, Ok, Err, Option, Some, None, slice_get, codes, refl, sym, ap, ◌∙◌, subst, arith}
 use Rattle.std.proofs.lemmas.Bool.Decides.{nat_tests}
 use Rattle.std.proofs.lemmas.Bool.{and_parts}
+use Rattle.list_views.proofs.Orders.{nat_lt_false}
+use Rattle.list_views.proofs.Items.{take_length}
 use Rattle.json_view.specs.Located.{Located}
 use Rattle.abs_cells.specs.AbstractStates.{AbstractState}
 use Rattle.descent.specs.Conditions.{AreSteps}
@@ -37,10 +39,6 @@ front_taken [] rest (suc n) l = absurd (omega arith)
 front_taken (z ∷ front) rest zero l = refl
 front_taken (z ∷ front) rest (suc n) l = let m : n ≤ length front = omega arith in ap (λ xs. z ∷ xs) (front_taken front rest n m)
 
-all_taken : {A : Type 0} (xs : List A) → take (length xs) xs ≡ xs
-all_taken [] = refl
-all_taken (x ∷ xs) = ap (λ ys. x ∷ ys) (all_taken xs)
-
 -- ---- nodes without a state
 
 whole_has : (names : List (List ℕ)) (there : Located) (part : GraphPart) → whole_node names there ≡ Ok part → part.state ≡ None → ⊥
@@ -68,7 +66,7 @@ named_step names second front there part k e n by g = go (last_or_front front pa
     go (inr last) =
         let named = (and_parts second (is_named (length front) front) (lacks names (lacks_state second front) there part e (ap (λ (p : GraphPart). p.state) last.1))).1 in
         subst (λ (m : ℕ). is_named m (take m (front ++ part ∷ [])) ≡ true) (sym last.0)
-        (ap (λ (ps : List GraphPart). is_named (length front) ps) (front_taken front (part ∷ []) (length front) (omega arith) ∙ all_taken front) ∙ named)
+        (ap (λ (ps : List GraphPart). is_named (length front) ps) (front_taken front (part ∷ []) (length front) (omega arith) ∙ take_length front) ∙ named)
 
 no_parts : LackingAreNamed []
 no_parts n by g = let no : ⊥ = cc in absurd no
@@ -80,14 +78,11 @@ lacking_named names here content e =
     let nodes = (cert_is names here content e).nodes in
     entries_keep (λ (ps : List GraphPart). LackingAreNamed ps) (node_in names nodes.second) nodes.there content.parts no_parts (λ f there x k r. named_step names nodes.second f there x k r) nodes.read
 
-at_most : (n m : ℕ) → nat_lt n m ≡ false → m ≤ n
-at_most n m e = grind (arith, nat_tests)
-
 pub few_nodes : (names : List (List ℕ)) (here : Located) (content : CertContent) → cert_of names here ≡ Ok content → length content.parts ≤ 20000
 few_nodes names here content e =
     let nodes = (cert_is names here content e).nodes in
     let count = entries_count (node_in names nodes.second) nodes.there content.parts nodes.read ∙ sym (items_counted nodes.there nodes.count nodes.counts) in
-    subst (λ (n : ℕ). n ≤ 20000) (sym count) (at_most 20000 nodes.count nodes.few)
+    subst (λ (n : ℕ). n ≤ 20000) (sym count) (nat_lt_false 20000 nodes.count nodes.few)
 
 pub good_steps : (names : List (List ℕ)) (here : Located) (content : CertContent) → cert_of names here ≡ Ok content → AreSteps content.proof
 good_steps names here content e = field_steps_ok here content.proof (cert_is names here content e).proof

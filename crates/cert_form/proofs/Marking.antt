@@ -4,6 +4,9 @@ use Rattle.std.specs.Option.{unwrap_or}
 use Rattle.std.specs.List.{list_any}
 use Rattle.std.proofs.lemmas.Bool.Decides.{nat_tests}
 use Rattle.std.proofs.lemmas.List.Folds.{list_any-append}
+use Rattle.list_views.proofs.Orders.{same_number}
+use Rattle.list_views.proofs.Items.{get_within}
+use Rattle.list_views.proofs.Truths.{or_behind}
 use Rattle.term_graph.specs.Graphs.{GraphPart}
 use Rattle.term_graph.specs.declared.nodes.By.{By}
 use Rattle.term_graph.specs.declared.nodes.By.TheVariants.{Expand, Instance, End, Todo}
@@ -29,9 +32,6 @@ set_other (x ∷ xs) zero zero d = absurd (d refl)
 set_other (x ∷ xs) zero (suc k) d = refl
 set_other (x ∷ xs) (suc i) zero d = refl
 set_other (x ∷ xs) (suc i) (suc k) d = set_other xs i k (λ e. d (ap (λ n. suc n) e))
-
-same_number : (i k : ℕ) → (i == k) ≡ true → i ≡ k
-same_number i k e = grind (arith, nat_tests)
 
 other_number : (i k : ℕ) → (i == k) ≡ false → i ≡ k → ⊥
 other_number i k e f = grind (arith, nat_tests)
@@ -64,17 +64,11 @@ get_by marks (Instance target map) k b e = (b, (e, refl))
 get_by marks End k b e = (b, (e, refl))
 get_by marks Todo k b e = (b, (e, refl))
 
-or_swap : (named a : Bool) → (named || a) ≡ (a || (named || false))
-or_swap true true = refl
-or_swap true false = refl
-or_swap false true = refl
-or_swap false false = refl
-
 -- one more node
 pub marked_on : (marks : List Bool) (front : List GraphPart) (part : GraphPart) → Marked marks front → Marked (marked_by marks part.by) (front ++ part ∷ [])
 marked_on marks front part m k b e =
     let s = get_by marks part.by k b e in
-    s.1.1 ∙ or_swap (names_child k part.by) s.0
+    s.1.1 ∙ or_behind (names_child k part.by) s.0
     ∙ ap (λ (x : Bool). x || (names_child k part.by || false)) (m k s.0 s.1.0)
     ∙ sym (list_any-append (λ (p : GraphPart). names_child k p.by) front (part ∷ []))
 
@@ -120,13 +114,8 @@ mark_past [] n l = refl
 mark_past (x ∷ xs) zero l = absurd (omega arith)
 mark_past (x ∷ xs) (suc n) l = mark_past xs n (omega arith)
 
-found : (marks : List Bool) (n : ℕ) → n < length marks → (b : Bool) × (slice_get marks n ≡ Some b)
-found [] n l = absurd (omega arith)
-found (x ∷ xs) zero l = (x, refl)
-found (x ∷ xs) (suc n) l = found xs n (omega arith)
-
 -- a mark says whether one of the nodes names it
 pub has_is : (marks : List Bool) (front : List GraphPart) (n : ℕ) → Marked marks front → n < length marks → unwrap_or (slice_get marks n) false ≡ is_named n front
 has_is marks front n m l =
-    let f = found marks n l in
+    let f = get_within marks n l in
     ap (λ (mark : Option Bool). unwrap_or mark false) f.1 ∙ m n f.0 f.1

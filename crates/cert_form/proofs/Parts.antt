@@ -8,6 +8,7 @@ use Rattle.std.specs.Cmp.Lexicographic.{slice_cmp}
 use Rattle.std.specs.Str.{bytes_eq}
 use Rattle.std.proofs.lemmas.Bool.Decides.{nat_tests}
 use Rattle.std.proofs.lemmas.Slice.Eq.{bytes_eq-Decides}
+use Rattle.list_views.proofs.Orders.{nat_lt_from}
 use Rattle.serde_json.specs.Data.{Data, null, boolean, number, string, array, object, Items, no_items, item, Members, no_members, member}
 use Rattle.serde_json.specs.Events.{items_len}
 use Rattle.serde_json.specs.Find.{get_item, get_member, at, as_object}
@@ -171,9 +172,6 @@ found_item n here l = go here.value refl l
     go (object ms) t l = absurd (omega arith)
     go (array items) t l = let v = item_there n items l in (at_item here.place n v.0, rw (t, v.1) refl)
 
-less_is : (n m : ℕ) → n < m → nat_lt n m ≡ true
-less_is n m l = grind (arith, nat_tests)
-
 -- a reader of the node of a number
 pub node_read : {A : Type 0} (names : List (List ℕ)) (here : Located) (content : CertContent) (n : ℕ) (part : GraphPart) (reader : Reader A) (x : A) → cert_of names here ≡ Ok content → slice_get content.parts n ≡ Some part → n < length content.parts → ((there : Located) → IsPart names there part → reader there ≡ Ok x) → of_node n reader here ≡ Ok x
 unfolding of_node field longer_than nth node_in
@@ -184,14 +182,9 @@ node_read {A = A} names here content n part reader x e g l says =
     let read : IsRead (node_in names nodes.second) node.0 content.parts n = entry_read (node_in names nodes.second) nodes.there node.0 content.parts n nodes.read node.1 in
     let same : read.entry ≡ part = let s = read.stands in cc in
     let is_part : IsPart names node.0 part = subst (λ (p : GraphPart). IsPart names node.0 p) same (part_with names (lacks_state nodes.second read.front) node.0 read.entry read.read) in
-    let within : nat_lt n nodes.count ≡ true = less_is n nodes.count (subst (λ (m : ℕ). n < m) (counted ∙ sym (items_counted nodes.there nodes.count nodes.counts)) l) in
+    let within : nat_lt n nodes.count ≡ true = nat_lt_from n nodes.count (subst (λ (m : ℕ). n < m) (counted ∙ sym (items_counted nodes.there nodes.count nodes.counts)) l) in
     ap (λ (r : Result Located CertFault). r >>= λ there. json (items_of there) >>= λ count. cond (nat_lt n count) (there_or there reader (item_of n there)) (wrong_kind there)) nodes.stands
     ∙ ap (λ (r : Result ℕ CertFault). r >>= λ count. cond (nat_lt n count) (there_or nodes.there reader (item_of n nodes.there)) (wrong_kind nodes.there)) nodes.counts
     ∙ ap (λ (b : Bool). cond b (there_or nodes.there reader (item_of n nodes.there)) (wrong_kind nodes.there)) within
     ∙ ap (λ (found : Option Located). there_or nodes.there reader found) node.1
     ∙ says node.0 is_part
-
-pub get_there : {A : Type 0} (xs : List A) (n : ℕ) → n < length xs → (x : A) × (slice_get xs n ≡ Some x)
-get_there [] n l = absurd (omega arith)
-get_there (x ∷ xs) zero l = (x, refl)
-get_there (x ∷ xs) (suc n) l = get_there xs n (omega arith)

@@ -5,8 +5,10 @@ use Rattle.std.proofs.lemmas.Bool.{and_parts}
 use Rattle.std.proofs.lemmas.List.{take_more}
 use Rattle.std.specs.Prelude.{IfOk}
 use Rattle.std.specs.Option.{option_map_or}
+use Rattle.abs_cells.proofs.Checking.{low_pair}
+use Rattle.list_views.proofs.Orders.{nat_lt_true}
 use Rattle.json_view.specs.Located.{Located}
-use Rattle.abs_cells.specs.PairLists.{is_before, is_same, IsFirst, IsRising, pair_of, with_pair, added}
+use Rattle.abs_cells.specs.PairLists.{is_before, is_same, IsFirst, IsRising, with_pair, added}
 use Rattle.abs_cells.proofs.PairLaws.{before_is, is_before_from, never_both, never_itself, not_same}
 use Rattle.abs_cells.proofs.PairLaws as laws
 use Rattle.list_views.proofs.Steps.{bind_ok}
@@ -42,9 +44,6 @@ two_below here q e =
     let same : (a.0, b.0) ≡ q = let s = b.2 in cc in
     subst (λ (p : ℕ × ℕ). p.1 < 2048) same (id_ok there.0 b.0 there.1.1)
 
-is_lower : (n m : ℕ) → nat_lt n m ≡ true → n < m
-is_lower n m e = grind (arith, nat_tests)
-
 ordered_ok : (front : List (ℕ × ℕ)) (here : Located) (q : ℕ × ℕ) → ordered_pair front here ≡ Ok q → Bounded q × (is_next_pair front q ≡ true)
 unfolding ordered_pair
 ordered_ok front here q e =
@@ -52,7 +51,7 @@ ordered_ok front here q e =
     let o = bind_ok (in_order (nat_lt p.0.0 p.0.1 && is_next_pair front p.0) here) (λ order. Ok p.0) q p.2 in
     let same : p.0 ≡ q = let s = o.2 in cc in
     let both = and_parts (nat_lt p.0.0 p.0.1) (is_next_pair front p.0) (order_ok _ here o.0 o.1) in
-    subst (λ (x : ℕ × ℕ). Bounded x × (is_next_pair front x ≡ true)) same (((is_lower p.0.0 p.0.1 both.0), two_below here p.0 p.1), both.1)
+    subst (λ (x : ℕ × ℕ). Bounded x × (is_next_pair front x ≡ true)) same (((nat_lt_true p.0.0 p.0.1 both.0), two_below here p.0 p.1), both.1)
 
 pair_step : (front : List (ℕ × ℕ)) (there : Located) (q : ℕ × ℕ) → IsRising front → pair_in front there ≡ Ok q → IsRising (front ++ q ∷ [])
 unfolding pair_in
@@ -105,19 +104,13 @@ rising_at [] i d r l = absurd (omega arith)
 rising_at (p ∷ ps) zero d r l = r.0
 rising_at (p ∷ ps) (suc i) d r l = rising_at ps i d r.1.1 (omega arith)
 
-in_pair : (p : ℕ × ℕ) → p.0 < p.1 → pair_of p.0 p.1 ≡ p
-in_pair p l =
-    let a : min p.0 p.1 ≡ p.0 = omega arith in
-    let b : max p.0 p.1 ≡ p.1 = omega arith in
-    ap (λ (x : ℕ). (x, max p.0 p.1)) a ∙ ap (λ (y : ℕ). (p.0, y)) b
-
 -- the next pair of a rising list, added to the pairs in front of it
 pub add_next : (ps set : List (ℕ × ℕ)) (i : ℕ) (d : ℕ × ℕ) → IsRising ps → i < length ps → set ≡ take i ps → added (get_or ps i d).0 (get_or ps i d).1 set ≡ take (i + 1) ps
 add_next ps set i d r l e =
     let more = take_more ps i d l in
     let rises : IsRising (take i ps ++ get_or ps i d ∷ []) = subst (λ (qs : List (ℕ × ℕ)). IsRising qs) more (rising_take ps (i + 1) r) in
     ap (λ (qs : List (ℕ × ℕ)). added (get_or ps i d).0 (get_or ps i d).1 qs) e
-    ∙ ap (λ (p : ℕ × ℕ). with_pair p (take i ps)) (in_pair (get_or ps i d) (rising_at ps i d r l).0)
+    ∙ ap (λ (p : ℕ × ℕ). with_pair p (take i ps)) (low_pair (get_or ps i d) (rising_at ps i d r l).0)
     ∙ put_last (take i ps) (get_or ps i d) rises
     ∙ sym more
 

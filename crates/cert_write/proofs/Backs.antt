@@ -5,6 +5,9 @@ use Rattle.std.specs.Option.{option_map_or}
 use Rattle.std.proofs.lemmas.Bool.Decides.{nat_tests}
 use Rattle.std.proofs.lemmas.Int.{ints}
 use Rattle.std.proofs.lemmas.List.Elements.{All-head, All-tail}
+use Rattle.std.proofs.lemmas.Bool.{cond-true, cond-false, and_from}
+use Rattle.list_views.proofs.Orders.{nat_lt_from, nat_lt_not, int_le_from}
+use Rattle.list_views.proofs.Items.{get_last}
 use Rattle.serde_json.specs.Data.{Data}
 use Rattle.serde_json.specs.Events.{items_len}
 use Rattle.serde_json.specs.View.{items_of}
@@ -28,40 +31,20 @@ Back reader value x = (place : List ℕ) → reader (record { value = value; pla
 pub then_back : {A B : Type 0} (said : Result A CertFault) (next : A → Result B CertFault) (x : A) (y : Result B CertFault) → said ≡ Ok x → next x ≡ y → (said >>= next) ≡ y
 then_back {A = A} said next x y e f = ap (λ (r : Result A CertFault). r >>= next) e ∙ f
 
-pub chosen : {A : Type 0} (test : Bool) (x y : A) → test ≡ true → cond test x y ≡ x
-chosen test x y e = ap (λ (b : Bool). cond b x y) e
-
-pub other : {A : Type 0} (test : Bool) (x y : A) → test ≡ false → cond test x y ≡ y
-other test x y e = ap (λ (b : Bool). cond b x y) e
-
 pub order_back : (stands : Bool) (here : Located) → stands ≡ true → in_order stands here ≡ Ok tt
-order_back stands here e = chosen stands (Ok tt) (out_of_range here) e
+order_back stands here e = cond-true stands (Ok tt) (out_of_range here) e
 
 -- ---- tests
 
-pub below : (n m : ℕ) → n < m → nat_lt n m ≡ true
-below n m l = grind (arith, nat_tests)
-
-pub not_below : (n m : ℕ) → m ≤ n → nat_lt n m ≡ false
-not_below n m l = grind (arith, nat_tests)
-
 pub within_most : (n m : ℕ) → n ≤ m → nat_le n m ≡ true
 within_most n m l = grind (arith, nat_tests)
-
-pub at_least : (m n : ℤ) → m ≤ℤ n → int_le m n ≡ true
-at_least m n l = let e : true ≡ int_le m n = omega (arith, ints) in sym e
-
-pub both : (a b : Bool) → a ≡ true → b ≡ true → (a && b) ≡ true
-both true true e f = refl
-both true false e f = f
-both false b e f = e
 
 -- ---- numbers
 
 pub int_back : (low high n : ℤ) → low ≤ℤ n → n ≤ℤ high → Back (λ here. json (int_of low high here)) (integer n) n
 unfolding int_of
-int_back low high (pos n) l h place = ap (λ (r : Result ℤ JsonFault). json r) (chosen _ (Ok (pos n)) (Err (OutOfRange place)) (both _ _ (at_least low (pos n) l) (at_least (pos n) high h)))
-int_back low high (negsuc n) l h place = ap (λ (r : Result ℤ JsonFault). json r) (chosen _ (Ok (negsuc n)) (Err (OutOfRange place)) (both _ _ (at_least low (negsuc n) l) (at_least (negsuc n) high h)))
+int_back low high (pos n) l h place = ap (λ (r : Result ℤ JsonFault). json r) (cond-true _ (Ok (pos n)) (Err (OutOfRange place)) (and_from _ _ (int_le_from low (pos n) l) (int_le_from (pos n) high h)))
+int_back low high (negsuc n) l h place = ap (λ (r : Result ℤ JsonFault). json r) (cond-true _ (Ok (negsuc n)) (Err (OutOfRange place)) (and_from _ _ (int_le_from low (negsuc n) l) (int_le_from (negsuc n) high h)))
 
 pub number_back : (most n : ℕ) → n ≤ most → Back (number_to most) (natural n) n
 unfolding number_to
@@ -77,7 +60,7 @@ a_place_back n l place = number_back 65535 n l place
 
 pub id_back : (n : ℕ) → IsId n → Back an_id (natural n) n
 unfolding an_id
-id_back n l place = then_back _ (id_within (record { value = natural n; place = place })) n (Ok n) (number_back 65535 n (omega arith) place) (chosen _ (Ok n) (past_limit (record { value = natural n; place = place })) (below n 2048 l))
+id_back n l place = then_back _ (id_within (record { value = natural n; place = place })) n (Ok n) (number_back 65535 n (omega arith) place) (cond-true _ (Ok n) (past_limit (record { value = natural n; place = place })) (nat_lt_from n 2048 l))
 
 pub an_int_back : (n : ℤ) → negsuc 2147483647 ≤ℤ n → n ≤ℤ pos 2147483647 → Back an_int (integer n) n
 unfolding an_int
@@ -96,7 +79,7 @@ pub maybe_id_back : (n : Option ℕ) → IsMaybe IsId n → Back maybe_id (maybe
 unfolding maybe_id
 maybe_id_back (Some n) l place =
     then_back _ (maybe_within (record { value = natural n; place = place })) (Some n) (Ok (Some n)) (maybe_to_back 65535 (Some n) (omega arith) place)
-    (chosen _ (Ok (Some n)) (past_limit (record { value = natural n; place = place })) (below n 2048 l))
+    (cond-true _ (Ok (Some n)) (past_limit (record { value = natural n; place = place })) (nat_lt_from n 2048 l))
 maybe_id_back None l place = then_back _ (maybe_within (record { value = maybe None; place = place })) None (Ok None) (maybe_to_back 65535 None tt place) refl
 
 not_too_low : (n : ℤ) (most : ℕ) → unsigned_abs n ≤ most → most ≤ 9223372036854775807 → negsuc 9223372036854775807 ≤ℤ n
@@ -112,7 +95,7 @@ unfolding long_to
 long_back most n m l place =
     then_back _ (λ (k : ℤ). cond (nat_le (unsigned_abs k) most) (Ok k) (past_limit (record { value = integer n; place = place }))) n (Ok n)
     (int_back (negsuc 9223372036854775807) (pos 9223372036854775807) n (not_too_low n most l m) (not_too_high n most l m) place)
-    (chosen _ (Ok n) (past_limit (record { value = integer n; place = place })) (within_most (unsigned_abs n) most l))
+    (cond-true _ (Ok n) (past_limit (record { value = integer n; place = place })) (within_most (unsigned_abs n) most l))
 
 pub multiple_back : (n : ℤ) → unsigned_abs n ≤ 2147483648 → Back a_multiple (integer n) n
 unfolding a_multiple
@@ -127,7 +110,7 @@ unfolding a_weight
 weight_back n l h place =
     then_back _ (λ (k : ℤ). cond (int_le (pos 0) k && int_le k (pos 65535)) (Ok k) (past_limit (record { value = integer n; place = place }))) n (Ok n)
     (int_back (negsuc 9223372036854775807) (pos 9223372036854775807) n (omega (arith, ints)) (omega (arith, ints)) place)
-    (chosen _ (Ok n) (past_limit (record { value = integer n; place = place })) (both _ _ (at_least (pos 0) n l) (at_least n (pos 65535) h)))
+    (cond-true _ (Ok n) (past_limit (record { value = integer n; place = place })) (and_from _ _ (int_le_from (pos 0) n l) (int_le_from n (pos 65535) h)))
 
 -- ---- lists and their lengths
 
@@ -139,7 +122,7 @@ mapped_as_many write (x ∷ xs) = ap (λ (n : ℕ). suc n) (mapped_as_many write
 pub most_back : {A B : Type 0} (most : ℕ) (reader : Reader B) (write : A → Data) (xs : List A) (y : B) → length xs ≤ most → Back reader (list (map write xs)) y → Back (at_most most reader) (list (map write xs)) y
 unfolding at_most count_of
 most_back most reader write xs y l back place =
-    other _ (past_limit (record { value = list (map write xs); place = place })) (reader (record { value = list (map write xs); place = place })) (not_below most (items_len (items_of (map write xs))) (subst (λ (n : ℕ). n ≤ most) (sym (mapped_as_many write xs)) l))
+    cond-false _ (past_limit (record { value = list (map write xs); place = place })) (reader (record { value = list (map write xs); place = place })) (nat_lt_not most (items_len (items_of (map write xs))) (subst (λ (n : ℕ). n ≤ most) (sym (mapped_as_many write xs)) l))
     ∙ back place
 
 -- ---- entries one after another
@@ -169,15 +152,11 @@ all_back P reader write xs back all = list_back (λ _. reader) write xs (each_ba
 
 -- ---- entries whose keys rise
 
-last_is : {A : Type 0} (front : List A) (x : A) → slice_get (front ++ x ∷ []) (length front) ≡ Some x
-last_is [] x = refl
-last_is (z ∷ front) x = last_is front x
-
 one_less : {A : Type 0} (front : List A) (x : A) → length (front ++ x ∷ []) - 1 ≡ length front
 one_less front x = omega (arith, length-append front (x ∷ []))
 
 pub last_pushed : {A : Type 0} (front : List A) (x : A) → last_of (front ++ x ∷ []) ≡ Some x
-last_pushed front x = ap (λ (n : ℕ). slice_get (front ++ x ∷ []) n) (one_less front x) ∙ last_is front x
+last_pushed front x = ap (λ (n : ℕ). slice_get (front ++ x ∷ []) n) (one_less front x) ∙ get_last front x
 
 -- the least key that may come next
 abbrev pub next_by : {A : Type 0} → (A → ℕ) → List A → ℕ

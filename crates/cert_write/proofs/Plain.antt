@@ -1,5 +1,6 @@
 -- Certificates as JSON values have no floats, and nest no deeper than `serde_json` reads.
 use Rattle.std.proofs.Common.{◌≡◌, ℕ, suc, ℤ, pos, negsuc, ◌≤◌, ◌||◌, Bool, true, false, max, List, [], ◌∷◌, map, reverse, Option, Some, None, refl, sym, subst, arith}
+use Rattle.std.proofs.lemmas.Bool.{or_from}
 use Rattle.serde_json.specs.Data.{Data, boolean, string, array, object, Items, no_items, item, Members, no_members, member, depth, items_depth, members_depth}
 use Rattle.serde_json.specs.View.{items_of}
 use Rattle.serde_json.specs.Written.{has_float, items_have_float, members_have_float}
@@ -25,10 +26,6 @@ record ArePlain (most : ℕ) (items : Items) : Type 0 where
   floats : items_have_float items ≡ false
   nests : items_depth items ≤ most
 
-or_none : (a b : Bool) → a ≡ false → b ≡ false → (a || b) ≡ false
-or_none true b e f = let no : ⊥ = cc in absurd no
-or_none false b e f = f
-
 both_most : (a b n : ℕ) → a ≤ n → b ≤ n → max a b ≤ n
 both_most a b n l m = omega arith
 
@@ -36,7 +33,7 @@ none : (most : ℕ) → ArePlain most no_items
 none most = record { floats = refl; nests = omega arith }
 
 one_more : (most : ℕ) (first : Data) (rest : Items) → IsPlain most first → ArePlain most rest → ArePlain most (item first rest)
-one_more most first rest p q = record { floats = or_none (has_float first) (items_have_float rest) p.floats q.floats; nests = both_most (depth first) (items_depth rest) most p.nests q.nests }
+one_more most first rest p q = record { floats = or_from (has_float first) (items_have_float rest) p.floats q.floats; nests = both_most (depth first) (items_depth rest) most p.nests q.nests }
 
 as_list : (most : ℕ) (items : Items) → ArePlain most items → IsPlain (suc most) (array items)
 as_list most items p = let n = p.nests in record { floats = p.floats; nests = omega arith }
@@ -110,7 +107,7 @@ no_more : (most : ℕ) → HasPlain most no_members
 no_more most = record { floats = refl; nests = omega arith }
 
 and_more : (most : ℕ) (name : List ℕ) (first : Data) (rest : Members) → IsPlain most first → HasPlain most rest → HasPlain most (member name first rest)
-and_more most name first rest p q = record { floats = or_none (has_float first) (members_have_float rest) p.floats q.floats; nests = both_most (depth first) (members_depth rest) most p.nests q.nests }
+and_more most name first rest p q = record { floats = or_from (has_float first) (members_have_float rest) p.floats q.floats; nests = both_most (depth first) (members_depth rest) most p.nests q.nests }
 
 as_object : (most : ℕ) (ms : Members) → HasPlain most ms → IsPlain (suc most) (object ms)
 as_object most ms p = let n = p.nests in record { floats = p.floats; nests = omega arith }

@@ -4,6 +4,8 @@ use Rattle.std.specs.Option.{option_map_or}
 use mathlib.Core.List.{reverse-cons}
 use Rattle.std.proofs.lemmas.List.{reverse-reverse}
 use Rattle.std.proofs.lemmas.List.Elements.{All-nil, All-head, All-tail, All-push}
+use Rattle.std.proofs.lemmas.Bool.{cond-true, and_from}
+use Rattle.list_views.proofs.Orders.{nat_lt_from, int_le_from}
 use Rattle.json_view.specs.Place.{item_pointer}
 use Rattle.json_view.specs.Names.{least_unlisted, first_missing}
 use Rattle.json_view.specs.Reading.{items_of as count_of, item_of, text_of, flag_of, only_of, field_of}
@@ -22,7 +24,7 @@ use Rattle.cert_form.specs.Cells.{bounds_or, up_to, int_cell, ids_of, obj_cell, 
 use Rattle.cert_form.specs.States.{is_next_pair, two_ids, ordered_pair, pair_in, locals_of, frame_parts, frame_of, cells_of, frames_of, pairs_of, state_of}
 use Rattle.cert_write.specs.Data.{natural, integer, naturals, maybe, pair, pairs, list, cell, frame, state}
 use Rattle.cert_write.specs.Readable.{IsId, IsMaybe, RisesBy, IsCell, IsFrame, IsState}
-use Rattle.cert_write.proofs.Backs.{Back, EachBack, then_back, chosen, order_back, below, within_most, at_least, both, a_number_back, a_place_back, id_back, maybe_id_back, an_int_back, most_back, list_back, all_back, rise_back, last_pushed}
+use Rattle.cert_write.proofs.Backs.{Back, EachBack, then_back, order_back, within_most, a_number_back, a_place_back, id_back, maybe_id_back, an_int_back, most_back, list_back, all_back, rise_back, last_pushed}
 use Rattle.cert_write.proofs.WordBacks.{AreNames, type_back, shape_back, kind_back}
 
 -- ---- ids and pairs
@@ -41,7 +43,7 @@ pair_back front p next l place =
     let rises : p.0 < p.1 = l.0 in
     let few : p.1 < 2048 = l.1 in
     let first : IsId p.0 = omega arith in
-    then_back _ _ p _ (two_back p first l.1 place) (then_back _ _ tt _ (order_back _ (record { value = pair p; place = place }) (both _ _ (below p.0 p.1 l.0) next)) refl)
+    then_back _ _ p _ (two_back p first l.1 place) (then_back _ _ tt _ (order_back _ (record { value = pair p; place = place }) (and_from _ _ (nat_lt_from p.0 p.1 l.0) next)) refl)
 
 -- the first of these pairs may come behind those
 abbrev StandsBehind : List (ℕ × ℕ) → List (ℕ × ℕ) → Type 0
@@ -71,7 +73,7 @@ unfolding int_cell up_to nth item_of
 int_cell_back names id bounds is place =
     then_back _ _ bounds.lo _ (an_int_back bounds.lo is.1.0.0 is.1.0.1 _)
     (then_back _ _ bounds.hi _ (an_int_back bounds.hi is.1.1.0 is.1.1.1 _)
-    (ap (λ (o : Option Bounds). bounds_or (record { value = integer bounds.hi; place = item_pointer place 3 }) o) (chosen _ (Some bounds) None (at_least bounds.lo bounds.hi is.0))))
+    (ap (λ (o : Option Bounds). bounds_or (record { value = integer bounds.hi; place = item_pointer place 3 }) o) (cond-true _ (Some bounds) None (int_le_from bounds.lo bounds.hi is.0))))
 
 abbrev with_id : ℕ → Cell → Result (ℕ × Cell) CertFault
 with_id id c = Ok (id, c)

@@ -2,6 +2,7 @@
 use Rattle.std.proofs.Common.{◌≡◌, ℕ, suc, ℤ, ◌≤◌, ◌<◌, ◌==◌, Bool, true, false, List, [], ◌∷◌, map, length, Ok, Option, All, refl, ◌∙◌, arith}
 use Rattle.std.specs.Prelude.{unsigned_abs}
 use Rattle.std.proofs.lemmas.Bool.Decides.{nat_tests}
+use Rattle.std.proofs.lemmas.Bool.{cond-true}
 use Rattle.serde_json.specs.Data.{Data, string}
 use Rattle.serde_json.specs.Events.{items_len}
 use Rattle.serde_json.specs.View.{items_of}
@@ -20,7 +21,7 @@ use Rattle.cert_form.specs.Steps.{row_parts, row_of, multipliers_of, weight_part
 use Rattle.cert_form.specs.Ways.{numbers_of}
 use Rattle.cert_write.specs.Data.{naturals, maybe, list, entry, entries, form, rule, order_word, step}
 use Rattle.cert_write.specs.Readable.{IsNumber, IsMaybe, RisesBy, IsMultiplier, AreMultipliers, AreMultiples, OnlyWith, IsForm, IsRule, IsRank, IsStep}
-use Rattle.cert_write.proofs.Backs.{Back, then_back, chosen, order_back, within_most, a_number_back, maybe_number_back, id_back, multiple_back, constant_back, weight_back, most_back, mapped_as_many, all_back, rise_back}
+use Rattle.cert_write.proofs.Backs.{Back, then_back, order_back, within_most, a_number_back, maybe_number_back, id_back, multiple_back, constant_back, weight_back, most_back, mapped_as_many, all_back, rise_back}
 use Rattle.cert_write.proofs.NodeBacks.{numbers_back}
 
 -- ---- rows, weights and multiples
@@ -68,7 +69,7 @@ sized_back : {A : Type 0} (size : Bool) (reader : List A → Reader A) (write : 
 unfolding sized_list count_of
 sized_back true reader write xs only back place = back place
 sized_back false reader write xs only back place =
-    chosen (items_len (items_of (map write xs)) == 0) (entries_of reader (record { value = list (map write xs); place = place })) (wrong_kind (record { value = list (map write xs); place = place })) (none_counted _ (mapped_as_many write xs ∙ only))
+    cond-true (items_len (items_of (map write xs)) == 0) (entries_of reader (record { value = list (map write xs); place = place })) (wrong_kind (record { value = list (map write xs); place = place })) (none_counted _ (mapped_as_many write xs ∙ only))
     ∙ back place
 
 -- ---- forms and rules
@@ -125,7 +126,7 @@ same_count n m e = grind (arith, nat_tests)
 steps_back : (count : ℕ) (steps : List (Option ℕ)) → length steps ≡ count → All (IsMaybe IsNumber) steps → Back (steps_of count) (list (map maybe steps)) steps
 unfolding steps_of of_length count_of
 steps_back count steps e all place =
-    chosen (items_len (items_of (map maybe steps)) == count) (entries_of (λ _. maybe_number) (record { value = list (map maybe steps); place = place })) (wrong_kind (record { value = list (map maybe steps); place = place })) (same_count _ _ (mapped_as_many maybe steps ∙ e))
+    cond-true (items_len (items_of (map maybe steps)) == count) (entries_of (λ _. maybe_number) (record { value = list (map maybe steps); place = place })) (wrong_kind (record { value = list (map maybe steps); place = place })) (same_count _ _ (mapped_as_many maybe steps ∙ e))
     ∙ all_back (IsMaybe IsNumber) maybe_number maybe steps maybe_number_back all place
 
 pub step_back : (s : ProofStep) → IsStep s → Back step_of (step s) s

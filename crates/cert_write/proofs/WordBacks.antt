@@ -5,6 +5,8 @@ use Rattle.std.specs.Option.{unwrap_or}
 use Rattle.std.specs.Str.{is_utf8}
 use Rattle.std.proofs.lemmas.Bool.Decides.{nat_tests}
 use Rattle.std.proofs.lemmas.Slice.Eq.{bytes_eq-Decides}
+use Rattle.std.proofs.lemmas.Bool.{cond-true, cond-false}
+use Rattle.list_views.proofs.Items.{get_within}
 use Rattle.serde_json.specs.Data.{string}
 use Rattle.json_view.specs.Reading.{text_of}
 use Rattle.class_base.specs.ClassNames.{is_class_name, is_name_byte}
@@ -24,11 +26,10 @@ use Rattle.jvm_values.specs.declared.shape.Shape.{Shape}
 use Rattle.jvm_values.specs.declared.shape.Shape.TheVariants.{Tree, Dag, Any}
 use Rattle.cert_form.specs.Types.{class_named, base_of, array_type, type_of_word, type_in, shape_of, kind_or, kind_of}
 use Rattle.cert_form.specs.Fields.{word_or}
-use Rattle.cert_form.proofs.Parts.{get_there}
 use Rattle.cert_write.specs.Data.{natural, kind_letter, class_name, base_text, named_base, type_word, shape_word}
 use Rattle.cert_write.specs.Readable.{AreDistinct}
 use Rattle.cert_write.proofs.ClassTexts.{each_named}
-use Rattle.cert_write.proofs.Backs.{Back, then_back, chosen, other, number_back}
+use Rattle.cert_write.proofs.Backs.{Back, then_back, number_back}
 
 -- ---- names
 
@@ -45,7 +46,7 @@ position_at [] class from name g d = let no : ⊥ = cc in absurd no
 position_at (x ∷ xs) zero from name g d =
     let same : name ≡ x = cc in
     let here : from ≡ from + 0 = omega arith in
-    chosen (bytes_eq name x) (Some from) (position_from (bytes_eq name) (from + 1) xs) ((bytes_eq-Decides name x).1 same) ∙ ap (λ (n : ℕ). Some n) here
+    cond-true (bytes_eq name x) (Some from) (position_from (bytes_eq name) (from + 1) xs) ((bytes_eq-Decides name x).1 same) ∙ ap (λ (n : ℕ). Some n) here
 position_at (x ∷ xs) (suc class) from name g d = go (bytes_eq name x) refl (position_at xs class (from + 1) name g (distinct_rest x xs d))
   where
     go : (b : Bool) → bytes_eq name x ≡ b → position_from (bytes_eq name) (from + 1) xs ≡ Some ((from + 1) + class) → position_from (bytes_eq name) from (x ∷ xs) ≡ Some (from + suc class)
@@ -55,7 +56,7 @@ position_at (x ∷ xs) (suc class) from name g d = go (bytes_eq name x) refl (po
         absurd (omega arith)
     go false t later =
         let count : (from + 1) + class ≡ from + suc class = omega arith in
-        other (bytes_eq name x) (Some from) (position_from (bytes_eq name) (from + 1) xs) t ∙ later ∙ ap (λ (n : ℕ). Some n) count
+        cond-false (bytes_eq name x) (Some from) (position_from (bytes_eq name) (from + 1) xs) t ∙ later ∙ ap (λ (n : ℕ). Some n) count
 
 named_at : (names : List (List ℕ)) (class : ℕ) (name : List ℕ) → slice_get names class ≡ Some name → AreDistinct names → class_named names name ≡ Some class
 named_at names class name g d = let count : 0 + class ≡ class = omega arith in position_at names class 0 name g d ∙ ap (λ (n : ℕ). Some n) count
@@ -67,7 +68,7 @@ record HasName (names : List (List ℕ)) (class : ℕ) : Type 0 where
 
 has_name : (names : List (List ℕ)) (class : ℕ) → AreNames names → class < length names → HasName names class
 has_name names class all l =
-    let there = get_there names class l in
+    let there = get_within names class l in
     let word : there.0 ≡ class_name names class = sym (ap (λ (o : Option (List ℕ)). unwrap_or o []) there.1) in
     record {
       good = subst (λ (n : List ℕ). is_class_name n ≡ true) word (each_named names class there.0 all.named there.1);
@@ -118,12 +119,12 @@ no_name : (rest : List ℕ) → is_class_name (91 ∷ rest) ≡ false
 no_name rest = never_both (nat_lt 0 (length (91 ∷ rest))) (list_all is_name_byte (91 ∷ rest)) (is_utf8 (91 ∷ rest)) refl
 
 array_word : (names : List (List ℕ)) (d : ℕ) (base : Base) → type_word names (record { dims = suc d; base = base }) ≡ type_text (record { dims = suc d; element = element_of names base })
-array_word names d base = other (suc d == 0) (named_base names base) (replicate (suc d) 91 ++ base_text names base) (not_zero d) ∙ ap (λ (bs : List ℕ). replicate (suc d) 91 ++ bs) (element_is names base)
+array_word names d base = cond-false (suc d == 0) (named_base names base) (replicate (suc d) 91 ++ base_text names base) (not_zero d) ∙ ap (λ (bs : List ℕ). replicate (suc d) 91 ++ bs) (element_is names base)
 
 array_back : (names : List (List ℕ)) (d : ℕ) (base : Base) → AreNames names → IsReference (length names) (record { dims = suc d; base = base }) → array_type names (record { dims = suc d; element = element_of names base }) ≡ Some (record { dims = suc d; base = base })
 unfolding array_type
 array_back names d base all r =
-    other (suc d == 0) None (option_map (λ base. record { dims = suc d; base = base }) (base_of names (element_of names base))) (not_zero d)
+    cond-false (suc d == 0) None (option_map (λ base. record { dims = suc d; base = base }) (base_of names (element_of names base))) (not_zero d)
     ∙ ap (λ (o : Option Base). option_map (λ (base : Base). record { dims = suc d; base = base }) o) (base_back names (suc d) base all r)
 
 by_parts : (names : List (List ℕ)) (dims : ℕ) (base : Base) → AreNames names → IsReference (length names) (record { dims = dims; base = base }) → type_of_word names (type_word names (record { dims = dims; base = base })) ≡ Some (record { dims = dims; base = base })
@@ -131,12 +132,12 @@ unfolding type_of_word
 by_parts names zero (bases.Num kind) all r = absurd (let l : 0 < 0 = r.1 in omega arith)
 by_parts names zero (bases.Class class) all r =
     let name = has_name names class all r.1 in
-    chosen (is_class_name (class_name names class)) (option_map class_type (class_named names (class_name names class))) (option_and_then (array_type names) (field_type (class_name names class))) name.good
+    cond-true (is_class_name (class_name names class)) (option_map class_type (class_named names (class_name names class))) (option_and_then (array_type names) (field_type (class_name names class))) name.good
     ∙ ap (λ (o : Option ℕ). option_map class_type o) name.found
 by_parts names (suc d) base all r =
     let whole : FieldType = record { dims = suc d; element = element_of names base } in
     ap (λ (word : List ℕ). type_of_word names word) (array_word names d base)
-    ∙ other (is_class_name (type_text whole)) (option_map class_type (class_named names (type_text whole))) (option_and_then (array_type names) (field_type (type_text whole))) (no_name (replicate d 91 ++ element_text (element_of names base)))
+    ∙ cond-false (is_class_name (type_text whole)) (option_map class_type (class_named names (type_text whole))) (option_and_then (array_type names) (field_type (type_text whole))) (no_name (replicate d 91 ++ element_text (element_of names base)))
     ∙ ap (λ (o : Option FieldType). option_and_then (array_type names) o) (field_again whole (type_text whole) (record { good = (r.0, element_good names (suc d) base all r); text = refl }))
     ∙ array_back names d base all r
 

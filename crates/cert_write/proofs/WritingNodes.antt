@@ -4,6 +4,8 @@ use Rattle.std.specs.Option.{unwrap_or}
 use Rattle.std.specs.Prelude.{option_map}
 use Rattle.std.proofs.lemmas.List.{length-replicate, map-append}
 use Rattle.std.proofs.lemmas.Option.{slice_get_past}
+use Rattle.list_views.proofs.Orders.{one_more}
+use Rattle.list_views.proofs.Items.{take_one_more, drop_past}
 use Rattle.abs_cells.specs.AbstractStates.{AbstractState}
 use Rattle.term_graph.specs.declared.nodes.By.{By}
 use Rattle.serde_json.specs.Data.{Data}
@@ -17,9 +19,6 @@ use Rattle.cert_write.specs.Data.{node, part_of, parts_from}
 
 -- ---- lists
 
-one_more : (n : ℕ) → suc n ≡ n + 1
-one_more n = omega arith
-
 next_suc : {A : Type 0} (xs : List A) (n : ℕ) (x : A) → slice_get xs n ≡ Some x → drop n xs ≡ x ∷ drop (suc n) xs
 next_suc [] n x e = let no : ⊥ = cc in absurd no
 next_suc (y ∷ ys) zero x e = let same : y ≡ x = cc in ap (λ z. z ∷ ys) same
@@ -27,14 +26,6 @@ next_suc (y ∷ ys) (suc n) x e = next_suc ys n x e
 
 pub next_of : {A : Type 0} (xs : List A) (n : ℕ) (x : A) → slice_get xs n ≡ Some x → drop n xs ≡ x ∷ drop (n + 1) xs
 next_of xs n x e = next_suc xs n x e ∙ ap (λ (m : ℕ). x ∷ drop m xs) (one_more n)
-
-taken_suc : {A : Type 0} (xs : List A) (n : ℕ) (x : A) → slice_get xs n ≡ Some x → take (suc n) xs ≡ take n xs ++ x ∷ []
-taken_suc [] n x e = let no : ⊥ = cc in absurd no
-taken_suc (y ∷ ys) zero x e = let same : y ≡ x = cc in ap (λ z. z ∷ []) same
-taken_suc (y ∷ ys) (suc n) x e = ap (λ zs. y ∷ zs) (taken_suc ys n x e)
-
-pub taken_of : {A : Type 0} (xs : List A) (n : ℕ) (x : A) → slice_get xs n ≡ Some x → take (n + 1) xs ≡ take n xs ++ x ∷ []
-taken_of xs n x e = ap (λ (m : ℕ). take m xs) (sym (one_more n)) ∙ taken_suc xs n x e
 
 pub all_of : {A : Type 0} (xs : List A) (n : ℕ) → slice_get xs n ≡ None → take n xs ≡ xs
 all_of [] zero e = refl
@@ -47,7 +38,7 @@ pub map_next : {A B : Type 0} (f : A → B) (xs : List A) (n : ℕ) (x : A) (val
 map_next f xs n x values value g v e =
     ap (λ vs. vs ++ value ∷ []) v
     ∙ ap (λ y. map f (take n xs) ++ y ∷ []) e
-    ∙ sym (ap (map f) (taken_of xs n x g) ∙ map-append f (take n xs) (x ∷ []))
+    ∙ sym (ap (map f) (take_one_more xs n x g) ∙ map-append f (take n xs) (x ∷ []))
 
 -- ---- nodes
 
@@ -80,15 +71,9 @@ write_on names graph n count marks later values lacks next value all l g b v m =
       written = ap (λ (vs : List Data). vs ++ value ∷ []) all.written ∙ ap (λ (y : Data). map (node names) all.front ++ y ∷ []) v ∙ sym (map-append (node names) all.front (part_of lacks next ∷ []));
     })
 
-all_dropped : {A : Type 0} (xs : List A) (n : ℕ) → length xs ≤ n → drop n xs ≡ []
-all_dropped [] zero l = refl
-all_dropped [] (suc n) l = refl
-all_dropped (x ∷ xs) zero l = absurd (omega arith)
-all_dropped (x ∷ xs) (suc n) l = all_dropped xs n (omega arith)
-
 pub all_written : (names : List (List ℕ)) (graph : List GraphNode) (n count : ℕ) (marks : List Bool) (values : List Data) → AreWritten names graph n count marks values → length graph ≤ n → values ≡ map (node names) (parts_from [] graph)
 all_written names graph n count marks values all l =
-    all.written ∙ ap (map (node names)) (ap (parts_from all.front) (sym (all_dropped graph n l)) ∙ all.rest)
+    all.written ∙ ap (map (node names)) (ap (parts_from all.front) (sym (drop_past graph n l)) ∙ all.rest)
 
 -- ---- values
 

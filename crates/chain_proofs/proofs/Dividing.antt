@@ -4,6 +4,7 @@ use Rattle.std.specs.List.{AllZip, concat, filter_map}
 use Rattle.std.proofs.lemmas.Bool.{cases_Bool, eqb-true, le-ltb, and_left, and_right, or_cases, false≢true, false_from_ne_true, not_from_true}
 use Rattle.std.proofs.lemmas.List.Elements.{filter_map-append}
 use Rattle.std.proofs.lemmas.Option.{none-some, same_Some, slice_get_within}
+use Rattle.list_views.proofs.Items.{take_past}
 use Rattle.descent.specs.declared.faults.DescentFault.{DescentFault}
 use Rattle.descent.specs.declared.proof.ProofStep.TheVariants.{Split}
 use Rattle.descent.specs.declared.rules.PathRule.{PathRule}
@@ -196,18 +197,12 @@ divided_more own set classes i number given mid after parts more_parts steps mor
       ∙ gives_more number set parts steps part step given mid after h.lengths h.gives handed.gives;
 }
 
-take_whole : {A : Type 0} (i : ℕ) (xs : List A) → length xs ≤ i → take i xs ≡ xs
-take_whole zero [] l = refl
-take_whole zero (x ∷ xs) l = absurd (omega (arith, l))
-take_whole (suc i) [] l = refl
-take_whole (suc i) (x ∷ xs) l = ap (λ (rest : List _). x ∷ rest) (take_whole i xs (omega (arith, l)))
-
 pub split_holds : (rules : List PathRule) (set : List ℕ) (own : List PathRule) (number i : ℕ) (given after : Given) (classes parts : List (List ℕ)) (steps : List (Option ℕ)) → AreOwn rules set own → Rises 0 set → AreClasses own classes → set_of (slice_get given number) ≡ Some set → length classes ≤ i → IsDivided own set classes i number given parts steps after → HoldsAt rules number given (Split parts steps) after
 split_holds rules set own number i given after classes parts steps are rise is has_set l h = record {
   set = set;
   given_set = has_set;
   holds =
-      let whole = take_whole i classes l in
+      let whole = take_past i classes l in
       divided rules set own are rise classes parts is (subst (λ (cs : List (List ℕ)). AllZip (AreAt set) cs parts) whole h.parts_are) steps (subst (λ (cs : List (List ℕ)). AllZip (IsStepOf own) cs steps) whole h.steps_are);
   gives = h.gives;
 }

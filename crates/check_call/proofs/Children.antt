@@ -2,7 +2,8 @@
 use Rattle.std.proofs.Common.{◌≡◌, ◌<◌, ◌∙◌, ℕ, true, List, [], ◌∷◌, map, None, inl, inr, refl, sym, ap, arith}
 use Rattle.std.specs.List.{AllZip, AllByRecursion}
 use Rattle.std.proofs.lemmas.List.Elements.{All-head}
-use Rattle.jvm_values.proofs.Options.{none_is_not_some}
+use Rattle.std.proofs.lemmas.Option.{none-some}
+use Rattle.list_views.proofs.Orders.{neither_below}
 use Rattle.jvm_values.specs.TypedHeaps.{WorldTypes}
 use Rattle.abs_cells.specs.AbstractStates.{AbstractState}
 use Rattle.abs_cells.specs.Cells.{cell_at}
@@ -24,7 +25,6 @@ use Rattle.graph_check.specs.Exclusion.{IsPlain}
 use Rattle.graph_check.specs.Good.{HasChildren}
 use Rattle.graph_check.proofs.Alike.{only_one, steps_same}
 use Rattle.graph_fill.proofs.Plain.{int_plain}
-use Rattle.check_call.proofs.Numbers.{neither_below}
 use Rattle.check_call.proofs.Steady.{IsSteady, int_steady}
 
 -- a state has one list of children at most
@@ -35,7 +35,7 @@ HasOneList p typing state = (a b : List GraphChild) → HasChildren p typing sta
 
 not_lower : (a b : AbstractState) (id other : ℕ) → ((n : ℕ) → cell_at a n ≡ cell_at b n) → AreFresh a (id ∷ []) → AreFresh b (other ∷ []) → id < other → ⊥
 not_lower a b id other same f g l = elim (g.least other id (0, omega arith, refl) l) [
-  | inl h ↦ none_is_not_some h.cell (sym (All-head (λ n. cell_at a n ≡ None) id [] f.free) ∙ (same id ∙ h.is))
+  | inl h ↦ none-some h.cell (sym (All-head (λ n. cell_at a n ≡ None) id [] f.free) ∙ (same id ∙ h.is))
   | inr c ↦ let e = only_one other id c in omega (arith, l, e)
 ]
 

@@ -1,6 +1,7 @@
 -- A good graph has one list of links and no fault, and a graph has one first fault, where each state has one list of children.
 use Rattle.std.proofs.Common.{◌≡◌, ◌∙◌, ℕ, suc, List, [], ◌∷◌, Some, slice_get, refl, sym, ap, subst}
 use Rattle.std.specs.List.{AllZip}
+use Rattle.list_views.proofs.Orders.{neither_below}
 use Rattle.jvm_values.proofs.Options.{some_is}
 use Rattle.abs_cells.specs.AbstractStates.{AbstractState}
 use Rattle.class_program.specs.Programs.{Program}
@@ -11,7 +12,6 @@ use Rattle.graph_check.specs.declared.fault.What.{What}
 use Rattle.graph_check.specs.declared.fault.What.TheVariants as whats
 use Rattle.graph_check.specs.Good.{IsGoodNode, IsRooted, GraphOk, FailsAs, IsFirstBadNode, IsFault}
 use Rattle.abs_expand.proofs.ZipLists.{beside}
-use Rattle.check_call.proofs.Numbers.{neither_below}
 use Rattle.check_call.proofs.Children.{HasOneList}
 use Rattle.check_call.proofs.Nodes.{links_by, node_one, node_left}
 

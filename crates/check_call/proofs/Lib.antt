@@ -1,4 +1,7 @@
+pub mod Accepted
+pub mod Accepting
 pub mod Children
+pub mod FileBytes
 pub mod FillSaying
 pub mod Forms
 pub mod Graphs
@@ -6,7 +9,9 @@ pub mod Matching
 pub mod Nodes
 pub mod Numbers
 pub mod OneAnswer
+pub mod PathLimits
 pub mod Paths
+pub mod ProgramNumbers
 pub mod Rules
 pub mod Saying
 pub mod Steady

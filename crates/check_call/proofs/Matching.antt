@@ -1,10 +1,10 @@
 -- The first clause of an instance that fails is one, with one id.
 use Rattle.std.proofs.Common.{◌≡◌, ◌∙◌, ℕ, zero, suc, Bool, List, inl, inr, refl, sym, ap, subst}
+use Rattle.list_views.proofs.Orders.{neither_below}
 use Rattle.jvm_values.specs.declared.types.Ty.{Ty}
 use Rattle.abs_cells.specs.AbstractStates.{AbstractState}
 use Rattle.abs_match.specs.declared.clauses.MatchFault.{MatchFault}
 use Rattle.abs_reach.specs.Instances.{Clause, whole_map, positions, mode, cells, aliases, sharing, shapes, number_of, HoldsClause, FailsAt, IsFirstFault}
-use Rattle.check_call.proofs.Numbers.{neither_below}
 
 abbrev clause_of : ℕ → Clause
 clause_of zero = whole_map

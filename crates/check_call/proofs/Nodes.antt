@@ -1,6 +1,8 @@
 -- A node whose state has one list of children has one list of links where it is good, and else one fault; and never both.
 use Rattle.std.proofs.Common.{◌≡◌, ◌∙◌, ◌⊎◌, ℕ, List, map, length, None, slice_get, inl, inr, refl, sym, ap, subst}
-use Rattle.jvm_values.proofs.Options.{some_is, none_is_not_some}
+use Rattle.std.proofs.lemmas.Option.{none-some}
+use Rattle.list_views.proofs.Orders.{neither_below}
+use Rattle.jvm_values.proofs.Options.{some_is}
 use Rattle.jvm_values.specs.TypedHeaps.{WorldTypes}
 use Rattle.abs_cells.specs.AbstractStates.{AbstractState}
 use Rattle.abs_match.specs.declared.clauses.MatchFault.{MatchFault}
@@ -19,7 +21,6 @@ use Rattle.graph_check.specs.declared.fault.What.{What}
 use Rattle.graph_check.specs.declared.fault.What.TheVariants as whats
 use Rattle.graph_check.specs.Good.{HasChildren, HasEnded, HasTooMany, IsLeftBy, IsMiscounted, HasOtherChild, FailsToMatch, FailsBy, FailsAs}
 use Rattle.graph_check.proofs.Excluding.{states_of, no_children, few_or_many, not_bad, no_fault_as}
-use Rattle.check_call.proofs.Numbers.{neither_below}
 use Rattle.check_call.proofs.Matching.{match_one}
 use Rattle.check_call.proofs.Children.{HasOneList}
 
@@ -28,7 +29,7 @@ use Rattle.check_call.proofs.Children.{HasOneList}
 no_counts : (types : WorldTypes) (state : AbstractState) (plan : Plan) (n : ℕ) → plan ≡ ends → IsFirstTooMany (counts_of types state plan) n → ⊥
 no_counts types state plan n e many =
     let none = subst (λ (q : Plan). IsFirstTooMany (counts_of types state q) n) e many in
-    none_is_not_some none.count none.is
+    none-some none.count none.is
 
 -- ---- states without an expansion
 
@@ -122,8 +123,8 @@ module _ (p : Program) (typing : ℕ → CodeTypes) (nodes : List GraphNode) (st
 
   instance_one : (target : ℕ) (entries : List (ℕ × ℕ)) (w v : What) → InstanceFails target entries w → InstanceFails target entries v → w ≡ v
   instance_one target entries w v (as_none e f) (as_none d g) = e ∙ sym d
-  instance_one target entries w v (as_none e f) (as_match fault d g) = absurd (none_is_not_some g.node (sym f ∙ g.is))
-  instance_one target entries w v (as_match fault e f) (as_none d g) = absurd (none_is_not_some f.node (sym g ∙ f.is))
+  instance_one target entries w v (as_none e f) (as_match fault d g) = absurd (none-some g.node (sym f ∙ g.is))
+  instance_one target entries w v (as_match fault e f) (as_none d g) = absurd (none-some f.node (sym g ∙ f.is))
   instance_one target entries w v (as_match fault e f) (as_match other d g) =
       let node : f.node ≡ g.node = some_is (sym f.is ∙ g.is) in
       let first = subst (λ (n : GraphNode). IsFirstFault (types_of p.world).sub state n.state entries fault.clause fault.id) node f.first in

@@ -1,6 +1,7 @@
 -- A certificate, a description and class files have one answer.
 use Rattle.std.proofs.Common.{◌≡◌, ◌≤◌, ◌∙◌, ◌⊎◌, ℕ, zero, suc, List, [], ◌∷◌, length, Option, Some, None, slice_get, Result, Ok, Err, inl, inr, refl, sym, ap, subst, arith}
 use Rattle.std.specs.Prelude.{◌≢◌, IsTrue}
+use Rattle.list_views.proofs.Options.{one_answer}
 use Rattle.serde_json.specs.Data.{Data}
 use Rattle.json_view.specs.Answers.{Reads}
 use Rattle.json_view.specs.Located.{root_of}
@@ -11,7 +12,7 @@ use Rattle.input_desc.specs.declared.desc.Desc.{Desc}
 use Rattle.input_desc.specs.Initial.{initial_of}
 use Rattle.input_steps.specs.declared.refused.Refused.{Refused}
 use Rattle.input_steps.specs.declared.refused.Refused.TheVariants.{At, Memory}
-use Rattle.input_steps.proofs.OneAnswer.{IsExact, IsOne, then_one, ok_one, err_one, ok_err, some_one}
+use Rattle.input_steps.proofs.OneAnswer.{IsExact, IsOne, then_one, ok_one, err_one, ok_err}
 use Rattle.desc_steps.specs.Names.{names_of}
 use Rattle.desc_steps.proofs.IntForms.{int_forms}
 use Rattle.desc_steps.proofs.OneAnswer.{files_one}
@@ -42,7 +43,7 @@ use Rattle.check_call.specs.Lines.{refused_at}
 
 said_one : {A : Type 0} (reader : Reader A) (bytes : List ℕ) (a b : Result A CertFault) → SaysOf reader bytes a → SaysOf reader bytes b → a ≡ b
 said_one reader bytes a b h k =
-    let same : h.0 ≡ k.0 = some_one _ h.0 k.0 h.1.0.1 k.1.0.1 in
+    let same : h.0 ≡ k.0 = one_answer _ h.0 k.0 h.1.0.1 k.1.0.1 in
     sym h.1.1 ∙ ap (λ (v : Data). reader (root_of v)) same ∙ k.1.1
 
 module _ (p : Program) (cert : List ℕ) where

@@ -3,8 +3,9 @@ use Rattle.std.proofs.Common.{◌≡◌, ◌<◌, ◌≤◌, ◌∙◌, ◌⊎�
 use Rattle.std.specs.Prelude.{nat_lt, All}
 use Rattle.std.proofs.lemmas.Bool.{false≢true, eqb-true, eq-eqb, ne_eqb, ltb-true, lt-ltb}
 use Rattle.std.proofs.lemmas.List.Elements.{All-get_or}
-use Rattle.std.proofs.lemmas.Option.{slice_get_within, get_or_from_slice_get}
-use Rattle.jvm_values.proofs.Options.{some_is, none_is_not_some}
+use Rattle.std.proofs.lemmas.Option.{slice_get_within, get_or_from_slice_get, none-some}
+use Rattle.list_views.proofs.Quantified.{all_at}
+use Rattle.jvm_values.proofs.Options.{some_is}
 use Rattle.term_graph.specs.Graphs.{GraphNode}
 use Rattle.path_rules.specs.Paths.{Path, IsPath, is_earlier, is_before, Rise, AreAllPaths, HasTooManyPaths}
 
@@ -67,7 +68,7 @@ abbrev AreIn : List Path → List Path → Type 0
 AreIn paths others = (path : Path) → IsIn paths path → IsIn others path
 
 before_all : (path : Path) (paths : List Path) (n : ℕ) (other : Path) → Rise (path ∷ paths) → slice_get paths n ≡ Some other → is_before path other ≡ true
-before_all path [] n other rise at = absurd (none_is_not_some other at)
+before_all path [] n other rise at = absurd (none-some other at)
 before_all path (next ∷ paths) zero other rise at = subst (λ (x : Path). is_before path x ≡ true) (some_is at) rise.0
 before_all path (next ∷ paths) (suc n) other rise at = before_on path next other rise.0 (before_all next paths n other rise.1 at)
 
@@ -98,7 +99,7 @@ whole_in x y xs ys before rise sub path i = in_rest y ys path (λ f. not_itself 
 
 as_many : (a b : List Path) → Rise a → Rise b → AreIn a b → length a ≤ length b
 as_many [] b r s sub = omega arith
-as_many (x ∷ xs) [] r s sub = let i = sub x (0, refl) in absurd (none_is_not_some x i.1)
+as_many (x ∷ xs) [] r s sub = let i = sub x (0, refl) in absurd (none-some x i.1)
 as_many (x ∷ xs) (y ∷ ys) r s sub = let i = sub x (0, refl) in at (as_many xs ys r.1 s.1) (as_many (x ∷ xs) ys r s.1) i.0 i.1
   where
     at : (AreIn xs ys → length xs ≤ length ys) → (AreIn (x ∷ xs) ys → length (x ∷ xs) ≤ length ys) → (n : ℕ) → slice_get (y ∷ ys) n ≡ Some x → length (x ∷ xs) ≤ length (y ∷ ys)
@@ -112,8 +113,8 @@ heads_same x y xs ys (suc n) (suc m) r s e f = absurd (before_self x (before_on 
 
 same_list : (a b : List Path) → Rise a → Rise b → AreIn a b → AreIn b a → a ≡ b
 same_list [] [] r s sub sup = refl
-same_list [] (y ∷ ys) r s sub sup = let i = sup y (0, refl) in absurd (none_is_not_some y i.1)
-same_list (x ∷ xs) [] r s sub sup = let i = sub x (0, refl) in absurd (none_is_not_some x i.1)
+same_list [] (y ∷ ys) r s sub sup = let i = sup y (0, refl) in absurd (none-some y i.1)
+same_list (x ∷ xs) [] r s sub sup = let i = sub x (0, refl) in absurd (none-some x i.1)
 same_list (x ∷ xs) (y ∷ ys) r s sub sup =
     let i = sub x (0, refl) in
     let j = sup y (0, refl) in
@@ -123,12 +124,9 @@ same_list (x ∷ xs) (y ∷ ys) r s sub sup =
 
 -- ---- all paths
 
-each_at : (P : Path → Type 0) (paths : List Path) (n : ℕ) (path : Path) → All P paths → slice_get paths n ≡ Some path → P path
-each_at P paths n path all at = subst P (get_or_from_slice_get paths n path path at) (All-get_or P paths n path (slice_get_within paths n path at) all)
-
 module _ (graph : List GraphNode) (cuts : List ℕ) where
   among : (paths others : List Path) → All (IsPath graph cuts) paths → AreAllPaths graph cuts others → AreIn paths others
-  among paths others each all path i = all.all path (each_at (IsPath graph cuts) paths i.0 path each i.1)
+  among paths others each all path i = all.all path (all_at (IsPath graph cuts) paths i.0 path each i.1)
 
   pub paths_one : (a b : List Path) → AreAllPaths graph cuts a → AreAllPaths graph cuts b → a ≡ b
   paths_one a b g h = same_list a b g.rise h.rise (among a b g.each h) (among b a h.each g)

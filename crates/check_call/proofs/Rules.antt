@@ -4,7 +4,10 @@ use Rattle.std.specs.List.{AllZip}
 use Rattle.std.proofs.lemmas.Bool.{cases_eq, eq-eqb, ne_eqb}
 use Rattle.std.proofs.lemmas.List.Elements.{All-take}
 use Rattle.std.proofs.lemmas.List.Sums.{sum_by-take-le}
-use Rattle.jvm_values.proofs.Options.{some_is, none_is_not_some}
+use Rattle.std.proofs.lemmas.Option.{none-some}
+use Rattle.list_views.proofs.Items.{take_length}
+use Rattle.list_views.proofs.Orders.{neither_below}
+use Rattle.jvm_values.proofs.Options.{some_is}
 use Rattle.abs_cells.specs.AbstractStates.{AbstractState}
 use Rattle.abs_cells.specs.Patterns.{Pattern}
 use Rattle.abs_cells.proofs.PatternLaws.{one_pattern}
@@ -17,7 +20,6 @@ use Rattle.path_rules.specs.Rules.{IsRuleOf, rule_over}
 use Rattle.path_rules.specs.Stops.{pattern_in, IdsRise, AreSizes, LinkedGraph}
 use Rattle.path_rules.specs.declared.fault.PathFault.{PathFault}
 use Rattle.path_rules.specs.declared.fault.PathFault.TheVariants.{Uncut, TooManyPaths, TooManyRows, Memory}
-use Rattle.check_call.proofs.Numbers.{neither_below}
 use Rattle.check_call.proofs.Paths.{paths_one, few_or_many}
 
 -- ---- lists of patterns
@@ -35,12 +37,12 @@ none_low low id (c ∷ cs) rise l =
     past c cs id (λ e. omega (arith, e, l, k)) ∙ none_low (suc c.0) id cs rise.1 (omega (arith, l, k))
 
 not_lower : (x y : ℕ × Pattern) (xs ys : List (ℕ × Pattern)) (low : ℕ) → IdsRise low (y ∷ ys) → ((id : ℕ) → pattern_in (x ∷ xs) id ≡ pattern_in (y ∷ ys) id) → x.0 < y.0 → ⊥
-not_lower x y xs ys low rise same l = none_is_not_some x.1 (sym (none_low y.0 x.0 (y ∷ ys) (omega arith, rise.1) l) ∙ (sym (same x.0) ∙ here x xs))
+not_lower x y xs ys low rise same l = none-some x.1 (sym (none_low y.0 x.0 (y ∷ ys) (omega arith, rise.1) l) ∙ (sym (same x.0) ∙ here x xs))
 
 rising_one : (low : ℕ) (a b : List (ℕ × Pattern)) → IdsRise low a → IdsRise low b → ((id : ℕ) → pattern_in a id ≡ pattern_in b id) → a ≡ b
 rising_one low [] [] r s same = refl
-rising_one low [] (y ∷ ys) r s same = absurd (none_is_not_some y.1 (same y.0 ∙ here y ys))
-rising_one low (x ∷ xs) [] r s same = absurd (none_is_not_some x.1 (sym (same x.0) ∙ here x xs))
+rising_one low [] (y ∷ ys) r s same = absurd (none-some y.1 (same y.0 ∙ here y ys))
+rising_one low (x ∷ xs) [] r s same = absurd (none-some x.1 (sym (same x.0) ∙ here x xs))
 rising_one low (x ∷ xs) (y ∷ ys) r s same =
     let e : x.0 ≡ y.0 = neither_below x.0 y.0 (not_lower x y xs ys low s same) (not_lower y x ys xs low r (λ id. sym (same id))) in
     let pattern : x.1 ≡ y.1 = some_is (sym (here x xs) ∙ (same x.0 ∙ (ap (pattern_in (y ∷ ys)) e ∙ here y ys))) in
@@ -97,10 +99,6 @@ no_more linked cuts paths [] g = omega arith
 no_more linked cuts [] (x ∷ rules) g = absurd g
 no_more linked cuts (path ∷ paths) (x ∷ rules) g = let l = no_more linked cuts paths rules g.1 in omega (arith, l)
 
-take_all : (rules : List PathRule) → take (length rules) rules ≡ rules
-take_all [] = refl
-take_all (x ∷ rules) = ap (λ (rest : List PathRule). x ∷ rest) (take_all rules)
-
 take_less : (n m : ℕ) (rules : List PathRule) → n ≤ m → take n (take m rules) ≡ take n rules
 take_less zero m rules l = refl
 take_less (suc n) zero rules l = absurd (omega (arith, l))
@@ -128,7 +126,7 @@ module _ (graph : List GraphNode) (links : List (List Link)) (cuts : List ℕ) w
   rules_one a b g h =
       let paths = paths_one graph cuts g.paths h.paths g.all h.all in
       let same : length a ≡ length b = g.whole ∙ (ap (λ (ps : List Path). length ps) paths ∙ sym h.whole) in
-      front g.paths h.paths a b paths g.are h.are (omega (arith, same)) ∙ (ap (λ (n : ℕ). take n b) same ∙ take_all b)
+      front g.paths h.paths a b paths g.are h.are (omega (arith, same)) ∙ (ap (λ (n : ℕ). take n b) same ∙ take_length b)
 
   long_later : (p q : ℕ) → IsFirstTooLong graph links cuts p → IsFirstTooLong graph links cuts q → p < q → ⊥
   long_later p q f g low =

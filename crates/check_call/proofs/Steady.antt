@@ -1,6 +1,8 @@
 -- The rows of a step that makes no id name none, in the plans of states of ints.
 use Rattle.std.proofs.Common.{◌≡◌, ◌∙◌, ℕ, ℤ, pos, ◌+ℤ◌, true, List, [], ◌∷◌, ◌++◌, Option, Some, None, refl, sym, ap, subst}
 use Rattle.std.specs.List.{AllByRecursion}
+use Rattle.list_views.proofs.Quantified.{all_filtered}
+use Rattle.list_views.proofs.Options.{map_some}
 use Rattle.lin_core.specs.Intervals.{Bounds}
 use Rattle.jvm_values.specs.declared.ints.IntOp.{IntOp}
 use Rattle.jvm_values.specs.declared.ints.IntOp.TheVariants.{Add, Sub}
@@ -24,7 +26,7 @@ use Rattle.abs_expand.specs.Expansions.{plan_of}
 use Rattle.abs_expand.specs.IntForms.{HasIntForms, IsIntState}
 use Rattle.abs_expand.specs.Plans.{nothing, makes, Goal, on_stack, in_local, Turn, steps, no_rows}
 use Rattle.abs_expand.specs.Turns.{Here, Operand, known, id, with_stack, interval_at, are_one, narrowings, term_of, terms_of, constant_of, row_over, rows_over, turn_of_result, turn_of_case, turns_of, narrows, place_of_way, branch_of_case, branches}
-use Rattle.abs_expand.proofs.OptionLists.{mapped, filtered, filtered_any}
+use Rattle.abs_expand.proofs.OptionLists.{filtered}
 use Rattle.int_plans.proofs.EachTurn.{EachTurn, HoldsOfInts, here_in, each_turn, in_plan}
 use Rattle.int_links.proofs.SmallRows.{IsPlainRow, compared_plain}
 
@@ -57,15 +59,15 @@ module _ (here : Here) where
 
   operator_steady : (op : IntOp) (left right : Operand) (frames : List AbstractFrame) (goal : Goal) → AllByRecursion IsSteady (turns_of here op left right frames goal)
   operator_steady op left right frames goal =
-      filtered_any IsSteady (turn_of_case here left right frames goal) (operated op (interval_at here.state left) (interval_at here.state right)) (λ case turn e.
-      let m = mapped (λ (narrowed : List (ℕ × Cell)). turn_of_result here frames goal narrowed (rows_over left right case.rows) case.result) (narrowings left case.left right case.right) turn e in
+      all_filtered IsSteady (turn_of_case here left right frames goal) (operated op (interval_at here.state left) (interval_at here.state right)) (λ case turn e.
+      let m = map_some (λ (narrowed : List (ℕ × Cell)). turn_of_result here frames goal narrowed (rows_over left right case.rows) case.result) (narrowings left case.left right case.right) turn e in
       subst IsSteady m.1.1 (result_steady frames goal m.0 (rows_over left right case.rows) case.result))
 
   branches_steady : (cond : Cond) (left right : Operand) (place : ℕ) (stack : List ℕ) → AllByRecursion IsSteady (branches here cond left right place stack true)
   branches_steady cond left right place stack =
       filtered (λ (case : IntCase). AllByRecursion IsPlainRow case.rows) IsSteady (branch_of_case here left right place stack true) (compared cond (are_one left right) (interval_at here.state left) (interval_at here.state right)) (λ case plain turn e.
       let frames = with_stack here (place_of_way here place case.way) stack in
-      let m = mapped (λ (narrowed : List (ℕ × Cell)). narrows narrowed frames (rows_over left right case.rows)) (narrowings left case.left right case.right) turn e in
+      let m = map_some (λ (narrowed : List (ℕ × Cell)). narrows narrowed frames (rows_over left right case.rows)) (narrowings left case.left right case.right) turn e in
       subst IsSteady m.1.1 (λ none a b. rows_same left right case.rows a b plain))
       (compared_plain cond (are_one left right) (interval_at here.state left) (interval_at here.state right))
 

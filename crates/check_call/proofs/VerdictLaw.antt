@@ -1,7 +1,8 @@
 -- A certificate has one verdict: its items are asked one after another, and each holds or has one fault.
 use Rattle.std.proofs.Common.{◌≡◌, ◌+◌, ◌∙◌, ◌⊎◌, ℕ, List, length, None, Some, Result, Ok, Err, inl, inr, refl, sym, ap, subst}
 use Rattle.std.specs.Prelude.{◌≢◌}
-use Rattle.jvm_values.proofs.Options.{some_is, none_is_not_some}
+use Rattle.std.proofs.lemmas.Option.{none-some}
+use Rattle.jvm_values.proofs.Options.{some_is}
 use Rattle.descent.specs.declared.faults.DescentFault.{DescentFault}
 use Rattle.descent.specs.declared.faults.StepFault.TheVariants as proofs
 use Rattle.descent.specs.declared.rules.PathRule.{PathRule}
@@ -100,7 +101,7 @@ module _ (case : Case) where
   proof_exact : (rules : List PathRule) → IsExact {A = Unit {0}} (λ nothing. proof_fault rules case.steps ≡ None) (ProofFails rules)
   proof_exact rules = record {
     one = λ a b h k. refl;
-    apart = λ nothing item cause h f. none_is_not_some (proofs.At f.0 f.1.0) (sym h ∙ f.1.1.0);
+    apart = λ nothing item cause h f. none-some (proofs.At f.0 f.1.0) (sym h ∙ f.1.1.0);
     named = λ i j c d f g.
         let same : proofs.At f.0 f.1.0 ≡ proofs.At g.0 g.1.0 = some_is (sym f.1.1.0 ∙ g.1.1.0) in
         let step : f.0 ≡ g.0 = cc in

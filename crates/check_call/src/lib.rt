@@ -20,6 +20,6 @@ mod writing;
 pub use call::check_line;
 pub use certs::refuse_text;
 pub use fill::fill_line;
-pub use laws::answers_are_one;
+pub use laws::{accepted_ends, answers_are_one};
 pub use outcome::Outcome;
 pub use verdicts::verdicts_are_one;

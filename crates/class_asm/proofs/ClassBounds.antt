@@ -3,8 +3,11 @@ use Rattle.std.proofs.Common.{◌≡◌, ℕ, zero, suc, ◌+◌, ◌*◌, ◌<�
 use Rattle.std.specs.List.{flat_map, AllByRecursion}
 use Rattle.std.specs.Option.{option_map_or}
 use Rattle.std.proofs.lemmas.List.{length-append}
+use Rattle.class_read.proofs.RuleLaws.{handlers_length}
+use Rattle.list_views.proofs.Orders.{nat_lt_true}
+use Rattle.list_views.proofs.Quantified.{all_weaker, all_mapped}
+use Rattle.list_views.proofs.Items.{length_mapped, get_past}
 use Rattle.class_pool.specs.Entry.{HasText}
-use Rattle.class_read.specs.Content.{Handler}
 use Rattle.class_read.specs.Text.{u2, u4, handler_text, attribute_text, code_text}
 use Rattle.class_read.specs.Writing.{HasAttrText, HasMemberText, HasClassText}
 use Rattle.class_read.specs.declared.text.AttrText.{AttrText}
@@ -27,22 +30,17 @@ use Rattle.class_asm.specs.Rules.{past_count, seconds, field_key, method_key, fi
 use Rattle.class_asm.specs.Classes as classes
 use Rattle.class_asm.specs.Classes.{code_said, code_in, said_faults, item_attributes, code_attributes, attributes_size, code_size, code_fits, code_faults, field_text, method_text, class_text, all_faults}
 use Rattle.class_asm.proofs.CodeBounds.{few}
-use Rattle.asm_lines.proofs.Faultless.{no_faults, left, right, each, is_good, first_of_both, second_of_both, is_less, mapped_length, all_mapped, all_both, all_one}
+use Rattle.asm_lines.proofs.Faultless.{no_faults, left, right, each, is_good, first_of_both, second_of_both, all_both}
 use Rattle.asm_pool.proofs.PoolBounds.{places_counted}
 
 -- ---- counts
-
-no_more : {A : Type 0} (xs : List A) (n : ℕ) → slice_get xs n ≡ None → length xs ≤ n
-no_more [] n h = omega arith
-no_more (x ∷ xs) zero h = absurd cc
-no_more (x ∷ xs) (suc n) h = omega (arith, no_more xs n h)
 
 none_past : {A : Type 0} (line_of : A → ℕ) (o : Option A) → option_map_or (λ item. OutOfRange (line_of item) ∷ []) o [] ≡ [] → o ≡ None
 none_past line_of None h = refl
 none_past line_of (Some x) h = absurd cc
 
 pub within_count : {A : Type 0} (line_of : A → ℕ) (xs : List A) → past_count line_of xs ≡ [] → length xs < 2 ^ 16
-within_count line_of xs h = omega (arith, no_more xs 65535 (none_past line_of (slice_get xs 65535) h))
+within_count line_of xs h = omega (arith, get_past xs 65535 (none_past line_of (slice_get xs 65535) h))
 
 -- ---- members
 
@@ -50,13 +48,6 @@ abbrev at_line : ℕ → Entry → Need
 at_line line entry = (entry, line)
 
 -- ---- the size of a code
-
-handlers_size : (table : List Handler) → length (flat_map handler_text table) ≡ 8 * length table
-handlers_size [] = refl
-handlers_size (h ∷ table) = omega (arith, length-append (handler_text h) (flat_map handler_text table), handler_size h, handlers_size table)
-  where
-    handler_size : (h : Handler) → length (handler_text h) ≡ 8
-    handler_size h = refl
 
 attribute_size : (a : ℕ × List ℕ) → length (attribute_text a) ≡ 6 + length a.1
 attribute_size a = omega (arith, length-append (u2 a.0) (u4 (length a.1) ++ a.1), length-append (u4 (length a.1)) a.1)
@@ -83,7 +74,7 @@ content_size max_stack max_locals code attributes =
       length-append (u2 (length table) ++ tables) last,
       length-append (u2 (length table)) tables,
       length-append (u2 (length attributes)) rest,
-      handlers_size table,
+      handlers_length table,
       all_size attributes,
     )
 
@@ -108,7 +99,7 @@ attributes_count pool (code ∷ lines) =
       length-append (item_attributes pool code.item) (code_attributes pool lines),
       length-append (line_needs attribute_entries code) (flat_map (line_needs attribute_entries) lines),
       item_count pool code.line code.item,
-      mapped_length (at_line code.line) (attribute_entries code.item),
+      length_mapped (at_line code.line) (attribute_entries code.item),
       attributes_count pool lines,
     )
 
@@ -123,7 +114,7 @@ with_sizes pool m (Some sizes) count h =
     let code = code_in (code_said pool m) in
     let attributes = code_attributes pool m.lines in
     let bound = few pool m in
-    let fits = is_less (code_size code attributes) (2 ^ 32) (is_good _ m.line (right (said_faults (code_said pool m)) (unless (code_fits code attributes) m.line) h)) in (
+    let fits = nat_lt_true (code_size code attributes) (2 ^ 32) (is_good _ m.line (right (said_faults (code_said pool m)) (unless (code_fits code attributes) m.line) h)) in (
       omega arith,
       (
         (
@@ -141,7 +132,7 @@ method_bounds : (pool : Numbered) (m : MethodLines) → method_faults m ≡ [] �
 method_bounds pool m h k =
     let lines = within_count (λ line. line) (attribute_lines m.lines) (right (unless _ m.line) (past_count (λ line. line) (attribute_lines m.lines)) h) in
     let count : length (code_attributes pool m.lines) < 2 ^ 16 =
-    omega (arith, lines, mapped_length (λ need. need.1) (flat_map (line_needs attribute_entries) m.lines), attributes_count pool m.lines) in
+    omega (arith, lines, length_mapped (λ need. need.1) (flat_map (line_needs attribute_entries) m.lines), attributes_count pool m.lines) in
     let made = with_sizes pool m m.head.sizes count k in
     record { count = made.0; each = made.1 }
 
@@ -150,7 +141,7 @@ field_bounds pool [] = tt
 field_bounds pool (f ∷ fields) = (record { count = omega arith; each = tt }, field_bounds pool fields)
 
 attribute_bound : (pool : Numbered) (a : ℕ × AttributeLine) → attribute_faults a ≡ [] → HasAttrText (classes.attribute_text pool a)
-attribute_bound pool a h = is_less (length a.1.content) (2 ^ 32) (is_good (content_fits a.1.content) a.0 h)
+attribute_bound pool a h = nat_lt_true (length a.1.content) (2 ^ 32) (is_good (content_fits a.1.content) a.0 h)
 
 -- ---- the class
 
@@ -186,18 +177,18 @@ has_text line class listing h texts =
     let of_attributes = flat_map attribute_faults listing.attributes in
     let past_attributes = past_count (λ a. a.0) listing.attributes in
     let counted_attributes = within_count (λ a. a.0) listing.attributes (right of_attributes past_attributes no_attributes) in
-    let interfaces = is_less (length class.interfaces) (2 ^ 16) (second_of_both _ _ (first_of_both _ _ good)) in
+    let interfaces = nat_lt_true (length class.interfaces) (2 ^ 16) (second_of_both _ _ (first_of_both _ _ good)) in
     record {
       pool = record { each = texts; count = places_counted pool (firsts_in needs) no_count };
-      interfaces = omega (arith, interfaces, mapped_length (λ name. number_of pool (Class name)) class.interfaces);
-      fields = omega (arith, counted_fields, mapped_length (field_text pool) listing.fields);
+      interfaces = omega (arith, interfaces, length_mapped (λ name. number_of pool (Class name)) class.interfaces);
+      fields = omega (arith, counted_fields, length_mapped (field_text pool) listing.fields);
       each_field = field_bounds pool listing.fields;
-      methods = omega (arith, counted_methods, mapped_length (method_text pool) listing.methods);
+      methods = omega (arith, counted_methods, length_mapped (method_text pool) listing.methods);
       each_method = all_mapped HasMemberText (method_text pool) listing.methods
           (all_both (λ m. method_faults m ≡ []) (λ m. code_faults pool m ≡ []) (λ m. HasMemberText (method_text pool m)) (method_bounds pool) listing.methods each_method
           (each (code_faults pool) listing.methods no_codes));
-      attributes = omega (arith, counted_attributes, mapped_length (classes.attribute_text pool) listing.attributes);
+      attributes = omega (arith, counted_attributes, length_mapped (classes.attribute_text pool) listing.attributes);
       each_attribute = all_mapped HasAttrText (classes.attribute_text pool) listing.attributes
-          (all_one (λ a. attribute_faults a ≡ []) (λ a. HasAttrText (classes.attribute_text pool a)) (attribute_bound pool) listing.attributes
+          (all_weaker (λ a. attribute_faults a ≡ []) (λ a. HasAttrText (classes.attribute_text pool a)) (attribute_bound pool) listing.attributes
           (each attribute_faults listing.attributes (left of_attributes past_attributes no_attributes)));
     }

@@ -4,6 +4,9 @@ use Rattle.std.specs.Prelude.{codes, nat_lt, bit_or, IsSome, ◌⊎◌}
 use Rattle.std.specs.List.{flat_map, list_all, list_any, cons_option, AllByRecursion, IsDistinct}
 use Rattle.std.specs.Option.{option_map_or, option_and_then, option_to_list, unwrap_or}
 use Rattle.std.proofs.lemmas.Bool.{ltb-true}
+use Rattle.list_views.proofs.Quantified.{all_front, all_back}
+use Rattle.list_views.proofs.Orders.{nat_lt_true}
+use Rattle.list_views.proofs.Items.{length_mapped}
 use Rattle.class_base.specs.declared.member_kind.MemberKind.TheVariants.{Field, Method}
 use Rattle.class_read.specs.declared.text.AttrText.{AttrText}
 use Rattle.class_read.specs.Content.{Handler}
@@ -42,12 +45,12 @@ use Rattle.class_asm.specs.Classes.{make_need, no_need, entry_need, item_need, p
 use Rattle.class_asm.proofs.MethodFlags.{has_sizes, flags_small}
 use Rattle.class_asm.proofs.ClassBounds.{within_count, content_size, attributes_count, each_short}
 use Rattle.asm_codes.proofs.CodeSizes.{sized}
-use Rattle.asm_lines.proofs.Faultless.{left, right, each, is_good, first_of_both, second_of_both, is_less, mapped_length, all_both}
+use Rattle.asm_lines.proofs.Faultless.{left, right, each, is_good, first_of_both, second_of_both, all_both}
 use Rattle.asm_lines.proofs.GoodListings.{has_end, GoodMethod, GoodListing}
 use Rattle.asm_pool.proofs.GoodNeeds.{needs_good}
 use Rattle.asm_lines.proofs.PlainWords.{PlainClass}
 use Rattle.asm_pool.proofs.PoolBounds.{room}
-use Rattle.asm_pool.proofs.PoolEntries.{IsIn, AllIn, in_file, number_small, front, back, of_needed, entries_in, needs_in}
+use Rattle.asm_pool.proofs.PoolEntries.{IsIn, AllIn, in_file, number_small, of_needed, entries_in, needs_in}
 use Rattle.asm_pool.proofs.PoolRules.{pool_room, pool_rules, text_there, class_there}
 use Rattle.asm_codes.proofs.Written.{near}
 
@@ -169,7 +172,7 @@ fields_are : (es : List Entry) (fields : List (ℕ × FieldLine)) → 1 + room e
     → AllByRecursion (IsField (in_file es)) (map (field_text (numbered es)) fields)
 fields_are es [] small h good = tt
 fields_are es (f ∷ fields) small h good =
-    (field_is es f small (front (Found es) (field_needs f) (flat_map field_needs fields) h) good.0, fields_are es fields small (back (Found es) (field_needs f) (flat_map field_needs fields) h) good.1)
+    (field_is es f small (all_front (Found es) (field_needs f) (flat_map field_needs fields) h) good.0, fields_are es fields small (all_back (Found es) (field_needs f) (flat_map field_needs fields) h) good.1)
 
 abbrev the_key : List ℕ → List ℕ → Key
 the_key name desc = (name, desc)
@@ -181,10 +184,10 @@ field_keys : (es : List Entry) (fields : List (ℕ × FieldLine)) → 1 + room e
     → map (key_of (in_file es)) (map (field_text (numbered es)) fields) ≡ keys (map field_key fields)
 field_keys es [] small h = refl
 field_keys es (f ∷ fields) small h =
-    let own = front (Found es) (field_needs f) (flat_map field_needs fields) h in
+    let own = all_front (Found es) (field_needs f) (flat_map field_needs fields) h in
     let key = one_key _ _ f.1.name f.1.desc (says es f.1.name own.0.0 small) (says es f.1.desc own.1.0.0 small) in
     ap (λ (k : Key). k ∷ map (key_of (in_file es)) (map (field_text (numbered es)) fields)) key
-    ∙ ap (λ (ks : List Key). the_key f.1.name f.1.desc ∷ ks) (field_keys es fields small (back (Found es) (field_needs f) (flat_map field_needs fields) h))
+    ∙ ap (λ (ks : List Key). the_key f.1.name f.1.desc ∷ ks) (field_keys es fields small (all_back (Found es) (field_needs f) (flat_map field_needs fields) h))
 
 -- ---- codes
 
@@ -231,9 +234,9 @@ handlers_are : (es : List Entry) (ps : Places) (lines : List CodeLine) → IsNea
     → AllByRecursion (GoodHandler es) (table_of ps (map (pooled (numbered es)) lines))
 handlers_are es ps [] is_near small h = tt
 handlers_are es ps (code ∷ lines) is_near small h =
-    let own = of_needed (AllIn es) code.line (catch_entries code.item) (front (Found es) (line_needs catch_entries code) (flat_map (line_needs catch_entries) lines) h) in
+    let own = of_needed (AllIn es) code.line (catch_entries code.item) (all_front (Found es) (line_needs catch_entries code) (flat_map (line_needs catch_entries) lines) h) in
     handler_by es ps code.item (item_need (numbered es) code.item) (table_of ps (map (pooled (numbered es)) lines)) is_near small refl own
-    (handlers_are es ps lines is_near small (back (Found es) (line_needs catch_entries code) (flat_map (line_needs catch_entries) lines) h))
+    (handlers_are es ps lines is_near small (all_back (Found es) (line_needs catch_entries code) (flat_map (line_needs catch_entries) lines) h))
 
 named_by : (es : List Entry) (item : Item) (rest : List (ℕ × List ℕ)) → 1 + room es < 2 ^ 16 → AllByRecursion (AllIn es) (attribute_entries item) → AllByRecursion (λ a. IsText (in_file es) a.0) rest
     → AllByRecursion (λ a. IsText (in_file es) a.0) (item_attributes (numbered es) item ++ rest)
@@ -247,9 +250,9 @@ attributes_named : (es : List Entry) (lines : List CodeLine) → 1 + room es < 2
     → AllByRecursion (λ a. IsText (in_file es) a.0) (code_attributes (numbered es) lines)
 attributes_named es [] small h = tt
 attributes_named es (code ∷ lines) small h =
-    let own = of_needed (AllIn es) code.line (attribute_entries code.item) (front (Found es) (line_needs attribute_entries code) (flat_map (line_needs attribute_entries) lines) h) in
+    let own = of_needed (AllIn es) code.line (attribute_entries code.item) (all_front (Found es) (line_needs attribute_entries code) (flat_map (line_needs attribute_entries) lines) h) in
     named_by es code.item (code_attributes (numbered es) lines) small own
-    (attributes_named es lines small (back (Found es) (line_needs attribute_entries code) (flat_map (line_needs attribute_entries) lines) h))
+    (attributes_named es lines small (all_back (Found es) (line_needs attribute_entries code) (flat_map (line_needs attribute_entries) lines) h))
 
 none_by : (o : Option AsmFault) (code : MethodCode) → said_faults (answered o code) ≡ [] → o ≡ None
 none_by None code h = refl
@@ -275,15 +278,15 @@ code_is es m sizes small ends h k count =
     let catches = flat_map (line_needs catch_entries) m.lines in
     let others = flat_map (line_needs attribute_entries) m.lines in
     let name = needed m.line (code_name ∷ []) in
-    let no_others = front (Found es) (name ++ insns ++ catches) others h in
-    let own = front (Found es) name insns (front (Found es) (name ++ insns) catches no_others) in
+    let no_others = all_front (Found es) (name ++ insns ++ catches) others h in
+    let own = all_front (Found es) name insns (all_front (Found es) (name ++ insns) catches no_others) in
     let none = no_fault lines (left (said_faults (code_said pool m)) (unless (code_fits code attributes) m.line) k) in
     let is_code = the_code lines none in
     let bound = sized lines code none is_code in
-    let fits = is_less (code_size code attributes) (2 ^ 32) (is_good _ m.line (right (said_faults (code_said pool m)) (unless (code_fits code attributes) m.line) k)) in
+    let fits = nat_lt_true (code_size code attributes) (2 ^ 32) (is_good _ m.line (right (said_faults (code_said pool m)) (unless (code_fits code attributes) m.line) k)) in
     let short = each_short attributes (2 ^ 32) (omega (arith, fits)) in
     let table : AllByRecursion (GoodHandler es) code.table =
-    subst (λ (c : MethodCode). AllByRecursion (GoodHandler es) c.table) (sym is_code) (handlers_are es (places_of lines) m.lines (near lines none) small (back (Found es) (name ++ insns) catches no_others)) in
+    subst (λ (c : MethodCode). AllByRecursion (GoodHandler es) c.table) (sym is_code) (handlers_are es (places_of lines) m.lines (near lines none) small (all_back (Found es) (name ++ insns) catches no_others)) in
     record {
       name_is = text_is es (codes "Code") own.0.0 small;
       named = says es (codes "Code") own.0.0 small;
@@ -295,7 +298,7 @@ code_is es m sizes small ends h k count =
       handlers = table;
       attributes_fit = count;
       skipped = all_both (λ a. IsText (in_file es) a.0) (λ a. length a.1 < 2 ^ 32) (IsAttribute (in_file es)) (λ a t l. record { name = t; fits = l }) attributes
-          (attributes_named es m.lines small (back (Found es) (name ++ insns ++ catches) others h)) short;
+          (attributes_named es m.lines small (all_back (Found es) (name ++ insns ++ catches) others h)) short;
       content_fits = omega (arith, fits, content_size (size_of sizes.0) (size_of sizes.1) code attributes);
     }
 
@@ -321,14 +324,14 @@ method_is : (es : List Entry) (m : MethodLines) → 1 + room es < 2 ^ 16 → Goo
 method_is es m small good h faults code =
     let own = needed m.line (Utf8 m.head.name ∷ Utf8 m.head.desc ∷ []) in
     let more = cond (is_some m.head.sizes) (code_needs m) [] in
-    let texts = front (Found es) own more h in
+    let texts = all_front (Found es) own more h in
     let lines = attribute_lines m.lines in
     let rule = unless (is_descriptor Method (method_flags m.head) m.head.desc && sizes_fit m.head.sizes) m.line in
     let both = is_good (is_descriptor Method (method_flags m.head) m.head.desc && sizes_fit m.head.sizes) m.line (left rule (past_count (λ line. line) lines) faults) in
     let few = within_count (λ line. line) lines (right rule (past_count (λ line. line) lines) faults) in
     let count : length (code_attributes (numbered es) m.lines) < 2 ^ 16 =
-    omega (arith, few, mapped_length (λ (need : Need). need.1) (flat_map (line_needs attribute_entries) m.lines), attributes_count (numbered es) m.lines) in
-    let attributes = attributes_are es m m.head.sizes small good.ended (back (Found es) own more h) code count in
+    omega (arith, few, length_mapped (λ (need : Need). need.1) (flat_map (line_needs attribute_entries) m.lines), attributes_count (numbered es) m.lines) in
+    let attributes = attributes_are es m m.head.sizes small good.ended (all_back (Found es) own more h) code count in
     record {
       member = record {
         flags_fit = flags_small m.head good.open_method.head;
@@ -346,8 +349,8 @@ methods_are : (es : List Entry) (methods : List MethodLines) → 1 + room es < 2
     → AllByRecursion (λ m. method_faults m ≡ []) methods → AllByRecursion (λ m. code_faults (numbered es) m ≡ []) methods → AllByRecursion (IsMethod (in_file es)) (map (method_text (numbered es)) methods)
 methods_are es [] small good h faults code = tt
 methods_are es (m ∷ methods) small good h faults code = (
-  method_is es m small good.0 (front (Found es) (method_needs m) (flat_map method_needs methods) h) faults.0 code.0,
-  methods_are es methods small good.1 (back (Found es) (method_needs m) (flat_map method_needs methods) h) faults.1 code.1,
+  method_is es m small good.0 (all_front (Found es) (method_needs m) (flat_map method_needs methods) h) faults.0 code.0,
+  methods_are es methods small good.1 (all_back (Found es) (method_needs m) (flat_map method_needs methods) h) faults.1 code.1,
 )
 
 method_keys : (es : List Entry) (methods : List MethodLines) → 1 + room es < 2 ^ 16 → AllByRecursion (Found es) (flat_map method_needs methods)
@@ -355,10 +358,10 @@ method_keys : (es : List Entry) (methods : List MethodLines) → 1 + room es < 2
 method_keys es [] small h = refl
 method_keys es (m ∷ methods) small h =
     let own = needed m.line (Utf8 m.head.name ∷ Utf8 m.head.desc ∷ []) in
-    let texts = front (Found es) own (cond (is_some m.head.sizes) (code_needs m) []) (front (Found es) (method_needs m) (flat_map method_needs methods) h) in
+    let texts = all_front (Found es) own (cond (is_some m.head.sizes) (code_needs m) []) (all_front (Found es) (method_needs m) (flat_map method_needs methods) h) in
     let key = one_key _ _ m.head.name m.head.desc (says es m.head.name texts.0.0 small) (says es m.head.desc texts.1.0.0 small) in
     ap (λ (k : Key). k ∷ map (key_of (in_file es)) (map (method_text (numbered es)) methods)) key
-    ∙ ap (λ (ks : List Key). the_key m.head.name m.head.desc ∷ ks) (method_keys es methods small (back (Found es) (method_needs m) (flat_map method_needs methods) h))
+    ∙ ap (λ (ks : List Key). the_key m.head.name m.head.desc ∷ ks) (method_keys es methods small (all_back (Found es) (method_needs m) (flat_map method_needs methods) h))
 
 -- ---- the class
 
@@ -366,7 +369,7 @@ class_attributes : (es : List Entry) (attributes : List (ℕ × AttributeLine)) 
     → AllByRecursion (IsOtherAttribute (in_file es)) (map (classes.attribute_text (numbered es)) attributes)
 class_attributes es [] small h good = tt
 class_attributes es (a ∷ attributes) small h good = (
-  record { name = text_is es a.1.name h.0.0 small; fits = is_less (length a.1.content) (2 ^ 32) (is_good (content_fits a.1.content) a.0 good.0) },
+  record { name = text_is es a.1.name h.0.0 small; fits = nat_lt_true (length a.1.content) (2 ^ 32) (is_good (content_fits a.1.content) a.0 good.0) },
   class_attributes es attributes small h.1 good.1,
 )
 
@@ -406,16 +409,16 @@ in_pool line class listing none =
     let of_methods = flat_map method_needs listing.methods in
     let of_attributes = flat_map attribute_needs listing.attributes in
     let of_constants = flat_map constant_needs listing.constants in
-    let to_attributes = front (Found es) (own ++ of_fields ++ of_methods ++ of_attributes) of_constants all in
-    let to_methods = front (Found es) (own ++ of_fields ++ of_methods) of_attributes to_attributes in
-    let to_fields = front (Found es) (own ++ of_fields) of_methods to_methods in
+    let to_attributes = all_front (Found es) (own ++ of_fields ++ of_methods ++ of_attributes) of_constants all in
+    let to_methods = all_front (Found es) (own ++ of_fields ++ of_methods) of_attributes to_attributes in
+    let to_fields = all_front (Found es) (own ++ of_fields) of_methods to_methods in
     record {
       small = pool_room needs (right (flat_map need_faults needs) (count_faults 1 (firsts_in needs)) none);
-      own = of_needed (AllIn es) line (Class class.name ∷ Class (super_of class) ∷ map (λ name. Class name) class.interfaces) (front (Found es) own of_fields to_fields);
-      fields = back (Found es) own of_fields to_fields;
-      methods = back (Found es) (own ++ of_fields) of_methods to_methods;
-      attributes = back (Found es) (own ++ of_fields ++ of_methods) of_attributes to_attributes;
-      constants = back (Found es) (own ++ of_fields ++ of_methods ++ of_attributes) of_constants all;
+      own = of_needed (AllIn es) line (Class class.name ∷ Class (super_of class) ∷ map (λ name. Class name) class.interfaces) (all_front (Found es) own of_fields to_fields);
+      fields = all_back (Found es) own of_fields to_fields;
+      methods = all_back (Found es) (own ++ of_fields) of_methods to_methods;
+      attributes = all_back (Found es) (own ++ of_fields ++ of_methods) of_attributes to_attributes;
+      constants = all_back (Found es) (own ++ of_fields ++ of_methods ++ of_attributes) of_constants all;
     }
 
 pub no_pool_faults : (line : ℕ) (class : ClassLine) (listing : Listing) → all_faults line class listing ≡ [] → pool_faults (listing_needs line class listing) ≡ []
@@ -460,7 +463,7 @@ good_class class h =
       name = first_of_both (is_class_name class.name) (is_class_name (super_of class)) two;
       super_name = second_of_both (is_class_name class.name) (is_class_name (super_of class)) two;
       interfaces = second_of_both (is_class_name class.name && is_class_name (super_of class)) (list_all is_class_name class.interfaces) three;
-      few = is_less (length class.interfaces) (2 ^ 16) (second_of_both _ (nat_lt (length class.interfaces) (2 ^ 16)) four);
+      few = nat_lt_true (length class.interfaces) (2 ^ 16) (second_of_both _ (nat_lt (length class.interfaces) (2 ^ 16)) four);
     }
 
 -- what the faults of members and of attributes ask
@@ -502,14 +505,14 @@ well_formed line class listing plain good none =
       flags_fit = flags_by class.is_interface class.is_abstract;
       this_class = class_is es class.name there.own.0 small c.name;
       super_class = class_is es (super_of class) there.own.1.0 small c.super_name;
-      interfaces_fit = omega (arith, c.few, mapped_length (λ (name : List ℕ). number_of pool (Class name)) class.interfaces);
+      interfaces_fit = omega (arith, c.few, length_mapped (λ (name : List ℕ). number_of pool (Class name)) class.interfaces);
       interfaces = interfaces_are es class.interfaces small there.own.1.1 c.interfaces;
-      fields_fit = omega (arith, fields.few, mapped_length (field_text pool) listing.fields);
+      fields_fit = omega (arith, fields.few, length_mapped (field_text pool) listing.fields);
       fields = fields_are es listing.fields small there.fields fields.each;
       fields_differ = subst (IsDistinct same_key) (sym (field_keys es listing.fields small there.fields)) (distinct_from [] (map field_key listing.fields) fields.once).1;
-      methods_fit = omega (arith, methods.few, mapped_length (method_text pool) listing.methods);
+      methods_fit = omega (arith, methods.few, length_mapped (method_text pool) listing.methods);
       methods = methods_are es listing.methods small good.methods there.methods methods.each faults.codes;
       methods_differ = subst (IsDistinct same_key) (sym (method_keys es listing.methods small there.methods)) (distinct_from [] (map method_key listing.methods) methods.once).1;
-      attributes_fit = omega (arith, few_attributes, mapped_length (classes.attribute_text pool) listing.attributes);
+      attributes_fit = omega (arith, few_attributes, length_mapped (classes.attribute_text pool) listing.attributes);
       attributes = class_attributes es listing.attributes small there.attributes (each attribute_faults listing.attributes (left each_attribute past_attribute faults.attributes));
     }

@@ -2,6 +2,7 @@
 use Rattle.std.proofs.Common.{◌≡◌, ℕ, ◌+◌, ◌<◌, ◌^◌, Bool, true, false, cond, ◌&&◌, List, [], ◌∷◌, ◌++◌, map, Option, Some, None, Ok, is_some, refl, sym, ap, subst, ◌∙◌}
 use Rattle.std.specs.List.{flat_map, list_all, AllByRecursion}
 use Rattle.std.specs.Option.{option_map_or, unwrap_or}
+use Rattle.list_views.proofs.Quantified.{all_front, all_back}
 use Rattle.class_read.specs.Content.{FieldContent}
 use Rattle.class_base.specs.MemberKinds.{is_descriptor}
 use Rattle.class_read.specs.Rules.{name_of, field_of, method_of, codes_in, first_of, content_of}
@@ -26,7 +27,7 @@ use Rattle.asm_pool.specs.Entries.{Entry, Utf8, Class}
 use Rattle.asm_pool.specs.Needs.{insn_entries, catch_entries, attribute_entries, line_needs, code_name, code_needs, field_needs, method_needs, super_of, listing_needs}
 use Rattle.asm_pool.specs.Pools.{Numbered, needed, numbered, number_of, pool_in}
 use Rattle.asm_pool.proofs.PoolBounds.{room}
-use Rattle.asm_pool.proofs.PoolEntries.{AllIn, in_file, front, back, entries_in}
+use Rattle.asm_pool.proofs.PoolEntries.{AllIn, in_file, entries_in}
 use Rattle.asm_pool.proofs.PoolRules.{class_there}
 use Rattle.class_asm.specs.Classes as classes
 use Rattle.class_asm.specs.Classes.{pooled, code_in, said_faults, code_attributes, code_fits, code_faults, field_text, size_of, method_text, class_text, all_faults}
@@ -58,11 +59,11 @@ body_said es m sizes small fit h k =
     let insns = flat_map (line_needs insn_entries) m.lines in
     let catches = flat_map (line_needs catch_entries) m.lines in
     let others = flat_map (line_needs attribute_entries) m.lines in
-    let no_others = front (Found es) (name ++ insns ++ catches) others h in
-    let in_insns = back (Found es) name insns (front (Found es) (name ++ insns) catches no_others) in
+    let no_others = all_front (Found es) (name ++ insns ++ catches) others h in
+    let in_insns = all_back (Found es) name insns (all_front (Found es) (name ++ insns) catches no_others) in
     let none = no_fault lines (left (said_faults (classes.code_said pool m)) (unless (code_fits code (code_attributes pool m.lines)) m.line) k) in
     let is_code = the_code lines none in
-    let said = code_said (NamesEntry (in_file es)) (NamesCaught (in_file es)) lines none (lines_named es m.lines small in_insns (back (Found es) (name ++ insns) catches no_others)) in
+    let said = code_said (NamesEntry (in_file es)) (NamesCaught (in_file es)) lines none (lines_named es m.lines small in_insns (all_back (Found es) (name ++ insns) catches no_others)) in
     record {
       max_stack = fitting (pair_of sizes.0) (first_of_both (is_some (pair_of sizes.0)) (is_some (pair_of sizes.1)) fit);
       max_locals = fitting (pair_of sizes.1) (second_of_both (is_some (pair_of sizes.0)) (is_some (pair_of sizes.1)) fit);
@@ -85,7 +86,7 @@ method_said : (es : List Entry) (m : MethodLines) → 1 + room es < 2 ^ 16 → A
 method_said es m small h faults code =
     let own = needed m.line (Utf8 m.head.name ∷ Utf8 m.head.desc ∷ []) in
     let more = cond (is_some m.head.sizes) (code_needs m) [] in
-    let texts = front (Found es) own more h in
+    let texts = all_front (Found es) own more h in
     let good = is_descriptor Method (method_flags m.head) m.head.desc in
     let lines = attribute_lines m.lines in
     let both = is_good (good && sizes_fit m.head.sizes) m.line (left (unless (good && sizes_fit m.head.sizes) m.line) (past_count (λ line. line) lines) faults) in
@@ -93,15 +94,15 @@ method_said es m small h faults code =
       flags = refl;
       name = says es m.head.name texts.0.0 small;
       desc = says es m.head.desc texts.1.0.0 small;
-      code = sizes_said es m m.head.sizes small (second_of_both good (sizes_fit m.head.sizes) both) (back (Found es) own more h) code;
+      code = sizes_said es m m.head.sizes small (second_of_both good (sizes_fit m.head.sizes) both) (all_back (Found es) own more h) code;
     }
 
 methods_said : (es : List Entry) (methods : List MethodLines) → 1 + room es < 2 ^ 16 → AllByRecursion (Found es) (flat_map method_needs methods) → AllByRecursion (λ m. method_faults m ≡ []) methods
     → AllByRecursion (λ m. code_faults (numbered es) m ≡ []) methods → InTurn (SaysMethod (in_file es)) methods (map (method_of (in_file es)) (map (method_text (numbered es)) methods))
 methods_said es [] small h faults code = tt
 methods_said es (m ∷ methods) small h faults code = (
-  method_said es m small (front (Found es) (method_needs m) (flat_map method_needs methods) h) faults.0 code.0,
-  methods_said es methods small (back (Found es) (method_needs m) (flat_map method_needs methods) h) faults.1 code.1,
+  method_said es m small (all_front (Found es) (method_needs m) (flat_map method_needs methods) h) faults.0 code.0,
+  methods_said es methods small (all_back (Found es) (method_needs m) (flat_map method_needs methods) h) faults.1 code.1,
 )
 
 -- ---- fields and interfaces
@@ -116,10 +117,10 @@ fields_said : (es : List Entry) (fields : List (ℕ × FieldLine)) → 1 + room 
     → map (field_of (in_file es)) (map (field_text (numbered es)) fields) ≡ map field_said fields
 fields_said es [] small h = refl
 fields_said es (f ∷ fields) small h =
-    let own = front (Found es) (field_needs f) (flat_map field_needs fields) h in
+    let own = all_front (Found es) (field_needs f) (flat_map field_needs fields) h in
     let field = the_field _ _ _ f.1.name f.1.desc (says es f.1.name own.0.0 small) (says es f.1.desc own.1.0.0 small) in
     ap (λ (c : FieldContent). c ∷ map (field_of (in_file es)) (map (field_text (numbered es)) fields)) field
-    ∙ ap (λ (cs : List FieldContent). field_said f ∷ cs) (fields_said es fields small (back (Found es) (field_needs f) (flat_map field_needs fields) h))
+    ∙ ap (λ (cs : List FieldContent). field_said f ∷ cs) (fields_said es fields small (all_back (Found es) (field_needs f) (flat_map field_needs fields) h))
 
 name_said : (es : List Entry) (name : List ℕ) → AllIn es (Class name) → 1 + room es < 2 ^ 16 → name_of (in_file es) (number_of (numbered es) (Class name)) ≡ name
 name_said es name h small = ap (λ (o : Option (List ℕ)). unwrap_or o []) (class_there es name h small)

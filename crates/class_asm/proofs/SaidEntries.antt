@@ -3,6 +3,7 @@ use Rattle.std.proofs.Common.{◌≡◌, ℕ, ℤ, ◌+◌, ◌<◌, ◌^◌, Bo
 use Rattle.std.specs.Prelude.{option_map, nat_lt, nat_le}
 use Rattle.std.specs.List.{flat_map, AllByRecursion}
 use Rattle.std.specs.Option.{option_map_or, option_and_then, option_to_list}
+use Rattle.list_views.proofs.Quantified.{all_front, all_back}
 use Rattle.class_pool.specs.Text.{value_of, pair_of, member_of, name_and_type_at, member_at}
 use Rattle.class_base.specs.ClassNames.{is_class_name}
 use Rattle.class_base.specs.MethodTypes.{method_words}
@@ -21,7 +22,7 @@ use Rattle.asm_pool.specs.Entries.{Entry, Utf8, Integer, Class, Str, Member, Nam
 use Rattle.asm_pool.specs.Needs.{member_tag, is_member_descriptor, is_class_or_array, insn_entries, catch_entries, line_needs, catch_entry}
 use Rattle.asm_pool.specs.Pools.{numbered, number_of}
 use Rattle.asm_pool.proofs.PoolBounds.{room}
-use Rattle.asm_pool.proofs.PoolEntries.{AllIn, IsIn, in_file, entry_is, front, back, of_needed}
+use Rattle.asm_pool.proofs.PoolEntries.{AllIn, IsIn, in_file, entry_is, of_needed}
 use Rattle.asm_pool.proofs.PoolRules.{text_there, class_there}
 use Rattle.asm_lines.proofs.Faultless.{first_of_both, second_of_both}
 use Rattle.class_asm.specs.Classes.{call_words, entry_need, item_need, pooled, no_need}
@@ -139,8 +140,8 @@ pub lines_named : (es : List Entry) (lines : List CodeLine) → 1 + room es < 2 
     → AllByRecursion (IsNamed (NamesEntry (in_file es)) (NamesCaught (in_file es))) (map (pooled (numbered es)) lines)
 lines_named es [] small h k = tt
 lines_named es (code ∷ lines) small h k =
-    let insns = of_needed (AllIn es) code.line (insn_entries code.item) (front (Found es) (line_needs insn_entries code) (flat_map (line_needs insn_entries) lines) h) in
-    let catches = of_needed (AllIn es) code.line (catch_entries code.item) (front (Found es) (line_needs catch_entries code) (flat_map (line_needs catch_entries) lines) k) in (
+    let insns = of_needed (AllIn es) code.line (insn_entries code.item) (all_front (Found es) (line_needs insn_entries code) (flat_map (line_needs insn_entries) lines) h) in
+    let catches = of_needed (AllIn es) code.line (catch_entries code.item) (all_front (Found es) (line_needs catch_entries code) (flat_map (line_needs catch_entries) lines) k) in (
       item_named es code.item small insns catches,
-      lines_named es lines small (back (Found es) (line_needs insn_entries code) (flat_map (line_needs insn_entries) lines) h) (back (Found es) (line_needs catch_entries code) (flat_map (line_needs catch_entries) lines) k),
+      lines_named es lines small (all_back (Found es) (line_needs insn_entries code) (flat_map (line_needs insn_entries) lines) h) (all_back (Found es) (line_needs catch_entries code) (flat_map (line_needs catch_entries) lines) k),
     )

@@ -7,6 +7,7 @@ use Rattle.std.proofs.lemmas.Bool.{cases_Bool, leb-true, le-leb, eqb-true}
 use Rattle.std.proofs.lemmas.Option.{cond_some}
 use Rattle.std.proofs.lemmas.List.{length-append, append-nil, nil_from_length}
 use Rattle.std.proofs.lemmas.List.Concat.{flat_map-cons}
+use Rattle.list_views.proofs.Options.{map_some}
 use Rattle.class_base.specs.declared.types.Element.{Element}
 use Rattle.class_base.specs.declared.types.Element.TheVariants.{Primitive, Object}
 use Rattle.class_base.specs.declared.types.FieldType.{FieldType}
@@ -18,10 +19,6 @@ use Rattle.class_base.specs.Types.{is_primitive, IsElement, IsType, element_text
 use Rattle.class_base.specs.MethodTypes.{returned_text, IsReturned, words_of, IsMethodType, HasWords, types_at, returned_at, method_type, method_words, method_descriptor}
 use Rattle.class_base.specs.MemberKinds.{receiver_words, is_descriptor, IsDescriptor}
 use Rattle.class_base.proofs.TypeLaws.{then_some, read_to, read_is, type_again, type_takes, field_again, field_found}
-
-mapped_some : {A B : Type 0} (f : A → B) (o : Option A) (y : B) → option_map f o ≡ Some y → (x : A) × (o ≡ Some x) × (f x ≡ y)
-mapped_some f (Some x) y e = (x, refl, cc)
-mapped_some f None y e = absurd cc
 
 -- a type begins with a byte that is neither `)` nor `V`
 record Starts (bytes : List ℕ) : Type 0 where
@@ -96,10 +93,10 @@ types_take (suc turns) (b ∷ bytes) ts rest e = elim (cases_Bool (eqb b 41)) [
   | inr other ↦
       let here : option_and_then (λ x. option_map (with_first x.0) (types_at turns x.1)) (type_at (b ∷ bytes)) ≡ Some (ts, rest) = rw other at e in
       let s = then_some (type_at (b ∷ bytes)) (λ x. option_map (with_first x.0) (types_at turns x.1)) (ts, rest) here in
-      let m = mapped_some (with_first s.0.0) (types_at turns s.0.1) (ts, rest) s.2 in
-      let h = read_is (s.0.0 ∷ m.0.0) m.0.1 ts rest (ap Some m.2) in
+      let m = map_some (with_first s.0.0) (types_at turns s.0.1) (ts, rest) s.2 in
+      let h = read_is (s.0.0 ∷ m.0.0) m.0.1 ts rest (ap Some m.1.1) in
       let k = type_takes (b ∷ bytes) s.0.0 s.0.1 s.1 in
-      let u = types_take turns s.0.1 m.0.0 m.0.1 m.1 in
+      let u = types_take turns s.0.1 m.0.0 m.0.1 m.1.0 in
       subst (λ us. TakesTypes (b ∷ bytes) us rest) h.0 (record {
         good = (k.good, u.good);
         parts =
@@ -137,9 +134,9 @@ returned_found (b ∷ d) r e = elim (cases_Bool (eqb b 86)) [
       subst (Returns (b ∷ d)) c.1 (tt, ap (λ (n : ℕ). n ∷ d) (eqb-true b 86 is) ∙ ap (λ (r : List ℕ). 86 ∷ r) (nil_from_length d (eqb-true _ _ c.0)))
   | inr other ↦
       let here : option_map Some (field_type (b ∷ d)) ≡ Some r = rw other at e in
-      let m = mapped_some Some (field_type (b ∷ d)) r here in
-      let f = field_found m.0 (b ∷ d) m.1 in
-      subst (Returns (b ∷ d)) m.2 (f.good, f.text)
+      let m = map_some Some (field_type (b ∷ d)) r here in
+      let f = field_found m.0 (b ∷ d) m.1.0 in
+      subst (Returns (b ∷ d)) m.1.1 (f.good, f.text)
 ]
 
 -- ---- methods
@@ -177,10 +174,10 @@ method_found m (b ∷ d) e = elim (cases_Bool (eqb b 40)) [
       let next : List FieldType × List ℕ → Option MethodType = λ x. option_map (with_types x.0) (returned_at x.1) in
       let here : option_and_then next (types_at (length d) d) ≡ Some m = rw is at e in
       let s = then_some (types_at (length d) d) next m here in
-      let o = mapped_some (with_types s.0.0) (returned_at s.0.1) m s.2 in
+      let o = map_some (with_types s.0.0) (returned_at s.0.1) m s.2 in
       let k = types_take (length d) d s.0.0 s.0.1 s.1 in
-      let r = returned_found s.0.1 o.0 o.1 in
-      subst (λ n. IsMethodType n (b ∷ d)) o.2 (record {
+      let r = returned_found s.0.1 o.0 o.1.0 in
+      subst (λ n. IsMethodType n (b ∷ d)) o.1.1 (record {
         params = k.good;
         returned = r.0;
         text = ap (λ (n : ℕ). n ∷ d) (eqb-true b 40 is) ∙ ap (λ (x : List ℕ). 40 ∷ x) (k.parts ∙ ap (λ (x : List ℕ). flat_map type_text s.0.0 ++ 41 ∷ x) r.1);
@@ -197,8 +194,8 @@ read_exactly (Err e) d is = tt
 
 pub words_found : (w : ℕ) (d : List ℕ) → method_words d ≡ Some w → HasWords w d
 words_found w d e =
-    let m = mapped_some (λ (x : MethodType). words_of x.params) (method_type d) w e in
-    record { method = m.0; descriptor = method_found m.0 d m.1; words_are = m.2 }
+    let m = map_some (λ (x : MethodType). words_of x.params) (method_type d) w e in
+    record { method = m.0; descriptor = method_found m.0 d m.1.0; words_are = m.1.1 }
 
 pub words_again : (w : ℕ) (d : List ℕ) → HasWords w d → method_words d ≡ Some w
 words_again w d h = ap (option_map (λ (x : MethodType). words_of x.params)) (method_again h.method d h.descriptor) ∙ ap (λ (n : ℕ). Some n) h.words_are

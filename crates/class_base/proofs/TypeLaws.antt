@@ -4,8 +4,8 @@ use Rattle.std.specs.Prelude.{position, replicate}
 use Rattle.std.specs.List.{list_all, position_or_len}
 use Rattle.std.specs.Option.{option_and_then}
 use Rattle.std.specs.Str.{is_utf8}
-use Rattle.std.proofs.lemmas.Bool.{cases_Bool, ltb-false, lt-ltb, le-ltb, eqb-true}
-use Rattle.std.proofs.lemmas.Option.{cond_some}
+use Rattle.std.proofs.lemmas.Bool.{cases_Bool, ltb-false, lt-ltb, le-ltb, eqb-true, and_parts}
+use Rattle.std.proofs.lemmas.Option.{cond_some, same_Some}
 use Rattle.std.proofs.lemmas.List.{take_at, drop_at, take-append-drop, length-append, append-nil, length-replicate, nil_from_length}
 use Rattle.std.proofs.lemmas.List.Quantifiers.{position-Some}
 use Rattle.std.proofs.Math.Seq.{drop-cons}
@@ -25,11 +25,6 @@ chosen_some : {A : Type 0} (b : Bool) (x : Option A) (y : A) → cond b None x �
 chosen_some true x y e = absurd cc
 chosen_some false x y e = (refl, e)
 
-both : (a b : Bool) → (a && b) ≡ true → (a ≡ true) × (b ≡ true)
-both true true e = (refl, refl)
-both true false e = (refl, e)
-both false b e = (e, absurd cc)
-
 -- what was read, and what is left
 abbrev pub read_to : {A : Type 0} → A → List ℕ → A × List ℕ
 read_to x rest = (x, rest)
@@ -37,11 +32,8 @@ read_to x rest = (x, rest)
 parts_of : {A : Type 0} (x y : A × List ℕ) → x ≡ y → (x.0 ≡ y.0) × (x.1 ≡ y.1)
 parts_of x y e = (ap (λ p. p.0) e, ap (λ p. p.1) e)
 
-some_is : {A : Type 0} (x y : A) → Some x ≡ Some y → x ≡ y
-some_is x y e = cc
-
 pub read_is : {A : Type 0} (x : A) (rest : List ℕ) (y : A) (end : List ℕ) → Some (read_to x rest) ≡ Some (read_to y end) → (x ≡ y) × (rest ≡ end)
-read_is x rest y end e = parts_of (read_to x rest) (read_to y end) (some_is (read_to x rest) (read_to y end) e)
+read_is x rest y end e = parts_of (read_to x rest) (read_to y end) (same_Some (read_to x rest) (read_to y end) e)
 
 -- ---- class names up to a semicolon
 
@@ -57,7 +49,7 @@ no_semicolon b h = elim (cases_Bool (eqb b 59)) [
 semicolon_at : (name rest : List ℕ) → list_all is_name_byte name ≡ true → position_or_len (λ b. eqb b 59) (name ++ 59 ∷ rest) ≡ length name
 semicolon_at [] rest h = refl
 semicolon_at (b ∷ name) rest h =
-    let h2 = both (is_name_byte b) (list_all is_name_byte name) h in
+    let h2 = and_parts (is_name_byte b) (list_all is_name_byte name) h in
     let others = semicolon_at name rest h2.1 in
     rw (no_semicolon b h2.0) (omega (arith, others))
 
@@ -68,7 +60,7 @@ position_again name rest h =
     rw (at, inside) refl
 
 name_bytes : (name : List ℕ) → is_class_name name ≡ true → list_all is_name_byte name ≡ true
-name_bytes name h = (both (ltb 0 (length name)) (list_all is_name_byte name) (both (ltb 0 (length name) && list_all is_name_byte name) (is_utf8 name) h).0).1
+name_bytes name h = (and_parts (ltb 0 (length name)) (list_all is_name_byte name) (and_parts (ltb 0 (length name) && list_all is_name_byte name) (is_utf8 name) h).0).1
 
 object_again : (name rest : List ℕ) → is_class_name name ≡ true → object_at ((name ++ 59 ∷ []) ++ rest) ≡ Some (Object name, rest)
 unfolding object_at

@@ -1,4 +1,4 @@
--- Members by their names and descriptors.
+-- Members by their names and descriptors (JVM specification, sections 4.5 and 4.6).
 use Rattle.std.specs.Prelude.{ℕ, ◌&&◌, Bool, List}
 use Rattle.std.specs.Str.{bytes_eq}
 

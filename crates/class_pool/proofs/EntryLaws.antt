@@ -2,7 +2,8 @@
 use Rattle.std.proofs.Common.{◌≡◌, ℕ, ℤ, ◌+◌, ◌-◌, ◌≤◌, Bool, true, false, cond, eqb, leb, ◌&&◌, List, [], ◌∷◌, ◌++◌, length, Option, Some, None, Result, Ok, Err, refl, sym, ap, subst, ◌∙◌, arith, inl, inr, ◌⊎◌, leb-true}
 use Rattle.std.specs.Prelude.{position}
 use Rattle.std.specs.Option.{option_map_or}
-use Rattle.std.proofs.lemmas.Bool.{eqb-true, ne_eqb, cases_lt}
+use Rattle.std.proofs.lemmas.Bool.{eqb-true, ne_eqb, cases_lt, and_parts}
+use Rattle.list_views.proofs.Options.{cond_either}
 use Rattle.class_pool.specs.declared.entry.PoolEntry.{PoolEntry}
 use Rattle.class_pool.specs.declared.entry.PoolEntry.TheVariants.{Utf8, Integer, Float, Long, Double, Class, Str, Member, NameAndType, MethodHandle, MethodType, InvokeDynamic}
 use Rattle.class_pool.specs.declared.fault.PoolFault.{PoolFault}
@@ -10,11 +11,6 @@ use Rattle.class_pool.specs.declared.fault.PoolFault.TheVariants.{BadTag, BadUtf
 use Rattle.class_pool.specs.Entry.{tag_of, content_of, is_wide, entry_bytes, is_barred, HasText, IsAllowed, Fits}
 use Rattle.class_pool.specs.Reading.{◌>>=◌, Read, Unread, number_at, signed_at, counted_at, indexes_at, handle_at, content_at, entry_text_at, text_rule, is_wide_tag, starts_wide, entry_at_place}
 use Rattle.class_pool.proofs.Fields.{IsBytes, bind_ok, guard_ok, ok_is, Takes, Takes-then, back_2, back_4, back_8, number_takes, number_again, byte_takes, byte_again, signed_takes, signed_again, counted_takes, counted_again, indexes_takes, indexes_again, handle_takes, handle_again}
-
--- which way a test went
-chosen : {A : Type 0} (b : Bool) (x y z : A) → cond b x y ≡ z → ((b ≡ true) × (x ≡ z)) ⊎ ((b ≡ false) × (y ≡ z))
-chosen true x y z e = inl (refl, e)
-chosen false x y z e = inr (refl, e)
 
 -- a field that was read and made into an entry
 mapped : {A : Type 0} (r : Read A) (make : A → PoolEntry) (x : PoolEntry × Unread) → (r >>= λ k. Ok (make k.0, k.1)) ≡ Ok x → (k : A × Unread) × (r ≡ Ok k) × ((make k.0, k.1) ≡ x)
@@ -25,71 +21,67 @@ mapped r make x e =
 abbrev IsContent : ℕ → Unread → PoolEntry × Unread → Type 0
 IsContent tag u x = Takes u (content_of x.0) x.1 × (tag_of x.0 ≡ tag) × HasText x.0
 
-both_true : (a b : Bool) → (a && b) ≡ true → (a ≡ true) × (b ≡ true)
-both_true true b e = (refl, e)
-both_true false b e = absurd cc
-
 content_takes : (at tag : ℕ) (u : Unread) (x : PoolEntry × Unread) → IsBytes u.bytes → content_at at tag u ≡ Ok x → IsContent tag u x
 unfolding content_at
 content_takes at tag u x fits e =
     let P : PoolEntry × Unread → Type 0 = λ y. IsContent tag u y in
-    elim (chosen (eqb tag 1) _ _ _ e) [
+    elim (cond_either (eqb tag 1) _ _ _ e) [
       | inl (is, e1) ↦
           let m = mapped (counted_at u) Utf8 x e1 in
           let t = counted_takes u m.0 fits m.1 in
           subst P m.2 (t.0, sym (eqb-true _ _ is), t.1)
-      | inr (_, e2) ↦ elim (chosen (eqb tag 3) _ _ _ e2) [
+      | inr (_, e2) ↦ elim (cond_either (eqb tag 3) _ _ _ e2) [
         | inl (is, e1) ↦
             let m = mapped (signed_at u) Integer x e1 in
             let t = signed_takes u m.0 fits m.1 in
             subst P m.2 (t.0, sym (eqb-true _ _ is), t.1)
-        | inr (_, e3) ↦ elim (chosen (eqb tag 4) _ _ _ e3) [
+        | inr (_, e3) ↦ elim (cond_either (eqb tag 4) _ _ _ e3) [
           | inl (is, e1) ↦
               let m = mapped (number_at 4 u) Float x e1 in
               let t = number_takes 4 back_4 u m.0 fits m.1 in
               subst P m.2 (t.0, sym (eqb-true _ _ is), t.1)
-          | inr (_, e4) ↦ elim (chosen (eqb tag 5) _ _ _ e4) [
+          | inr (_, e4) ↦ elim (cond_either (eqb tag 5) _ _ _ e4) [
             | inl (is, e1) ↦
                 let m = mapped (number_at 8 u) Long x e1 in
                 let t = number_takes 8 back_8 u m.0 fits m.1 in
                 subst P m.2 (t.0, sym (eqb-true _ _ is), t.1)
-            | inr (_, e5) ↦ elim (chosen (eqb tag 6) _ _ _ e5) [
+            | inr (_, e5) ↦ elim (cond_either (eqb tag 6) _ _ _ e5) [
               | inl (is, e1) ↦
                   let m = mapped (number_at 8 u) Double x e1 in
                   let t = number_takes 8 back_8 u m.0 fits m.1 in
                   subst P m.2 (t.0, sym (eqb-true _ _ is), t.1)
-              | inr (_, e6) ↦ elim (chosen (eqb tag 7) _ _ _ e6) [
+              | inr (_, e6) ↦ elim (cond_either (eqb tag 7) _ _ _ e6) [
                 | inl (is, e1) ↦
                     let m = mapped (number_at 2 u) Class x e1 in
                     let t = number_takes 2 back_2 u m.0 fits m.1 in
                     subst P m.2 (t.0, sym (eqb-true _ _ is), t.1)
-                | inr (_, e7) ↦ elim (chosen (eqb tag 8) _ _ _ e7) [
+                | inr (_, e7) ↦ elim (cond_either (eqb tag 8) _ _ _ e7) [
                   | inl (is, e1) ↦
                       let m = mapped (number_at 2 u) Str x e1 in
                       let t = number_takes 2 back_2 u m.0 fits m.1 in
                       subst P m.2 (t.0, sym (eqb-true _ _ is), t.1)
-                  | inr (_, e8) ↦ elim (chosen (leb 9 tag && leb tag 11) _ _ _ e8) [
+                  | inr (_, e8) ↦ elim (cond_either (leb 9 tag && leb tag 11) _ _ _ e8) [
                     | inl (is, e1) ↦
                         let m = mapped (indexes_at u) (λ p. Member tag p.0 p.1) x e1 in
                         let t = indexes_takes u m.0 fits m.1 in
-                        let b = both_true (leb 9 tag) (leb tag 11) is in
+                        let b = and_parts (leb 9 tag) (leb tag 11) is in
                         subst P m.2 (t.0, refl, (leb-true _ _ b.0, leb-true _ _ b.1, t.1, t.2))
-                    | inr (_, e9) ↦ elim (chosen (eqb tag 12) _ _ _ e9) [
+                    | inr (_, e9) ↦ elim (cond_either (eqb tag 12) _ _ _ e9) [
                       | inl (is, e1) ↦
                           let m = mapped (indexes_at u) (λ p. NameAndType p.0 p.1) x e1 in
                           let t = indexes_takes u m.0 fits m.1 in
                           subst P m.2 (t.0, sym (eqb-true _ _ is), (t.1, t.2))
-                      | inr (_, e10) ↦ elim (chosen (eqb tag 15) _ _ _ e10) [
+                      | inr (_, e10) ↦ elim (cond_either (eqb tag 15) _ _ _ e10) [
                         | inl (is, e1) ↦
                             let m = mapped (handle_at u) (λ p. MethodHandle p.0 p.1) x e1 in
                             let t = handle_takes u m.0 fits m.1 in
                             subst P m.2 (t.0, sym (eqb-true _ _ is), (t.1, t.2))
-                        | inr (_, e11) ↦ elim (chosen (eqb tag 16) _ _ _ e11) [
+                        | inr (_, e11) ↦ elim (cond_either (eqb tag 16) _ _ _ e11) [
                           | inl (is, e1) ↦
                               let m = mapped (number_at 2 u) MethodType x e1 in
                               let t = number_takes 2 back_2 u m.0 fits m.1 in
                               subst P m.2 (t.0, sym (eqb-true _ _ is), t.1)
-                          | inr (_, e12) ↦ elim (chosen (eqb tag 18) _ _ _ e12) [
+                          | inr (_, e12) ↦ elim (cond_either (eqb tag 18) _ _ _ e12) [
                             | inl (is, e1) ↦
                                 let m = mapped (indexes_at u) (λ p. InvokeDynamic p.0 p.1) x e1 in
                                 let t = indexes_takes u m.0 fits m.1 in

@@ -1,10 +1,11 @@
 -- The first entry that names badly, as a loop over the numbers finds it.
 use Rattle.std.proofs.Common.{◌≡◌, ℕ, ◌<◌, ◌≤◌, Bool, true, false, cond, ltb, List, length, get_or, Option, Some, None, refl, sym, ap, ◌∙◌, arith, inl, inr, not}
 use Rattle.std.specs.List.{position_or_len, list_all}
-use Rattle.std.proofs.lemmas.Bool.{lt-ltb, le-ltb, cases_lt, false≢true}
+use Rattle.std.proofs.lemmas.Bool.{lt-ltb, le-ltb, cases_lt, false≢true, not-false}
 use Rattle.std.proofs.lemmas.List.{get_or_past}
 use Rattle.std.proofs.lemmas.Option.{none-some}
 use Rattle.std.proofs.lemmas.List.Sums.{position_or_len_is, fails_before_first}
+use Rattle.list_views.proofs.Options.{none_from_place}
 use Rattle.class_pool.specs.declared.entry.PoolEntry.{PoolEntry}
 use Rattle.class_pool.specs.Entry.{names_of}
 use Rattle.class_pool.specs.Text.{places_of, entry_at, stands, names_badly, first_bad_index}
@@ -28,10 +29,6 @@ none_is entries below =
 
 -- ---- what a pool's entries name stands
 
-not_false : (b : Bool) → not b ≡ false → b ≡ true
-not_false true h = refl
-not_false false h = absurd (false≢true (sym h))
-
 -- an entry that is there has a place
 within : (xs : List (Option PoolEntry)) (i : ℕ) (e : PoolEntry) → get_or xs i None ≡ Some e → i < length xs
 within xs i e here =
@@ -40,16 +37,9 @@ within xs i e here =
       | inr past ↦ absurd (none-some e (sym (get_or_past xs i None past) ∙ here))
     ]
 
-none_from_position : (n len : ℕ) → cond (ltb n len) (Some n) None ≡ None → len ≤ n
-none_from_position n len h =
-    elim (cases_lt n len) [
-      | inl lt ↦ absurd (none-some n (sym h ∙ ap (λ (b : Bool). cond b (Some n) None) (lt-ltb n len lt)))
-      | inr le ↦ le
-    ]
-
 pub all_stand : (entries : List PoolEntry) (i : ℕ) (e : PoolEntry) → first_bad_index entries ≡ None → entry_at entries i ≡ Some e → list_all (stands entries) (names_of e) ≡ true
 all_stand entries i e none here =
     let lt = within (places_of entries) i e here in
-    let past = none_from_position (position_or_len (names_badly entries) (places_of entries)) (length (places_of entries)) none in
+    let past = none_from_place (position_or_len (names_badly entries) (places_of entries)) (length (places_of entries)) none in
     let good = fails_before_first (names_badly entries) (places_of entries) i None (omega arith) in
-    not_false (list_all (stands entries) (names_of e)) (sym (ap (names_badly entries) here) ∙ good)
+    not-false (list_all (stands entries) (names_of e)) (sym (ap (names_badly entries) here) ∙ good)

@@ -4,6 +4,7 @@ use Rattle.std.specs.List.{flat_map, AllByRecursion}
 use Rattle.std.specs.Option.{option_map_or}
 use Rattle.std.proofs.lemmas.List.{length-append}
 use Rattle.std.proofs.lemmas.Bool.{cases_Bool}
+use Rattle.list_views.proofs.Truths.{and_false}
 use Rattle.byteorder.specs.Endian.{big_bytes}
 use Rattle.class_pool.specs.declared.entry.PoolEntry.{PoolEntry}
 use Rattle.class_pool.specs.declared.fault.PoolFault.TheVariants.{BadIndex}
@@ -83,10 +84,6 @@ entries_take (suc (suc n)) u x fits e =
           let read : entries_at (suc n) b.0.1 ≡ Ok c.0 = sym (ap (λ (w : Bool). cond w (entries_at n b.0.1) (entries_at (suc n) b.0.1)) narrow) ∙ c.1 in
           cons_taken (suc (suc n)) (suc n) false u b.0 c.0 t (entries_take (suc n) b.0.1 c.0 t.takes.fits read) (omega (arith, slots_narrow b.0.0 narrow))
     ])
-
-and_false : (b : Bool) → (b && false) ≡ false
-and_false true = refl
-and_false false = refl
 
 -- what was read, after an entry
 fronted : (e : PoolEntry) (es : List PoolEntry) (at_e at_end after : ℕ) (rest : List ℕ) → at_end ≡ after

@@ -5,18 +5,11 @@ use Rattle.std.specs.List.{list_all}
 use Rattle.std.specs.Option.{option_map_or}
 use Rattle.std.proofs.lemmas.Bool.{and_parts, ltb-true}
 use Rattle.std.proofs.lemmas.Option.{slice_get_past}
+use Rattle.class_world.proofs.Indexes.{few_fields}
 use Rattle.class_read.specs.Content.{ClassContent}
 use Rattle.class_world.specs.World.{World}
 use Rattle.class_world.specs.Linking.{has_few_members}
 use Rattle.class_program.specs.Statics.{field_count}
-
-pub few_fields : (world : World) (n : ℕ) (c : ClassContent) → list_all has_few_members world ≡ true → slice_get world n ≡ Some c → length c.fields < 65536
-few_fields [] n c e s = cc
-few_fields (x ∷ xs) zero c e s =
-    let same : x ≡ c = cc in
-    let r = and_parts (has_few_members x) (list_all has_few_members xs) e in
-    subst (λ (y : ClassContent). length y.fields < 65536) same (ltb-true (length x.fields) 65536 (and_parts _ _ r.0).0)
-few_fields (x ∷ xs) (suc n) c e s = few_fields xs n c (and_parts (has_few_members x) (list_all has_few_members xs) e).1 s
 
 pub few_there : (world : World) (class n : ℕ) (c : ClassContent) → list_all has_few_members world ≡ true → slice_get world class ≡ Some c → n ≡ length c.fields → n < 65536
 few_there world class n c e s l = subst (λ (k : ℕ). k < 65536) (sym l) (few_fields world class c e s)

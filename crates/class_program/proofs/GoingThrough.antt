@@ -6,6 +6,8 @@ use Rattle.std.specs.List.{list_all, filter_map, cons_option}
 use Rattle.std.specs.Option.{option_map, option_map_or}
 use Rattle.std.proofs.lemmas.Bool.{and_parts, and_from, cases_lt}
 use Rattle.std.proofs.lemmas.List.Elements.{filter_map-append}
+use Rattle.list_views.proofs.Items.{get_past}
+use Rattle.list_views.proofs.Quantified.{holds_at}
 use Rattle.class_pool.specs.declared.entry.PoolEntry.{PoolEntry}
 use Rattle.class_read.specs.Content.{ClassContent, MethodContent}
 use Rattle.class_program.specs.Ops.{pool_of}
@@ -97,14 +99,9 @@ next_begins world entry refs methods x h e =
     let at = behind h.gone front.0 x (ap (λ l. slice_get l (length h.gone)) (sym front.1) ∙ ap (slice_get refs) h.len ∙ e) in
     (at.0, front.1 ∙ ap (λ r. h.gone ++ r) at.1 ∙ sym (append_assoc h.gone (x ∷ []) at.0))
 
-at_all : (p : MethodRef → Bool) (refs : List MethodRef) (i : ℕ) (x : MethodRef) → list_all p refs ≡ true → slice_get refs i ≡ Some x → p x ≡ true
-at_all p [] i x h e = cc
-at_all p (r ∷ rs) zero x h e = let same : r ≡ x = cc in subst (λ y. p y ≡ true) same (and_parts (p r) (list_all p rs) h).0
-at_all p (r ∷ rs) (suc i) x h e = at_all p rs i x (and_parts (p r) (list_all p rs) h).1 e
-
 -- the next method has a body, and it is there
 pub next_body : (world : World) (entry : MethodRef) (refs : List MethodRef) (methods : List Method) (x : MethodRef) → IsReaching world entry refs methods → slice_get refs (length methods) ≡ Some x → has_body world x ≡ true
-next_body world entry refs methods x h e = at_all (has_body world) refs (length methods) x h.bodies e
+next_body world entry refs methods x h e = holds_at (has_body world) refs (length methods) x h.bodies e
 
 -- what the next method reaches
 next_runs : (world : World) (x : MethodRef) (content : MethodContent) (m : Method) → method_at world x ≡ Some content → method_of world x content ≡ Ok m → runs_from world x ≡ runs_in world m
@@ -140,15 +137,10 @@ reach_broken world entry refs methods x content fault h e a due =
     handed_on is_memory fault (method_of world x content) (methods_of world (reached world entry))
     (λ s. ap (methods_of world) (reached_is world entry ∙ b.1 ∙ append_assoc h.gone (x ∷ []) b.0) ∙ said_broken world h.gone b.0 x content methods fault h.found a s) due
 
-past : (xs : List MethodRef) (i : ℕ) → slice_get xs i ≡ None → length xs ≤ i
-past [] i e = omega arith
-past (x ∷ xs) zero e = cc
-past (x ∷ xs) (suc i) e = let l = past xs i e in omega (arith, l)
-
 -- nothing is left
 pub all_gone : (world : World) (entry : MethodRef) (refs : List MethodRef) (methods : List Method) (h : IsReaching world entry refs methods) → slice_get refs (length methods) ≡ None → h.gone ≡ refs
 all_gone world entry refs methods h e =
-    let l = past refs (length methods) e in
+    let l = get_past refs (length methods) e in
     let n = h.len in
     begins_all h.gone refs h.growing.front (omega (arith, l, n))
 

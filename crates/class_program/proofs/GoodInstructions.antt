@@ -4,12 +4,13 @@ use Rattle.std.specs.Prelude.{slice_get, option_and_then, IfSome}
 use Rattle.std.specs.Option.{is_some}
 use Rattle.std.proofs.lemmas.Bool.{and_parts, leb-true, eq-eqb, ne_eqb}
 use Rattle.std.specs.List.{AllByRecursion}
+use Rattle.std.proofs.lemmas.Option.{same_Some}
 use Rattle.class_program.specs.declared.op.Op.{Op}
 use Rattle.class_program.specs.declared.program.Method.{Method}
 use Rattle.class_program.specs.Instructions.{first_place, instruction_at, rises_from, is_placed}
 use Rattle.class_program.specs.Programs.{Program, insn_at}
 use Rattle.class_program.specs.Good.{IsGoodOp, IsGoodMethod, IsGood, IsGoodAt}
-use Rattle.class_program.proofs.Got.{all_at, some_same}
+use Rattle.class_program.proofs.Got.{all_at}
 use Rattle.class_program.proofs.Places.{placed_rises}
 
 -- what stands at some place has what all of the instructions have
@@ -59,7 +60,7 @@ next_in {A} p (x ∷ xs) pc op next r e = go (eqb x.0 pc) e (next_in (x.0 + 1) x
 
     go : (b : Bool) → cond b (Some (x.1, first_place xs)) (instruction_at xs pc) ≡ Some (op, next) → (instruction_at xs pc ≡ Some (op, next) → IfSome next (λ place. (x.0 + 1 ≤ place) × (is_some (instruction_at xs place) ≡ true))) → IfSome next (λ place. (p ≤ place) × (is_some (instruction_at (x ∷ xs) place) ≡ true))
     go true f rest =
-        let same : first_place xs ≡ next = ap (λ (z : A × Option ℕ). z.1) (some_same (x.1, first_place xs) (op, next) f) in
+        let same : first_place xs ≡ next = ap (λ (z : A × Option ℕ). z.1) (same_Some (x.1, first_place xs) (op, next) f) in
         subst (λ (o : Option ℕ). IfSome o (λ place. (p ≤ place) × (is_some (instruction_at (x ∷ xs) place) ≡ true))) same (lift (first_place xs) (first_above (x.0 + 1) xs parts.1) (first_there xs))
     go false f rest = both next (rest f)
 

@@ -4,6 +4,7 @@ use Rattle.std.specs.Prelude.{Result, map, IfSome}
 use Rattle.std.specs.List.{list_all, list_any, AllByRecursion}
 use Rattle.std.specs.Option.{option_map_or, is_some}
 use Rattle.std.proofs.lemmas.Bool.{and_parts, ltb-true, eqb-true, or_cases}
+use Rattle.list_views.proofs.Quantified.{all_weaker}
 use Rattle.class_pool.specs.declared.entry.PoolEntry.{PoolEntry}
 use Rattle.class_base.specs.declared.handler.Handler.{Handler}
 use Rattle.class_read.specs.Content.{CodeContent}
@@ -28,7 +29,6 @@ use Rattle.class_program.specs.Methods.{table_said, op_said, ops_of, caught, cat
 use Rattle.class_program.specs.Reached.{insns_numbered}
 use Rattle.class_program.specs.Instructions.{first_place, instruction_at}
 use Rattle.class_program.specs.Good.{is_place}
-use Rattle.class_program.proofs.Got.{all_imply}
 use Rattle.class_program.proofs.RisingCodes.{decoded}
 
 -- ---- places by their list
@@ -87,7 +87,7 @@ targets_stand code xs e = none_strays (stands (starts xs)) xs (decoded code xs e
 below_end : (passed pc : ℕ) (bytes : List ℕ) (xs : List (ℕ × Insn)) → insns_from passed pc bytes ≡ Ok xs → AllByRecursion (λ x. x.0 < pc + length bytes) xs
 unfolding insns_from
 below_end passed pc [] xs e = let same : [] ≡ xs = cc in subst (λ (ys : List (ℕ × Insn)). AllByRecursion (λ y. y.0 < pc + 0) ys) same tt
-below_end zero pc (op ∷ bytes) xs e = go (insn_at pc op bytes) e (λ passed ys q. all_imply _ _ ys (further pc (length bytes)) (below_end passed (pc + 1) bytes ys q))
+below_end zero pc (op ∷ bytes) xs e = go (insn_at pc op bytes) e (λ passed ys q. all_weaker _ _ (further pc (length bytes)) ys (below_end passed (pc + 1) bytes ys q))
   where
     further : (a n : ℕ) (y : ℕ × Insn) → y.0 < (a + 1) + n → y.0 < a + suc n
     further a n y l = omega (arith, l)
@@ -104,13 +104,13 @@ below_end zero pc (op ∷ bytes) xs e = go (insn_at pc op bytes) e (λ passed ys
     go : (r : Result (Insn × List ℕ) CodeFault) → (r >>= λ x. insns_from (length bytes - length x.1) (pc + 1) bytes >>= λ rest. Ok ((pc, x.0) ∷ rest)) ≡ Ok xs → Rest → AllByRecursion (λ y. y.0 < pc + suc (length bytes)) xs
     go (Err fault) f rest = cc
     go (Ok x) f rest = behind x.0 (length bytes - length x.1) (insns_from (length bytes - length x.1) (pc + 1) bytes) refl f rest
-below_end (suc passed) pc (b ∷ bytes) xs e = all_imply _ _ xs (further pc (length bytes)) (below_end passed (pc + 1) bytes xs e)
+below_end (suc passed) pc (b ∷ bytes) xs e = all_weaker _ _ (further pc (length bytes)) xs (below_end passed (pc + 1) bytes xs e)
   where
     further : (a n : ℕ) (y : ℕ × Insn) → y.0 < (a + 1) + n → y.0 < a + suc n
     further a n y l = omega (arith, l)
 
 pub code_below : (code : List ℕ) (xs : List (ℕ × Insn)) → decode_of code ≡ Ok xs → AllByRecursion (λ x. x.0 < length code) xs
-code_below code xs e = all_imply _ _ xs (λ y l. omega (arith, l)) (below_end 0 0 code xs (decoded code xs e).0)
+code_below code xs e = all_weaker _ _ (λ y l. omega (arith, l)) xs (below_end 0 0 code xs (decoded code xs e).0)
 
 -- an entry whose boundaries are good
 pub record IsBounded (begins : ℕ → Bool) (len : ℕ) (h : Handler) : Type 0 where

@@ -4,6 +4,7 @@ use Rattle.std.specs.Prelude.{map, slice_get, IfSome}
 use Rattle.std.specs.List.{list_all, filter_map, cons_option, flat_map, AllByRecursion}
 use Rattle.std.specs.Option.{option_map, option_map_or}
 use Rattle.std.proofs.lemmas.Bool.{and_parts}
+use Rattle.list_views.proofs.Quantified.{all_mapped, all_weaker}
 use Rattle.class_base.specs.declared.handler.Handler.{Handler}
 use Rattle.class_pool.specs.declared.entry.PoolEntry.{PoolEntry}
 use Rattle.class_read.specs.Content.{MethodContent, CodeContent}
@@ -37,7 +38,7 @@ use Rattle.class_program.specs.Reached.{has_method, runs_from, reached_within, m
 use Rattle.class_program.specs.Instructions.{is_placed}
 use Rattle.class_program.specs.Programs.{Program, IsClosed, ref_of, refs_of}
 use Rattle.class_program.specs.Good.{is_place, IsEnd, IsGoodOp, IsGoodRange, IsDeclaredStatic, IsGoodMethod, IsGood}
-use Rattle.class_program.proofs.Got.{got_faultless, all_imply, all_map, each_good}
+use Rattle.class_program.proofs.Got.{got_faultless, each_good}
 use Rattle.class_program.proofs.Rising.{insns_read, ops_placed, numbered_placed}
 use Rattle.class_program.proofs.Reaching.{with_new_begins}
 use Rattle.class_program.proofs.GoingThrough.{at_within}
@@ -91,7 +92,7 @@ all_made world entry methods e =
     record {
       statics = found.0;
       statics_are = statics_are world ms.0 found.0 found.1 ∙ ap (statics_of world) (sym (sym (ap fields_named same) ∙ numbered_names refs found.0 ms.0));
-      made = subst (λ (xs : List Method). AllByRecursion (IsMadeOf world refs found.0) xs) same (all_map (IsMadeOf world refs found.0) (method_numbered refs found.0) ms.0 plain);
+      made = subst (λ (xs : List Method). AllByRecursion (IsMadeOf world refs found.0) xs) same (all_mapped (IsMadeOf world refs found.0) (method_numbered refs found.0) ms.0 plain);
     }
 
 made_class : (world : World) (refs : List MethodRef) (statics : List StaticField) (m : Method) (h : IsMadeOf world refs statics m) → ref_of m ≡ h.ref
@@ -183,7 +184,7 @@ good_insns : (p : Program) (m : Method) (all : List (ℕ × Insn)) (ops : List (
 good_insns p m all [] known bodies typed kept same said run = tt
 good_insns p m all (y ∷ ys) known bodies typed kept same said run =
     let s = said.0 in (
-      op_good p known bodies typed kept m s.insn (operand_of s.insn) y.1 refl s.shape run.0 (all_imply (λ t. stands (starts all) t ≡ true) (λ t. is_place m.insns t ≡ true) (targets s.insn) (λ t q. stands_so m.insns all t same q) s.leads),
+      op_good p known bodies typed kept m s.insn (operand_of s.insn) y.1 refl s.shape run.0 (all_weaker (λ t. stands (starts all) t ≡ true) (λ t. is_place m.insns t ≡ true) (λ t q. stands_so m.insns all t same q) (targets s.insn) s.leads),
       good_insns p m all ys known bodies typed kept same said.1 run.1,
     )
 
@@ -280,7 +281,7 @@ good_program p h =
     let refs = reached p.world p.entry in
     let all = all_made p.world p.entry p.methods h.made in
     let made = subst (λ (xs : List StaticField). AllByRecursion (IsMadeOf p.world refs xs) p.methods) (all.statics_are ∙ sym h.statics) all.made in
-    let typed = all_imply (IsMadeOf p.world refs p.statics) (IsTyped p.world) p.methods (typed_of p.world refs p.statics) made in
+    let typed = all_weaker (IsMadeOf p.world refs p.statics) (IsTyped p.world) (typed_of p.world refs p.statics) p.methods made in
     record {
       first = first_of p.methods (h.reaches);
       methods = good_all p h.known h.bodies typed h.statics refs (sym h.reaches) p.methods made (has_bodies p.world p.methods h.bodies) (all_inside p p.methods (all_run (refs_of p.methods) p.world p.methods (insns_have p.world (refs_of p.methods) p.methods h.whole)) (names_named p.methods));

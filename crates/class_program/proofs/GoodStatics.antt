@@ -9,6 +9,7 @@ use Rattle.std.proofs.lemmas.List.Folds.{list_any-append}
 use Rattle.std.proofs.lemmas.List.Quantifiers.{position-Some}
 use Rattle.std.proofs.lemmas.Option.{slice_get-get_or, slice_get_within}
 use Rattle.std.proofs.lemmas.Slice.Eq.{bytes_eq-Decides}
+use Rattle.list_views.proofs.Quantified.{all_filtered, all_flat}
 use Rattle.class_read.specs.Content.{ClassContent, FieldContent}
 use Rattle.jvm_values.specs.declared.types.Slot.{Slot}
 use Rattle.class_world.specs.World.{World, line_of, is_static, is_interface_class}
@@ -235,22 +236,6 @@ static_found p kept used d h =
 
 -- ---- each of them is declared
 
-all_flat : {A B : Type 0} (P : B → Type 0) (f : A → List B) (xs : List A) → ((x : A) → AllByRecursion P (f x)) → AllByRecursion P (flat_map f xs)
-all_flat P f [] h = tt
-all_flat {A} {B} P f (x ∷ xs) h = both (f x) (flat_map f xs) (h x) (all_flat P f xs h)
-  where
-    both : (ys zs : List B) → AllByRecursion P ys → AllByRecursion P zs → AllByRecursion P (ys ++ zs)
-    both [] zs a b = b
-    both (y ∷ ys) zs a b = (a.0, both ys zs a.1 b)
-
-all_filter : {A B : Type 0} (P : B → Type 0) (f : A → Option B) (xs : List A) → ((x : A) (y : B) → f x ≡ Some y → P y) → AllByRecursion P (filter_map f xs)
-all_filter P f [] h = tt
-all_filter {A} {B} P f (x ∷ xs) h = go (f x) refl (all_filter P f xs h)
-  where
-    go : (o : Option B) → f x ≡ o → AllByRecursion P (filter_map f xs) → AllByRecursion P (cons_option o (filter_map f xs))
-    go None e rest = rest
-    go (Some y) e rest = (h x y e, rest)
-
 made_declared : (world : World) (class i : ℕ) (content : FieldContent) (s : StaticField) → field_at world class i ≡ Some content → is_static_field world class i ≡ true → static_field world (record { class = class; index = i }) content ≡ Some s → IsDeclaredStatic world s
 made_declared world class i content s at static e = go (slot_of world content.desc) refl e
   where
@@ -288,4 +273,4 @@ pub statics_declared : (world : World) (named : List FieldRef) → AllByRecursio
 unfolding statics_of statics_in
 statics_declared world named =
     all_flat (IsDeclaredStatic world) (statics_in world named) (range_with_len 0 (length world))
-    (λ class. all_filter (IsDeclaredStatic world) (static_at world named class) (range_with_len 0 (field_count world class)) (λ i s e. at_declared world named class i s e))
+    (λ class. all_filtered (IsDeclaredStatic world) (static_at world named class) (range_with_len 0 (field_count world class)) (λ i s e. at_declared world named class i s e))

@@ -4,6 +4,7 @@ use Rattle.std.specs.Prelude.{option_and_then, IfSome}
 use Rattle.std.specs.List.{cons_option, AllByRecursion}
 use Rattle.std.specs.Option.{option_map, option_map_or}
 use Rattle.std.proofs.lemmas.Bool.{eqb-true}
+use Rattle.std.proofs.lemmas.Option.{same_Some}
 use Rattle.class_base.specs.declared.types.FieldType.{FieldType}
 use Rattle.class_base.specs.declared.methods.MethodType.{MethodType}
 use Rattle.class_base.specs.ClassNames.{is_class_name}
@@ -27,7 +28,7 @@ use Rattle.class_program.specs.declared.signature.Signature.{Signature}
 use Rattle.class_program.specs.Refusals.{wanted}
 use Rattle.class_program.specs.Signatures.{types_of, all_there, all_supported, slots_of, returned_slot, signature, signature_of, declared_signature}
 use Rattle.class_program.specs.Ops.{meant_type, array_type, class_named, type_named, base_class, class_number}
-use Rattle.class_program.proofs.Got.{got_wanted, some_same}
+use Rattle.class_program.proofs.Got.{got_wanted}
 
 -- ---- types
 
@@ -117,7 +118,7 @@ params_dims (suc turns) (b ∷ text) types rest e = go (params_dims turns) (eqb 
     more : Rest → (t : FieldType) (after : List ℕ) → type_at (b ∷ text) ≡ Some (t, after) → (o : Option (List FieldType × List ℕ)) → types_at turns after ≡ o → option_map {U = List FieldType × List ℕ} (λ r. (t ∷ r.0, r.1)) o ≡ Some (types, rest) → AllByRecursion (λ u. u.dims ≤ 255) types
     more go_on t after q None p f = cc
     more go_on t after q (Some r) p f =
-        let same : t ∷ r.0 ≡ types = ap (λ (z : List FieldType × List ℕ). z.0) (some_same (t ∷ r.0, r.1) (types, rest) f) in
+        let same : t ∷ r.0 ≡ types = ap (λ (z : List FieldType × List ℕ). z.0) (same_Some (t ∷ r.0, r.1) (types, rest) f) in
         subst (λ (us : List FieldType). AllByRecursion (λ u. u.dims ≤ 255) us) same (type_dims (b ∷ text) after t q, go_on after r.0 r.1 p)
 
     one : Rest → (o : Option (FieldType × List ℕ)) → type_at (b ∷ text) ≡ o → option_and_then (λ x. option_map {U = List FieldType × List ℕ} (λ r. (x.0 ∷ r.0, r.1)) (types_at turns x.1)) o ≡ Some (types, rest) → AllByRecursion (λ u. u.dims ≤ 255) types
@@ -125,7 +126,7 @@ params_dims (suc turns) (b ∷ text) types rest e = go (params_dims turns) (eqb 
     one go_on (Some x) q f = more go_on x.0 x.1 q (types_at turns x.1) refl f
 
     go : Rest → (c : Bool) → cond c (Some ([], text)) (option_and_then (λ x. option_map {U = List FieldType × List ℕ} (λ r. (x.0 ∷ r.0, r.1)) (types_at turns x.1)) (type_at (b ∷ text))) ≡ Some (types, rest) → AllByRecursion (λ u. u.dims ≤ 255) types
-    go go_on true f = let same : [] ≡ types = ap (λ (z : List FieldType × List ℕ). z.0) (some_same ([], text) (types, rest) f) in subst (λ (us : List FieldType). AllByRecursion (λ u. u.dims ≤ 255) us) same tt
+    go go_on true f = let same : [] ≡ types = ap (λ (z : List FieldType × List ℕ). z.0) (same_Some ([], text) (types, rest) f) in subst (λ (us : List FieldType). AllByRecursion (λ u. u.dims ≤ 255) us) same tt
     go go_on false f = one go_on (type_at (b ∷ text)) refl f
 
 returned_dims : (text : List ℕ) (t : FieldType) → returned_at text ≡ Some (Some t) → t.dims ≤ 255

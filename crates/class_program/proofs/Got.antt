@@ -26,23 +26,12 @@ pub got_faultless : {A : Type 0} (name : MethodName) (pc : ℕ) (s : Result A Re
 got_faultless name pc (Ok y) x e = cc
 got_faultless name pc (Err r) x e = cc
 
-pub some_same : {A : Type 0} (x y : A) → (let o : Option A = Some x in o) ≡ Some y → x ≡ y
-some_same x y e = cc
-
 -- ---- lists
 
 pub all_at : {A : Type 0} (P : A → Type 0) (xs : List A) (i : ℕ) (x : A) → AllByRecursion P xs → slice_get xs i ≡ Some x → P x
 all_at P [] i x h e = cc
 all_at {A} P (y ∷ ys) zero x h e = let same : y ≡ x = cc in subst (λ (z : A). P z) same h.0
 all_at P (y ∷ ys) (suc i) x h e = all_at P ys i x h.1 e
-
-pub all_imply : {A : Type 0} (P Q : A → Type 0) (xs : List A) → ((x : A) → P x → Q x) → AllByRecursion P xs → AllByRecursion Q xs
-all_imply P Q [] f h = tt
-all_imply P Q (x ∷ xs) f h = (f x h.0, all_imply P Q xs f h.1)
-
-pub all_map : {A B : Type 0} (P : B → Type 0) (f : A → B) (xs : List A) → AllByRecursion (λ x. P (f x)) xs → AllByRecursion P (map f xs)
-all_map P f [] h = tt
-all_map P f (x ∷ xs) h = (h.0, all_map P f xs h.1)
 
 pub all_both : {A : Type 0} (P Q : A → Type 0) (xs : List A) → AllByRecursion P xs → AllByRecursion Q xs → AllByRecursion (λ x. P x × Q x) xs
 all_both P Q [] h k = tt

@@ -3,6 +3,7 @@ use Rattle.std.proofs.Common.{◌≡◌, ◌++◌, ℕ, zero, suc, ◌<◌, ◌�
 use Rattle.std.specs.Prelude.{flat_map}
 use Rattle.std.proofs.lemmas.Grind.{flat_map-append}
 use Rattle.std.proofs.lemmas.Bool.{cases_lt}
+use Rattle.std.proofs.lemmas.List.{nil_from_length}
 use Rattle.class_world.specs.declared.world.MethodRef.{MethodRef}
 use Rattle.class_program.specs.Reached.{has_method, with_one, with_new}
 
@@ -38,14 +39,10 @@ begins_both (x ∷ xs) (y ∷ ys) (z ∷ zs) a b l =
     tails : (p q : MethodRef) (ps qs : List MethodRef) → p ∷ ps ≡ q ∷ qs → ps ≡ qs
     tails p q ps qs e = cc
 
-nothing : (xs : List MethodRef) → length xs ≡ 0 → xs ≡ []
-nothing [] e = refl
-nothing (x ∷ xs) e = absurd (omega (arith, e))
-
 pub begins_all : (xs ys : List MethodRef) → Begins xs ys → length ys ≤ length xs → xs ≡ ys
 begins_all xs ys b l =
     let e = ap length b.1 ∙ length-append xs b.0 in
-    let n : b.0 ≡ [] = nothing b.0 (omega (arith, e, l)) in
+    let n : b.0 ≡ [] = nil_from_length b.0 (omega (arith, e, l)) in
     sym (b.1 ∙ ap (λ t. xs ++ t) n ∙ append-nil xs)
 
 -- ---- lists with new methods put behind them
@@ -121,7 +118,7 @@ module _ (f : MethodRef → List MethodRef) (e : MethodRef) where
         let w = with_new_begins (e ∷ []) (flat_map f gone) in
         inr (e ∷ [], begins_both (e ∷ []) gone refs (w.0, g.made ∙ w.1) g.front (omega (arith, s)), omega arith, begins_refl (e ∷ []))
     | inr s ↦
-        let none : gone ≡ [] = nothing gone (omega (arith, s)) in
+        let none : gone ≡ [] = nil_from_length gone (omega (arith, s)) in
         let all : refs ≡ e ∷ [] = g.made ∙ ap made_by none in
         inl (subst (λ r. Begins (gone ++ x ∷ []) r) all b)
   ]

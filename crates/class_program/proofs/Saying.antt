@@ -18,7 +18,3 @@ first_broken said all xs rest x ys fault a e due =
 
 pub fault_of_item : {A B : Type 0} (said : A → Said B) (xs : List A) (i : ℕ) (d : A) (ys : List B) (fault : LinkFault) → i < length xs → each said (take i xs) ≡ Ok ys → IsDue is_memory fault (said (get_or xs i d)) → IsDue is_memory fault (each said xs)
 fault_of_item said xs i d ys fault l h due = first_broken said xs (take i xs) (drop (i + 1) xs) (get_or xs i d) ys fault (at_item xs i d l) h due
-
-pub nothing_left : {A : Type 0} (xs : List A) → length xs ≡ 0 → xs ≡ []
-nothing_left [] e = refl
-nothing_left (x ∷ xs) e = absurd (omega (arith, e))

@@ -8,6 +8,7 @@ use Rattle.std.proofs.lemmas.List.{drop_all}
 use Rattle.std.proofs.lemmas.List.Folds.{list_any-append}
 use Rattle.std.proofs.lemmas.List.Concat.{flat_map-append}
 use Rattle.std.proofs.lemmas.List.Elements.{filter_map-append}
+use Rattle.class_world.proofs.Counting.{range_more}
 use Rattle.class_world.specs.declared.fault.LinkFault.TheVariants.{TooManyStatics}
 use Rattle.class_world.specs.World.{World}
 use Rattle.class_world.specs.Resolve.{field_at, is_static_field}
@@ -119,15 +120,6 @@ statics_same world xs ys h =
     (range_with_len 0 (length world))
 
 -- ---- filling lists, number by number
-
-range_more : (a n : ℕ) → range_with_len a (n + 1) ≡ range_with_len a n ++ (a + n) ∷ []
-range_more a n = ap (range_with_len a) (add-one n) ∙ go a n
-  where
-    go : (a n : ℕ) → range_with_len a (suc n) ≡ range_with_len a n ++ (a + n) ∷ []
-    go a zero = let z : a ≡ a + 0 = omega arith in ap (λ x. x ∷ []) z
-    go a (suc n) =
-        let z : a + 1 + n ≡ a + suc n = omega arith in
-        ap (λ xs. a ∷ xs) (go (a + 1) n ∙ ap (λ x. range_with_len (a + 1) n ++ x ∷ []) z)
 
 pub statics_step : {A : Type 0} (f : ℕ → Option A) (before found more : List A) (i : ℕ) (o : Option A) → found ≡ before ++ filter_map f (range_with_len 0 i) → o ≡ f i → more ≡ found ++ option_to_list o → more ≡ before ++ filter_map f (range_with_len 0 (i + 1))
 statics_step {A} f before found more i o e h m =

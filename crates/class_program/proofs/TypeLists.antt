@@ -1,6 +1,7 @@
 -- The first class that isn't there, among the parameters and then the result.
 use Rattle.std.proofs.Common.{◌≡◌, ℕ, ◌++◌, List, [], ◌∷◌, Option, Some, None, refl, ap, sym, ◌∙◌}
 use Rattle.std.specs.Option.{option_or, option_to_list}
+use Rattle.list_views.proofs.Options.{or_none}
 use Rattle.class_base.specs.declared.types.FieldType.{FieldType}
 use Rattle.class_world.specs.World.{World}
 use Rattle.class_world.specs.Descriptors.{meaning_of}
@@ -9,10 +10,6 @@ use Rattle.class_program.specs.Signatures.{first_missing_class, missing_class}
 or_again : {A : Type 0} (a b c : Option A) → option_or a (option_or b c) ≡ option_or (option_or a b) c
 or_again None b c = refl
 or_again (Some x) b c = refl
-
-or_none : {A : Type 0} (a : Option A) → option_or a None ≡ a
-or_none None = refl
-or_none (Some x) = refl
 
 missing_both : (world : World) (ts us : List FieldType) → first_missing_class world (ts ++ us) ≡ option_or (first_missing_class world ts) (first_missing_class world us)
 missing_both world [] us = refl

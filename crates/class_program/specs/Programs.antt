@@ -1,4 +1,5 @@
--- Programs: a world with the methods that an entry reaches, and the static fields that these name.
+-- Programs: a world with the methods that an entry reaches, and the static fields that these name, all resolved (JVM
+-- specification, section 5.4).
 use Rattle.std.specs.Prelude.{◌≡◌, ◌≤◌, ℕ, List, length, map, position, slice_get, Option, option_and_then, Ok, IsTrue}
 use Rattle.std.specs.List.{list_all}
 use Rattle.std.specs.Option.{option_map}

@@ -1,4 +1,5 @@
--- The methods that an entry reaches, and the program that they make.
+-- The methods that an entry reaches, and the program that they make. The list of methods is this project's own; what an
+-- instruction names is resolved as the JVM specification says (section 5.4).
 --
 -- Each method reaches those that its instructions can run: all of its instructions count, at places too that no run
 -- comes to. A method that breaks a rule reaches nothing, so of the methods that break one the first is the same

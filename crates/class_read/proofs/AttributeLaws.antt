@@ -7,6 +7,8 @@ use Rattle.std.proofs.lemmas.Bool.{ltb-true, lt-ltb, leb-true, le-leb, eqb-true,
 use Rattle.std.proofs.lemmas.Slice.Eq.{bytes_eq-Decides}
 use Rattle.std.proofs.lemmas.List.{append-nil, length-append, nil_from_length}
 use Rattle.std.proofs.lemmas.List.Concat.{flat_map-cons}
+use Rattle.list_views.proofs.Items.{length_mapped}
+use Rattle.list_views.proofs.Options.{none_from_is_none}
 use Rattle.class_pool.specs.declared.entry.PoolEntry.{PoolEntry}
 use Rattle.class_pool.specs.Text.{utf8_at, class_name_at}
 use Rattle.class_read.specs.declared.fault.ClassFault.TheVariants.{BadDescriptor, CodeLength, MissingCode, ExtraCode}
@@ -92,10 +94,6 @@ others_from pool [] h = tt
 others_from pool (Skipped name content ∷ xs) h = (h.0, others_from pool xs h.1)
 others_from pool (Code name max_stack max_locals code table attributes ∷ xs) h = absurd h.0
 
-length_map : {A B : Type 0} (f : A → B) (xs : List A) → length (map f xs) ≡ length xs
-length_map f [] = refl
-length_map f (x ∷ xs) = ap suc (length_map f xs)
-
 others_text : (pool : List PoolEntry) (xs : List AttrText) → AllByRecursion (IsOtherAttribute pool) xs → flat_map attribute_text (map pair_of xs) ≡ flat_map attr_text xs
 others_text pool [] h = refl
 others_text pool (Skipped name content ∷ xs) h =
@@ -104,7 +102,7 @@ others_text pool (Code name max_stack max_locals code table attributes ∷ xs) h
 
 others_counted : (pool : List PoolEntry) (xs : List AttrText) → AllByRecursion (IsOtherAttribute pool) xs → counted attribute_text (map pair_of xs) ≡ counted attr_text xs
 others_counted pool xs h =
-    ap (λ (n : ℕ). u2 n ++ flat_map attribute_text (map pair_of xs)) (length_map pair_of xs) ∙ ap (λ (r : List ℕ). u2 (length xs) ++ r) (others_text pool xs h)
+    ap (λ (n : ℕ). u2 n ++ flat_map attribute_text (map pair_of xs)) (length_mapped pair_of xs) ∙ ap (λ (r : List ℕ). u2 (length xs) ++ r) (others_text pool xs h)
 
 abbrev pub AreOthers : List PoolEntry → List AttrText → Type 0
 AreOthers pool xs = (length xs < 2 ^ 16) × AllByRecursion (IsOtherAttribute pool) xs
@@ -112,7 +110,7 @@ AreOthers pool xs = (length xs < 2 ^ 16) × AllByRecursion (IsOtherAttribute poo
 pub others_exact : (total : ℕ) (pool : List PoolEntry) → Exact (attributes_at total pool) (counted attr_text) (AreOthers pool) (λ xs. tt)
 others_exact total pool =
     told_exact (attributes_exact total pool) (map pair_of) (map skipped_of)
-    (λ xs h. pairs_back xs) (λ xs h. (omega (arith, h.0, length_map skipped_of xs), others_to pool xs h.1)) (λ xs h. (omega (arith, h.0, length_map pair_of xs), others_from pool xs h.1))
+    (λ xs h. pairs_back xs) (λ xs h. (omega (arith, h.0, length_mapped skipped_of xs), others_to pool xs h.1)) (λ xs h. (omega (arith, h.0, length_mapped pair_of xs), others_from pool xs h.1))
     (λ xs h. others_counted pool xs h.1) (λ xs h. refl)
 
 -- ---- code
@@ -351,10 +349,6 @@ first_none : (had : List CodeContent) → first_of had ≡ None → had ≡ []
 first_none [] h = refl
 first_none (c ∷ had) h = absurd cc
 
-none_is : {A : Type 0} (o : Option A) → is_none o ≡ true → o ≡ None
-none_is None h = refl
-none_is (Some x) h = absurd cc
-
 codes_to : (pool : List PoolEntry) (coded : Bool) (made : Option CodeContent) (had : List CodeContent) (ts : List AttrText) → made ≡ first_of had → length had ≤ most_codes coded
     → FitAll (StandsThere pool coded) found_after made ts
     → AllByRecursion (IsMethodAttribute pool) ts × (length (had ++ codes_in ts) ≤ most_codes coded) × (next_all found_after made ts ≡ first_of (had ++ codes_in ts))
@@ -365,7 +359,7 @@ codes_to pool coded made had (Skipped name content ∷ ts) same few h =
 codes_to pool coded made had (Code name max_stack max_locals code table attributes ∷ ts) same few h =
     let c : CodeContent = record { max_stack = max_stack; max_locals = max_locals; code = code; table = table } in
     let may = and_parts coded (is_none made) h.0.1 in
-    let nothing : had ≡ [] = first_none had (sym same ∙ none_is made may.1) in
+    let nothing : had ≡ [] = first_none had (sym same ∙ none_from_is_none made may.1) in
     let one : 1 ≤ most_codes coded = rw may.0 (omega arith) in
     let r = codes_to pool coded (Some c) (c ∷ []) ts refl one h.1 in
     let front : c ∷ codes_in ts ≡ had ++ c ∷ codes_in ts = ap (λ (x : List CodeContent). x ++ c ∷ codes_in ts) (sym nothing) in

@@ -3,6 +3,7 @@ use Rattle.std.proofs.Common.{◌≡◌, ◌||◌, not, cond, Bool, true, false,
 use Rattle.std.specs.List.{list_any}
 use Rattle.std.proofs.lemmas.List.{map-append}
 use Rattle.std.proofs.lemmas.List.Folds.{list_any-append}
+use Rattle.list_views.proofs.Truths.{or_behind}
 use Rattle.class_pool.specs.declared.entry.PoolEntry.{PoolEntry}
 use Rattle.class_pool.specs.Text.{utf8_at}
 use Rattle.class_read.specs.declared.fault.ClassFault.{ClassFault}
@@ -22,14 +23,8 @@ use Rattle.class_read.proofs.Loop.{fails_along}
 abbrev pub SameKeys : List Key → List Key → Type 0
 SameKeys xs ys = (k : Key) → list_any (same_key k) xs ≡ list_any (same_key k) ys
 
-turned : (a b : Bool) → (a || b) ≡ (b || (a || false))
-turned true true = refl
-turned true false = refl
-turned false true = refl
-turned false false = refl
-
 at_end : (p : Key → Bool) (ks : List Key) (k : Key) → (p k || list_any p ks) ≡ list_any p (ks ++ k ∷ [])
-at_end p ks k = turned (p k) (list_any p ks) ∙ sym (list_any-append p ks (k ∷ []))
+at_end p ks k = or_behind (p k) (list_any p ks) ∙ sym (list_any-append p ks (k ∷ []))
 
 then_same : {A B : Type 0} (r : Read A) (f g : A → List ℕ → Read B) → ((x : A) (rest : List ℕ) → f x rest ≡ g x rest) → and_then r f ≡ and_then r g
 then_same (Ok x) f g h = h x.0 x.1

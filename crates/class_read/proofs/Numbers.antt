@@ -13,9 +13,12 @@ use Rattle.std.specs.BTreeSet.{insert_key}
 use Rattle.std.proofs.lemmas.Map.Text.{is_eq-slice_cmp}
 use Rattle.std.proofs.lemmas.Map.Lookups.{exact_unsigned}
 use Rattle.std.proofs.lemmas.Slice.Eq.{bytes_eq-Decides}
-use Rattle.std.proofs.lemmas.Bool.{cases_lt}
+use Rattle.std.proofs.lemmas.Bool.{cases_lt, false_from_ne_true, and_parts}
 use Rattle.std.specs.Cmp.{nat_cmp_is}
 use Rattle.std.proofs.lemmas.List.Sums.{position_or_len_is, passes_at_first}
+use Rattle.std.proofs.lemmas.Option.{same_Some}
+use Rattle.list_views.proofs.SameBytes.{bytes_eq_true, bytes_eq_self}
+use Rattle.list_views.proofs.Truths.{same_truth, or_twice, or_over}
 use Rattle.class_pool.specs.declared.entry.PoolEntry.{PoolEntry}
 use Rattle.class_pool.specs.Text.{places_of, utf8_at}
 use Rattle.class_read.specs.Rules.{Key, same_key, text_of}
@@ -23,26 +26,15 @@ use Rattle.class_read.specs.Numbers.{place_text, same_text, number_in, number_of
 
 -- ---- equal texts
 
-pub bytes_same : (a b : List ℕ) → bytes_eq a b ≡ true → a ≡ b
-bytes_same a b h = (bytes_eq-Decides a b).0 h
-
-pub bytes_self : (a : List ℕ) → bytes_eq a a ≡ true
-bytes_self a = (bytes_eq-Decides a a).1 refl
-
 pub text_same : (a b : Option (List ℕ)) → same_text a b ≡ true → a ≡ b
 text_same None None h = refl
 text_same None (Some b) h = absurd cc
 text_same (Some a) None h = absurd cc
-text_same (Some a) (Some b) h = ap (λ (t : List ℕ). Some t) (bytes_same a b h)
+text_same (Some a) (Some b) h = ap (λ (t : List ℕ). Some t) (bytes_eq_true a b h)
 
 pub text_self : (a : Option (List ℕ)) → same_text a a ≡ true
 text_self None = refl
-text_self (Some a) = bytes_self a
-
--- a test that isn't passed
-pub not_passed : (b : Bool) → (b ≡ true → ⊥) → b ≡ false
-not_passed true h = absurd (h refl)
-not_passed false h = refl
+text_self (Some a) = bytes_eq_self a
 
 pub none_is_no : {A : Type 0} (o : Option A) → o ≡ None → IsSome o → ⊥
 none_is_no None e h = cc
@@ -82,11 +74,6 @@ text_is : (o : Option (List ℕ)) → IsSome o → o ≡ Some (unwrap_or o [])
 text_is None h = absurd cc
 text_is (Some t) h = refl
 
-either : (a b : Bool) → (a ≡ true → b ≡ true) → (b ≡ true → a ≡ true) → a ≡ b
-either true b f g = sym (f refl)
-either false true f g = g refl
-either false false f g = refl
-
 equal_is : (o : Ordering) → is_eq o ≡ true → o ≡ Equal
 equal_is Less h = absurd cc
 equal_is Equal h = refl
@@ -95,10 +82,10 @@ equal_is Greater h = absurd cc
 -- numbers compare as equal exactly where their texts are equal
 one_number : (pool : List PoolEntry) (m n : ℕ) → IsNumber pool m → IsNumber pool n → is_eq (nat_cmp m n) ≡ bytes_eq (text_of pool m) (text_of pool n)
 one_number pool m n a b =
-    either (is_eq (nat_cmp m n)) (bytes_eq (text_of pool m) (text_of pool n))
+    same_truth (is_eq (nat_cmp m n)) (bytes_eq (text_of pool m) (text_of pool n))
     (λ h. let e : m ≡ n = exact_unsigned m n (equal_is (nat_cmp m n) h) in
-    ap (λ k. bytes_eq (text_of pool m) (text_of pool k)) (sym e) ∙ bytes_self (text_of pool m))
-    (λ h. let t : utf8_at pool m ≡ utf8_at pool n = text_is (utf8_at pool m) a.there ∙ ap (λ (x : List ℕ). Some x) (bytes_same (text_of pool m) (text_of pool n) h) ∙ sym (text_is (utf8_at pool n) b.there) in
+    ap (λ k. bytes_eq (text_of pool m) (text_of pool k)) (sym e) ∙ bytes_eq_self (text_of pool m))
+    (λ h. let t : utf8_at pool m ≡ utf8_at pool n = text_is (utf8_at pool m) a.there ∙ ap (λ (x : List ℕ). Some x) (bytes_eq_true (text_of pool m) (text_of pool n) h) ∙ sym (text_is (utf8_at pool n) b.there) in
     let e : m ≡ n = sym a.first ∙ ap (number_in (places_of pool)) t ∙ b.first in
     let r : Equal ≡ nat_cmp m n = nat_cmp_is m n Equal e in
     ap is_eq (sym r))
@@ -110,7 +97,7 @@ pub new_number : (places : List (Option PoolEntry)) (i : ℕ) (kept : List ℕ �
     → place_text (get_or places i None) ≡ Some t → kept t ≡ None → i ≡ number_in places (Some t)
 new_number places i kept t keeps lt here new =
     sym (position_or_len_is (λ place. same_text (Some t) (place_text place)) places i None (omega (arith, lt))
-    (λ k below. not_passed (same_text (Some t) (place_text (get_or places k None)))
+    (λ k below. false_from_ne_true (same_text (Some t) (place_text (get_or places k None)))
     (λ h. none_is_no (kept t) new (keeps.all k t below (sym (text_same (Some t) (place_text (get_or places k None)) h)))))
     (λ _. ap (same_text (Some t)) here ∙ text_self (Some t)))
 
@@ -119,9 +106,6 @@ before i j below = elim (cases_lt j i) [
   | inl lt ↦ inl lt
   | inr le ↦ inr (omega (arith, le, below))
 ]
-
-some_same : (u t : List ℕ) → Some u ≡ Some t → u ≡ t
-some_same u t e = ap (λ (o : Option (List ℕ)). unwrap_or o []) e
 
 some_stays : (b : Bool) (i : ℕ) (o : Option ℕ) → IsSome o → IsSome (cond b (Some i) o)
 some_stays true i o h = refl
@@ -136,11 +120,11 @@ new_right places i n o u t false same old number h = old h
 pub keeps_new : (places : List (Option PoolEntry)) (i : ℕ) (kept next : List ℕ → Option ℕ) (t : List ℕ) → KeepsFirst places i kept → place_text (get_or places i None) ≡ Some t → i ≡ number_in places (Some t)
     → ((u : List ℕ) → next u ≡ cond (bytes_eq u t) (Some i) (kept u)) → KeepsFirst places (i + 1) next
 keeps_new places i kept next t keeps here number more = record {
-  right = λ u n h. new_right places i n (kept u) u t (bytes_eq u t) (λ e. bytes_same u t e) (keeps.right u n) number (sym (more u) ∙ h);
+  right = λ u n h. new_right places i n (kept u) u t (bytes_eq u t) (λ e. bytes_eq_true u t e) (keeps.right u n) number (sym (more u) ∙ h);
   all = λ j u below is. elim (before i j below) [
     | inl lt ↦ subst IsSome (sym (more u)) (some_stays (bytes_eq u t) i (kept u) (keeps.all j u lt is))
     | inr e ↦ (let same : Some u ≡ Some t = sym is ∙ ap (λ k. place_text (get_or places k None)) e ∙ here in
-        let self : bytes_eq u t ≡ true = (bytes_eq-Decides u t).1 (some_same u t same) in
+        let self : bytes_eq u t ≡ true = (bytes_eq-Decides u t).1 (same_Some u t same) in
         subst IsSome (sym (more u ∙ ap (λ (b : Bool). cond b (Some i) (kept u)) self)) refl)
   ];
 }
@@ -164,14 +148,14 @@ placed_entry : {K : Type 0} (text : K → List ℕ) (t : List ℕ) (key : K) (n 
     → lookup (is_text text t) (match_ordering o ((key, n) ∷ x ∷ xs) ((x.0, n) ∷ xs) (x ∷ longer)) ≡ cond (bytes_eq t (text key)) (Some n) (lookup (is_text text t) (x ∷ xs))
 placed_entry text t key n x xs longer Less h more = ap (λ (b : Bool). cond b (Some n) (lookup (is_text text t) (x ∷ xs))) (is_eq-slice_cmp t (text key))
 placed_entry text t key n x xs longer Equal h more =
-    let e : is_text text t x.0 ≡ bytes_eq t (text key) = is_eq-slice_cmp t (text x.0) ∙ ap (bytes_eq t) (sym (bytes_same (text key) (text x.0) (sym h))) in
+    let e : is_text text t x.0 ≡ bytes_eq t (text key) = is_eq-slice_cmp t (text x.0) ∙ ap (bytes_eq t) (sym (bytes_eq_true (text key) (text x.0) (sym h))) in
     cond_twice (is_text text t x.0) (Some n) (Some x.1) (lookup (is_text text t) xs)
     ∙ ap (λ (b : Bool). cond b (Some n) (lookup (is_text text t) (x ∷ xs))) e
 placed_entry text t key n x xs longer Greater h more =
     ap (λ (o : Option ℕ). cond (is_text text t x.0) (Some x.1) o) more
     ∙ cond_swap (bytes_eq t (text key)) (is_text text t x.0) (Some n) (Some x.1) (lookup (is_text text t) xs)
-    (λ a b. let same : text key ≡ text x.0 = sym (bytes_same t (text key) a) ∙ bytes_same t (text x.0) (sym (is_eq-slice_cmp t (text x.0)) ∙ b) in
-    let no : false ≡ true = h ∙ ap (bytes_eq (text key)) (sym same) ∙ bytes_self (text key) in cc)
+    (λ a b. let same : text key ≡ text x.0 = sym (bytes_eq_true t (text key) a) ∙ bytes_eq_true t (text x.0) (sym (is_eq-slice_cmp t (text x.0)) ∙ b) in
+    let no : false ≡ true = h ∙ ap (bytes_eq (text key)) (sym same) ∙ bytes_eq_self (text key) in cc)
 
 kept_more : {K : Type 0} (text : K → List ℕ) (cmp : K → K → Ordering) → ((j k : K) → is_eq (cmp j k) ≡ bytes_eq (text j) (text k)) → (t : List ℕ) (key : K) (n : ℕ) (entries : List (K × ℕ))
     → lookup (is_text text t) (insert_entry cmp entries key n) ≡ cond (bytes_eq t (text key)) (Some n) (lookup (is_text text t) entries)
@@ -226,24 +210,10 @@ all_more : (pool : List PoolEntry) (a : ℕ × ℕ) (pairs : List (ℕ × ℕ)) 
 all_more pool a [] p all = (p, tt)
 all_more pool a (b ∷ pairs) p all = all_placed pool a b pairs (insert_key pair_cmp pairs a) (pair_cmp a b) p all (all_more pool a pairs p all.1)
 
-both : (a b : Bool) → (a && b) ≡ true → (a ≡ true) × (b ≡ true)
-both true b e = (refl, e)
-both false b e = absurd cc
-
-or_twice : (a b : Bool) → (a || b) ≡ (a || (a || b))
-or_twice true b = refl
-or_twice false b = refl
-
-or_swap : (a b c : Bool) → (a || (b || c)) ≡ (b || (a || c))
-or_swap true true c = refl
-or_swap true false c = refl
-or_swap false true c = refl
-or_swap false false c = refl
-
 pair_is : (a b : ℕ × ℕ) → pair_cmp a b ≡ Equal → a ≡ b
 pair_is a b e =
     let t : (is_eq (nat_cmp a.0 b.0) && is_eq (nat_cmp a.1 b.1)) ≡ true = sym (tied (nat_cmp a.0 b.0) (nat_cmp a.1 b.1)) ∙ ap is_eq e in
-    let p = both (is_eq (nat_cmp a.0 b.0)) (is_eq (nat_cmp a.1 b.1)) t in
+    let p = and_parts (is_eq (nat_cmp a.0 b.0)) (is_eq (nat_cmp a.1 b.1)) t in
     ap (λ (n : ℕ). (n, a.1)) (exact_unsigned a.0 b.0 (equal_is (nat_cmp a.0 b.0) p.0)) ∙ ap (λ (n : ℕ). (b.0, n)) (exact_unsigned a.1 b.1 (equal_is (nat_cmp a.1 b.1) p.1))
 
 placed : (key_of : ℕ × ℕ → Key) (q : Key) (o : Ordering) (k x : ℕ × ℕ) (xs longer : List (ℕ × ℕ)) → (o ≡ Equal → k ≡ x)
@@ -253,7 +223,7 @@ placed key_of q Less k x xs longer same others = refl
 placed key_of q Equal k x xs longer same others =
     or_twice (same_key q (key_of x)) (list_any (same_key q) (map key_of xs)) ∙ ap (λ (j : ℕ × ℕ). same_key q (key_of j) || (same_key q (key_of x) || list_any (same_key q) (map key_of xs))) (sym (same refl))
 placed key_of q Greater k x xs longer same others =
-    ap (λ (b : Bool). same_key q (key_of x) || b) others ∙ or_swap (same_key q (key_of x)) (same_key q (key_of k)) (list_any (same_key q) (map key_of xs))
+    ap (λ (b : Bool). same_key q (key_of x) || b) others ∙ or_over (same_key q (key_of x)) (same_key q (key_of k)) (list_any (same_key q) (map key_of xs))
 
 any_more : (key_of : ℕ × ℕ → Key) (q : Key) (k : ℕ × ℕ) (ks : List (ℕ × ℕ))
     → list_any (same_key q) (map key_of (insert_key pair_cmp ks k)) ≡ (same_key q (key_of k) || list_any (same_key q) (map key_of ks))

@@ -18,7 +18,7 @@ use Rattle.class_base.proofs.Keys.{same_swapped}
 
 -- ---- the length of a Code's content
 
-handlers_length : (table : List Handler) → length (flat_map handler_text table) ≡ 8 * length table
+pub handlers_length : (table : List Handler) → length (flat_map handler_text table) ≡ 8 * length table
 handlers_length [] = refl
 handlers_length (h ∷ table) = omega (arith, handlers_length table)
 
@@ -109,10 +109,6 @@ pool_is text entries others v same texts s =
     sym (same_pool 0 entries others [] v texts (subst (λ (bytes : List ℕ). Spells (record { at = 0; bytes = bytes }) others v) (sym whole) s))
 
 -- ---- the class
-
-pub if_ok : {E : Type 0} (r : Result Bool E) (P Q : Bool → Type 0) → ((b : Bool) → P b → Q b) → IfOk r P → IfOk r Q
-if_ok (Ok b) P Q all holds = all b holds
-if_ok (Err e) P Q all holds = tt
 
 -- the rules on a class whose entries are these
 pub record Holds (pool : List PoolEntry) (c : ClassText) : Type 0 where

@@ -1,4 +1,5 @@
--- What a class file says: the names and descriptors themselves, in place of the indexes by which the file names them.
+-- What a class file says (JVM specification, section 4.1): the names and descriptors themselves, in place of the indexes
+-- by which the file names them.
 use Rattle.std.specs.Prelude.{ℕ, List, Option}
 pub use Rattle.class_base.specs.declared.handler.Handler.{Handler}
 use Rattle.class_pool.specs.declared.entry.PoolEntry.{PoolEntry}

@@ -7,6 +7,7 @@ use Rattle.std.proofs.lemmas.Bool.{and_parts, ltb-true}
 use Rattle.std.proofs.lemmas.List.{reverse-append, take_all}
 use Rattle.std.proofs.lemmas.List.Concat.{flat_map-append}
 use Rattle.std.proofs.lemmas.Option.{slice_get-get_or}
+use Rattle.std.proofs.lemmas.List.Elements.{filter-append}
 use Rattle.jvm_values.specs.declared.types.Slot.{Slot}
 use Rattle.class_read.specs.Content.{ClassContent}
 use Rattle.class_world.specs.World.{World, super_of, line_from, line_of, built_in}
@@ -134,7 +135,7 @@ module _ (world : World) (class index : ℕ) (table : List (List ℕ)) (slots : 
 
 -- ---- receivers
 
-range_more : (a n : ℕ) → range_with_len a (n + 1) ≡ range_with_len a n ++ (a + n) ∷ []
+pub range_more : (a n : ℕ) → range_with_len a (n + 1) ≡ range_with_len a n ++ (a + n) ∷ []
 range_more a n = ap (range_with_len a) (add-one n) ∙ go a n
   where
     go : (a n : ℕ) → range_with_len a (suc n) ≡ range_with_len a n ++ (a + n) ∷ []
@@ -143,17 +144,9 @@ range_more a n = ap (range_with_len a) (add-one n) ∙ go a n
         let z : a + 1 + n ≡ a + suc n = omega arith in
         ap (λ xs. a ∷ xs) (go (a + 1) n ∙ ap (λ x. range_with_len (a + 1) n ++ x ∷ []) z)
 
-filter_both : (p : ℕ → Bool) (xs ys : List ℕ) → filter p (xs ++ ys) ≡ filter p xs ++ filter p ys
-filter_both p [] ys = refl
-filter_both p (x ∷ xs) ys = go (p x) (filter_both p xs ys)
-  where
-    go : (b : Bool) → filter p (xs ++ ys) ≡ filter p xs ++ filter p ys → cond b (x ∷ filter p (xs ++ ys)) (filter p (xs ++ ys)) ≡ cond b (x ∷ filter p xs) (filter p xs) ++ filter p ys
-    go true e = ap (λ zs. x ∷ zs) e
-    go false e = e
-
 pub filter_more : (p : ℕ → Bool) (found more : List ℕ) (i : ℕ) (b : Bool) → found ≡ filter p (range_with_len 0 i) → b ≡ p i → more ≡ cond b (found ++ i ∷ []) found → more ≡ filter p (range_with_len 0 (i + 1))
 filter_more p found more i b e f m =
-    m ∙ go b f ∙ ap (λ xs. xs ++ filter p (i ∷ [])) e ∙ sym (filter_both p (range_with_len 0 i) (i ∷ []))
+    m ∙ go b f ∙ ap (λ xs. xs ++ filter p (i ∷ [])) e ∙ sym (filter-append p (range_with_len 0 i) (i ∷ []))
     ∙ ap (λ x. filter p (range_with_len 0 i ++ x ∷ [])) (sym (zero-add i)) ∙ ap (filter p) (sym (range_more 0 i))
   where
     go : (v : Bool) → v ≡ p i → cond v (found ++ i ∷ []) found ≡ found ++ cond (p i) (i ∷ []) []

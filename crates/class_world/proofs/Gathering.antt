@@ -14,6 +14,8 @@ use Rattle.class_world.specs.Linking.{is_linked}
 use Rattle.class_world.specs.Linked.{hierarchy, linked_from}
 use Rattle.class_world.specs.Once.{interfaces_once, IsSought, AreSought}
 use Rattle.std.proofs.lemmas.Option.{slice_get_past}
+use Rattle.list_views.proofs.Marks.{unmarked}
+use Rattle.list_views.proofs.Options.{both_none}
 use Rattle.class_world.proofs.Indexes.{no_super}
 use Rattle.class_world.proofs.Onces.{In_once, sought_once}
 use Rattle.class_world.proofs.Seeking.{Seeking, Ordered, unfolds, interface_over, flat_In, found_append, found_here, entered, skipped, none_left, begun, last_first, mark_at, goes_down, left_from}
@@ -39,12 +41,6 @@ ordered world place linked =
       further = leads_trans (supers_of world) n h.closed;
       never = λ x e. false≢true (sym (h.acyclic x) ∙ e);
     }
-
-unmarked : (n x : ℕ) → get_or (replicate n false) x false ≡ false
-unmarked n x = elim (cases_lt x n) [
-  | inl l ↦ get_or-replicate n x false false l
-  | inr l ↦ get_or_past (replicate n false) x false (omega (arith, l, length-replicate n false))
-]
 
 begun_world : (world : World) (place : ℕ → Option ℕ) (class n : ℕ) (marks : List Bool) (todo : List ℕ) → is_linked world ≡ true → marks ≡ replicate n false → n ≡ length world → todo ≡ flat_map (interfaces_once world) (line_of world class) → Seeking (length world) (interfaces_once world) (is_above world) place (first_found place (trees_of world class)) marks todo
 begun_world world place class n marks todo linked m k t =
@@ -85,10 +81,6 @@ module _ (world : World) (place : ℕ → Option ℕ) (all : Option (ℕ × ℕ)
       skipped (length world) (interfaces_once world) (is_above world) place (ordered world place linked) all marks x (reverse rest) (top marks todo rest x s e) (mark_at marks x d b true l f m)
 
 -- ---- gathering
-
-or_none : {A : Type 0} (x y : Option A) → option_or x y ≡ None → (x ≡ None) × (y ≡ None)
-or_none None y e = (refl, e)
-or_none (Some a) y e = cc
 
 abbrev placed : ℕ → Option ℕ → Option (ℕ × ℕ)
 placed x o = option_map (λ i. (x, i)) o
@@ -134,7 +126,7 @@ module _ (world : World) (class : ℕ) where
 
         missed : (place : ℕ → Option ℕ) → first_found place (found ++ x ∷ []) ≡ None → Sought world place (first_found place (trees_of world class)) after now
         missed place e =
-            let both = or_none (first_found place found) (option_or (placed x (place x)) None) (sym (at_end place) ∙ e) in
+            let both = both_none (first_found place found) (option_or (placed x (place x)) None) (sym (at_end place) ∙ e) in
             entered_popped world place _ marks after todo rest now x linked (g.missed place both.0) last (none_placed x (place x) both.1) m r
 
         here : (place : ℕ → Option ℕ) (s : ℕ × ℕ) (o : Option ℕ) → place x ≡ o → first_found place found ≡ None → option_or (placed x o) None ≡ Some s → Some s ≡ first_found place (trees_of world class)

@@ -7,6 +7,8 @@ use Rattle.std.proofs.Math.Seq.{take-suc}
 use Rattle.std.proofs.lemmas.Option.{slice_get_past}
 use Rattle.std.proofs.lemmas.Bool.{and_parts, ltb-true}
 use Rattle.std.proofs.lemmas.List.Quantifiers.{position-Some}
+use Rattle.std.proofs.lemmas.List.Elements.{filter_map-append}
+use Rattle.list_views.proofs.Items.{length_mapped, length_taken}
 use Rattle.class_read.specs.Content.{ClassContent, FieldContent}
 use Rattle.class_read.specs.Rules.{same_key, key_of, field_of, method_of}
 use Rattle.class_read.specs.View.{field_content, method_content}
@@ -21,7 +23,7 @@ use Rattle.class_world.specs.Fields.{field_slot}
 use Rattle.class_world.specs.Resolve.{is_field_named, declared_field, is_initialiser, is_initialised}
 use Rattle.class_world.specs.Tables.{values_to}
 use Rattle.class_world.specs.Index.{Key, has_places, field_key, method_key, field_content_key, method_content_key, HasDistinctMembers, method_keys, field_keys, kept_before, kept_counts, kept_row}
-use Rattle.class_base.proofs.Maps.{length_mapped, position-map}
+use Rattle.class_base.proofs.Maps.{position-map}
 use Rattle.class_world.proofs.Tables.{class_at, values_more, length-values, get_or-values}
 
 pub map_map : {A B C : Type 0} (f : B → C) (g : A → B) (xs : List A) → map f (map g xs) ≡ map (λ x. f (g x)) xs
@@ -69,14 +71,6 @@ kept_from world class c inside fields l e p q =
 
 -- ---- counting
 
-filter_map-append : {A B : Type 0} (f : A → Option B) (xs ys : List A) → filter_map f (xs ++ ys) ≡ filter_map f xs ++ filter_map f ys
-filter_map-append f [] ys = refl
-filter_map-append {B} f (x ∷ xs) ys = go (f x) (filter_map-append f xs ys)
-  where
-    go : (o : Option B) → filter_map f (xs ++ ys) ≡ filter_map f xs ++ filter_map f ys → cons_option o (filter_map f (xs ++ ys)) ≡ cons_option o (filter_map f xs) ++ filter_map f ys
-    go None e = e
-    go (Some y) e = ap (λ zs. y ∷ zs) e
-
 length-cons : {B : Type 0} (o : Option B) → length (cons_option o []) ≡ option_len o
 length-cons None = refl
 length-cons (Some y) = refl
@@ -110,14 +104,9 @@ kept_more world fields i d l =
     get_or-map g (y ∷ ys) zero x = refl
     get_or-map g (y ∷ ys) (suc j) x = get_or-map g ys j x
 
-length-take_le : {A : Type 0} (i : ℕ) (xs : List A) → length (take i xs) ≤ i
-length-take_le zero xs = omega arith
-length-take_le (suc i) [] = omega arith
-length-take_le (suc i) (x ∷ xs) = omega (arith, length-take_le i xs)
-
 pub kept_most : (world : World) (fields : List FieldContent) (i : ℕ) → kept_before world fields i ≤ i
 unfolding kept_before
-kept_most world fields i = omega (arith, length-filtered (field_slot world) (take i fields), length-take_le i fields)
+kept_most world fields i = omega (arith, length-filtered (field_slot world) (take i fields), length_taken i fields)
 
 pub kept_step : (world : World) (fields : List FieldView) (i kept more : ℕ) (d : FieldView) → i < length fields → kept ≡ kept_before world (map field_content fields) i → more ≡ kept + option_len (field_slot world (field_content (get_or fields i d))) → more ≡ kept_before world (map field_content fields) (i + 1)
 kept_step world fields i kept more d l e m = m ∙ ap (λ n. n + option_len (field_slot world (field_content (get_or fields i d)))) e ∙ sym (kept_more world fields i d l)
@@ -196,7 +185,7 @@ field_past world table class name desc t l =
     let m : length table ≡ length world = ap length t ∙ length-values (field_keys world) (length world) in
     ap (option_and_then (λ x. position (is_field_named name desc) x.fields)) (sym (slice_get_past world class (omega (arith, l, m))))
 
-few_fields : (world : World) (n : ℕ) (c : ClassContent) → list_all has_few_members world ≡ true → slice_get world n ≡ Some c → length c.fields < 65536
+pub few_fields : (world : World) (n : ℕ) (c : ClassContent) → list_all has_few_members world ≡ true → slice_get world n ≡ Some c → length c.fields < 65536
 few_fields [] n c e s = cc
 few_fields (x ∷ xs) zero c e s =
     let same : x ≡ c = cc in

@@ -4,6 +4,8 @@ use Rattle.std.proofs.Math.ListN.{length-set, length-replicate}
 use Rattle.std.proofs.lemmas.List.{get_or-set_same, get_or-set_other, get_or_past, get_or-replicate, get_or_default}
 use Rattle.std.proofs.lemmas.List.Sums.{sum_by-set}
 use Rattle.std.proofs.lemmas.Bool.{false≢true, eqb-true, cases_lt}
+use Rattle.list_views.proofs.Marks.{none_marked, mark_keeps, marked_within}
+use Rattle.list_views.proofs.Truths.{same_truth}
 use Rattle.class_world.specs.World.{leads_up}
 use Rattle.list_views.specs.Lists.{open_count}
 use Rattle.class_world.specs.Marking.{marks_after, todo_after, listed_at, IsRow, IsClosed}
@@ -23,20 +25,9 @@ pub length-marks : (marks : List Bool) (bs : List ℕ) → length (marks_after m
 length-marks marks [] = refl
 length-marks marks (b ∷ bs) = length-marks (set marks b true) bs ∙ length-set marks b true
 
-set_keeps : (marks : List Bool) (b x : ℕ) → get_or marks x false ≡ true → get_or (set marks b true) x false ≡ true
-set_keeps marks b x e = elim (same_or_not x b) [
-  | inl s ↦
-      let l : b < length marks = elim (cases_lt b (length marks)) [
-        | inl k ↦ k
-        | inr k ↦ absurd (false≢true (sym (get_or_past marks x false (omega (arith, k, s))) ∙ e))
-      ] in
-      subst (λ (y : ℕ). get_or (set marks b true) y false ≡ true) (sym s) (get_or-set_same marks b true false l)
-  | inr d ↦ get_or-set_other marks b x true false d ∙ e
-]
-
 pub marks_keep : (marks : List Bool) (bs : List ℕ) (x : ℕ) → get_or marks x false ≡ true → get_or (marks_after marks bs) x false ≡ true
 marks_keep marks [] x e = e
-marks_keep marks (b ∷ bs) x e = marks_keep (set marks b true) bs x (set_keeps marks b x e)
+marks_keep marks (b ∷ bs) x e = marks_keep (set marks b true) bs x (mark_keeps marks b x e)
 
 pub marks_all : (marks : List Bool) (bs : List ℕ) (x : ℕ) → IsIn x bs → x < length marks → get_or (marks_after marks bs) x false ≡ true
 marks_all marks [] x h l = absurd h
@@ -155,12 +146,6 @@ closed_In supers h a b i =
     let r = get-In (listed_at supers a) b i in
     subst (λ (x : ℕ). x < length supers) r.2 (h.within a r.0 r.1)
 
-none_marked : (n b : ℕ) → get_or (replicate n false) b false ≡ true → ⊥
-none_marked n b e = elim (cases_lt b n) [
-  | inl l ↦ false≢true (sym (get_or-replicate n b false false l) ∙ e)
-  | inr l ↦ false≢true (sym (get_or_past (replicate n false) b false (omega (arith, l, length-replicate n false))) ∙ e)
-]
-
 pub Closing-first : (supers : List (List ℕ)) (class : ℕ) → IsClosed supers → Closing supers class (marks_after (replicate (length supers) false) (up_of supers class)) (todo_after (replicate (length supers) false) [] (up_of supers class))
 Closing-first supers class h =
     let n = length supers in
@@ -247,15 +232,10 @@ walk_marked supers class marks c a b (d ∷ p) e w = walk_marked supers class ma
     go (inl x) = absurd x
     go (inr f) = f
 
-same_bool : (a b : Bool) → (a ≡ true → b ≡ true) → (b ≡ true → a ≡ true) → a ≡ b
-same_bool true b f g = sym (f refl)
-same_bool false true f g = g refl
-same_bool false false f g = refl
-
 pub Closing-end : (supers : List (List ℕ)) (class : ℕ) (marks : List Bool) → IsClosed supers → Closing supers class marks [] → IsRow supers class marks
 Closing-end supers class marks h c = record {
   len = c.len;
-  marked = λ b l. same_bool (get_or marks b false) (leads_up (up_of supers) (length supers) class b) (to b) (from b);
+  marked = λ b l. same_truth (get_or marks b false) (leads_up (up_of supers) (length supers) class b) (to b) (from b);
 }
   where
     to : (b : ℕ) → get_or marks b false ≡ true → leads_up (up_of supers) (length supers) class b ≡ true
@@ -274,12 +254,6 @@ may_mark supers class n bs h e f k d l =
     subst (λ (xs : List ℕ). get_or xs k d < n) (sym e)
     (subst (λ (m : ℕ). get_or (listed_at supers class) k d < m) (sym f)
     (subst (λ (x : ℕ). x < length supers) (get_or_default (listed_at supers class) k 0 d a) b))
-
-marked_within : (marks : List Bool) (x : ℕ) → get_or marks x false ≡ true → x < length marks
-marked_within marks x e = elim (cases_lt x (length marks)) [
-  | inl l ↦ l
-  | inr l ↦ absurd (false≢true (sym (get_or_past marks x false l) ∙ e))
-]
 
 -- the last of the list is a class
 pub next_within : (supers : List (List ℕ)) (class : ℕ) (marks : List Bool) (todo rest : List ℕ) (next : ℕ) → Closing supers class marks todo → todo ≡ rest ++ next ∷ [] → next < length supers
@@ -314,7 +288,3 @@ less_work supers class marks marks' todo rest todo' bs next h c e g p q =
 pub Closing-end_at : (supers : List (List ℕ)) (class : ℕ) (marks row : List Bool) (todo : List ℕ) → IsClosed supers → Closing supers class marks todo → todo ≡ [] → row ≡ marks → IsRow supers class row
 Closing-end_at supers class marks row todo h c e f =
     subst (λ (x : List Bool). IsRow supers class x) (sym f) (Closing-end supers class marks h (subst (λ (x : List ℕ). Closing supers class marks x) e c))
-
-pub no_items : (xs : List ℕ) → length xs ≡ 0 → xs ≡ []
-no_items [] e = refl
-no_items (x ∷ xs) e = absurd (omega (arith, e))

@@ -7,6 +7,7 @@ use Rattle.std.proofs.lemmas.Bool.{false≢true}
 use Rattle.std.proofs.lemmas.List.Folds.{list_any-append}
 use Rattle.std.proofs.lemmas.List.Concat.{flat_map-append}
 use Rattle.std.proofs.Math.Bool.{or-false}
+use Rattle.list_views.proofs.Truths.{or_assoc}
 use Rattle.class_world.specs.World.{World, super_of, interfaces_of, supers_of, listed, leads_up, line_of}
 use Rattle.class_world.specs.Walks.{IsIn, IsIn-from_any, any-from_IsIn, AnyOf-here}
 use Rattle.class_world.specs.Resolve.{first_found, with_interfaces, superinterfaces_of}
@@ -26,10 +27,6 @@ or_same : (a b : Bool) → (b ≡ true → a ≡ true) → (a || b) ≡ a
 or_same true b h = refl
 or_same false true h = absurd (false≢true (h refl))
 or_same false false h = refl
-
-or_assoc : (a b c : Bool) → ((a || b) || c) ≡ (a || (b || c))
-or_assoc true b c = refl
-or_assoc false b c = refl
 
 any_with : (p : ℕ → Bool) (numbers : List ℕ) (x : ℕ) → list_any p (with_number numbers x) ≡ (list_any p numbers || p x)
 any_with p numbers x = go (list_any (eqb x) numbers) refl

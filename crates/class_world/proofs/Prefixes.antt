@@ -7,6 +7,7 @@ use Rattle.std.proofs.lemmas.Bool.{eqb-true}
 use Rattle.std.proofs.lemmas.List.{reverse-append}
 use Rattle.std.proofs.lemmas.List.Concat.{flat_map-append}
 use Rattle.std.proofs.lemmas.Option.{slice_get-get_or}
+use Rattle.list_views.proofs.Items.{get_before, get_behind}
 use Rattle.jvm_values.specs.declared.types.Slot.{Slot}
 use Rattle.class_read.specs.Content.{ClassContent, FieldContent}
 use Rattle.class_world.specs.declared.fault.LinkFault.TheVariants.{MissingClass}
@@ -149,17 +150,6 @@ module _ (world : World) (linked : IsLinked world) where
 abbrev placed_at : ℕ → Option Slot → Option (ℕ × Slot)
 placed_at n o = option_map (λ s. (n, s)) o
 
-get_front : {A : Type 0} (xs ys : List A) (k : ℕ) (x : A) → slice_get xs k ≡ Some x → slice_get (xs ++ ys) k ≡ Some x
-get_front [] ys k x e = cc
-get_front (z ∷ xs) ys zero x e = e
-get_front (z ∷ xs) ys (suc k) x e = get_front xs ys k x e
-
-get_behind : {A : Type 0} (xs ys : List A) (k : ℕ) → slice_get (xs ++ ys) (length xs + k) ≡ slice_get ys k
-get_behind [] ys k = ap (slice_get ys) (zero-add k)
-get_behind (x ∷ xs) ys k =
-    let i : length (x ∷ xs) + k ≡ suc (length xs + k) = omega arith in
-    ap (slice_get (x ∷ xs ++ ys)) i ∙ get_behind xs ys k
-
 -- what an item of a list becomes stands behind what the items before it become
 kept_at : {A B : Type 0} (f : A → Option B) (xs : List A) (i : ℕ) (x : A) (y : B) → slice_get xs i ≡ Some x → f x ≡ Some y → slice_get (filter_map f xs) (length (filter_map f (take i xs))) ≡ Some y
 kept_at f [] i x y e q = cc
@@ -220,4 +210,4 @@ fields_in_order world e = record { first = first world linked; place = placed }
     placed class above index i slot l b o f =
         let r = first world linked class above l b o in
         ap (λ xs. slice_get xs i) r.1
-        ∙ get_front (fields_of world above) r.0 i slot (own_place world above index i slot (omega (arith, l)) f)
+        ∙ get_before (fields_of world above) r.0 i slot (own_place world above index i slot (omega (arith, l)) f)

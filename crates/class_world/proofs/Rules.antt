@@ -10,6 +10,7 @@ use Rattle.std.proofs.lemmas.Option.{slice_get-get_or, get_or_from_slice_get, sl
 use Rattle.std.proofs.lemmas.List.Sums.{position_or_len_is, fails_before_first}
 use Rattle.std.proofs.lemmas.Bool.{false≢true, cases_lt, lt-ltb, ne_eqb, or_parts}
 use Rattle.std.specs.Cmp.Lexicographic.{bytes_decides}
+use Rattle.list_views.proofs.Items.{drop_past}
 use Rattle.list_views.specs.Results.{IsFault}
 use Rattle.list_views.proofs.Steps.{found_by}
 use Rattle.class_read.specs.Content.{ClassContent}
@@ -31,14 +32,8 @@ broken_step rule world i l =
     ∙ ap (λ o. option_or o (first_broken rule (suc i) (drop (suc i) world))) (sym (ap (option_and_then (rule i)) (slice_get-get_or world i d l)))
     ∙ ap (λ j. option_or (rule_at rule world i) (first_broken rule j (drop j world))) (sym (add-one i))
 
-drop_all : {A : Type 0} (xs : List A) (i : ℕ) → length xs ≤ i → drop i xs ≡ []
-drop_all [] zero l = refl
-drop_all [] (suc i) l = refl
-drop_all (x ∷ xs) zero l = absurd (omega (arith, l))
-drop_all (x ∷ xs) (suc i) l = drop_all xs i (omega (arith, l))
-
 pub broken_end : (rule : Rule) (world : World) (i : ℕ) → length world ≤ i → first_broken rule i (drop i world) ≡ None
-broken_end rule world i l = ap (first_broken rule i) (drop_all world i l)
+broken_end rule world i l = ap (first_broken rule i) (drop_past world i l)
 
 -- nothing so far, and this class keeps the rule
 pub broken_kept : (rule : Rule) (world : World) (i : ℕ) → i < length world → first_broken rule i (drop i world) ≡ first_broken rule 0 world → rule_at rule world i ≡ None → first_broken rule (i + 1) (drop (i + 1) world) ≡ first_broken rule 0 world

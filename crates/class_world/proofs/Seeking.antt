@@ -8,6 +8,7 @@ use Rattle.std.proofs.lemmas.List.{get_or-set_other, get_or_default, reverse-app
 use Rattle.std.proofs.lemmas.List.Concat.{flat_map-append}
 use Rattle.std.proofs.lemmas.Map.Steps.{length-le_from_distinct_below}
 use Rattle.std.proofs.lemmas.Bool.{false≢true, eqb-true, or_parts}
+use Rattle.list_views.proofs.Options.{both_none}
 use Rattle.class_world.specs.World.{World, leads_up, super_of, supers_of, interfaces_of, listed}
 use Rattle.class_world.specs.Walks.{IsIn, IsIn-from_any, Walk, leads-from_any_Walk}
 use Rattle.class_world.specs.Resolve.{first_found, with_interfaces}
@@ -79,10 +80,6 @@ found_append place (x ∷ xs) ys = go (option_map (λ i. (x, i)) (place x)) (fou
     go None e = e
     go (Some r) e = refl
 
-or_none : {A : Type 0} (x y : Option A) → option_or x y ≡ None → (x ≡ None) × (y ≡ None)
-or_none None y e = (refl, e)
-or_none (Some a) y e = cc
-
 In_append : (x : ℕ) (xs ys : List ℕ) → IsIn x (xs ++ ys) → IsIn x xs ⊎ IsIn x ys
 In_append x [] ys h = inr h
 In_append x (z ∷ zs) ys (inl same) = inl (inl same)
@@ -134,7 +131,7 @@ module _ (n : ℕ) (up : ℕ → List ℕ) (above : ℕ → ℕ → Bool) (place
   both_miss xs ys e f = found_append place xs ys ∙ ap₂ option_or e f
 
   parts_miss : (xs ys : List ℕ) → Misses (xs ++ ys) → Misses xs × Misses ys
-  parts_miss xs ys e = or_none (first_found place xs) (first_found place ys) (sym (found_append place xs ys) ∙ e)
+  parts_miss xs ys e = both_none (first_found place xs) (first_found place ys) (sym (found_append place xs ys) ∙ e)
 
   here_misses : (x : ℕ) (xs : List ℕ) → place x ≡ None → Misses xs → Misses (x ∷ xs)
   here_misses x xs e f = ap (λ o. option_or (option_map (λ i. (x, i)) o) (first_found place xs)) e ∙ f

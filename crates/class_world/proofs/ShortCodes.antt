@@ -4,6 +4,7 @@ use Rattle.std.specs.Prelude.{slice_get, map, option_and_then, nat_lt}
 use Rattle.std.specs.List.{list_all, AllByRecursion}
 use Rattle.std.specs.Option.{option_map_or}
 use Rattle.std.proofs.lemmas.Bool.{and_from, and_parts, lt-ltb, ltb-true}
+use Rattle.list_views.proofs.Quantified.{holds_at}
 use Rattle.class_pool.specs.declared.entry.PoolEntry.{PoolEntry}
 use Rattle.class_read.specs.Content.{ClassContent, MethodContent, CodeContent}
 use Rattle.class_read.specs.Rules.{IsMethod, IsMethodAttribute, codes_in, first_of, method_of}
@@ -41,15 +42,10 @@ pub short_world : (given : List ClassContent) (world : World) → world ≡ worl
 unfolding built_in_names
 short_world given world e h = subst (λ (w : World). list_all has_short_codes w ≡ true) (sym e) (all_append has_short_codes built_ins given refl (all_short_read given h))
 
-item_of : {A : Type 0} (p : A → Bool) (xs : List A) (i : ℕ) (x : A) → list_all p xs ≡ true → slice_get xs i ≡ Some x → p x ≡ true
-item_of p [] i x h e = cc
-item_of p (y ∷ ys) zero x h e = let same : y ≡ x = cc in subst (λ z. p z ≡ true) same (and_parts (p y) (list_all p ys) h).0
-item_of p (y ∷ ys) (suc i) x h e = item_of p ys i x (and_parts (p y) (list_all p ys) h).1 e
-
 pub short_at : (world : World) (ref : MethodRef) (m : MethodContent) → list_all has_short_codes world ≡ true → method_at world ref ≡ Some m → has_short_code m ≡ true
 unfolding method_at
 short_at world ref m h e = by (slice_get world ref.class) refl e
   where
     by : (o : Option ClassContent) → slice_get world ref.class ≡ o → option_and_then (λ c. slice_get c.methods ref.index) o ≡ Some m → has_short_code m ≡ true
     by None s k = cc
-    by (Some c) s k = item_of has_short_code c.methods ref.index m (item_of has_short_codes world ref.class c h s) k
+    by (Some c) s k = holds_at has_short_code c.methods ref.index m (holds_at has_short_codes world ref.class c h s) k

@@ -1,4 +1,4 @@
--- What a type means in a world: what a slot of it holds; that it is not supported; or that its class isn't there.
+-- What a type means in a world (JVM specification, section 4.3.2): what a slot of it holds; that it is not supported; or that its class isn't there.
 use Rattle.std.specs.Prelude.{ℕ, ◌==◌, if◌then◌else◌, List, Option, Some, None, option_and_then}
 use Rattle.jvm_values.specs.declared.types.Kind.{Kind}
 use Rattle.jvm_values.specs.declared.types.Base.TheVariants as bases

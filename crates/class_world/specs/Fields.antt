@@ -1,4 +1,4 @@
--- The fields of objects (JVM specification, section 2.5.4 and chapter 4.5).
+-- The fields of objects (JVM specification, sections 2.7 and 4.5).
 use Rattle.std.specs.Prelude.{ℕ, ◌&&◌, not, Bool, false, if◌then◌else◌, List, [], slice_get, reverse, Option, None}
 use Rattle.std.specs.List.{filter_map, flat_map}
 use Rattle.std.specs.Option.{option_map_or}

@@ -1,4 +1,4 @@
--- Members of a class, found by name and descriptor.
+-- Members of a class, found by name and descriptor (JVM specification, section 5.4.3).
 use Rattle.std.specs.Prelude.{ℕ, ◌&&◌, Bool, if◌then◌else◌, List, slice_get, position, Option, None, option_and_then, codes}
 use Rattle.std.specs.Option.{option_map}
 use Rattle.std.specs.Str.{bytes_eq}

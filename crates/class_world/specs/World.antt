@@ -1,7 +1,7 @@
--- A world: the classes that a program can speak of, each under its number.
+-- A world: the classes that a program can speak of, each under its number (JVM specification, sections 2.10 and 5.3).
 --
 -- The built-in classes have the numbers 0 to 14. They are the classes of `java.lang` that instructions throw, with
--- those above them (Java SE 6). Given classes are numbered from 15 on, in their order. A world is the list of its
+-- those above them (Java SE 8). Given classes are numbered from 15 on, in their order. A world is the list of its
 -- classes; nothing here knows of an index of names.
 use Rattle.std.specs.Prelude.{ℕ, zero, suc, ◌==◌, ◌||◌, Bool, false, if◌then◌else◌, List, [], ◌∷◌, ◌++◌, length, slice_get, position, map, Option, Some, None, option_and_then, codes, filter_map}
 use Rattle.std.specs.List.{list_any}

@@ -1,4 +1,4 @@
-//! The built-in classes: those of `java.lang` that instructions throw, with those above them (Java SE 6).
+//! The built-in classes: those of `java.lang` that instructions throw, with those above them (Java SE 8).
 ghost use Rattle.std.specs.Prelude.{◌≡◌, [], ◌∷◌, map, IfOk, OnOk};
 ghost use Rattle.class_read.specs.View.{method_content};
 ghost use Rattle.class_world.specs.World.{built_in, built_in_init, built_ins, world_of};

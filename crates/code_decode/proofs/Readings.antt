@@ -3,13 +3,14 @@ use Rattle.std.proofs.Common.{◌≡◌, ℕ, Bool, true, false, cond, eqb, List
 use Rattle.std.specs.Prelude.{option_map}
 use Rattle.std.specs.List.{AllByRecursion}
 use Rattle.std.proofs.lemmas.Bool.{eqb-true}
+use Rattle.list_views.proofs.Options.{cond_either}
 use Rattle.code_forms.specs.declared.insn.Insn.{Insn}
 use Rattle.code_forms.specs.Spellings.{spelling, Plain, Byte, Pair, Jump}
 use Rattle.code_decode.specs.Reading as reading
 use Rattle.code_forms.specs.Opcodes.{opcode_of, find, find_by, plain_low, plain_high, with_byte, with_pair, with_jump, first_of, plain}
 use Rattle.code_decode.specs.Reading.{OperandLayout, single_layout, operand_layout, operands_at, insn_at}
 use Rattle.code_decode.proofs.Fields.{IsBytes, ok_is}
-use Rattle.code_decode.proofs.Takes.{TakesSpelling, plain_takes, byte_operand_takes, pair_operand_takes, jump_operand_takes, far_jump_takes, signed_byte_takes, sipush_takes, increment_takes, array_takes, interface_takes, table_takes, lookup_takes, wide_takes, chosen, some_is, found_by}
+use Rattle.code_decode.proofs.Takes.{TakesSpelling, plain_takes, byte_operand_takes, pair_operand_takes, jump_operand_takes, far_jump_takes, signed_byte_takes, sipush_takes, increment_takes, array_takes, interface_takes, table_takes, lookup_takes, wide_takes, some_is, found_by}
 
 abbrev IsPlain : Insn → Type 0
 IsPlain i = spelling i ≡ Plain (opcode_of (spelling i))
@@ -32,7 +33,7 @@ jump_rows = (λ n. refl, (λ n. refl, (λ n. refl, (λ n. refl, (λ n. refl, (λ
 found : (is : List Insn) (op : ℕ) (i : Insn) → AllByRecursion IsPlain is → find is op ≡ Some i → spelling i ≡ Plain op
 found [] op i rows e = absurd cc
 found (j ∷ js) op i rows e =
-    elim (chosen (eqb op (opcode_of (spelling j))) (Some j) (find js op) (Some i) e) [
+    elim (cond_either (eqb op (opcode_of (spelling j))) (Some j) (find js op) (Some i) e) [
       | inl p ↦ subst (λ (k : Insn). spelling k ≡ Plain op) (some_is j i p.1) (rows.0 ∙ ap (λ (k : ℕ). Plain k) (sym (eqb-true op (opcode_of (spelling j)) p.0)))
       | inr p ↦ found js op i rows.1 p.1
     ]

@@ -8,6 +8,7 @@ use Rattle.std.proofs.lemmas.Bool.{eqb-true, ltb-false, ltb-true, and_parts}
 use Rattle.std.proofs.lemmas.Int.{ints, of_z-to_z}
 use Rattle.std.proofs.lemmas.List.{take-append-drop, length-take}
 use Rattle.std.proofs.lemmas.List.Concat.{flat_map-cons}
+use Rattle.list_views.proofs.Options.{cond_either}
 use Rattle.code_forms.specs.declared.fault.CodeFault.{CodeFault}
 use Rattle.code_forms.specs.declared.fault.CodeFault.TheVariants.{Truncated, BadSwitch, BadOperand}
 use Rattle.code_forms.specs.declared.insn.Case.{Case}
@@ -354,10 +355,6 @@ lookup_takes pc bytes x fits e =
 local_rows : AllByRecursion (λ make. (n : ℕ) → spelling (make n) ≡ WideLocal (opcode_of (spelling (make 0))) n) wide_local
 local_rows = (λ n. refl, (λ n. refl, (λ n. refl, (λ n. refl, tt))))
 
-pub chosen : {A : Type 0} (b : Bool) (x y z : A) → cond b x y ≡ z → ((b ≡ true) × (x ≡ z)) ⊎ ((b ≡ false) × (y ≡ z))
-chosen true x y z e = inl (refl, e)
-chosen false x y z e = inr (refl, e)
-
 abbrev pub just : {A : Type 0} → A → Option A
 just x = Some x
 
@@ -368,7 +365,7 @@ some_is x y e = cc
 pub found_by : (S : ℕ → ℕ → Spelling) (makes : List (ℕ → Insn)) (op : ℕ) (make : ℕ → Insn) → AllByRecursion (λ make. (n : ℕ) → spelling (make n) ≡ S (opcode_of (spelling (make 0))) n) makes → find_by makes op ≡ Some make → (n : ℕ) → spelling (make n) ≡ S op n
 found_by S [] op make rows e = absurd cc
 found_by S (m ∷ ms) op make rows e =
-    elim (chosen (eqb op (opcode_of (spelling (m 0)))) (Some m) (find_by ms op) (Some make) e) [
+    elim (cond_either (eqb op (opcode_of (spelling (m 0)))) (Some m) (find_by ms op) (Some make) e) [
       | inl p ↦ λ n. subst (λ (f : ℕ → Insn). spelling (f n) ≡ S op n) (some_is m make p.1) (rows.0 n ∙ ap (λ (k : ℕ). S k n) (sym (eqb-true op (opcode_of (spelling (m 0))) p.0)))
       | inr p ↦ found_by S ms op make rows.1 p.1
     ]

@@ -1,4 +1,4 @@
--- Reading instructions from left to right, with the first fault that is met.
+-- Reading instructions (JVM specification, chapter 6) from left to right, with the first fault that is met.
 use Rattle.std.specs.Prelude.{ℕ, zero, suc, ◌+◌, ℤ, pos, negsuc, ◌+ℤ◌, List, [], ◌∷◌, length, take, drop, Option, Some, None, option_map, Result, Ok, Err, nat_lt, ◌==◌, ◌&&◌, if◌then◌else◌}
 use Rattle.std.specs.Int.{Width, w8, w16, w32, byte_len, from_be_bytes, cast_signed}
 use Rattle.std.specs.Int.RustNames.{int_lt, unsigned_abs}

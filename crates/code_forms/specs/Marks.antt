@@ -1,4 +1,4 @@
--- Where the instructions of a code begin, and marked places.
+-- Where the instructions of a code begin (JVM specification, section 4.9.1), and marked places.
 use Rattle.std.specs.Prelude.{ℕ, List, map, Bool, false, ◌==◌, slice_index_or}
 use Rattle.std.specs.List.{list_any}
 use Rattle.code_forms.specs.declared.insn.Insn.{Insn}

@@ -4,10 +4,11 @@ use Rattle.std.specs.Prelude.{IfSome, slice_get, length}
 use Rattle.std.specs.Option.{option_map, option_map_or}
 use Rattle.std.proofs.lemmas.Bool.{false≢true}
 use Rattle.std.specs.List.{AllByRecursion}
+use Rattle.std.proofs.lemmas.Option.{none-some}
 use Rattle.jvm_values.specs.Subtyping.{IsSlot, IsReference}
 use Rattle.jvm_values.specs.Kinds.{kind_of_code}
 use Rattle.jvm_values.specs.declared.types.Kind.{Kind}
-use Rattle.jvm_values.proofs.Options.{some_is, none_is_not_some}
+use Rattle.jvm_values.proofs.Options.{some_is}
 use Rattle.code_forms.specs.declared.insn.Insn.{Insn}
 use Rattle.code_forms.specs.declared.insn.Insn.TheVariants as insns
 use Rattle.class_program.specs.declared.op.Op.{Op}
@@ -60,7 +61,7 @@ plain_form p found form h e =
     plain_good p form (ap (λ (x : Option Form). option_map_or is_plain x true) (sym e) ∙ h)
 
 all_of_at : {A : Type 0} (P : A → Type 0) (xs : List A) → AllByRecursion P xs → (n : ℕ) (x : A) → slice_get xs n ≡ Some x → P x
-all_of_at P [] h n x e = absurd (none_is_not_some x e)
+all_of_at P [] h n x e = absurd (none-some x e)
 all_of_at P (y ∷ xs) h zero x e = subst P (some_is e) h.0
 all_of_at P (y ∷ xs) h (suc n) x e = all_of_at P xs h.1 n x e
 
@@ -91,7 +92,7 @@ op_form p good m (ops.Checkcast t) form g e = subst (IsGoodForm p) (some_is e) g
 op_form p good m (ops.Instanceof t) form g e = subst (IsGoodForm p) (some_is e) tt
 
 found_good : (P : Op → Type 0) (insns : List (ℕ × Op)) → AllByRecursion (λ x. P x.1) insns → (place : ℕ) (op : Op) (next : Option ℕ) → instruction_at insns place ≡ Some (op, next) → P op
-found_good P [] h place op next e = absurd (none_is_not_some (op, next) e)
+found_good P [] h place op next e = absurd (none-some (op, next) e)
 found_good P (x ∷ insns) h place op next e = go (eqb x.0 place) (found_good P insns h.1 place op next) e
   where
     go : (b : Bool) → (instruction_at insns place ≡ Some (op, next) → P op) → cond b (Some (x.1, first_place insns)) (instruction_at insns place) ≡ Some (op, next) → P op

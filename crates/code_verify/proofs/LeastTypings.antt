@@ -2,12 +2,13 @@
 use Rattle.std.proofs.Common.{◌≡◌, ℕ, zero, suc, ◌+◌, ◌<◌, ◌≤◌, ◌||◌, Bool, true, false, cond, List, [], ◌∷◌, length, map, Option, Some, None, ◌⊎◌, inl, inr, refl, sym, ap, subst, ◌∙◌, arith, eq-eqb}
 use Rattle.std.specs.Prelude.{All, IsTrue, nat_eq}
 use Rattle.std.specs.Option.{is_some}
-use Rattle.std.proofs.lemmas.Bool.{false≢true, eqb-true, cases_lt, or_right, cases_eq}
+use Rattle.std.proofs.lemmas.Bool.{false≢true, eqb-true, cases_lt, or_right, cases_eq, cases_Bool}
 use Rattle.std.proofs.lemmas.List.Elements.{All-nil, All-cons, All-append, All-head, All-tail, All-filter, length_all_zip}
+use Rattle.std.proofs.lemmas.Option.{none-some}
 use Rattle.jvm_values.specs.TypedHeaps.{AreLawful}
 use Rattle.jvm_values.specs.declared.typing.PlaceType.TheVariants as places
 use Rattle.jvm_values.specs.States.{PlaceTypes}
-use Rattle.jvm_values.proofs.Options.{some_is, none_is_not_some}
+use Rattle.jvm_values.proofs.Options.{some_is}
 use Rattle.class_world.specs.Types.{erase}
 use Rattle.class_world.specs.WorldTypes.{types_of}
 use Rattle.class_program.specs.declared.op.Op.{Op}
@@ -32,10 +33,6 @@ use Rattle.code_verify.proofs.Running.{caught_of_world, run_proper, flows_ran, d
 use Rattle.code_verify.proofs.Solved.{reached_typed, entry_proper, too_many}
 
 -- ---- places
-
-true_or_false : (b : Bool) → (b ≡ true) ⊎ (b ≡ false)
-true_or_false true = inl refl
-true_or_false false = inr refl
 
 nat_eq_itself : (n : ℕ) → nat_eq n n ≡ true
 nat_eq_itself n = eq-eqb n n refl
@@ -67,8 +64,8 @@ place_bound [] = 0
 place_bound (x ∷ rest) = (x.0 + 1) + place_bound rest
 
 below_bound : (insns : List (ℕ × Op)) (place : ℕ) (found : Op × Option ℕ) → instruction_at insns place ≡ Some found → place < place_bound insns
-below_bound [] place found e = absurd (none_is_not_some found e)
-below_bound (x ∷ rest) place found e = elim (true_or_false (nat_eq x.0 place)) [
+below_bound [] place found e = absurd (none-some found e)
+below_bound (x ∷ rest) place found e = elim (cases_Bool (nat_eq x.0 place)) [
   | inl t ↦ at_first x.0 place (place_bound rest) (eqb-true x.0 place t)
   | inr f ↦ at_later x.0 place (place_bound rest) (below_bound rest place found (sym (ap (λ (b : Bool). cond b (Some (x.1, first_place rest)) (instruction_at rest place)) f) ∙ e))
 ]
@@ -78,13 +75,13 @@ abbrev put : CodeTypes → ℕ → PlaceTypes → CodeTypes
 put typing to frame place = cond (nat_eq place to) (Some frame) (typing place)
 
 put_there : (typing : CodeTypes) (to : ℕ) (frame : PlaceTypes) (place : ℕ) → place ≡ to → put typing to frame place ≡ Some frame
-put_there typing to frame place e = elim (true_or_false (nat_eq place to)) [
+put_there typing to frame place e = elim (cases_Bool (nat_eq place to)) [
   | inl t ↦ ap (λ (b : Bool). cond b (Some frame) (typing place)) t
   | inr f ↦ absurd (false≢true (sym f ∙ ap (nat_eq place) (sym e) ∙ nat_eq_itself place))
 ]
 
 put_other : (typing : CodeTypes) (to : ℕ) (frame : PlaceTypes) (place : ℕ) → (place ≡ to → ⊥) → put typing to frame place ≡ typing place
-put_other typing to frame place h = elim (true_or_false (nat_eq place to)) [
+put_other typing to frame place h = elim (cases_Bool (nat_eq place to)) [
   | inl t ↦ absurd (h (eqb-true place to t))
   | inr f ↦ ap (λ (b : Bool). cond b (Some frame) (typing place)) f
 ]
@@ -203,9 +200,9 @@ module _ (p : Program) (m : Method) (good : IsGood p) (g : IsGoodMethod p m) (la
           depth = depth_of (length flow.frame.stack) (length t.there.stack) m.max_stack (length_all_zip (IsWithin (types_of p.world)) flow.frame.stack t.there.stack t.wide.stack) (bounded.each flow.to t.there t.is_there).limits.depth;
         }
         in
-        better flow.frame coming.proper coming.taken (λ before is. absurd (none_is_not_some before (sym e ∙ is)))
-        (elim (way_down (types_of p.world) laws m.max_locals m.max_stack None (Some flow.frame) (λ found is. subst (IsFrame (types_of p.world) m.max_locals m.max_stack) (some_is is) frame) (λ found is. absurd (none_is_not_some found is))) [
-          | inl same ↦ absurd (none_is_not_some flow.frame same)
+        better flow.frame coming.proper coming.taken (λ before is. absurd (none-some before (sym e ∙ is)))
+        (elim (way_down (types_of p.world) laws m.max_locals m.max_stack None (Some flow.frame) (λ found is. subst (IsFrame (types_of p.world) m.max_locals m.max_stack) (some_is is) frame) (λ found is. absurd (none-some found is))) [
+          | inl same ↦ absurd (none-some flow.frame same)
           | inr l ↦ subst (λ (x : Option PlaceTypes). way_up (types_of p.world) m.max_locals m.max_stack (Some flow.frame) < way_up (types_of p.world) m.max_locals m.max_stack x) (sym e) l
         ])
 
@@ -330,7 +327,7 @@ module _ (p : Program) (m : Method) (good : IsGood p) (g : IsGoodMethod p m) (la
   IsClosed typing place = (frame : PlaceTypes) → typing place ≡ Some frame → IsClosedAt p m typing place frame
 
   closed_by : (typing : CodeTypes) → IsPart typing → (place : ℕ) → (found : Option PlaceTypes) → typing place ≡ found → IsClosed typing place ⊎ Better typing
-  closed_by typing part place None e = inl (λ frame is. absurd (none_is_not_some frame (sym e ∙ is)))
+  closed_by typing part place None e = inl (λ frame is. absurd (none-some frame (sym e ∙ is)))
   closed_by typing part place (Some frame) e = elim (closed typing part place frame e) [
     | inl c ↦ inl (λ found is. subst (IsClosedAt p m typing place) (some_is (sym e ∙ is)) c)
     | inr b ↦ inr b
@@ -388,7 +385,7 @@ module _ (p : Program) (m : Method) (good : IsGood p) (g : IsGoodMethod p m) (la
   begun_is : (place : ℕ) (frame : PlaceTypes) → begun place ≡ Some frame → (place ≡ 0) × (frame ≡ entry_frame (types_of p.world) m)
   begun_is place frame e = elim (cases_eq place 0) [
     | inl s ↦ (s, some_is (sym e ∙ put_there (λ place. None) 0 (entry_frame (types_of p.world) m) place s))
-    | inr s ↦ absurd (none_is_not_some frame (sym (put_other (λ place. None) 0 (entry_frame (types_of p.world) m) place s) ∙ e))
+    | inr s ↦ absurd (none-some frame (sym (put_other (λ place. None) 0 (entry_frame (types_of p.world) m) place s) ∙ e))
   ]
 
   first_frame : IsFrame (types_of p.world) m.max_locals m.max_stack (entry_frame (types_of p.world) m)
@@ -424,7 +421,7 @@ least_is_one p m laws a b s t place = by_types (a place) (b place) refl refl
   where
     by_types : (x y : Option PlaceTypes) → a place ≡ x → b place ≡ y → x ≡ y
     by_types None None e f = refl
-    by_types None (Some frame) e f = let k = t.least a s.is_typing place frame f in absurd (none_is_not_some k.there (sym e ∙ k.is_there))
+    by_types None (Some frame) e f = let k = t.least a s.is_typing place frame f in absurd (none-some k.there (sym e ∙ k.is_there))
     by_types (Some frame) y e f =
         let k = s.least b t.is_typing place frame e in
         let l = t.least a s.is_typing place k.there k.is_there in

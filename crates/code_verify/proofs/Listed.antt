@@ -2,12 +2,12 @@
 use Rattle.std.proofs.Common.{◌≡◌, ◌↔◌, ℕ, zero, suc, ◌+◌, ◌<◌, ◌≤◌, List, [], ◌∷◌, ◌++◌, length, map, get_or, Option, Some, None, ◌⊎◌, inl, inr, refl, sym, ap, subst, ◌∙◌, arith, length-append}
 use Rattle.std.specs.Prelude.{slice_get, All, IsTrue}
 use Rattle.std.specs.Option.{option_map, option_and_then, is_some}
-use Rattle.std.proofs.lemmas.Option.{slice_get-map, slice_get_past, slice_get_within, slice_get-get_or}
+use Rattle.std.proofs.lemmas.Option.{slice_get-map, slice_get_past, slice_get_within, slice_get-get_or, none-some}
 use Rattle.std.proofs.lemmas.List.Elements.{All-weaker}
 use Rattle.jvm_values.specs.declared.typing.FrameType.{FrameType}
 use Rattle.jvm_values.specs.States.{PlaceTypes, types_of as seen}
 use Rattle.jvm_values.specs.TypedHeaps.{WorldTypes}
-use Rattle.jvm_values.proofs.Options.{some_is, none_is_not_some}
+use Rattle.jvm_values.proofs.Options.{some_is}
 use Rattle.class_world.specs.WorldTypes.{types_of}
 use Rattle.class_program.specs.declared.program.Method.{Method}
 use Rattle.class_program.specs.Programs.{Program}
@@ -79,7 +79,7 @@ pub record AreTyped (p : Program) (count : ℕ) (lists : Lists) : Type 0 where
 
 last_of : {A : Type 0} (xs : List A) (x : A) (k : ℕ) (y : A) → slice_get (xs ++ x ∷ []) k ≡ Some y → (slice_get xs k ≡ Some y) ⊎ ((k ≡ length xs) × (y ≡ x))
 last_of [] x zero y e = inr (refl, sym (some_is e))
-last_of [] x (suc k) y e = absurd (none_is_not_some y e)
+last_of [] x (suc k) y e = absurd (none-some y e)
 last_of (z ∷ xs) x zero y e = inl e
 last_of (z ∷ xs) x (suc k) y e = elim (last_of xs x k y e) [ inl h ↦ inl h | inr h ↦ inr (ap suc h.0, h.1) ]
 

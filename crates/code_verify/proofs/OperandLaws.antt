@@ -5,6 +5,8 @@ use Rattle.std.specs.List.{AllZip}
 use Rattle.std.specs.Option.{is_some, option_map}
 use Rattle.std.proofs.lemmas.Bool.{false≢true, ltb-true, lt-ltb, eqb-true, and_parts}
 use Rattle.std.proofs.lemmas.List.Elements.{All-head, All-tail}
+use Rattle.std.proofs.lemmas.Option.{none-some}
+use Rattle.list_views.proofs.Options.{cond_guarded}
 use Rattle.jvm_values.specs.declared.types.Ty.{Ty}
 use Rattle.jvm_values.specs.declared.types.Kind.{Kind}
 use Rattle.jvm_values.specs.declared.types.Base.{Base}
@@ -16,7 +18,7 @@ use Rattle.jvm_values.specs.declared.typing.PlaceType.TheVariants as places
 use Rattle.jvm_values.specs.Subtyping.{array_of_numbers, IsSlot}
 use Rattle.jvm_values.specs.TypedHeaps.{WorldTypes, AreLawful}
 use Rattle.jvm_values.specs.Joins.{item_of}
-use Rattle.jvm_values.proofs.Options.{some_is, none_is_not_some}
+use Rattle.jvm_values.proofs.Options.{some_is}
 use Rattle.jvm_values.proofs.Joining.{same_type}
 use Rattle.op_forms.specs.declared.form.ItemKind.{ItemKind}
 use Rattle.frame_types.specs.Places.{IsWithin, IsOfWorld}
@@ -24,7 +26,6 @@ use Rattle.code_verify.specs.declared.want.Want.{Want}
 use Rattle.code_verify.specs.declared.want.Want.TheVariants as wants
 use Rattle.code_verify.specs.Operands.{is_int, is_reference, is_below, is_array, is_base_for, is_numbers, is_references, fits, place_of, item_place}
 use Rattle.code_verify.specs.Rows.{taken}
-use Rattle.code_verify.proofs.Basics.{chosen}
 use Rattle.code_verify.proofs.TypeShapes.{items_below, numbers_below_same, dims_below, item_erased, erased_of_world, array_of_item}
 
 some_item : (o : Option Ty) → is_some o ≡ true → (x : Ty) × (o ≡ Some x)
@@ -132,8 +133,8 @@ module _ (types : WorldTypes) (laws : AreLawful types) where
 
   -- the items of what is narrower are narrower
   pub item_within : (a b j : PlaceType) → IsOfWorld types a → IsWithin types a b → item_place b ≡ Some j → (i : PlaceType) × ((item_place a ≡ Some i) × IsWithin types i j)
-  item_within a places.Unset j o w e = absurd (none_is_not_some j e)
-  item_within a places.Int j o w e = absurd (none_is_not_some j e)
+  item_within a places.Unset j o w e = absurd (none-some j e)
+  item_within a places.Int j o w e = absurd (none-some j e)
   item_within places.Unset places.Null j o w e = absurd w
   item_within places.Int places.Null j o w e = absurd w
   item_within places.Null places.Null j o w e = (places.Null, (refl, subst (IsWithin types places.Null) (some_is e) tt))
@@ -143,24 +144,24 @@ module _ (types : WorldTypes) (laws : AreLawful types) where
   item_within places.Null (places.Ref t) j o w e = go (item_of t) refl e
     where
       go : (x : Option Ty) → item_of t ≡ x → option_map places.Ref x ≡ Some j → (i : PlaceType) × ((Some places.Null ≡ Some i) × IsWithin types i j)
-      go None f g = absurd (none_is_not_some j g)
+      go None f g = absurd (none-some j g)
       go (Some y) f g = (places.Null, (refl, subst (IsWithin types places.Null) (some_is g) tt))
   item_within (places.Ref s) (places.Ref t) j o w e = go (item_of t) refl e
     where
       go : (x : Option Ty) → item_of t ≡ x → option_map places.Ref x ≡ Some j → (i : PlaceType) × ((option_map places.Ref (item_of s) ≡ Some i) × IsWithin types i j)
-      go None f g = absurd (none_is_not_some j g)
+      go None f g = absurd (none-some j g)
       go (Some y) f g =
           let x = items_below types laws s t y o.0 w f in
           (places.Ref x.0, (ap (option_map places.Ref) x.1.0, subst (IsWithin types (places.Ref x.0)) (some_is g) x.1.1))
 
   pub item_of_world : (a i : PlaceType) → IsOfWorld types a → item_place a ≡ Some i → IsOfWorld types i
-  item_of_world places.Unset i o e = absurd (none_is_not_some i e)
-  item_of_world places.Int i o e = absurd (none_is_not_some i e)
+  item_of_world places.Unset i o e = absurd (none-some i e)
+  item_of_world places.Int i o e = absurd (none-some i e)
   item_of_world places.Null i o e = subst (IsOfWorld types) (some_is e) tt
   item_of_world (places.Ref s) i o e = go (item_of s) refl e
     where
       go : (x : Option Ty) → item_of s ≡ x → option_map places.Ref x ≡ Some i → IsOfWorld types i
-      go None f g = absurd (none_is_not_some i g)
+      go None f g = absurd (none-some i g)
       go (Some y) f g = subst (IsOfWorld types) (some_is g) ((array_of_item types.classes s y o.0 f).1, item_erased types laws s y o.0 o.1 f)
 
   pub slot_of_world : (slot : Slot) → IsSlot types.classes slot → IsOfWorld types (place_of types slot)
@@ -171,11 +172,11 @@ module _ (types : WorldTypes) (laws : AreLawful types) where
 
   pub taken_within : (asks : List Want) (xs ys rest : List PlaceType) → All (IsOfWorld types) xs → AllZip (IsWithin types) xs ys → taken types asks ys ≡ Some rest → (below : List PlaceType) × ((taken types asks xs ≡ Some below) × AllZip (IsWithin types) below rest)
   taken_within [] xs ys rest o w e = (xs, (refl, subst (AllZip (IsWithin types) xs) (some_is e) w))
-  taken_within (want ∷ asks) [] [] rest o w e = absurd (none_is_not_some rest e)
+  taken_within (want ∷ asks) [] [] rest o w e = absurd (none-some rest e)
   taken_within (want ∷ asks) [] (y ∷ ys) rest o w e = absurd w
   taken_within (want ∷ asks) (x ∷ xs) [] rest o w e = absurd w
   taken_within (want ∷ asks) (x ∷ xs) (y ∷ ys) rest o w e =
-      let c = chosen (fits types want y) (taken types asks ys) rest e in
+      let c = cond_guarded (fits types want y) (taken types asks ys) rest e in
       let f = fits_within want x y (All-head (IsOfWorld types) x xs o) w.0 c.0 in
       let r = taken_within asks xs ys rest (All-tail (IsOfWorld types) x xs o) w.1 c.1 in
       (r.0, (ap (λ (b : Bool). cond b (taken types asks xs) None) f ∙ r.1.0, r.1.1))
@@ -183,5 +184,5 @@ module _ (types : WorldTypes) (laws : AreLawful types) where
   -- what is below operands was there
   pub taken_all : (P : PlaceType → Type 0) (asks : List Want) (xs rest : List PlaceType) → All P xs → taken types asks xs ≡ Some rest → All P rest
   taken_all P [] xs rest o e = subst (All P) (some_is e) o
-  taken_all P (want ∷ asks) [] rest o e = absurd (none_is_not_some rest e)
-  taken_all P (want ∷ asks) (x ∷ xs) rest o e = taken_all P asks xs rest (All-tail P x xs o) (chosen (fits types want x) (taken types asks xs) rest e).1
+  taken_all P (want ∷ asks) [] rest o e = absurd (none-some rest e)
+  taken_all P (want ∷ asks) (x ∷ xs) rest o e = taken_all P asks xs rest (All-tail P x xs o) (cond_guarded (fits types want x) (taken types asks xs) rest e).1

@@ -6,6 +6,9 @@ use Rattle.std.specs.Option.{option_map, option_and_then}
 use Rattle.list_views.specs.Options.{asked}
 use Rattle.std.proofs.lemmas.List.{length-set}
 use Rattle.std.proofs.lemmas.List.Elements.{All-set, All-cons, All-head, All-tail, length_all_zip}
+use Rattle.std.proofs.lemmas.Option.{none-some}
+use Rattle.list_views.proofs.Zipped.{zip_right}
+use Rattle.list_views.proofs.Options.{cond_guarded, then_some}
 use Rattle.jvm_values.specs.declared.types.Ty.{Ty}
 use Rattle.jvm_values.specs.declared.types.Kind.{Kind}
 use Rattle.jvm_values.specs.declared.types.Base.{Base}
@@ -18,7 +21,7 @@ use Rattle.jvm_values.specs.declared.typing.PlaceType.TheVariants as places
 use Rattle.jvm_values.specs.States.{PlaceTypes}
 use Rattle.jvm_values.specs.Subtyping.{class_type, array_of, array_of_numbers, IsSlot, IsReference, IsReferenceBase}
 use Rattle.jvm_values.specs.TypedHeaps.{WorldTypes, AreLawful}
-use Rattle.jvm_values.proofs.Options.{some_is, none_is_not_some, given}
+use Rattle.jvm_values.proofs.Options.{some_is}
 use Rattle.class_world.specs.WorldTypes.{types_of}
 use Rattle.class_world.specs.BuiltIns.{throwable}
 use Rattle.class_program.specs.declared.program.Method.{Method}
@@ -33,7 +36,7 @@ use Rattle.code_verify.specs.declared.want.Want.TheVariants as wants
 use Rattle.code_verify.specs.Operands.{is_int, is_reference, item_place, place_of, want_of}
 use Rattle.code_verify.specs.Rows.{taken, with_result, acted, iload_types, aload_types, sets, istore_types, top_place, astore_types, iinc_types, shuffle_types, aaload_types, argument_wants, special_receiver, static_slot, getstatic_types, putstatic_types, ireturn_types, areturn_types, return_types, types_after}
 use Rattle.code_verify.specs.Answers.{IsGoodForm}
-use Rattle.code_verify.proofs.Basics.{was_asked, chosen, zip_at, zip_set, all_at}
+use Rattle.code_verify.proofs.Basics.{was_asked, zip_set, all_at}
 use Rattle.code_verify.proofs.TypeShapes.{erased_of_world}
 use Rattle.code_verify.proofs.OperandLaws.{int_within, reference_within, item_within, item_of_world, slot_of_world, taken_within, taken_all}
 use Rattle.code_verify.proofs.Shuffling.{shuffled_zip, shuffled_all}
@@ -56,20 +59,20 @@ set_reference places.Null h e = cc
 set_reference (places.Ref t) h e = cc
 
 item_is_set : (a i : PlaceType) → item_place a ≡ Some i → IsSet i
-item_is_set places.Unset i e = absurd (none_is_not_some i e)
-item_is_set places.Int i e = absurd (none_is_not_some i e)
+item_is_set places.Unset i e = absurd (none-some i e)
+item_is_set places.Int i e = absurd (none-some i e)
 item_is_set places.Null i e = λ (f : i ≡ places.Unset). let g : places.Null ≡ places.Unset = some_is e ∙ f in cc
 item_is_set (places.Ref s) i e = go (item_of s) e
   where
     go : (x : Option Ty) → option_map places.Ref x ≡ Some i → IsSet i
-    go None g = absurd (none_is_not_some i g)
+    go None g = absurd (none-some i g)
     go (Some y) g = λ (f : i ≡ places.Unset). let k : places.Ref y ≡ places.Unset = some_is g ∙ f in cc
 
 slot_is_set : (types : WorldTypes) (slot : Slot) → IsSet (place_of types slot)
 slot_is_set types (slots.Num kind) e = cc
 slot_is_set types (slots.Ref t) e = cc
 
-deeper : (n d : ℕ) (base : Base) → IsReferenceBase n d base → IsReferenceBase n (d + 1) base
+pub deeper : (n d : ℕ) (base : Base) → IsReferenceBase n d base → IsReferenceBase n (d + 1) base
 deeper n d (Class k) r = r
 deeper n d (Num kind) r = omega arith
 
@@ -102,7 +105,7 @@ module _ (types : WorldTypes) (laws : AreLawful types) where
   acted_within : (asks : List Want) (gives : Option PlaceType) (count : ℕ) (a b wide : PlaceTypes) → IfSome gives (IsResult types) → IsProper types count a → IsFrameWithin types a b → acted types asks gives b ≡ Some wide → Narrower types (acted types asks gives a) wide
   unfolding acted
   acted_within asks gives count a b wide g o w e =
-      let p = given (λ (below : List PlaceType). Some (record b { stack = with_result gives below })) (taken types asks b.stack) wide e in
+      let p = then_some (λ (below : List PlaceType). Some (record b { stack = with_result gives below })) (taken types asks b.stack) wide e in
       let t = taken_within types laws asks a.stack b.stack p.0 o.stack w.stack p.1.0 in (
         record a { stack = with_result gives t.0 },
         (
@@ -114,7 +117,7 @@ module _ (types : WorldTypes) (laws : AreLawful types) where
   acted_proper : (asks : List Want) (gives : Option PlaceType) (count : ℕ) (a after : PlaceTypes) → IfSome gives (IsResult types) → IsProper types count a → acted types asks gives a ≡ Some after → IsProper types count after
   unfolding acted
   acted_proper asks gives count a after g o e =
-      let p = given (λ (below : List PlaceType). Some (record a { stack = with_result gives below })) (taken types asks a.stack) after e in
+      let p = then_some (λ (below : List PlaceType). Some (record a { stack = with_result gives below })) (taken types asks a.stack) after e in
       subst (IsProper types count) (some_is p.1.1) (record {
         count = o.count;
         set = result_all IsSet gives p.0 (set_result gives g) (taken_all types laws IsSet asks a.stack p.0 o.set p.1.0);
@@ -127,9 +130,9 @@ module _ (types : WorldTypes) (laws : AreLawful types) where
   iload_within : (n : ℕ) (a b wide : PlaceTypes) → IsFrameWithin types a b → iload_types n b ≡ Some wide → Narrower types (iload_types n a) wide
   unfolding iload_types
   iload_within n a b wide w e =
-      let p = given (λ (local : PlaceType). option_and_then (λ (fit : Unit {0}). Some (record b { stack = places.Int ∷ b.stack })) (asked (is_int local))) (slice_get b.locals n) wide e in
+      let p = then_some (λ (local : PlaceType). option_and_then (λ (fit : Unit {0}). Some (record b { stack = places.Int ∷ b.stack })) (asked (is_int local))) (slice_get b.locals n) wide e in
       let q = was_asked (is_int p.0) (λ (fit : Unit {0}). Some (record b { stack = places.Int ∷ b.stack })) wide p.1.1 in
-      let x = zip_at (IsWithin types) a.locals b.locals w.locals n p.0 p.1.0 in (
+      let x = zip_right (IsWithin types) a.locals b.locals w.locals n p.0 p.1.0 in (
         record a { stack = places.Int ∷ a.stack },
         (
           ap (option_and_then (λ (local : PlaceType). option_and_then (λ (fit : Unit {0}). Some (record a { stack = places.Int ∷ a.stack })) (asked (is_int local)))) x.1.0
@@ -141,7 +144,7 @@ module _ (types : WorldTypes) (laws : AreLawful types) where
   iload_proper : (n count : ℕ) (a after : PlaceTypes) → IsProper types count a → iload_types n a ≡ Some after → IsProper types count after
   unfolding iload_types
   iload_proper n count a after o e =
-      let p = given (λ (local : PlaceType). option_and_then (λ (fit : Unit {0}). Some (record a { stack = places.Int ∷ a.stack })) (asked (is_int local))) (slice_get a.locals n) after e in
+      let p = then_some (λ (local : PlaceType). option_and_then (λ (fit : Unit {0}). Some (record a { stack = places.Int ∷ a.stack })) (asked (is_int local))) (slice_get a.locals n) after e in
       let q = was_asked (is_int p.0) (λ (fit : Unit {0}). Some (record a { stack = places.Int ∷ a.stack })) after p.1.1 in
       subst (IsProper types count) (some_is q.1) (record {
         count = o.count;
@@ -153,9 +156,9 @@ module _ (types : WorldTypes) (laws : AreLawful types) where
   aload_within : (n : ℕ) (a b wide : PlaceTypes) → IsFrameWithin types a b → aload_types n b ≡ Some wide → Narrower types (aload_types n a) wide
   unfolding aload_types
   aload_within n a b wide w e =
-      let p = given (λ (local : PlaceType). option_and_then (λ (fit : Unit {0}). Some (record b { stack = local ∷ b.stack })) (asked (is_reference local))) (slice_get b.locals n) wide e in
+      let p = then_some (λ (local : PlaceType). option_and_then (λ (fit : Unit {0}). Some (record b { stack = local ∷ b.stack })) (asked (is_reference local))) (slice_get b.locals n) wide e in
       let q = was_asked (is_reference p.0) (λ (fit : Unit {0}). Some (record b { stack = p.0 ∷ b.stack })) wide p.1.1 in
-      let x = zip_at (IsWithin types) a.locals b.locals w.locals n p.0 p.1.0 in (
+      let x = zip_right (IsWithin types) a.locals b.locals w.locals n p.0 p.1.0 in (
         record a { stack = x.0 ∷ a.stack },
         (
           ap (option_and_then (λ (local : PlaceType). option_and_then (λ (fit : Unit {0}). Some (record a { stack = local ∷ a.stack })) (asked (is_reference local)))) x.1.0
@@ -167,7 +170,7 @@ module _ (types : WorldTypes) (laws : AreLawful types) where
   aload_proper : (n count : ℕ) (a after : PlaceTypes) → IsProper types count a → aload_types n a ≡ Some after → IsProper types count after
   unfolding aload_types
   aload_proper n count a after o e =
-      let p = given (λ (local : PlaceType). option_and_then (λ (fit : Unit {0}). Some (record a { stack = local ∷ a.stack })) (asked (is_reference local))) (slice_get a.locals n) after e in
+      let p = then_some (λ (local : PlaceType). option_and_then (λ (fit : Unit {0}). Some (record a { stack = local ∷ a.stack })) (asked (is_reference local))) (slice_get a.locals n) after e in
       let q = was_asked (is_reference p.0) (λ (fit : Unit {0}). Some (record a { stack = p.0 ∷ a.stack })) after p.1.1 in
       subst (IsProper types count) (some_is q.1) (record {
         count = o.count;
@@ -178,7 +181,7 @@ module _ (types : WorldTypes) (laws : AreLawful types) where
 
   sets_within : (n : ℕ) (x y : PlaceType) (xs ys : List PlaceType) (a b wide : PlaceTypes) → IsFrameWithin types a b → IsWithin types x y → AllZip (IsWithin types) xs ys → sets n y ys b ≡ Some wide → Narrower types (sets n x xs a) wide
   sets_within n x y xs ys a b wide w r s e =
-      let c = chosen (nat_lt n (length b.locals)) (Some (record { locals = slice_set b.locals n y; stack = ys })) wide e in
+      let c = cond_guarded (nat_lt n (length b.locals)) (Some (record { locals = slice_set b.locals n y; stack = ys })) wide e in
       let same : nat_lt n (length a.locals) ≡ true = ap (nat_lt n) (length_all_zip (IsWithin types) a.locals b.locals w.locals) ∙ c.0 in (
         record { locals = slice_set a.locals n x; stack = xs },
         (
@@ -189,7 +192,7 @@ module _ (types : WorldTypes) (laws : AreLawful types) where
 
   sets_proper : (n count : ℕ) (x : PlaceType) (xs : List PlaceType) (a after : PlaceTypes) → IsProper types count a → IsOfWorld types x → All IsSet xs → All (IsOfWorld types) xs → sets n x xs a ≡ Some after → IsProper types count after
   sets_proper n count x xs a after o r s k e =
-      let c = chosen (nat_lt n (length a.locals)) (Some (record { locals = slice_set a.locals n x; stack = xs })) after e in
+      let c = cond_guarded (nat_lt n (length a.locals)) (Some (record { locals = slice_set a.locals n x; stack = xs })) after e in
       subst (IsProper types count) (some_is c.1) (record {
         count = length-set a.locals n x ∙ o.count;
         set = s;
@@ -200,7 +203,7 @@ module _ (types : WorldTypes) (laws : AreLawful types) where
   istore_within : (n count : ℕ) (a b wide : PlaceTypes) → IsProper types count a → IsFrameWithin types a b → istore_types types n b ≡ Some wide → Narrower types (istore_types types n a) wide
   unfolding istore_types
   istore_within n count a b wide o w e =
-      let p = given (λ (below : List PlaceType). sets n places.Int below b) (taken types (wants.Int ∷ []) b.stack) wide e in
+      let p = then_some (λ (below : List PlaceType). sets n places.Int below b) (taken types (wants.Int ∷ []) b.stack) wide e in
       let t = taken_within types laws (wants.Int ∷ []) a.stack b.stack p.0 o.stack w.stack p.1.0 in
       let s = sets_within n places.Int places.Int t.0 p.0 a b wide w tt t.1.1 p.1.1 in
       (s.0, (ap (option_and_then (λ (below : List PlaceType). sets n places.Int below a)) t.1.0 ∙ s.1.0, s.1.1))
@@ -208,14 +211,14 @@ module _ (types : WorldTypes) (laws : AreLawful types) where
   istore_proper : (n count : ℕ) (a after : PlaceTypes) → IsProper types count a → istore_types types n a ≡ Some after → IsProper types count after
   unfolding istore_types
   istore_proper n count a after o e =
-      let p = given (λ (below : List PlaceType). sets n places.Int below a) (taken types (wants.Int ∷ []) a.stack) after e in
+      let p = then_some (λ (below : List PlaceType). sets n places.Int below a) (taken types (wants.Int ∷ []) a.stack) after e in
       sets_proper n count places.Int p.0 a after o tt
       (taken_all types laws IsSet (wants.Int ∷ []) a.stack p.0 o.set p.1.0)
       (taken_all types laws (IsOfWorld types) (wants.Int ∷ []) a.stack p.0 o.stack p.1.0)
       p.1.1
 
   top_within : (xs ys : List PlaceType) (y : PlaceType × List PlaceType) → AllZip (IsWithin types) xs ys → top_place ys ≡ Some y → (x : PlaceType × List PlaceType) × ((top_place xs ≡ Some x) × (IsWithin types x.0 y.0 × AllZip (IsWithin types) x.1 y.1))
-  top_within [] [] y w e = absurd (none_is_not_some y e)
+  top_within [] [] y w e = absurd (none-some y e)
   top_within [] (z ∷ ys) y w e = absurd w
   top_within (x ∷ xs) [] y w e = absurd w
   top_within (x ∷ xs) (z ∷ ys) y w e =
@@ -223,7 +226,7 @@ module _ (types : WorldTypes) (laws : AreLawful types) where
       ((x, xs), (refl, (subst (IsWithin types x) (ap (λ v. v.0) f) w.0, subst (AllZip (IsWithin types) xs) (ap (λ v. v.1) f) w.1)))
 
   top_of : (P : PlaceType → Type 0) (xs : List PlaceType) (x : PlaceType × List PlaceType) → All P xs → top_place xs ≡ Some x → P x.0 × All P x.1
-  top_of P [] x o e = absurd (none_is_not_some x e)
+  top_of P [] x o e = absurd (none-some x e)
   top_of P (z ∷ xs) x o e =
       let f = some_is e in
       (subst P (ap (λ v. v.0) f) (All-head P z xs o), subst (All P) (ap (λ v. v.1) f) (All-tail P z xs o))
@@ -231,7 +234,7 @@ module _ (types : WorldTypes) (laws : AreLawful types) where
   astore_within : (n : ℕ) (a b wide : PlaceTypes) → IsFrameWithin types a b → astore_types n b ≡ Some wide → Narrower types (astore_types n a) wide
   unfolding astore_types
   astore_within n a b wide w e =
-      let p = given (λ (top : PlaceType × List PlaceType). option_and_then (λ (fit : Unit {0}). sets n top.0 top.1 b) (asked (is_reference top.0))) (top_place b.stack) wide e in
+      let p = then_some (λ (top : PlaceType × List PlaceType). option_and_then (λ (fit : Unit {0}). sets n top.0 top.1 b) (asked (is_reference top.0))) (top_place b.stack) wide e in
       let q = was_asked (is_reference p.0.0) (λ (fit : Unit {0}). sets n p.0.0 p.0.1 b) wide p.1.1 in
       let t = top_within a.stack b.stack p.0 w.stack p.1.0 in
       let s = sets_within n t.0.0 p.0.0 t.0.1 p.0.1 a b wide w t.1.1.0 t.1.1.1 q.1 in (
@@ -247,7 +250,7 @@ module _ (types : WorldTypes) (laws : AreLawful types) where
   astore_proper : (n count : ℕ) (a after : PlaceTypes) → IsProper types count a → astore_types n a ≡ Some after → IsProper types count after
   unfolding astore_types
   astore_proper n count a after o e =
-      let p = given (λ (top : PlaceType × List PlaceType). option_and_then (λ (fit : Unit {0}). sets n top.0 top.1 a) (asked (is_reference top.0))) (top_place a.stack) after e in
+      let p = then_some (λ (top : PlaceType × List PlaceType). option_and_then (λ (fit : Unit {0}). sets n top.0 top.1 a) (asked (is_reference top.0))) (top_place a.stack) after e in
       let q = was_asked (is_reference p.0.0) (λ (fit : Unit {0}). sets n p.0.0 p.0.1 a) after p.1.1 in
       let s = top_of IsSet a.stack p.0 o.set p.1.0 in
       let k = top_of (IsOfWorld types) a.stack p.0 o.stack p.1.0 in
@@ -256,9 +259,9 @@ module _ (types : WorldTypes) (laws : AreLawful types) where
   iinc_within : (n : ℕ) (a b wide : PlaceTypes) → IsFrameWithin types a b → iinc_types n b ≡ Some wide → Narrower types (iinc_types n a) wide
   unfolding iinc_types
   iinc_within n a b wide w e =
-      let p = given (λ (local : PlaceType). option_and_then (λ (fit : Unit {0}). Some b) (asked (is_int local))) (slice_get b.locals n) wide e in
+      let p = then_some (λ (local : PlaceType). option_and_then (λ (fit : Unit {0}). Some b) (asked (is_int local))) (slice_get b.locals n) wide e in
       let q = was_asked (is_int p.0) (λ (fit : Unit {0}). Some b) wide p.1.1 in
-      let x = zip_at (IsWithin types) a.locals b.locals w.locals n p.0 p.1.0 in (
+      let x = zip_right (IsWithin types) a.locals b.locals w.locals n p.0 p.1.0 in (
         a,
         (
           ap (option_and_then (λ (local : PlaceType). option_and_then (λ (fit : Unit {0}). Some a) (asked (is_int local)))) x.1.0
@@ -270,14 +273,14 @@ module _ (types : WorldTypes) (laws : AreLawful types) where
   iinc_proper : (n count : ℕ) (a after : PlaceTypes) → IsProper types count a → iinc_types n a ≡ Some after → IsProper types count after
   unfolding iinc_types
   iinc_proper n count a after o e =
-      let p = given (λ (local : PlaceType). option_and_then (λ (fit : Unit {0}). Some a) (asked (is_int local))) (slice_get a.locals n) after e in
+      let p = then_some (λ (local : PlaceType). option_and_then (λ (fit : Unit {0}). Some a) (asked (is_int local))) (slice_get a.locals n) after e in
       let q = was_asked (is_int p.0) (λ (fit : Unit {0}). Some a) after p.1.1 in
       subst (IsProper types count) (some_is q.1) o
 
   shuffle_within : (shuffle : StackShuffle) (a b wide : PlaceTypes) → IsFrameWithin types a b → shuffle_types shuffle b ≡ Some wide → Narrower types (shuffle_types shuffle a) wide
   unfolding shuffle_types
   shuffle_within shuffle a b wide w e =
-      let p = given (λ (stack : List PlaceType). Some (record b { stack = stack })) (shuffled shuffle b.stack) wide e in
+      let p = then_some (λ (stack : List PlaceType). Some (record b { stack = stack })) (shuffled shuffle b.stack) wide e in
       let s = shuffled_zip (IsWithin types) shuffle a.stack b.stack p.0 w.stack p.1.0 in (
         record a { stack = s.0 },
         (
@@ -289,7 +292,7 @@ module _ (types : WorldTypes) (laws : AreLawful types) where
   shuffle_proper : (shuffle : StackShuffle) (count : ℕ) (a after : PlaceTypes) → IsProper types count a → shuffle_types shuffle a ≡ Some after → IsProper types count after
   unfolding shuffle_types
   shuffle_proper shuffle count a after o e =
-      let p = given (λ (stack : List PlaceType). Some (record a { stack = stack })) (shuffled shuffle a.stack) after e in
+      let p = then_some (λ (stack : List PlaceType). Some (record a { stack = stack })) (shuffled shuffle a.stack) after e in
       subst (IsProper types count) (some_is p.1.1) (record {
         count = o.count;
         set = shuffled_all IsSet shuffle a.stack p.0 o.set p.1.0;
@@ -300,9 +303,9 @@ module _ (types : WorldTypes) (laws : AreLawful types) where
   aaload_within : (count : ℕ) (a b wide : PlaceTypes) → IsProper types count a → IsFrameWithin types a b → aaload_types types b ≡ Some wide → Narrower types (aaload_types types a) wide
   unfolding aaload_types
   aaload_within count a b wide o w e =
-      let p = given (λ (below : List PlaceType). option_and_then (λ (array : PlaceType × List PlaceType). option_and_then (λ (item : PlaceType). Some (record b { stack = item ∷ array.1 })) (item_place array.0)) (top_place below)) (taken types (wants.Int ∷ []) b.stack) wide e in
-      let q = given (λ (array : PlaceType × List PlaceType). option_and_then (λ (item : PlaceType). Some (record b { stack = item ∷ array.1 })) (item_place array.0)) (top_place p.0) wide p.1.1 in
-      let r = given (λ (item : PlaceType). Some (record b { stack = item ∷ q.0.1 })) (item_place q.0.0) wide q.1.1 in
+      let p = then_some (λ (below : List PlaceType). option_and_then (λ (array : PlaceType × List PlaceType). option_and_then (λ (item : PlaceType). Some (record b { stack = item ∷ array.1 })) (item_place array.0)) (top_place below)) (taken types (wants.Int ∷ []) b.stack) wide e in
+      let q = then_some (λ (array : PlaceType × List PlaceType). option_and_then (λ (item : PlaceType). Some (record b { stack = item ∷ array.1 })) (item_place array.0)) (top_place p.0) wide p.1.1 in
+      let r = then_some (λ (item : PlaceType). Some (record b { stack = item ∷ q.0.1 })) (item_place q.0.0) wide q.1.1 in
       let t = taken_within types laws (wants.Int ∷ []) a.stack b.stack p.0 o.stack w.stack p.1.0 in
       let u = top_within t.0 p.0 q.0 t.1.1 q.1.0 in
       let k = top_of (IsOfWorld types) t.0 u.0 (taken_all types laws (IsOfWorld types) (wants.Int ∷ []) a.stack t.0 o.stack t.1.0) u.1.0 in
@@ -319,9 +322,9 @@ module _ (types : WorldTypes) (laws : AreLawful types) where
   aaload_proper : (count : ℕ) (a after : PlaceTypes) → IsProper types count a → aaload_types types a ≡ Some after → IsProper types count after
   unfolding aaload_types
   aaload_proper count a after o e =
-      let p = given (λ (below : List PlaceType). option_and_then (λ (array : PlaceType × List PlaceType). option_and_then (λ (item : PlaceType). Some (record a { stack = item ∷ array.1 })) (item_place array.0)) (top_place below)) (taken types (wants.Int ∷ []) a.stack) after e in
-      let q = given (λ (array : PlaceType × List PlaceType). option_and_then (λ (item : PlaceType). Some (record a { stack = item ∷ array.1 })) (item_place array.0)) (top_place p.0) after p.1.1 in
-      let r = given (λ (item : PlaceType). Some (record a { stack = item ∷ q.0.1 })) (item_place q.0.0) after q.1.1 in
+      let p = then_some (λ (below : List PlaceType). option_and_then (λ (array : PlaceType × List PlaceType). option_and_then (λ (item : PlaceType). Some (record a { stack = item ∷ array.1 })) (item_place array.0)) (top_place below)) (taken types (wants.Int ∷ []) a.stack) after e in
+      let q = then_some (λ (array : PlaceType × List PlaceType). option_and_then (λ (item : PlaceType). Some (record a { stack = item ∷ array.1 })) (item_place array.0)) (top_place p.0) after p.1.1 in
+      let r = then_some (λ (item : PlaceType). Some (record a { stack = item ∷ q.0.1 })) (item_place q.0.0) after q.1.1 in
       let s = top_of IsSet p.0 q.0 (taken_all types laws IsSet (wants.Int ∷ []) a.stack p.0 o.set p.1.0) q.1.0 in
       let k = top_of (IsOfWorld types) p.0 q.0 (taken_all types laws (IsOfWorld types) (wants.Int ∷ []) a.stack p.0 o.stack p.1.0) q.1.0 in
       subst (IsProper types count) (some_is r.1.1) (record {
@@ -363,30 +366,30 @@ module _ (types : WorldTypes) (laws : AreLawful types) where
 module _ (p : Program) (m : Method) (laws : AreLawful (types_of p.world)) where
   returned_within : (count : ℕ) (a b wide : PlaceTypes) → IsProper (types_of p.world) count a → IsFrameWithin (types_of p.world) a b → (result : Option Slot) → ireturn_types (types_of p.world) result b ≡ Some wide → Narrower (types_of p.world) (ireturn_types (types_of p.world) result a) wide
   returned_within count a b wide o w (Some (slots.Num kind)) e = acted_within (types_of p.world) laws (wants.Int ∷ []) None count a b wide tt o w e
-  returned_within count a b wide o w (Some (slots.Ref t)) e = absurd (none_is_not_some wide e)
-  returned_within count a b wide o w None e = absurd (none_is_not_some wide e)
+  returned_within count a b wide o w (Some (slots.Ref t)) e = absurd (none-some wide e)
+  returned_within count a b wide o w None e = absurd (none-some wide e)
 
   returned_proper : (count : ℕ) (a after : PlaceTypes) → IsProper (types_of p.world) count a → (result : Option Slot) → ireturn_types (types_of p.world) result a ≡ Some after → IsProper (types_of p.world) count after
   returned_proper count a after o (Some (slots.Num kind)) e = acted_proper (types_of p.world) laws (wants.Int ∷ []) None count a after tt o e
-  returned_proper count a after o (Some (slots.Ref t)) e = absurd (none_is_not_some after e)
-  returned_proper count a after o None e = absurd (none_is_not_some after e)
+  returned_proper count a after o (Some (slots.Ref t)) e = absurd (none-some after e)
+  returned_proper count a after o None e = absurd (none-some after e)
 
   reference_returned_within : (count : ℕ) (a b wide : PlaceTypes) → IsProper (types_of p.world) count a → IsFrameWithin (types_of p.world) a b → (result : Option Slot) → areturn_types (types_of p.world) result b ≡ Some wide → Narrower (types_of p.world) (areturn_types (types_of p.world) result a) wide
-  reference_returned_within count a b wide o w (Some (slots.Num kind)) e = absurd (none_is_not_some wide e)
+  reference_returned_within count a b wide o w (Some (slots.Num kind)) e = absurd (none-some wide e)
   reference_returned_within count a b wide o w (Some (slots.Ref t)) e = acted_within (types_of p.world) laws (wants.Below t ∷ []) None count a b wide tt o w e
-  reference_returned_within count a b wide o w None e = absurd (none_is_not_some wide e)
+  reference_returned_within count a b wide o w None e = absurd (none-some wide e)
 
   reference_returned_proper : (count : ℕ) (a after : PlaceTypes) → IsProper (types_of p.world) count a → (result : Option Slot) → areturn_types (types_of p.world) result a ≡ Some after → IsProper (types_of p.world) count after
-  reference_returned_proper count a after o (Some (slots.Num kind)) e = absurd (none_is_not_some after e)
+  reference_returned_proper count a after o (Some (slots.Num kind)) e = absurd (none-some after e)
   reference_returned_proper count a after o (Some (slots.Ref t)) e = acted_proper (types_of p.world) laws (wants.Below t ∷ []) None count a after tt o e
-  reference_returned_proper count a after o None e = absurd (none_is_not_some after e)
+  reference_returned_proper count a after o None e = absurd (none-some after e)
 
   nothing_returned_within : (a b wide : PlaceTypes) → IsFrameWithin (types_of p.world) a b → (result : Option Slot) → return_types result b ≡ Some wide → Narrower (types_of p.world) (return_types result a) wide
-  nothing_returned_within a b wide w (Some slot) e = absurd (none_is_not_some wide e)
+  nothing_returned_within a b wide w (Some slot) e = absurd (none-some wide e)
   nothing_returned_within a b wide w None e = same_within (types_of p.world) laws a b wide w e
 
   nothing_returned_proper : (count : ℕ) (a after : PlaceTypes) → IsProper (types_of p.world) count a → (result : Option Slot) → return_types result a ≡ Some after → IsProper (types_of p.world) count after
-  nothing_returned_proper count a after o (Some slot) e = absurd (none_is_not_some after e)
+  nothing_returned_proper count a after o (Some slot) e = absurd (none-some after e)
   nothing_returned_proper count a after o None e = same_proper (types_of p.world) laws count a after o e
 
   good_static : (place : ℕ) (slot : Slot) → IfSome (static_slot p place) (IsSlot (length p.world)) → static_slot p place ≡ Some slot → IsSlot (length p.world) slot
@@ -395,27 +398,27 @@ module _ (p : Program) (m : Method) (laws : AreLawful (types_of p.world)) where
   getstatic_within : (place count : ℕ) (a b wide : PlaceTypes) → IfSome (static_slot p place) (IsSlot (length p.world)) → IsProper (types_of p.world) count a → IsFrameWithin (types_of p.world) a b → getstatic_types p place b ≡ Some wide → Narrower (types_of p.world) (getstatic_types p place a) wide
   unfolding getstatic_types
   getstatic_within place count a b wide good o w e =
-      let q = given (λ (slot : Slot). acted (types_of p.world) [] (Some (place_of (types_of p.world) slot)) b) (static_slot p place) wide e in
+      let q = then_some (λ (slot : Slot). acted (types_of p.world) [] (Some (place_of (types_of p.world) slot)) b) (static_slot p place) wide e in
       let r = acted_within (types_of p.world) laws [] (Some (place_of (types_of p.world) q.0)) count a b wide (given_slot (types_of p.world) laws q.0 (good_static place q.0 good q.1.0)) o w q.1.1 in
       (r.0, (ap (option_and_then (λ (slot : Slot). acted (types_of p.world) [] (Some (place_of (types_of p.world) slot)) a)) q.1.0 ∙ r.1.0, r.1.1))
 
   getstatic_proper : (place count : ℕ) (a after : PlaceTypes) → IfSome (static_slot p place) (IsSlot (length p.world)) → IsProper (types_of p.world) count a → getstatic_types p place a ≡ Some after → IsProper (types_of p.world) count after
   unfolding getstatic_types
   getstatic_proper place count a after good o e =
-      let q = given (λ (slot : Slot). acted (types_of p.world) [] (Some (place_of (types_of p.world) slot)) a) (static_slot p place) after e in
+      let q = then_some (λ (slot : Slot). acted (types_of p.world) [] (Some (place_of (types_of p.world) slot)) a) (static_slot p place) after e in
       acted_proper (types_of p.world) laws [] (Some (place_of (types_of p.world) q.0)) count a after (given_slot (types_of p.world) laws q.0 (good_static place q.0 good q.1.0)) o q.1.1
 
   putstatic_within : (place count : ℕ) (a b wide : PlaceTypes) → IsProper (types_of p.world) count a → IsFrameWithin (types_of p.world) a b → putstatic_types p place b ≡ Some wide → Narrower (types_of p.world) (putstatic_types p place a) wide
   unfolding putstatic_types
   putstatic_within place count a b wide o w e =
-      let q = given (λ (slot : Slot). acted (types_of p.world) (want_of slot ∷ []) None b) (static_slot p place) wide e in
+      let q = then_some (λ (slot : Slot). acted (types_of p.world) (want_of slot ∷ []) None b) (static_slot p place) wide e in
       let r = acted_within (types_of p.world) laws (want_of q.0 ∷ []) None count a b wide tt o w q.1.1 in
       (r.0, (ap (option_and_then (λ (slot : Slot). acted (types_of p.world) (want_of slot ∷ []) None a)) q.1.0 ∙ r.1.0, r.1.1))
 
   putstatic_proper : (place count : ℕ) (a after : PlaceTypes) → IsProper (types_of p.world) count a → putstatic_types p place a ≡ Some after → IsProper (types_of p.world) count after
   unfolding putstatic_types
   putstatic_proper place count a after o e =
-      let q = given (λ (slot : Slot). acted (types_of p.world) (want_of slot ∷ []) None a) (static_slot p place) after e in
+      let q = then_some (λ (slot : Slot). acted (types_of p.world) (want_of slot ∷ []) None a) (static_slot p place) after e in
       acted_proper (types_of p.world) laws (want_of q.0 ∷ []) None count a after tt o q.1.1
 
   -- ---- the table

@@ -6,12 +6,14 @@ use Rattle.std.specs.Option.{option_and_then, option_map_or}
 use Rattle.std.proofs.lemmas.Bool.{false≢true, eqb-true}
 use Rattle.std.proofs.lemmas.List.{map-append}
 use Rattle.std.proofs.lemmas.List.Elements.{All-filter, All-cons, All-nil, All-head, All-tail}
+use Rattle.list_views.proofs.Zipped.{zip_joined}
+use Rattle.list_views.proofs.Options.{then_some}
 use Rattle.list_views.specs.Options.{asked}
 use Rattle.jvm_values.specs.declared.typing.PlaceType.{PlaceType}
 use Rattle.jvm_values.specs.declared.typing.PlaceType.TheVariants as places
 use Rattle.jvm_values.specs.States.{PlaceTypes}
 use Rattle.jvm_values.specs.TypedHeaps.{WorldTypes, AreLawful}
-use Rattle.jvm_values.proofs.Options.{some_is, given}
+use Rattle.jvm_values.proofs.Options.{some_is}
 use Rattle.class_world.specs.World.{World}
 use Rattle.class_world.specs.Types.{erase}
 use Rattle.class_world.specs.WorldTypes.{types_of}
@@ -55,10 +57,10 @@ pub record DidRun (p : Program) (m : Method) (place : ℕ) (frame : PlaceTypes) 
 pub did_run : (p : Program) (m : Method) (place : ℕ) (frame : PlaceTypes) (ran : Form × Option ℕ × PlaceTypes) → runs_at p m place frame ≡ Some ran → DidRun p m place frame ran
 unfolding runs_at
 did_run p m place frame ran e =
-    let a = given (λ (here : Op × Option ℕ). option_and_then (after_form p m frame here.1) (form_of here.0)) (instruction_at m.insns place) ran e in
-    let b = given (after_form p m frame a.0.1) (form_of a.0.0) ran a.1.1 in
+    let a = then_some (λ (here : Op × Option ℕ). option_and_then (after_form p m frame here.1) (form_of here.0)) (instruction_at m.insns place) ran e in
+    let b = then_some (after_form p m frame a.0.1) (form_of a.0.0) ran a.1.1 in
     let c = was_asked (is_inside b.0 a.0.1) (λ (inside : Unit {0}). option_and_then (λ (after : PlaceTypes). Some (b.0, a.0.1, after)) (types_after p m b.0 frame)) ran b.1.1 in
-    let d = given (λ (after : PlaceTypes). Some (b.0, a.0.1, after)) (types_after p m b.0 frame) ran c.1 in
+    let d = then_some (λ (after : PlaceTypes). Some (b.0, a.0.1, after)) (types_after p m b.0 frame) ran c.1 in
     let is : (b.0, a.0.1, d.0) ≡ ran = some_is d.1.1 in
     subst (DidRun p m place frame) is (record { op = a.0.0; stands = a.1.0; form = b.1.0; inside = c.0; after = d.1.0 })
 
@@ -81,16 +83,10 @@ no_flows p m place frame e = ap (option_and_then (λ (r : Form × Option ℕ × 
 pub flows_ran : (p : Program) (m : Method) (place : ℕ) (frame : PlaceTypes) (flows : List Flow) → flows_from p m place frame ≡ Some flows → (ran : Form × Option ℕ × PlaceTypes) × ((runs_at p m place frame ≡ Some ran) × (flows ≡ onward ran.2 (ways ran.0 ran.1) ++ caught p.world place frame m.table))
 unfolding flows_from
 flows_ran p m place frame flows e =
-    let a = given (λ (r : Form × Option ℕ × PlaceTypes). Some (onward r.2 (ways r.0 r.1) ++ caught p.world place frame m.table)) (runs_at p m place frame) flows e in
+    let a = then_some (λ (r : Form × Option ℕ × PlaceTypes). Some (onward r.2 (ways r.0 r.1) ++ caught p.world place frame m.table)) (runs_at p m place frame) flows e in
     (a.0, (a.1.0, sym (some_is a.1.1)))
 
 -- ---- narrower flows
-
-zip_append : {A : Type 0} (R : A → A → Type 0) (xs ys us vs : List A) → AllZip R xs us → AllZip R ys vs → AllZip R (xs ++ ys) (us ++ vs)
-zip_append R [] ys [] vs p q = q
-zip_append R [] ys (u ∷ us) vs p q = absurd p
-zip_append R (x ∷ xs) ys [] vs p q = absurd p
-zip_append R (x ∷ xs) ys (u ∷ us) vs p q = (p.0, zip_append R xs ys us vs p.1 q)
 
 zip_map : {A B : Type 0} (R : B → B → Type 0) (f g : A → B) → ((a : A) → R (f a) (g a)) → (xs : List A) → AllZip R (map f xs) (map g xs)
 zip_map R f g h [] = tt
@@ -124,7 +120,7 @@ module _ (p : Program) (m : Method) (good : IsGood p) (g : IsGoodMethod p m) (la
         (
           flows_are p m place a (f.0.0, f.0.1, n.0) r,
           subst (AllZip (IsFlowWithin (types_of p.world)) (onward n.0 (ways f.0.0 f.0.1) ++ caught p.world place a m.table)) (sym f.1.1)
-              (zip_append (IsFlowWithin (types_of p.world)) (onward n.0 (ways f.0.0 f.0.1)) (caught p.world place a m.table) (onward f.0.2 (ways f.0.0 f.0.1)) (caught p.world place b m.table) ons hands),
+              (zip_joined (IsFlowWithin (types_of p.world)) (onward n.0 (ways f.0.0 f.0.1)) (caught p.world place a m.table) (onward f.0.2 (ways f.0.0 f.0.1)) (caught p.world place b m.table) ons hands),
         ),
       )
 

@@ -6,6 +6,7 @@ use Rattle.std.specs.Option.{is_some}
 use Rattle.std.proofs.lemmas.Bool.{false≢true, eqb-true, cases_lt, cases_eq}
 use Rattle.std.proofs.lemmas.List.{length-set, length-map, length-replicate, get_or-set_other}
 use Rattle.std.proofs.lemmas.List.Elements.{All-nil, All-cons, All-append, All-replicate, length_all_zip}
+use Rattle.std.proofs.lemmas.Option.{none-some}
 use Rattle.jvm_values.specs.declared.types.Slot.{Slot}
 use Rattle.jvm_values.specs.declared.typing.FrameType.{FrameType}
 use Rattle.jvm_values.specs.declared.typing.PlaceType.{PlaceType}
@@ -13,7 +14,7 @@ use Rattle.jvm_values.specs.declared.typing.PlaceType.TheVariants as places
 use Rattle.jvm_values.specs.States.{PlaceTypes}
 use Rattle.jvm_values.specs.Subtyping.{IsSlot}
 use Rattle.jvm_values.specs.TypedHeaps.{WorldTypes, AreLawful}
-use Rattle.jvm_values.proofs.Options.{some_is, none_is_not_some}
+use Rattle.jvm_values.proofs.Options.{some_is}
 use Rattle.class_world.specs.WorldTypes.{types_of}
 use Rattle.class_program.specs.declared.program.Method.{Method}
 use Rattle.class_program.specs.Programs.{Program}
@@ -38,7 +39,7 @@ unmarked (x ∷ xs) zero = refl
 unmarked (x ∷ xs) (suc n) = unmarked xs n
 
 nothing_at : (place : ℕ) (frame : PlaceTypes) → types_at [] place ≡ Some frame → ⊥
-nothing_at place frame e = none_is_not_some frame e
+nothing_at place frame e = none-some frame e
 
 frame_of_method : (types : WorldTypes) (a b c d : ℕ) (frame : PlaceTypes) → a ≡ c → b ≡ d → IsFrame types a b frame → IsFrame types c d frame
 frame_of_method types a b c d frame e f h =
@@ -108,7 +109,7 @@ module _ (p : Program) (m : Method) (good : IsGood p) (g : IsGoodMethod p m) (la
       below = below_mid;
       reached = λ k frame e. s.reached k frame (was_at k frame e);
       closed = λ k frame e. elim (cases_eq k place) [
-        | inl h ↦ absurd (none_is_not_some frame (sym none ∙ ap (types_at mid.types) (sym h) ∙ e))
+        | inl h ↦ absurd (none-some frame (sym none ∙ ap (types_at mid.types) (sym h) ∙ e))
         | inr h ↦ elim (s.closed k frame (was_at k frame e)) [
           | inl w ↦ inl (other_mark k h ∙ w)
           | inr c ↦ inr (subst (λ (xs : List (Option FrameType)). IsClosedAt p m (types_at xs) k frame) (sym same_types) c)
@@ -126,7 +127,7 @@ module _ (p : Program) (m : Method) (good : IsGood p) (g : IsGoodMethod p m) (la
           (w.0, (w.1.0, takes_flows p m good g laws other w.0 ty.flows w.1.1 ty.taken))
 
       refused_by : (found : Option (List Flow)) (new : Table) → flows_from p m place frame ≡ found → Looks (types_of p.world) found false mid new → HasTyping p m → ⊥
-      refused_by None new e h (other, t) = none_is_not_some (other_flows other t).0 (sym e ∙ (other_flows other t).1.0)
+      refused_by None new e h (other, t) = none-some (other_flows other t).0 (sym e ∙ (other_flows other t).1.0)
       refused_by (Some flows) new e h (other, t) =
           let f = other_flows other t in
           h other (other_frames mid mid_locals mid_stack other t) (below_mid other t)

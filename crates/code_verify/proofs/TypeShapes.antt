@@ -3,6 +3,7 @@ use Rattle.std.proofs.Common.{◌≡◌, ℕ, zero, suc, ◌+◌, ◌-◌, ◌<�
 use Rattle.std.specs.Prelude.{IsTrue}
 use Rattle.std.specs.Option.{is_some}
 use Rattle.std.proofs.lemmas.Bool.{false≢true, ltb-true, lt-ltb, cases_lt}
+use Rattle.std.proofs.lemmas.Option.{none-some}
 use Rattle.jvm_values.specs.declared.types.Ty.{Ty}
 use Rattle.jvm_values.specs.declared.types.Kind.{Kind}
 use Rattle.jvm_values.specs.declared.types.Base.{Base}
@@ -10,13 +11,8 @@ use Rattle.jvm_values.specs.declared.types.Base.TheVariants.{Class, Num}
 use Rattle.jvm_values.specs.Subtyping.{class_type, object_type, array_of, array_of_numbers, IsReference, IsReferenceBase, IsErased, IsArrayAbove}
 use Rattle.jvm_values.specs.TypedHeaps.{WorldTypes, AreLawful}
 use Rattle.jvm_values.specs.Joins.{item_under, item_of}
-use Rattle.jvm_values.proofs.Options.{some_is, none_is_not_some}
-use Rattle.jvm_values.proofs.Joining.{same_type}
-
-pub array_inside : (a b : Ty) → array_of a ≡ array_of b → a ≡ b
-array_inside a b e =
-    let d : a.dims + 1 ≡ b.dims + 1 = ap (λ (t : Ty). t.dims) e in
-    same_type a b (omega arith) (ap (λ (t : Ty). t.base) e)
+use Rattle.jvm_values.proofs.Options.{some_is}
+use Rattle.jvm_values.proofs.Joining.{same_type, array_inside}
 
 -- what a reference type is
 pub data Shape (n : ℕ) (t : Ty) : Type 0 where
@@ -53,8 +49,8 @@ pub array_of_item : (n : ℕ) (t item : Ty) → IsReference n t → item_of t �
 array_of_item n t item r e = by (shape_of n t r)
   where
     by : Shape n t → (t ≡ array_of item) × IsReference n item
-    by (class k s) = absurd (none_is_not_some item (ap item_of (sym s) ∙ e))
-    by (numbers kind s) = absurd (none_is_not_some item (ap item_of (sym s) ∙ e))
+    by (class k s) = absurd (none-some item (ap item_of (sym s) ∙ e))
+    by (numbers kind s) = absurd (none-some item (ap item_of (sym s) ∙ e))
     by (references x q s) =
         let same : x ≡ item = some_is (sym (item_of_array n x q) ∙ ap item_of (sym s) ∙ e) in
         (s ∙ ap array_of same, subst (IsReference n) same q)
@@ -68,12 +64,12 @@ module _ (types : WorldTypes) (laws : AreLawful types) where
       target = array_of_item types.classes t item (laws.of_world s t below).1 e
 
       above : (x : Ty) → IsReference types.classes x → s ≡ array_of x → (t ≡ object_type) ⊎ IsArrayAbove types.sub types.classes x t → IsTrue (types.sub x item)
-      above x q is (inl o) = absurd (none_is_not_some item (ap item_of (sym o) ∙ e))
+      above x q is (inl o) = absurd (none-some item (ap item_of (sym o) ∙ e))
       above x q is (inr h) = subst (λ (y : Ty). IsTrue (types.sub x y)) (array_inside h.0 item (sym h.3 ∙ target.0)) h.2
 
       numbers_no : (kind : Kind) → s ≡ array_of_numbers kind → (t ≡ object_type) ⊎ (t ≡ array_of_numbers kind) → ⊥
-      numbers_no kind is (inl o) = none_is_not_some item (ap item_of (sym o) ∙ e)
-      numbers_no kind is (inr o) = none_is_not_some item (ap item_of (sym o) ∙ e)
+      numbers_no kind is (inl o) = none-some item (ap item_of (sym o) ∙ e)
+      numbers_no kind is (inr o) = none-some item (ap item_of (sym o) ∙ e)
 
       flat_no : t.dims ≡ 0 → ⊥
       flat_no z = let d : t.dims ≡ item.dims + 1 = ap (λ (x : Ty). x.dims) target.0 in omega arith

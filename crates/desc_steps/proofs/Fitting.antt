@@ -4,6 +4,7 @@ use Rattle.std.proofs.lemmas.List.{length-replicate, length-map}
 use Rattle.std.proofs.lemmas.List.Elements.{All-nil, length_all_zip}
 use Rattle.std.specs.Int.Signed.{◌≤ℤ◌, ≤ℤ_refl}
 use Rattle.std.specs.List.{AllZip}
+use Rattle.list_views.proofs.Options.{both_none}
 use Rattle.lin_core.specs.Intervals.{Bounds}
 use Rattle.jvm_values.specs.declared.heap.Heap.{Heap}
 use Rattle.jvm_values.specs.declared.heap.Value.{Value}
@@ -33,7 +34,7 @@ use Rattle.input_desc.specs.declared.desc.Desc.{Desc}
 use Rattle.input_desc.specs.Descs.{desc_fault, inputs_from}
 use Rattle.input_desc.specs.Fitting.{FitsInput, FitsDescription}
 use Rattle.input_desc.specs.Given.{params_of, statics_of}
-use Rattle.input_desc.proofs.Faultless.{neither, counted}
+use Rattle.input_desc.proofs.Faultless.{counted}
 use Rattle.input_desc.proofs.GoodDescs.{texts_count}
 use Rattle.input_steps.specs.Programs.{HasTypings}
 use Rattle.desc_steps.specs.Headline.{NameProgram}
@@ -78,8 +79,8 @@ untargeted (Ref ty null shape ∷ inputs) (suc i) v o e t = untargeted inputs i 
 counts : (p : Program) (text : DescText) → desc_fault p text ≡ None → (length text.params ≡ length (params_of p)) × (length text.statics ≡ length (statics_of p))
 unfolding desc_fault
 counts p text e =
-    let a = neither _ _ e in
-    let b = neither _ _ a.1 in
+    let a = both_none _ _ e in
+    let b = both_none _ _ a.1 in
     (counted (length text.params) (length (params_of p)) ParamCount a.0, counted (length text.statics) (length (statics_of p)) StaticCount b.0)
 
 as_many : (world : World) (n : ℕ) (texts' : List InputText) (inputs : List Input) → length texts' ≡ n → map Some inputs ≡ inputs_from world (replicate n (Num kinds.Int)) texts' → length inputs ≡ n

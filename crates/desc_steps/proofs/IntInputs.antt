@@ -6,6 +6,7 @@ use Rattle.std.specs.List.{list_all, cons_option, filter_map, flat_map, range_wi
 use Rattle.std.specs.Option.{option_map, option_map_or}
 use Rattle.std.proofs.lemmas.Bool.{false≢true, and_parts}
 use Rattle.std.proofs.lemmas.Int.{ints}
+use Rattle.list_views.proofs.Orders.{int_le_true}
 use Rattle.lin_core.specs.Intervals.{Bounds}
 use Rattle.jvm_values.specs.declared.types.Kind.TheVariants as kinds
 use Rattle.jvm_values.specs.declared.types.Slot.{Slot}
@@ -38,11 +39,8 @@ pub record IsInterval (input : Input) : Type 0 where
   pub is : input ≡ Int bounds
   pub some : bounds.lo ≤ℤ bounds.hi
 
-at_most : (m n : ℤ) → int_le m n ≡ true → m ≤ℤ n
-at_most m n e = omega (arith, ints)
-
 of_bounds : (lo hi : ℤ) (input : Input) (t : Bool) → int_le lo hi ≡ t → Some input ≡ option_map Int (cond t (Some (record { lo = lo; hi = hi })) None) → IsInterval input
-of_bounds lo hi input true q e = let same : input ≡ Int (record { lo = lo; hi = hi }) = cc in record { bounds = record { lo = lo; hi = hi }; is = same; some = at_most lo hi q }
+of_bounds lo hi input true q e = let same : input ≡ Int (record { lo = lo; hi = hi }) = cc in record { bounds = record { lo = lo; hi = hi }; is = same; some = int_le_true lo hi q }
 of_bounds lo hi input false q e = absurd (cc)
 
 interval_is : (world : World) (text : InputText) (input : Input) → Some input ≡ input_of world (Num kinds.Int) text → IsInterval input

@@ -1,6 +1,8 @@
 -- Each step gives one thing or refuses for one fault, so an input has one refusal at most, and a command one answer where it says one thing.
 use Rattle.std.proofs.Common.{◌≡◌, ◌∙◌, ◌≤◌, ℕ, zero, suc, List, [], ◌∷◌, length, Option, Some, None, slice_get, Result, Ok, Err, refl, sym, arith}
 use Rattle.std.specs.Prelude.{IsTrue}
+use Rattle.list_views.proofs.Items.{get_past}
+use Rattle.list_views.proofs.Options.{one_answer}
 use Rattle.class_world.specs.Linking.{is_linked}
 use Rattle.class_world.specs.World.{World}
 use Rattle.class_world.specs.WorldLaws.{world_laws}
@@ -21,7 +23,7 @@ use Rattle.input_steps.specs.declared.refused.Place.TheVariants as places
 use Rattle.input_steps.specs.declared.refused.Fault.TheVariants as faults
 use Rattle.input_steps.specs.Classes.{AllSpell, RefusesClasses, IsWorldOf, RefusesWorld}
 use Rattle.input_steps.specs.Programs.{IsProgramOf, RefusesProgram, IsAcyclic, RefusesCalls, RefusesTypes}
-use Rattle.input_steps.proofs.OneAnswer.{map_some_one, IsExact, IsOne, at_one, then_one, some_one, none_some, classes_exact, world_exact, program_exact, calls_exact, types_exact}
+use Rattle.input_steps.proofs.OneAnswer.{map_some_one, IsExact, IsOne, at_one, then_one, none_some, classes_exact, world_exact, program_exact, calls_exact, types_exact}
 use Rattle.input_steps.proofs.OneText.{said_exact, text_exact}
 use Rattle.desc_steps.specs.Answers.{OfInputs, OfProgram, OfEntry, OfClasses, OfFiles}
 use Rattle.desc_steps.specs.Descriptions.{IsDescText, RefusesText, RefusesEntry, IsDesc, RefusesDesc}
@@ -29,7 +31,7 @@ use Rattle.desc_steps.specs.Ints.{IsIntProgram, RefusesOthers}
 
 -- ---- what is described
 
-desc_one : (p : Program) (text : DescText) (a b : Desc) → IsDesc p text a → IsDesc p text b → a ≡ b
+pub desc_one : (p : Program) (text : DescText) (a b : Desc) → IsDesc p text a → IsDesc p text b → a ≡ b
 desc_one p text a b h k =
     let inputs : a.inputs ≡ b.inputs = map_some_one a.inputs b.inputs (h.1.inputs_are ∙ sym k.1.inputs_are) in
     let same : a.same ≡ b.same = h.1.same_is ∙ sym k.1.same_is in
@@ -40,19 +42,14 @@ desc_exact : (p : Program) (text : DescText) → IsExact (IsDesc p text) (Refuse
 desc_exact p text = record {
   one = desc_one p text;
   apart = λ described place fault h r. none_some (desc_fault p text) r.cause h.0 r.holds;
-  named = at_one {C = DescFault} (λ fault. places.Description) faults.Desc (λ fault. desc_fault p text ≡ Some fault) (λ f g h k. some_one (desc_fault p text) f g h k);
+  named = at_one {C = DescFault} (λ fault. places.Description) faults.Desc (λ fault. desc_fault p text ≡ Some fault) (λ f g h k. one_answer (desc_fault p text) f g h k);
 }
 
 -- ---- typings
 
-past_end : (methods : List Method) (n : ℕ) → slice_get methods n ≡ None → length methods ≤ n
-past_end [] n e = omega arith
-past_end (m ∷ methods) zero e = let no : ⊥ = cc in absurd no
-past_end (m ∷ methods) (suc n) e = let l = past_end methods n e in omega (arith, l)
-
 types_at : (p : Program) → IsTrue (is_linked p.world) → (a b : ℕ → CodeTypes) → IsTypingOf p a → IsTypingOf p b → (n place : ℕ) (found : Option Method) → slice_get p.methods n ≡ found → a n place ≡ b n place
 types_at p linked a b h k n place (Some m) e = least_is_one p m (world_laws p.world linked) (a n) (b n) (h.each n m e) (k.each n m e) place
-types_at p linked a b h k n place None e = let l = past_end p.methods n e in h.no_more n place l ∙ sym (k.no_more n place l)
+types_at p linked a b h k n place None e = let l = get_past p.methods n e in h.no_more n place l ∙ sym (k.no_more n place l)
 
 typing_one : (p : Program) → IsTrue (is_linked p.world) → (a b : ℕ → CodeTypes) → IsTypingOf p a → IsTypingOf p b → a ≡ b
 typing_one p linked a b h k = λ i n place. types_at p linked a b h k n place (slice_get p.methods n) refl i

@@ -1,5 +1,5 @@
--- That descriptions describe something.
-use Rattle.std.specs.Prelude.{ℕ, List}
+-- That descriptions describe something, and that the headline speaks of one program.
+use Rattle.std.specs.Prelude.{◌≡◌, ℕ, List}
 use Rattle.jvm_values.specs.States.{MachineState}
 use Rattle.class_program.specs.Programs.{Program}
 use Rattle.input_desc.specs.declared.desc.Desc.{Desc}
@@ -14,3 +14,9 @@ SomeStateFits =
     (desc : List ℕ) (files : List (List ℕ)) (program : Program) (described : Desc)
     → NameProgram files desc program described → IsIntProgram program → HasTypings program
     → (state : MachineState) × FitsDescription program described state
+
+-- Class files and a description name one program, and say one thing of its inputs: what the headline says is said of no other.
+abbrev pub NamesOne : Type 0
+NamesOne =
+    (files : List (List ℕ)) (desc : List ℕ) (p q : Program) (d e : Desc)
+    → NameProgram files desc p d → NameProgram files desc q e → (p ≡ q) × (d ≡ e)

@@ -1,7 +1,12 @@
-//! A law about descriptions, for the proofs of other crates and for readers. It runs nothing.
-ghost use Rattle.desc_steps.specs.Laws.{SomeStateFits};
+//! Laws about descriptions, for the proofs of other crates and for readers. They run nothing.
+ghost use Rattle.desc_steps.specs.Laws.{NamesOne, SomeStateFits};
 
 /// A description of a program about ints that has typings fits some state, so what is said of its inputs is said of something.
 pub fn some_state_fits()
     ensures { SomeStateFits }
+{}
+
+/// Class files and a description name at most one program, and say at most one thing of its inputs: so neither is chosen by `AllEnd`.
+pub fn names_one()
+    ensures { NamesOne }
 {}

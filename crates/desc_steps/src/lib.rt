@@ -14,5 +14,5 @@ mod names;
 pub use description::{described, entry_of};
 pub use given::{DescribedProgram, described_program};
 pub use ints::not_built;
-pub use laws::some_state_fits;
+pub use laws::{names_one, some_state_fits};
 pub use names::class_names;

@@ -3,6 +3,8 @@ use Rattle.std.proofs.Common.{◌≡◌, ℕ, suc, ◌+◌, ◌*◌, ◌≤◌, 
 use Rattle.std.specs.Prelude.{unsigned_abs, IsTrue, ◌↔◌}
 use Rattle.std.proofs.lemmas.Int.{ints}
 use Rattle.std.proofs.lemmas.List.{at_drop_more, at_drop_all}
+use Rattle.lin_core.proofs.Midway.{no_rest}
+use Rattle.lin_core.proofs.Coefficients.{coefficient_both, scaled_if, rise_wider}
 use Rattle.lin_core.specs.Rows.{coefficient_of, RiseFrom, Row, AllRise}
 use Rattle.lin_core.specs.Steps.{AddsMultiple}
 use Rattle.lin_core.specs.Sums.{Sum, variables, coefficient_in, IsWithin, Leaves}
@@ -22,16 +24,7 @@ use Rattle.descent.specs.Conditions.{AreForms, AreMultiples, AreSlots, IsForm, I
 use Rattle.descent.specs.Lines.{AddsLine}
 use Rattle.descent.specs.Rankings.{form_at, ints_of, sizes_of, shows_target, need, need_fault, slot_at, scaled, terms_of, constant_of, entry_terms, entry_constant}
 
--- coefficients of lists that are joined, and of scaled ones
-coefficient_both : (x : ℕ) (a b : List (ℕ × ℤ)) → coefficient_of x (a ++ b) ≡ coefficient_of x a +ℤ coefficient_of x b
-coefficient_both x [] b = omega (arith, ints)
-coefficient_both x (term ∷ rest) b = let h = coefficient_both x rest b in omega (arith, ints)
-
-scaled_if : (here : Bool) (by k rest whole : ℤ) → whole ≡ by *ℤ rest → cond here (by *ℤ k) (pos 0) +ℤ whole ≡ by *ℤ (cond here k (pos 0) +ℤ rest)
-scaled_if true by k rest whole h = rw h (sym (times_plus by k rest))
-scaled_if false by k rest whole h = let e : pos 0 +ℤ rest ≡ rest = omega (arith, ints) in rw e (omega (arith, ints))
-
-coefficient_scaled : (x : ℕ) (by : ℤ) (terms : List (ℕ × ℤ)) → coefficient_of x (scaled by terms) ≡ by *ℤ coefficient_of x terms
+pub coefficient_scaled : (x : ℕ) (by : ℤ) (terms : List (ℕ × ℤ)) → coefficient_of x (scaled by terms) ≡ by *ℤ coefficient_of x terms
 coefficient_scaled x by [] = sym (mul-zero_ℤ by)
 coefficient_scaled x by (term ∷ rest) = scaled_if _ by term.1 (coefficient_of x rest) _ (coefficient_scaled x by rest)
 
@@ -105,9 +98,6 @@ adding_room weigh slots size sign all rest i old now in' fit room h =
       constant = omega (arith, h.constant_growth, room.constant);
     }
 
-plus_nothing : (now sign all : ℤ) → now +ℤ sign *ℤ pos 0 ≡ all → now ≡ all
-plus_nothing now sign all h = let e = mul-zero_ℤ sign in omega (arith, ints)
-
 pub adding_last : (weigh : ℕ → ℤ) (slots : List SlotForm) (size : Bool) (sign : ℤ) (all : List (ℕ × ℤ)) (i : ℕ) (old now : Sum) → length all ≤ i → i ≤ length all → AreMultiples all → IsAdding weigh slots size sign all (drop i all) i old now → AddsLine (2 ^ 110) (entry_terms slots size all) (entry_constant weigh slots size all) sign old now
 adding_last weigh slots size sign all i old now past in' fit h =
     let few = rising_few 0 65536 all (omega arith) fit.rise in
@@ -115,8 +105,8 @@ adding_last weigh slots size sign all i old now past in' fit h =
     let m = subst (λ (xs : List (ℕ × ℤ)). IsAdding weigh slots size sign all xs i old now) none h in
     record {
       count = m.count;
-      coefficients = λ x. plus_nothing (coefficient_in now x) sign _ (m.coefficients x);
-      constant = plus_nothing now.constant sign _ m.constant;
+      coefficients = λ x. no_rest (coefficient_in now x) sign _ (m.coefficients x);
+      constant = no_rest now.constant sign _ m.constant;
       growth = λ x. omega (arith, m.growth x);
       constant_growth = omega (arith, m.constant_growth);
     }
@@ -161,16 +151,11 @@ ints_fit forms cut fit = ints_fit_cases (form_at forms cut) (λ form e. form_fit
 pub sizes_fit : (sizes : Bool) (forms : List CutForm) (cut : ℕ) → AreForms forms → AreMultiples (sizes_of sizes (form_at forms cut))
 sizes_fit sizes forms cut fit = sizes_fit_cases sizes (form_at forms cut) (λ form e. form_fits forms cut form fit e)
 
--- rows and slots over fewer variables are over more
-wider : (low end more : ℕ) (terms : List (ℕ × ℤ)) → end ≤ more → RiseFrom low end terms → RiseFrom low more terms
-wider low end more [] le h = tt
-wider low end more (term ∷ rest) le h = (h.0, omega (arith, h.1), wider (suc term.0) end more rest le h.2)
-
 pub slots_wider : (end more : ℕ) (slots : List SlotForm) → end ≤ more → AreSlots end slots → AreSlots more slots
-slots_wider end more slots le h = λ i d w. record { rise = wider 0 end more (get_or slots i d).terms le (h i d w).rise; constant = (h i d w).constant; weights = (h i d w).weights }
+slots_wider end more slots le h = λ i d w. record { rise = rise_wider 0 end more (get_or slots i d).terms le (h i d w).rise; constant = (h i d w).constant; weights = (h i d w).weights }
 
 pub rows_wider : (end more : ℕ) (rows : List WRow) → end ≤ more → AreRows end rows → AreRows more rows
-rows_wider end more rows le h = λ i d w. record { rise = wider 0 end more (get_or rows i d).terms le (h i d w).rise; constant = (h i d w).constant; weights = (h i d w).weights }
+rows_wider end more rows le h = λ i d w. record { rise = rise_wider 0 end more (get_or rows i d).terms le (h i d w).rise; constant = (h i d w).constant; weights = (h i d w).weights }
 
 -- a sum from which start was taken away and to which end was added shows what is left of it
 left_over : (s was mid now a b : ℤ) → was ≡ s → mid ≡ was +ℤ negsuc 0 *ℤ a → now ≡ mid +ℤ pos 1 *ℤ b → now ≡ (s -ℤ a) +ℤ b

@@ -2,7 +2,7 @@
 use Rattle.std.proofs.Common.{◌≡◌, ◌⊎◌, inl, inr, ℕ, zero, suc, ◌+◌, ◌-◌, ◌<◌, ◌≤◌, Bool, true, false, cond, eqb, List, [], ◌∷◌, ◌++◌, length, get_or, Option, Some, None, Result, Ok, Err, IfOk, subst, ap, arith, refl, ◌∙◌, sym, add-one, length-append}
 use Rattle.std.proofs.lemmas.List.{get_or_at, get_or_append_left}
 use Rattle.std.specs.Prelude.{◌||◌, ◌&&◌, not, slice_get, OnOk, nat_lt}
-use Rattle.std.proofs.lemmas.Bool.{both_ways, false≢true, true≢false, eqb-true, eq-eqb, or_left, or_right, or_cases, cases_eq, and_parts, cases_lt, lt-ltb}
+use Rattle.std.proofs.lemmas.Bool.{both_ways, false≢true, true≢false, eqb-true, eq-eqb, or_left, or_right, or_cases, cases_eq, and_parts, cases_lt, lt-ltb, false_from_ne_true, not-true, or_parts}
 use Rattle.std.proofs.lemmas.Bool.Decides.{nat_tests}
 use Rattle.descent.specs.declared.rules.PathRule.{PathRule}
 use Rattle.descent.specs.Components.{IsWay, Reaches, AreClasses}
@@ -49,23 +49,14 @@ pub end_has : (class : List ℕ) (rule : ℕ) → has (class ++ rule ∷ []) rul
 end_has [] rule = or_left (eqb rule rule) false (eq-eqb rule rule refl)
 end_has (x ∷ rest) rule = or_right (eqb x rule) (has (rest ++ rule ∷ []) rule) (end_has rest rule)
 
-is_false : (a : Bool) → (a ≡ true → ⊥) → a ≡ false
-is_false true h = absurd (h refl)
-is_false false h = refl
-
 end_other : (class : List ℕ) (rule q : ℕ) → has class q ≡ false → (rule ≡ q → ⊥) → has (class ++ rule ∷ []) q ≡ false
-end_other class rule q h n = is_false (has (class ++ rule ∷ []) q) (λ e. elim (has_end class rule q e) as (λ o. ⊥) [
+end_other class rule q h n = false_from_ne_true (has (class ++ rule ∷ []) q) (λ e. elim (has_end class rule q e) as (λ o. ⊥) [
   | inl f ↦ both_ways (has class q) h f
   | inr f ↦ n f
 ])
 
--- standing once
-not_has : (a : Bool) → not a ≡ true → a ≡ false
-not_has true t = absurd (false≢true t)
-not_has false t = refl
-
 once_cases : (b : Bool) (rest : List ℕ) (rule q : ℕ) → (rule ≡ q → ⊥) → cond b (not (has rest q)) (stands_once rest q) ≡ true → (stands_once rest q ≡ true → stands_once (rest ++ rule ∷ []) q ≡ true) → cond b (not (has (rest ++ rule ∷ []) q)) (stands_once (rest ++ rule ∷ []) q) ≡ true
-once_cases true rest rule q n e more = ap not (end_other rest rule q (not_has (has rest q) e) n)
+once_cases true rest rule q n e more = ap not (end_other rest rule q (not-true (has rest q) e) n)
 once_cases false rest rule q n e more = more e
 
 once_end_other : (class : List ℕ) (rule q : ℕ) → (rule ≡ q → ⊥) → stands_once class q ≡ true → stands_once (class ++ rule ∷ []) q ≡ true
@@ -156,7 +147,7 @@ AllLow_more table rule classes low q h = elim (inserted_only table rule q classe
 ]
 
 -- a class in which only the rule stands
-alone : (rule p : ℕ) → has (rule ∷ []) p ≡ true → rule ≡ p
+pub alone : (rule p : ℕ) → has (rule ∷ []) p ≡ true → rule ≡ p
 alone rule p h = elim (has_end [] rule p h) as (λ o. rule ≡ p) [
   | inl e ↦ absurd (false≢true e)
   | inr e ↦ e
@@ -231,11 +222,7 @@ good_more rules table end rule (class ∷ rest) told in' low good =
 
 -- each rule stands once
 none_standing : (classes : List (List ℕ)) (rule : ℕ) → AllLow rule classes → stands_in classes rule ≡ false
-none_standing classes rule low = is_false (stands_in classes rule) (λ e. let l = low rule e in omega (arith, l))
-
-not_in : (a b : Bool) → (a || b) ≡ false → (a ≡ false) × (b ≡ false)
-not_in true b e = absurd (true≢false e)
-not_in false b e = (refl, e)
+none_standing classes rule low = false_from_ne_true (stands_in classes rule) (λ e. let l = low rule e in omega (arith, l))
 
 full : (a b c d : Bool) → a ≡ true → b ≡ true → c ≡ false → cond a (b && not c) d ≡ true
 full true true false d e f g = refl
@@ -255,11 +242,11 @@ new_cases false c table rule class rest e f h later = skip (has class rule) (sta
 one_new : (table : List (List Bool)) (rule : ℕ) (classes : List (List ℕ)) → stands_in classes rule ≡ false → stands_one (insert_into table rule classes) rule ≡ true
 one_new table rule [] h = full (has (rule ∷ []) rule) (stands_once (rule ∷ []) rule) false false (end_has [] rule) (once_end [] rule refl) refl
 one_new table rule (class ∷ rest) h =
-    let parts = not_in (has class rule) (stands_in rest rule) h in
+    let parts = or_parts (has class rule) (stands_in rest rule) h in
     new_cases (tells table rule (head_of class)) (tells table (head_of class) rule) table rule class rest parts.0 parts.1 h (one_new table rule rest parts.1)
 
 stands_same : (table : List (List Bool)) (rule q : ℕ) (classes : List (List ℕ)) → (rule ≡ q → ⊥) → stands_in classes q ≡ false → stands_in (insert_into table rule classes) q ≡ false
-stands_same table rule q classes n h = is_false (stands_in (insert_into table rule classes) q) (λ e. elim (inserted_only table rule q classes e) as (λ o. ⊥) [
+stands_same table rule q classes n h = false_from_ne_true (stands_in (insert_into table rule classes) q) (λ e. elim (inserted_only table rule q classes e) as (λ o. ⊥) [
   | inl f ↦ both_ways (stands_in classes q) h f
   | inr f ↦ n f
 ])
@@ -268,7 +255,7 @@ once_here : (b : Bool) (class : List ℕ) (rest : List (List ℕ)) (q : ℕ) →
 once_here true class rest q e f h =
     let whole : (stands_once class q && not (stands_in rest q)) ≡ true = subst (λ (b : Bool). cond b (stands_once class q && not (stands_in rest q)) (stands_one rest q) ≡ true) e h in
     let both = and_parts (stands_once class q) (not (stands_in rest q)) whole in
-    (both.0, not_has (stands_in rest q) both.1)
+    (both.0, not-true (stands_in rest q) both.1)
 once_here false class rest q e f h = absurd (false≢true f)
 
 once_later : (class : List ℕ) (rest : List (List ℕ)) (q : ℕ) → has class q ≡ false → stands_one (class ∷ rest) q ≡ true → stands_one rest q ≡ true
@@ -330,7 +317,7 @@ good_full rules [] i class good e = absurd (cc)
 good_full rules (c ∷ rest) zero class good e = let same : c ≡ class = cc in subst (λ (x : List ℕ). 0 < length x) same (some_in c (head_of c) good.0)
 good_full rules (c ∷ rest) (suc i) class good e = good_full rules rest i class good.3 e
 
-stands_get : (classes : List (List ℕ)) (i q : ℕ) (class : List ℕ) → slice_get classes i ≡ Some class → has class q ≡ true → stands_in classes q ≡ true
+pub stands_get : (classes : List (List ℕ)) (i q : ℕ) (class : List ℕ) → slice_get classes i ≡ Some class → has class q ≡ true → stands_in classes q ≡ true
 stands_get [] i q class e h = absurd (cc)
 stands_get (c ∷ rest) zero q class e h = let same : c ≡ class = cc in or_left (has c q) (stands_in rest q) (subst (λ (x : List ℕ). has x q ≡ true) (sym same) h)
 stands_get (c ∷ rest) (suc i) q class e h = or_right (has c q) (stands_in rest q) (stands_get rest i q class e h)

@@ -2,6 +2,7 @@
 use Rattle.std.proofs.Common.{◌≡◌, ℕ, Bool, true, false, cond, eqb, List, [], ◌∷◌, subst, refl, sym}
 use Rattle.std.specs.Prelude.{◌||◌, filter}
 use Rattle.std.proofs.lemmas.Bool.{both_ways, false≢true, true≢false, eqb-true, or_left, or_right}
+use Rattle.list_views.proofs.Truths.{or_second}
 use mathlib.Core.WellFounded.{Acc}
 use Rattle.descent.specs.declared.rules.PathRule.{PathRule}
 use Rattle.descent.specs.Chains.{Turn, Follows}
@@ -27,10 +28,6 @@ outside rules set turn e = Acc.intro turn (λ v m. absurd (both_ways (has set tu
 pub fewer : (rules : List PathRule) (set more : List ℕ) → ((v u : Turn) → Moves rules set v u → Moves rules more v u) → (turn : Turn) → EndsAt rules more turn → EndsAt rules set turn
 fewer rules set more f turn (Acc.intro t h) = Acc.intro t (λ v m. fewer rules set more f v (h v (f v t m)))
 
-pub or_rest : (a b : Bool) → a ≡ false → (a || b) ≡ true → b ≡ true
-or_rest true b e h = absurd (true≢false e)
-or_rest false b e h = h
-
 -- what a filter keeps
 keep_cases : (kept here : Bool) (x rule : ℕ) (rest : List ℕ) → eqb x rule ≡ here → (here ≡ true → kept ≡ true) → (here ≡ false → has rest rule ≡ true) → has (cond kept (x ∷ rest) rest) rule ≡ true
 keep_cases true true x rule rest e k m = or_left (eqb x rule) (has rest rule) e
@@ -40,4 +37,4 @@ keep_cases false false x rule rest e k m = m refl
 
 pub has_filter : (test : ℕ → Bool) (set : List ℕ) (rule : ℕ) → has set rule ≡ true → test rule ≡ true → has (filter test set) rule ≡ true
 has_filter test [] rule h t = absurd (false≢true h)
-has_filter test (x ∷ rest) rule h t = keep_cases (test x) (eqb x rule) x rule (filter test rest) refl (λ b. subst (λ (y : ℕ). test y ≡ true) (sym (eqb-true x rule b)) t) (λ b. has_filter test rest rule (or_rest (eqb x rule) (has rest rule) b h) t)
+has_filter test (x ∷ rest) rule h t = keep_cases (test x) (eqb x rule) x rule (filter test rest) refl (λ b. subst (λ (y : ℕ). test y ≡ true) (sym (eqb-true x rule b)) t) (λ b. has_filter test rest rule (or_second (eqb x rule) (has rest rule) b h) t)

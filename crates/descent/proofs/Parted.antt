@@ -3,14 +3,15 @@ use Rattle.std.proofs.Common.{◌≡◌, ◌⊎◌, inl, inr, ℕ, zero, suc, �
 use Rattle.std.specs.Prelude.{◌&&◌, not, nat_lt, slice_get, is_none, filter, find}
 use Rattle.std.specs.List.{concat, filter_map}
 use Rattle.std.proofs.lemmas.Bool.{both_ways, false≢true, true≢false, eqb-true, eq-eqb, or_left, or_right, or_cases, cases_eq, not-false, ltb-false}
-use Rattle.std.proofs.lemmas.Option.{none-some, slice_get_within, slice_get-get_or}
+use Rattle.std.proofs.lemmas.Option.{none-some, slice_get_within, slice_get-get_or, same_Some}
+use Rattle.list_views.proofs.Truths.{or_second}
 use mathlib.Core.WellFounded.{Acc}
 use Rattle.descent.specs.declared.faults.DescentFault.{DescentFault}
 use Rattle.descent.specs.declared.rules.PathRule.{PathRule}
 use Rattle.descent.specs.Chains.{Turn, Follows}
 use Rattle.descent.specs.Splits.{has, stands_in, stands_once, place_from, place_in, is_misplaced, least, uncovered, meet_at, is_followed, is_below, lower_one, back_fault, back_edge, is_lone, loops_in, loops_at, first_loop, loop_fault, edge_fault, cover_fault, split_fault}
 use Rattle.descent.specs.Steps.{parts_left, same_option}
-use Rattle.descent.proofs.Moving.{Moves, EndsAt, Ends, outside, or_rest, has_filter}
+use Rattle.descent.proofs.Moving.{Moves, EndsAt, Ends, outside, has_filter}
 use Rattle.descent.proofs.Ranked.{edge_none}
 
 -- nothing of a list passes
@@ -28,7 +29,7 @@ none_cases test false false x rule rest t e h more = more refl h
 
 least_none : (test : ℕ → Bool) (set : List ℕ) (rule : ℕ) → least (filter test set) ≡ None → has set rule ≡ true → test rule ≡ false
 least_none test [] rule h e = absurd (false≢true e)
-least_none test (x ∷ rest) rule h e = none_cases test (test x) (eqb x rule) x rule rest refl refl h (λ b m. least_none test rest rule m (or_rest (eqb x rule) (has rest rule) b e))
+least_none test (x ∷ rest) rule h e = none_cases test (test x) (eqb x rule) x rule rest refl refl h (λ b m. least_none test rest rule m (or_second (eqb x rule) (has rest rule) b e))
 
 find_cases : (test : ℕ → Bool) (passes here : Bool) (x rule : ℕ) (rest : List ℕ) → test x ≡ passes → eqb x rule ≡ here → cond passes (Some x) (find test rest) ≡ None → (here ≡ false → find test rest ≡ None → test rule ≡ false) → test rule ≡ false
 find_cases test true here x rule rest t e h more = absurd (cc)
@@ -37,7 +38,7 @@ find_cases test false false x rule rest t e h more = more refl h
 
 find_none : (test : ℕ → Bool) (set : List ℕ) (rule : ℕ) → find test set ≡ None → has set rule ≡ true → test rule ≡ false
 find_none test [] rule h e = absurd (false≢true e)
-find_none test (x ∷ rest) rule h e = find_cases test (test x) (eqb x rule) x rule rest refl refl h (λ b m. find_none test rest rule m (or_rest (eqb x rule) (has rest rule) b e))
+find_none test (x ∷ rest) rule h e = find_cases test (test x) (eqb x rule) x rule rest refl refl h (λ b m. find_none test rest rule m (or_second (eqb x rule) (has rest rule) b e))
 
 -- where a rule stands
 pub record IsPlaced (from : ℕ) (parts : List (List ℕ)) (rule place : ℕ) : Type 0 where
@@ -191,14 +192,11 @@ after_cases rules set parts k v true e next same higher =
       | inr above ↦ higher n.j above n.member n.place
     ]
 
-one_of : (a b : List ℕ) → ◌≡◌ {A = Option (List ℕ)} (Some a) (Some b) → a ≡ b
-one_of a b e = cc
-
 stands_at : (parts : List (List ℕ)) (part : List ℕ) (rule k : ℕ) → place_in parts rule ≡ Some k → slice_get parts k ≡ Some part → has part rule ≡ true
 stands_at parts part rule k p is =
     let w = placed 0 parts rule k p in
     let at : w.index ≡ k = omega (arith, w.at) in
-    let same = one_of w.part part (sym w.is ∙ ap (slice_get parts) at ∙ is) in
+    let same = same_Some w.part part (sym w.is ∙ ap (slice_get parts) at ∙ is) in
     subst (λ (q : List ℕ). has q rule ≡ true) same w.stands
 
 -- turns of higher parts end

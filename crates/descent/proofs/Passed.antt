@@ -2,28 +2,17 @@
 use Rattle.std.proofs.Common.{◌≡◌, ◌⊎◌, inl, inr, ℕ, zero, suc, ◌<◌, Bool, true, false, cond, eqb, List, [], ◌∷◌, ◌++◌, length, get_or, set, replicate, Option, Some, None, subst, ap, arith, refl, ◌∙◌, sym}
 use Rattle.std.specs.Prelude.{◌||◌, ◌&&◌, not, nat_lt, slice_get, is_none, filter, find, IsTrue}
 use Rattle.std.specs.List.{concat}
-use Rattle.std.proofs.lemmas.Bool.{both_ways, false≢true, true≢false, eqb-true, eq-eqb, or_left, or_right, or_cases, cases_eq, and_parts, cases_lt, ltb-true}
+use Rattle.std.proofs.lemmas.Bool.{both_ways, false≢true, true≢false, eqb-true, eq-eqb, or_left, or_right, or_cases, cases_eq, and_parts, cases_lt, ltb-true, false_from_ne_true, or_parts, or_from}
 use Rattle.std.proofs.lemmas.List.{get_or-set_same, get_or-set_other, get_or_past}
+use Rattle.std.proofs.lemmas.Option.{same_Some}
+use Rattle.descent.proofs.Classes.{stands_get}
+use Rattle.list_views.proofs.Marks.{unmarked, mark_keeps, marked_within}
+use Rattle.list_views.proofs.Truths.{or_second}
 use Rattle.descent.specs.declared.faults.DescentFault.{DescentFault}
 use Rattle.descent.specs.declared.rules.PathRule.{PathRule}
 use Rattle.descent.specs.Marking.{IsDone, mark_all, take_part, then_marks, take_all, all_off, ends_marked, enters, mark_start, mark_starts, flow, is_light, all_light}
 use Rattle.descent.specs.Splits.{has, stands_in, stands_once, place_from, place_in, is_misplaced, least, uncovered, meet_at, is_followed, is_below, lower_one, back_fault, back_edge, is_lone, loops_in, loops_at, first_loop, loop_fault, edge_fault, cover_fault, split_fault}
-use Rattle.descent.proofs.Moving.{or_rest}
 use Rattle.descent.proofs.Parted.{IsPlaced, placed}
-use Rattle.descent.proofs.Spread.{set_keeps}
-
-some_marks : (a b : List Bool) → ◌≡◌ {A = Option (List Bool)} (Some a) (Some b) → a ≡ b
-some_marks a b e = cc
-
-is_false : (a : Bool) → (a ≡ true → ⊥) → a ≡ false
-is_false true h = absurd (h refl)
-is_false false h = refl
-
-marked_low : (marks : List Bool) (x : ℕ) → get_or marks x false ≡ true → x < length marks
-marked_low marks x e = elim (cases_lt x (length marks)) as (λ o. x < length marks) [
-  | inl k ↦ k
-  | inr k ↦ absurd (false≢true (sym (get_or_past marks x false k) ∙ e))
-]
 
 -- a mark that is taken away
 pub record IsOff (marks : List Bool) (b x : ℕ) : Type 0 where
@@ -32,7 +21,7 @@ pub record IsOff (marks : List Bool) (b x : ℕ) : Type 0 where
 
 off_is : (marks : List Bool) (b x : ℕ) → get_or marks b false ≡ true → get_or (set marks b false) x false ≡ true → IsOff marks b x
 off_is marks b x here e = elim (cases_eq x b) as (λ o. IsOff marks b x) [
-  | inl s ↦ absurd (false≢true (sym (get_or-set_same marks b false false (marked_low marks b here)) ∙ subst (λ (y : ℕ). get_or (set marks b false) y false ≡ true) s e))
+  | inl s ↦ absurd (false≢true (sym (get_or-set_same marks b false false (marked_within marks b here)) ∙ subst (λ (y : ℕ). get_or (set marks b false) y false ≡ true) s e))
   | inr d ↦ record { other = d; was = sym (get_or-set_other marks b x false false d) ∙ e }
 ]
 
@@ -54,7 +43,7 @@ marked_cases true y rest old new l e more =
         ]
         | inr r ↦ inr (or_right (eqb y x) (has rest x) r)
       ];
-      kept = λ x h. m.kept x (set_keeps old y x h);
+      kept = λ x h. m.kept x (mark_keeps old y x h);
       all = λ x h. elim (or_cases (eqb y x) (has rest x) h) as (λ o. get_or new x false ≡ true) [
         | inl s ↦ subst (λ (z : ℕ). get_or new z false ≡ true) (eqb-true y x s) (m.kept y (get_or-set_same old y true false (ltb-true y (length old) l)))
         | inr r ↦ m.all x r
@@ -63,7 +52,7 @@ marked_cases true y rest old new l e more =
 
 pub marked_is : (rules : List ℕ) (old new : List Bool) → mark_all rules old ≡ Some new → IsMarked rules old new
 marked_is [] old new e =
-    let same = some_marks old new e in
+    let same = same_Some old new e in
     record {
       sound = λ x h. inl (subst (λ (m : List Bool). get_or m x false ≡ true) (sym same) h);
       kept = λ x h. subst (λ (m : List Bool). get_or m x false ≡ true) same h;
@@ -78,16 +67,8 @@ pub record IsTaken (part : List ℕ) (old new : List Bool) : Type 0 where
   pub kept : (x : ℕ) → get_or old x false ≡ true → has part x ≡ false → get_or new x false ≡ true
   pub once : (x : ℕ) → has part x ≡ true → stands_once part x ≡ true
 
-none_of : (a b : Bool) → (a || b) ≡ false → (a ≡ false) × (b ≡ false)
-none_of true b e = absurd (true≢false e)
-none_of false b e = (refl, e)
-
-neither : (a b : Bool) → a ≡ false → b ≡ false → (a || b) ≡ false
-neither true b e f = absurd (true≢false e)
-neither false b e f = f
-
 other_false : (y x : ℕ) → (x ≡ y → ⊥) → eqb y x ≡ false
-other_false y x d = is_false (eqb y x) (λ e. d (sym (eqb-true y x e)))
+other_false y x d = false_from_ne_true (eqb y x) (λ e. d (sym (eqb-true y x e)))
 
 once_cases : (same : Bool) (y x : ℕ) (rest : List ℕ) → eqb y x ≡ same → has rest y ≡ false → (same ≡ false → stands_once rest x ≡ true) → cond same (not (has rest x)) (stands_once rest x) ≡ true
 once_cases true y x rest e none more = ap not (subst (λ (z : ℕ). has rest z ≡ false) (eqb-true y x e) none)
@@ -105,22 +86,22 @@ taken_cases true y rest old new h e more =
       gone = λ x k.
           let g = m.gone x k in
           let o = off_is old y x h g.0 in
-          (o.was, neither (eqb y x) (has rest x) (other_false y x o.other) g.1);
+          (o.was, or_from (eqb y x) (has rest x) (other_false y x o.other) g.1);
       kept = λ x k n.
-          let b = none_of (eqb y x) (has rest x) n in
+          let b = or_parts (eqb y x) (has rest x) n in
           m.kept x (get_or-set_other old y x false false (apart x b.0) ∙ k) b.1;
-      once = λ x k. once_cases (eqb y x) y x rest refl none (λ d. m.once x (or_rest (eqb y x) (has rest x) d k));
+      once = λ x k. once_cases (eqb y x) y x rest refl none (λ d. m.once x (or_second (eqb y x) (has rest x) d k));
     }
   where
     apart : (x : ℕ) → eqb y x ≡ false → x ≡ y → ⊥
     apart x d s = both_ways (eqb y x) d (eq-eqb y x (sym s))
 
     none : has rest y ≡ false
-    none = is_false (has rest y) (λ r. (off_is old y y h ((more e).all y r)).other refl)
+    none = false_from_ne_true (has rest y) (λ r. (off_is old y y h ((more e).all y r)).other refl)
 
 pub taken_is : (part : List ℕ) (old new : List Bool) → take_part part old ≡ Some new → IsTaken part old new
 taken_is [] old new e =
-    let same = some_marks old new e in
+    let same = same_Some old new e in
     record {
       all = λ x h. absurd (false≢true h);
       gone = λ x h. (subst (λ (m : List Bool). get_or m x false ≡ true) (sym same) h, refl);
@@ -152,14 +133,14 @@ all_taken_cases (Some left) part rest old new t e more =
         | inr r ↦ (first.gone x (later.all x r)).0
       ];
       kept = λ x h n.
-          let b = none_of (has part x) (stands_in rest x) n in
+          let b = or_parts (has part x) (stands_in rest x) n in
           later.kept x (first.kept x h b.0) b.1;
-      one = λ x n h. place_cases (has part x) (stands_once part x) (stands_in rest x) x n rest (λ p. first.once x p) (λ p. is_false (stands_in rest x) (λ r. both_ways (has part x) (first.gone x (later.all x r)).1 p)) (λ d. later.one x (suc n) (or_rest (has part x) (stands_in rest x) d h));
+      one = λ x n h. place_cases (has part x) (stands_once part x) (stands_in rest x) x n rest (λ p. first.once x p) (λ p. false_from_ne_true (stands_in rest x) (λ r. both_ways (has part x) (first.gone x (later.all x r)).1 p)) (λ d. later.one x (suc n) (or_second (has part x) (stands_in rest x) d h));
     }
 
 pub all_taken_is : (parts : List (List ℕ)) (old new : List Bool) → take_all parts old ≡ Some new → AreTaken parts old new
 all_taken_is [] old new e =
-    let same = some_marks old new e in
+    let same = same_Some old new e in
     record {
       all = λ x h. absurd (false≢true h);
       kept = λ x h n. subst (λ (m : List Bool). get_or m x false ≡ true) same h;
@@ -193,9 +174,9 @@ pub record IsStart (found : Option PathRule) (old new : List Bool) : Type 0 wher
 start_cases : (low : Bool) (rule : PathRule) (old new : List Bool) → nat_lt rule.from (length old) ≡ low → cond low (Some (set old rule.from true)) None ≡ Some new → IsStart (Some rule) old new
 start_cases false rule old new l e = absurd (cc)
 start_cases true rule old new l e =
-    let same = some_marks (set old rule.from true) new e in
+    let same = same_Some (set old rule.from true) new e in
     record {
-      kept = λ x h. subst (λ (m : List Bool). get_or m x false ≡ true) same (set_keeps old rule.from x h);
+      kept = λ x h. subst (λ (m : List Bool). get_or m x false ≡ true) same (mark_keeps old rule.from x h);
       here = λ other is. subst (λ (r : PathRule). get_or new r.from false ≡ true) (one rule other is) (subst (λ (m : List Bool). get_or m rule.from false ≡ true) same (get_or-set_same old rule.from true false (ltb-true rule.from (length old) l)));
     }
   where
@@ -221,7 +202,7 @@ starts_cases rules (Some left) y rest old new t e more =
 
 starts_is : (rules : List PathRule) (part : List ℕ) (old new : List Bool) → mark_starts rules part old ≡ Some new → AreStarts rules part old new
 starts_is rules [] old new e =
-    let same = some_marks old new e in
+    let same = same_Some old new e in
     record {
       kept = λ x h. subst (λ (m : List Bool). get_or m x false ≡ true) same h;
       all = λ p rule h is. absurd (false≢true h);
@@ -232,7 +213,7 @@ starts_is rules (y ∷ rest) old new e = starts_cases rules (mark_start (slice_g
 none_enters : (rules : List PathRule) (part : List ℕ) (marks : List Bool) (q : ℕ) → enters rules part marks ≡ false → has part q ≡ true → ends_marked (slice_get rules q) marks ≡ false
 none_enters rules [] marks q e h = absurd (false≢true h)
 none_enters rules (y ∷ rest) marks q e h =
-    let both = none_of (ends_marked (slice_get rules y) marks) (enters rules rest marks) e in
+    let both = or_parts (ends_marked (slice_get rules y) marks) (enters rules rest marks) e in
     elim (or_cases (eqb y q) (has rest q) h) as (λ o. ends_marked (slice_get rules q) marks ≡ false) [
       | inl s ↦ subst (λ (z : ℕ). ends_marked (slice_get rules z) marks ≡ false) (eqb-true y q s) both.0
       | inr r ↦ none_enters rules rest marks q both.1 r
@@ -243,25 +224,20 @@ pub record Flows (rules : List PathRule) (parts : List (List ℕ)) (old : List B
   pub fresh : (q : ℕ) → stands_in parts q ≡ true → ends_marked (slice_get rules q) old ≡ false
   pub apart : (i j p q : ℕ) (one other : List ℕ) → i < j → slice_get parts i ≡ Some one → slice_get parts j ≡ Some other → has one p ≡ true → has other q ≡ true → is_followed rules q p ≡ false
 
-stands_at : (parts : List (List ℕ)) (i q : ℕ) (part : List ℕ) → slice_get parts i ≡ Some part → has part q ≡ true → stands_in parts q ≡ true
-stands_at [] i q part e h = absurd (cc)
-stands_at (c ∷ rest) zero q part e h = let same : c ≡ part = cc in or_left (has c q) (stands_in rest q) (subst (λ (x : List ℕ). has x q ≡ true) (sym same) h)
-stands_at (c ∷ rest) (suc i) q part e h = or_right (has c q) (stands_in rest q) (stands_at rest i q part e h)
-
 not_met : (rules : List PathRule) (found next : Option PathRule) (marks : List Bool) → ends_marked found marks ≡ false → ((rule : PathRule) → next ≡ Some rule → get_or marks rule.from false ≡ true) → meet_at found next ≡ false
 not_met rules None next marks e all = refl
 not_met rules (Some rule) None marks e all = refl
-not_met rules (Some rule) (Some next) marks e all = is_false (eqb rule.to next.from) (λ h. both_ways (get_or marks next.from false) (subst (λ (c : ℕ). get_or marks c false ≡ false) (eqb-true rule.to next.from h) e) (all next refl))
+not_met rules (Some rule) (Some next) marks e all = false_from_ne_true (eqb rule.to next.from) (λ h. both_ways (get_or marks next.from false) (subst (λ (c : ℕ). get_or marks c false ≡ false) (eqb-true rule.to next.from h) e) (all next refl))
 
 still_fresh : (found : Option PathRule) (old new : List Bool) → ((x : ℕ) → get_or old x false ≡ true → get_or new x false ≡ true) → ends_marked found new ≡ false → ends_marked found old ≡ false
 still_fresh None old new kept e = refl
-still_fresh (Some rule) old new kept e = is_false (get_or old rule.to false) (λ h. both_ways (get_or new rule.to false) e (kept rule.to h))
+still_fresh (Some rule) old new kept e = false_from_ne_true (get_or old rule.to false) (λ h. both_ways (get_or new rule.to false) e (kept rule.to h))
 
 apart_cases : (rules : List PathRule) (part : List ℕ) (rest : List (List ℕ)) (left : List Bool) (i j p q : ℕ) (one other : List ℕ) → Flows rules rest left → ((p : ℕ) (rule : PathRule) → has part p ≡ true → slice_get rules p ≡ Some rule → get_or left rule.from false ≡ true) → i < j → slice_get (part ∷ rest) i ≡ Some one → slice_get (part ∷ rest) j ≡ Some other → has one p ≡ true → has other q ≡ true → is_followed rules q p ≡ false
 apart_cases rules part rest left i zero p q one other later starts lt e f h k = absurd (omega (arith, lt))
 apart_cases rules part rest left zero (suc j) p q one other later starts lt e f h k =
     let same : part ≡ one = cc in
-    not_met rules (slice_get rules q) (slice_get rules p) left (later.fresh q (stands_at rest j q other f k)) (λ rule is. starts p rule (subst (λ (x : List ℕ). has x p ≡ true) (sym same) h) is)
+    not_met rules (slice_get rules q) (slice_get rules p) left (later.fresh q (stands_get rest j q other f k)) (λ rule is. starts p rule (subst (λ (x : List ℕ). has x p ≡ true) (sym same) h) is)
 apart_cases rules part rest left (suc i) (suc j) p q one other later starts lt e f h k = later.apart i j p q one other (omega (arith, lt)) e f h k
 
 flow_cases : (rules : List PathRule) (entered : Bool) (gave : Option (List Bool)) (part : List ℕ) (rest : List (List ℕ)) (old new : List Bool) → enters rules part old ≡ entered → mark_starts rules part old ≡ gave → cond entered None (then_marks (λ (more : List Bool). flow rules rest more) gave) ≡ Some new → ((more : List Bool) → flow rules rest more ≡ Some new → Flows rules rest more) → Flows rules (part ∷ rest) old
@@ -351,7 +327,7 @@ not_lower : (follows : Bool) (one other : Option ℕ) → ((j k : ℕ) → one �
 not_lower false one other h = refl
 not_lower true None other h = refl
 not_lower true (Some j) None h = refl
-not_lower true (Some j) (Some k) h = is_false (nat_lt j k) (λ l. true≢false (h j k refl refl (ltb-true j k l)))
+not_lower true (Some j) (Some k) h = false_from_ne_true (nat_lt j k) (λ l. true≢false (h j k refl refl (ltb-true j k l)))
 
 apart_places : (rules : List PathRule) (set : List ℕ) (parts : List (List ℕ)) (steps : List (Option ℕ)) (rule next j k : ℕ) → IsWalked rules set parts steps → IsPlaced 0 parts next j → IsPlaced 0 parts rule k → j < k → is_followed rules rule next ≡ false
 apart_places rules set parts steps rule next j k w a b lt = w.flows a.index b.index next rule a.part b.part (omega (arith, a.at, b.at, lt)) a.is b.is a.stands b.stands
@@ -380,18 +356,13 @@ nothing_wrong rules set parts steps w =
     let three = nothing_loops rules set parts steps w in
     ap (λ (o : Option ℕ). cover_fault o (edge_fault (back_edge rules set parts set) (loop_fault (first_loop rules set parts steps)))) one ∙ ap (λ (o : Option DescentFault). edge_fault o (loop_fault (first_loop rules set parts steps))) two ∙ ap loop_fault three
 
-all_unmarked : (n x : ℕ) → get_or (replicate n false) x false ≡ false
-all_unmarked zero x = refl
-all_unmarked (suc n) zero = refl
-all_unmarked (suc n) (suc x) = all_unmarked n x
-
 walked : (rules : List PathRule) (set : List ℕ) (parts : List (List ℕ)) (steps : List (Option ℕ)) (n : ℕ) (opened taken starts ends : List Bool) → mark_all set (replicate n false) ≡ Some opened → take_all parts opened ≡ Some taken → all_off set taken ≡ true → flow rules parts starts ≡ Some ends → all_light rules parts steps ≡ true → IsWalked rules set parts steps
 walked rules set parts steps n opened taken starts ends a b c d e =
     let marked = marked_is set (replicate n false) opened a in
     let took = all_taken_is parts opened taken b in
     record {
       inside = λ x h. elim (marked.sound x (took.all x h)) as (λ o. has set x ≡ true) [
-        | inl was ↦ absurd (false≢true (sym (all_unmarked n x) ∙ was))
+        | inl was ↦ absurd (false≢true (sym (unmarked n x) ∙ was))
         | inr is ↦ is
       ];
       place = λ x h. took.one x 0 h;

@@ -5,6 +5,7 @@ use Rattle.std.proofs.lemmas.Bool.{false≢true, eqb-true, eq-eqb, or_left, or_r
 use Rattle.std.proofs.lemmas.Bool.Decides.{nat_tests}
 use Rattle.std.proofs.lemmas.Int.{ints}
 use Rattle.std.proofs.lemmas.Option.{get_or_from_slice_get, slice_get_within}
+use Rattle.list_views.proofs.Truths.{or_second}
 use mathlib.Core.WellFounded.{Acc}
 use Rattle.descent.specs.declared.faults.DescentFault.{DescentFault}
 use Rattle.descent.specs.declared.proof.RankRule.{RankRule}
@@ -16,7 +17,7 @@ use Rattle.descent.specs.Orders.{OrderLaws, Says, Worth}
 use Rattle.descent.specs.Splits.{has, edge_fault}
 use Rattle.descent.specs.Steps.{rule_of, listed_fault, rank_fault, weak_ones}
 use Rattle.descent.specs.Valuations.{Valuation, Meets}
-use Rattle.descent.proofs.Moving.{Moves, EndsAt, Ends, outside, or_rest}
+use Rattle.descent.proofs.Moving.{Moves, EndsAt, Ends, outside}
 
 -- what a listed rule shows
 pub record WeakAt (weak : Says) (number : ℕ) (rule : PathRule) (left : List ℕ) : Type 0 where
@@ -72,7 +73,7 @@ ranked_at weak strict bounded rules [] all number rule e h is = absurd (false≢
 ranked_at weak strict bounded rules (x ∷ rest) [] number rule e h is = absurd (cc)
 ranked_at weak strict bounded rules (x ∷ rest) (listed ∷ more) number rule e h is =
     let pair = pair_cases (nat_lt x (rule_of listed)) (nat_lt (rule_of listed) x) x (rule_of listed) _ _ (listed_fault weak strict bounded listed (slice_get rules x)) (rank_fault weak strict bounded rules rest more) refl refl e in
-    ranked_cases weak strict bounded (eqb x number) x listed more rules number rule refl pair.same pair.first is (λ b. ranked_at weak strict bounded rules rest more number rule pair.others (or_rest (eqb x number) (has rest number) b h) is)
+    ranked_cases weak strict bounded (eqb x number) x listed more rules number rule refl pair.same pair.first is (λ b. ranked_at weak strict bounded rules rest more number rule pair.others (or_second (eqb x number) (has rest number) b h) is)
 
 -- every rule of the set is weak, and then left, or strict
 pub record IsRanking (rules : List PathRule) (set left : List ℕ) (weak strict bounded : Says) (takes_start takes_end : PathRule → Type 0) (start finish : Worth) : Type 0 where

@@ -5,26 +5,15 @@ use Rattle.std.proofs.Math.ListN.{length-set}
 use Rattle.std.proofs.lemmas.Bool.{false≢true, true≢false, eqb-true, eq-eqb, or_left, or_right, or_cases, cases_eq, cases_lt, ltb-true, lt-ltb}
 use Rattle.std.proofs.lemmas.List.{get_or-set_same, get_or-set_other, get_or_past, length-replicate}
 use Rattle.std.proofs.lemmas.List.Sums.{sum_by-set}
-use Rattle.std.proofs.lemmas.Option.{slice_get_within}
+use Rattle.std.proofs.lemmas.Option.{slice_get_within, same_Some}
+use Rattle.list_views.proofs.Marks.{none_marked, mark_keeps}
 use Rattle.descent.specs.declared.rules.PathRule.{PathRule}
 use Rattle.descent.specs.Components.{IsWay, Reaches}
 use Rattle.descent.specs.Inserting.{IsRow}
 use Rattle.descent.specs.Splits.{has, meet_at, is_followed}
 use Rattle.list_views.specs.Lists.{open_count}
 use Rattle.descent.specs.Spreading.{first_from, all_from, next_of, is_at, group_at, groups_of, Noted, Front, noted, spread}
-use Rattle.descent.proofs.Classes.{reach_both, reach_self, reach_next, has_end, end_has_old, end_has}
-
--- a mark that is set
-pub set_keeps : (marks : List Bool) (b x : ℕ) → get_or marks x false ≡ true → get_or (set marks b true) x false ≡ true
-set_keeps marks b x e = elim (cases_eq x b) as (λ o. get_or (set marks b true) x false ≡ true) [
-  | inl s ↦
-      let l : b < length marks = elim (cases_lt b (length marks)) as (λ o. b < length marks) [
-        | inl k ↦ k
-        | inr k ↦ absurd (false≢true (sym (get_or_past marks x false (omega (arith, k, s))) ∙ e))
-      ] in
-      subst (λ (y : ℕ). get_or (set marks b true) y false ≡ true) (sym s) (get_or-set_same marks b true false l)
-  | inr d ↦ get_or-set_other marks b x true false d ∙ e
-]
+use Rattle.descent.proofs.Classes.{reach_both, reach_self, reach_next, has_end, end_has_old, end_has, alone}
 
 set_sound : (marks : List Bool) (b x : ℕ) → get_or (set marks b true) x false ≡ true → (get_or marks x false ≡ true) ⊎ (b ≡ x)
 set_sound marks b x e = elim (cases_eq x b) as (λ o. (get_or marks x false ≡ true) ⊎ (b ≡ x)) [
@@ -40,12 +29,9 @@ record IsFirst (cut n first : ℕ) (rules : List PathRule) : Type 0 where
   pub is : slice_get rules index ≡ Some taken
   pub starts : taken.from ≡ cut
 
-some_number : (a b : ℕ) → ◌≡◌ {A = Option ℕ} (Some a) (Some b) → a ≡ b
-some_number a b e = cc
-
 first_cases : (here : Bool) (cut n first : ℕ) (rule : PathRule) (rest : List PathRule) → eqb rule.from cut ≡ here → cond here (Some n) (first_from cut (suc n) rest) ≡ Some first → (first_from cut (suc n) rest ≡ Some first → IsFirst cut (suc n) first rest) → IsFirst cut n first (rule ∷ rest)
 first_cases true cut n first rule rest h e more =
-    let same = some_number n first e in
+    let same = same_Some n first e in
     record { index = 0; taken = rule; at = omega (arith, same); is = refl; starts = eqb-true rule.from cut h }
 first_cases false cut n first rule rest h e more =
     let m = more e in
@@ -59,13 +45,10 @@ found_cases : (here : Bool) (cut n : ℕ) (rest : List PathRule) → (here ≡ f
 found_cases true cut n rest more = (n, refl)
 found_cases false cut n rest more = more refl
 
-one_rule : (a b : PathRule) → ◌≡◌ {A = Option PathRule} (Some a) (Some b) → a ≡ b
-one_rule a b e = cc
-
 first_found : (cut n q : ℕ) (rules : List PathRule) (rule : PathRule) → slice_get rules q ≡ Some rule → rule.from ≡ cut → (first : ℕ) × (first_from cut n rules ≡ Some first)
 first_found cut n q [] rule is at = absurd (cc)
 first_found cut n zero (r ∷ rest) rule is at =
-    let here : eqb r.from cut ≡ true = eq-eqb r.from cut (ap (λ (x : PathRule). x.from) (one_rule r rule is) ∙ at) in
+    let here : eqb r.from cut ≡ true = eq-eqb r.from cut (ap (λ (x : PathRule). x.from) (same_Some r rule is) ∙ at) in
     found_cases (eqb r.from cut) cut n rest (λ f. absurd (true≢false (sym here ∙ f)))
 first_found cut n (suc q) (r ∷ rest) rule is at = found_cases (eqb r.from cut) cut n rest (λ f. first_found cut (suc n) q rest rule is at)
 
@@ -101,13 +84,13 @@ from_there false cut n q rest h = h
 
 from_all : (cut n k q : ℕ) (rules : List PathRule) (rule : PathRule) → slice_get rules k ≡ Some rule → rule.from ≡ cut → q ≡ n + k → has (all_from cut n rules) q ≡ true
 from_all cut n k q [] rule is at e = absurd (cc)
-from_all cut n zero q (r ∷ rest) rule is at e = from_here (eqb r.from cut) cut n q rest (eq-eqb r.from cut (ap (λ (x : PathRule). x.from) (one_rule r rule is) ∙ at)) (omega (arith, e))
+from_all cut n zero q (r ∷ rest) rule is at e = from_here (eqb r.from cut) cut n q rest (eq-eqb r.from cut (ap (λ (x : PathRule). x.from) (same_Some r rule is) ∙ at)) (omega (arith, e))
 from_all cut n (suc k) q (r ∷ rest) rule is at e = from_there (eqb r.from cut) cut n q rest (from_all cut (suc n) k q rest rule is at (omega (arith, e)))
 
 -- the index of groups
 next_at : (rules list : List PathRule) (p : ℕ) (rule : PathRule) → slice_get list p ≡ Some rule → get_or (next_of rules list) p None ≡ first_from rule.to 0 rules
 next_at rules [] p rule is = absurd (cc)
-next_at rules (r ∷ rest) zero rule is = ap (λ (x : PathRule). first_from x.to 0 rules) (one_rule r rule is)
+next_at rules (r ∷ rest) zero rule is = ap (λ (x : PathRule). first_from x.to 0 rules) (same_Some r rule is)
 next_at rules (r ∷ rest) (suc p) rule is = next_at rules rest p rule is
 
 next_past : (rules list : List PathRule) (p : ℕ) → slice_get list p ≡ None → get_or (next_of rules list) p None ≡ None
@@ -117,7 +100,7 @@ next_past rules (r ∷ rest) (suc p) is = next_past rules rest p is
 
 group_in : (rules list : List PathRule) (n g : ℕ) (rule : PathRule) → slice_get list g ≡ Some rule → get_or (groups_of rules n list) g [] ≡ group_at rules (n + g) rule
 group_in rules [] n g rule is = absurd (cc)
-group_in rules (r ∷ rest) n zero rule is = ap (λ (x : PathRule). group_at rules n x) (one_rule r rule is) ∙ ap (λ (k : ℕ). group_at rules k rule) (plus_zero n)
+group_in rules (r ∷ rest) n zero rule is = ap (λ (x : PathRule). group_at rules n x) (same_Some r rule is) ∙ ap (λ (k : ℕ). group_at rules k rule) (plus_zero n)
   where
     plus_zero : (a : ℕ) → a ≡ a + 0
     plus_zero a = omega arith
@@ -177,7 +160,7 @@ complete_cases rules p q (Some a) (Some b) is at m =
     let f = first_found a.to 0 q rules b at same in
     let e : get_or (next_of rules rules) p None ≡ Some f.0 = next_at rules rules p a is ∙ f.1 in
     let g = group_is rules p f.0 e in
-    let rule : g.rule ≡ a = one_rule g.rule a (sym g.is ∙ is) in
+    let rule : g.rule ≡ a = same_Some g.rule a (sym g.is ∙ is) in
     (f.0, e, ap (λ (l : List ℕ). has l q) (g.group ∙ ap (λ (r : PathRule). all_from r.to 0 rules) rule) ∙ from_all a.to 0 q q rules b at same (omega arith))
 
 pub index_is : (rules : List PathRule) → IsIndex rules (next_of rules rules) (groups_of rules 0 rules)
@@ -220,7 +203,7 @@ same_notes group old here = record {
 new_notes : (group : ℕ) (old : Noted) → group < length old.0 → get_or old.0 group false ≡ false → IsNoted (Some group) old (set old.0 group true, old.1 ++ group ∷ [])
 new_notes group old low off = record {
   count = length-set old.0 group true;
-  kept = λ g e. set_keeps old.0 group g e;
+  kept = λ g e. mark_keeps old.0 group g e;
   fresh = λ g e. elim (set_sound old.0 group g e) as (λ o. (get_or old.0 g false ≡ true) ⊎ (has (old.1 ++ group ∷ []) g ≡ true)) [
     | inl was ↦ inl was
     | inr s ↦ inr (subst (λ (x : ℕ). has (old.1 ++ group ∷ []) x ≡ true) s (end_has old.1 group))
@@ -230,7 +213,7 @@ new_notes group old low off = record {
     | inl was ↦ inl was
     | inr s ↦ inr (ap Some s)
   ];
-  here = λ g e l. subst (λ (x : ℕ). get_or (set old.0 group true) x false ≡ true) (some_number group g e) (get_or-set_same old.0 group true false low);
+  here = λ g e l. subst (λ (x : ℕ). get_or (set old.0 group true) x false ≡ true) (same_Some group g e) (get_or-set_same old.0 group true false low);
   work =
       let s = sum_by-set (λ (m : Bool). cond m 0 1) old.0 group true false low in
       let t = rw off at s in
@@ -238,8 +221,8 @@ new_notes group old low off = record {
 }
 
 noted_cases : (low seen : Bool) (group : ℕ) (old : Noted) → nat_lt group (length old.0) ≡ low → get_or old.0 group false ≡ seen → IsNoted (Some group) old (cond {A = Noted} (low && not seen) (set old.0 group true, old.1 ++ group ∷ []) old)
-noted_cases false seen group old l s = same_notes (Some group) old (λ g e low. absurd (false≢true (sym l ∙ lt-ltb group (length old.0) (subst (λ (x : ℕ). x < length old.0) (sym (some_number group g e)) low))))
-noted_cases true true group old l s = same_notes (Some group) old (λ g e low. subst (λ (x : ℕ). get_or old.0 x false ≡ true) (some_number group g e) s)
+noted_cases false seen group old l s = same_notes (Some group) old (λ g e low. absurd (false≢true (sym l ∙ lt-ltb group (length old.0) (subst (λ (x : ℕ). x < length old.0) (sym (same_Some group g e)) low))))
+noted_cases true true group old l s = same_notes (Some group) old (λ g e low. subst (λ (x : ℕ). get_or old.0 x false ≡ true) (same_Some group g e) s)
 noted_cases true false group old l s = new_notes group old (ltb-true group (length old.0) l) s
 
 noted_is : (group : Option ℕ) (old : Noted) → IsNoted group old (noted group old)
@@ -274,7 +257,7 @@ spread_more next r rest old new one more = record {
     ]
     | inr h ↦ inr (or_right (eqb r q) (has rest q) h)
   ];
-  kept = λ q e. more.kept q (set_keeps old.0 r q e);
+  kept = λ q e. more.kept q (mark_keeps old.0 r q e);
   all = λ q h low. elim (or_cases (eqb r q) (has rest q) h) as (λ o. get_or new.0 q false ≡ true) [
     | inl s ↦
         let same = eqb-true r q s in
@@ -330,21 +313,6 @@ pub record IsMarking (rules : List PathRule) (rule : ℕ) (next : List (Option �
   pub seen : (g : ℕ) → get_or front.1.0 g false ≡ true → (has front.1.1 g ≡ true) ⊎ ((q : ℕ) → has (get_or groups g []) q ≡ true → q < length rules → get_or front.0 q false ≡ true)
   pub goes : (q g : ℕ) → get_or front.0 q false ≡ true → get_or next q None ≡ Some g → get_or front.1.0 g false ≡ true
 
--- the rule's own group of one
-unmarked : (n x : ℕ) → get_or (replicate n false) x false ≡ false
-unmarked zero x = refl
-unmarked (suc n) zero = refl
-unmarked (suc n) (suc x) = unmarked n x
-
-not_marked : (n x : ℕ) → get_or (replicate n false) x false ≡ true → ⊥
-not_marked n x e = false≢true (sym (unmarked n x) ∙ e)
-
-only_one : (rule q : ℕ) → has (rule ∷ []) q ≡ true → rule ≡ q
-only_one rule q h = elim (has_end [] rule q h) as (λ o. rule ≡ q) [
-  | inl e ↦ absurd (false≢true e)
-  | inr e ↦ e
-]
-
 first_marking : (rules : List PathRule) (rule : ℕ) (next : List (Option ℕ)) (groups : List (List ℕ)) (front : Front) → rule < length rules → IsIndex rules next groups → IsSpread next (rule ∷ []) (replicate (length rules) false, (replicate (length rules) false, [])) front → IsMarking rules rule next groups front
 first_marking rules rule next groups front low index s =
     let n : length (replicate (length rules) false) ≡ length rules = length-replicate {A = Bool} (length rules) false in
@@ -353,19 +321,19 @@ first_marking rules rule next groups front low index s =
       seen_count = s.seen_count ∙ n;
       start = s.all rule (end_has [] rule) (omega (arith, low, n));
       sound = λ q e. elim (s.sound q e) as (λ o. Reaches rules rule q) [
-        | inl was ↦ absurd (not_marked (length rules) q was)
-        | inr h ↦ subst (λ (x : ℕ). Reaches rules rule x) (only_one rule q h) (reach_self rules rule)
+        | inl was ↦ absurd (none_marked (length rules) q was)
+        | inr h ↦ subst (λ (x : ℕ). Reaches rules rule x) (alone rule q h) (reach_self rules rule)
       ];
       come = λ g e. elim (s.todo_new g e) as (λ o. (p : ℕ) × Reaches rules rule p × (get_or next p None ≡ Some g)) [
         | inl was ↦ absurd (false≢true was)
-        | inr w ↦ (rule, reach_self rules rule, ap (λ (x : ℕ). get_or next x None) (only_one rule w.0 w.1) ∙ w.2)
+        | inr w ↦ (rule, reach_self rules rule, ap (λ (x : ℕ). get_or next x None) (alone rule w.0 w.1) ∙ w.2)
       ];
       seen = λ g e. elim (s.seen_new g e) as (λ o. (has front.1.1 g ≡ true) ⊎ ((q : ℕ) → has (get_or groups g []) q ≡ true → q < length rules → get_or front.0 q false ≡ true)) [
-        | inl was ↦ absurd (not_marked (length rules) g was)
+        | inl was ↦ absurd (none_marked (length rules) g was)
         | inr t ↦ inl t
       ];
       goes = λ q g e f. elim (s.sound q e) as (λ o. get_or front.1.0 g false ≡ true) [
-        | inl was ↦ absurd (not_marked (length rules) q was)
+        | inl was ↦ absurd (none_marked (length rules) q was)
         | inr h ↦ s.goes q g h f (let l = index.low q g f in omega (arith, l, n))
       ];
     }

@@ -7,6 +7,8 @@ use Rattle.std.proofs.lemmas.Bool.{false≢true, and_parts, cases_order}
 use Rattle.std.proofs.lemmas.Int.{ints}
 use Rattle.std.proofs.lemmas.List.{length-map}
 use Rattle.std.proofs.lemmas.Slice.Zip.{AllZip-long}
+use Rattle.list_views.proofs.Truths.{or_either}
+use Rattle.list_views.proofs.Zipped.{zip_joined}
 use Rattle.jvm_values.specs.declared.types.Ty.{Ty}
 use Rattle.jvm_values.specs.declared.types.Slot.{Slot}
 use Rattle.jvm_values.specs.declared.types.Slot.TheVariants as slots
@@ -37,7 +39,7 @@ use Rattle.input_desc.specs.Descs.{has_receiver, desc_fault, IsDescribed}
 use Rattle.input_desc.specs.Fitting.{FitsInput, IsListed, FitsDescription}
 use Rattle.input_desc.proofs.Unfit.{all_fitting}
 use Rattle.input_desc.proofs.Wider.{Laws, has_wider, erased_twice}
-use Rattle.input_desc.proofs.Zipped.{zip_append, zip_before}
+use Rattle.input_desc.proofs.Zipped.{zip_before}
 use Rattle.describe.specs.declared.inputs.Listed.TheVariants.{Same, Share}
 use Rattle.describe.specs.Starts.{HasReceiver, IsStartState}
 use Rattle.describe.specs.Whole.{is_any, is_open, is_nullable, behind, are_comparable, ListsAll, IsWhole}
@@ -114,18 +116,12 @@ is_of types heap (slots.Ref t) (values.Ref r) o h e =
     let same : r ≡ o = let k : Some r ≡ Some o = e in cc in
     record { own = t; is = refl; object = h.0; there = ap (slice_get heap.objects) (sym same) ∙ h.1.0; below = h.1.1 }
 
-either : (s t : Bool) → (s ≡ true) ⊎ (t ≡ true) → (s || t) ≡ true
-either true t h = refl
-either false true h = refl
-either false false (inl e) = e
-either false false (inr e) = e
-
 -- references to one object are comparable
 comparable : (world : World) (heap : Heap) (a b : Slot) (o : ℕ) → Laws world → (one : IsOf (types_of world) heap a o) → (other : IsOf (types_of world) heap b o) → are_comparable world one.own other.own ≡ true
 comparable world heap a b o laws one other =
     let same_object : one.object ≡ other.object = let k : Some one.object ≡ Some other.object = sym one.there ∙ other.there in cc in
     let below : is_sub world (type_of one.object) (erase world other.own) ≡ true = ap (λ x. is_sub world (type_of x) (erase world other.own)) same_object ∙ other.below in
-    either (is_sub world (erase world one.own) (erase world other.own)) (is_sub world (erase world other.own) (erase world one.own))
+    or_either (is_sub world (erase world one.own) (erase world other.own)) (is_sub world (erase world other.own) (erase world one.own))
     (laws.chain (type_of one.object) (erase world one.own) (erase world other.own) one.below below (erased_twice world one.own) (erased_twice world other.own))
 
 -- two inputs that are one object are listed, the lower one first
@@ -173,7 +169,7 @@ whole_fits p desc state laws whole start =
     let given = start.args ++ state.statics in
     let params : params_of p ≡ start.method.params = ap (λ o. option_map_or (λ m. m.params) o []) start.entry in
     let arguments : AllZip (Holds types heap) (map argument_slot (params_of p)) start.args = subst (λ ps. AllZip (Holds types heap) (map argument_slot ps) start.args) (sym params) start.arguments in
-    let held : AllZip (Holds types heap) (slots_of p) given = zip_append (Holds types heap) (map argument_slot (params_of p)) (statics_of p) start.args state.statics arguments start.statics in
+    let held : AllZip (Holds types heap) (slots_of p) given = zip_joined (Holds types heap) (map argument_slot (params_of p)) (statics_of p) start.args state.statics arguments start.statics in
     let opened = all_fitting (is_open p.world) (IsOpenAt p.world) (λ slot input e. e) 0 (slots_of p) desc.inputs whole.count whole.opened in
     record {
       method = start.method;

@@ -6,7 +6,8 @@ use Rattle.std.specs.List.{All, AllByRecursion, filter_map}
 use Rattle.std.specs.Option.{option_map, option_map_or, option_and_then, option_to_list, IsSomeAnd, MatchOption}
 use Rattle.std.proofs.lemmas.Bool.{false≢true, eqb-true, ltb-true}
 use Rattle.std.proofs.lemmas.Int.{ints}
-use Rattle.std.proofs.lemmas.List.Elements.{All-from_recursion}
+use Rattle.std.proofs.lemmas.List.Elements.{All-from_recursion, All-nil}
+use Rattle.list_views.proofs.Items.{get_before}
 use Rattle.lin_core.specs.Intervals.{Bounds, IsIn}
 use Rattle.jvm_values.specs.declared.heap.Value.{Value}
 use Rattle.jvm_values.specs.declared.heap.Value.TheVariants as values
@@ -29,12 +30,12 @@ use Rattle.abs_ints.specs.Cases.{AllTrueOf}
 use Rattle.abs_ints.specs.Comparing.{compared, FallsBetween, GoesBetween}
 use Rattle.abs_ints.specs.Falling.{FallsUnder, IsAnswered}
 use Rattle.abs_ints.specs.Operating.{operated}
-use Rattle.abs_ints.specs.IntIntervals.{all_ints, just, meet_of}
+use Rattle.abs_ints.specs.IntIntervals.{just, meet_of}
 use Rattle.abs_ints.specs.declared.cases.IntCase.{IntCase}
 use Rattle.abs_ints.specs.declared.cases.ShortRow.{ShortRow}
 use Rattle.abs_ints.specs.declared.cases.Way.{Way}
 use Rattle.abs_ints.specs.declared.cases.Way.TheVariants as ways
-use Rattle.abs_ints.proofs.AllCases.{AreInts, operated_covers}
+use Rattle.abs_ints.proofs.AllCases.{AreInts, operated_covers, is_int}
 use Rattle.abs_ints.proofs.Covering.{in_meet}
 use Rattle.abs_ints.proofs.Comparisons.{compared_covers}
 use Rattle.class_program.specs.declared.op.Op.{Op}
@@ -59,25 +60,12 @@ use Rattle.expand_laws.proofs.Keys.{Leads, key_target, parts_cover}
 use Rattle.abs_expand.specs.Building.{HoldsIds}
 use Rattle.abs_expand.specs.IntForms.{IsIntState}
 use Rattle.abs_expand.proofs.IntTurns.{local_held}
-use Rattle.jvm_run.proofs.Lists.{get_append}
 use Rattle.expand_laws.proofs.IntFits.{IsIntCell, put, put_here}
 use Rattle.expand_laws.proofs.TurnFits.{whole_frame}
 use Rattle.expand_laws.proofs.RowsHold.{rows_hold, rows_hold_without}
 use Rattle.expand_laws.proofs.Cases.{SomeOf, some_of, some_mapped, some_one, some_of_map, gives_result, HasResult, results, gives, NamesNone, rows_of_two}
 use Rattle.expand_laws.proofs.Machine.{gone, Runs, next_runs, jump_runs, return_ends, some_effect, constant_is, goto_is, iload_is, iload_none, sets_is, sets_none, istore_is, istore_none, iinc_is, iinc_none, ireturn_is, ireturn_none, shuffle_is, arith_is, arith_none, arith_one, ineg_is, ineg_none, narrow_is, narrow_none, if_is, if_none, if_icmp_is, if_icmp_none, if_icmp_one}
 use Rattle.expand_laws.proofs.IntSteps.{Fitting, Meets, IntAt, int_at, Numbered, operand_is, narrow_both, going_turn, narrowing_turn, pushing_turn, setting_turn, storing_turn}
-
-no_such_row : {X : Type 0} (P : X → Type 0) → All P []
-no_such_row P k d l = absurd (omega (arith, l))
-
--- a number of an interval of ints is an int
-int_inside : (a : Bounds) (n : ℤ) → AreInts a → IsIn n a → IsIn n all_ints
-int_inside a n f i =
-    let low = f.0 in
-    let high = f.1 in
-    let above = i.0 in
-    let below = i.1 in
-    (omega (arith, ints), omega (arith, ints))
 
 -- a reordering of values is that of the ids
 shuffled_values : (meaning : Meaning) (shuffle : StackShuffle) (ids : List ℕ) → shuffled shuffle (map meaning ids) ≡ option_map (map meaning) (shuffled shuffle ids)
@@ -155,7 +143,7 @@ module _ (p : Program) (typing : ℕ → CodeTypes) (state : AbstractState) (mac
 
   pub constant : (number : ℤ) → effect_of p m form Work_ ≡ on_frame Work_ (constant_effect (values.Int number) running) → Fit (pushes here (cells.Int (just number)) frame.stack)
   constant number is =
-      pushing_turn p state machine meaning ints_state fits bounded frame held running fit places onward [] onward frame.stack running.stack (just number) number no_rows tt held.stack fit.stack (omega (arith, ints), omega (arith, ints)) (λ fresh. no_such_row (HoldsBetween meaning (put meaning fresh (values.Int number))))
+      pushing_turn p state machine meaning ints_state fits bounded frame held running fit places onward [] onward frame.stack running.stack (just number) number no_rows tt held.stack fit.stack (omega (arith, ints), omega (arith, ints)) (λ fresh. All-nil (HoldsBetween meaning (put meaning fresh (values.Int number))))
       (goes_next _ (with_stack running (values.Int number ∷ running.stack)) is (constant_is (values.Int number) running))
 
   pub shuffle : (s : StackShuffle) → effect_of p m form Work_ ≡ on_frame Work_ (shuffle_effect s running) → SomeOf Fit (option_to_list (option_map (goes_on here onward) (shuffled s frame.stack)))
@@ -214,7 +202,7 @@ module _ (p : Program) (typing : ℕ → CodeTypes) (state : AbstractState) (mac
   led condition l r place stack effect is e ways.Zero g = absurd g
 
   wanted_rows : (with_rows : Bool) (left right : Operand) (rows : List ShortRow) (l r : ℤ) → NumberedHere left l → NumberedHere right r → NamesNone rows → AllTrueOf l r (pos 0) rows → (fresh : ℕ) → All (HoldsBetween meaning meaning) (rows_if with_rows (rows_over left right rows) fresh)
-  wanted_rows false left right rows l r nl nr none h fresh = no_such_row (HoldsBetween meaning meaning)
+  wanted_rows false left right rows l r nl nr none h fresh = All-nil (HoldsBetween meaning meaning)
   wanted_rows true left right rows l r nl nr none h fresh = rows_hold_without meaning meaning left right fresh rows l r (operand_is p state machine meaning ints_state fits bounded frame held running fit places onward left l nl) (operand_is p state machine meaning ints_state fits bounded frame held running fit places onward right r nr) (All-from_recursion (λ (row : ShortRow). row.result ≡ pos 0) rows none) h
 
   pub comparison : (condition : Cond) (left right : Operand) (l r : ℤ) (place : ℕ) (ids : List ℕ) (stack : List Value) (with_rows : Bool) (effect : Option (Effect MachineFrame)) → NumberedHere left l → NumberedHere right r → IsIn l (interval_at state left) → IsIn r (interval_at state right) → stack ≡ map meaning ids
@@ -244,13 +232,13 @@ module _ (p : Program) (typing : ℕ → CodeTypes) (state : AbstractState) (mac
         narrows ((x, cells.Int both) ∷ []) (stack_at here to ids) no_rows,
         (
           ap (option_map (λ (y : Bounds). narrows ((x, cells.Int y) ∷ []) (stack_at here to ids) no_rows)) e,
-          narrowing_turn p state machine meaning ints_state fits bounded frame held running fit places onward ((x, cells.Int both) ∷ []) to ids stack no_rows (record { interval = both; number = n; cell_is = refl; value_is = is; inside = i }, tt) s (λ fresh. no_such_row (HoldsBetween meaning meaning)) (g ∙ ap (λ (t : ℕ). Step.Going (gone machine t (record running { stack = stack }))) (sym l.leads)),
+          narrowing_turn p state machine meaning ints_state fits bounded frame held running fit places onward ((x, cells.Int both) ∷ []) to ids stack no_rows (record { interval = both; number = n; cell_is = refl; value_is = is; inside = i }, tt) s (λ fresh. All-nil (HoldsBetween meaning meaning)) (g ∙ ap (λ (t : ℕ). Step.Going (gone machine t (record running { stack = stack }))) (sym l.leads)),
         ),
       )
 
   pub switched : (default : ℕ) (keys : List (ℤ × ℕ)) (x : ℕ) (n : ℤ) (ids : List ℕ) (stack : List Value) → meaning x ≡ values.Int n → IsIn n (interval_of_id state x) → stack ≡ map meaning ids → step p machine ≡ Step.Going (gone machine (key_target default keys n) (record running { stack = stack })) → SomeOf Fit (filter_map (switch_turn here x ids) (parts_of default keys))
   switched default keys x n ids stack is inside s g =
-      some_mapped (Leads n (key_target default keys n)) Fit (switch_turn here x ids) (parts_of default keys) (λ part l. part_turn x n ids stack is inside s part (key_target default keys n) l g) (parts_cover default keys n (int_inside (interval_of_id state x) n (bounded x) inside))
+      some_mapped (Leads n (key_target default keys n)) Fit (switch_turn here x ids) (parts_of default keys) (λ part l. part_turn x n ids stack is inside s part (key_target default keys n) l g) (parts_cover default keys n (is_int (interval_of_id state x) n (bounded x) inside))
 
   -- ---- the operands of a form
 
@@ -309,7 +297,7 @@ module _ (p : Program) (typing : ℕ → CodeTypes) (state : AbstractState) (mac
     where
       at : (found : Option (Option Value)) → slice_get running.locals n ≡ found → found ≡ Some (Some (meaning x))
       at None f = absurd (some f)
-      at (Some local) f = sym (get_append running.locals (map Some machine.statics) n local f) ∙ fit.locals n x e
+      at (Some local) f = sym (get_before running.locals (map Some machine.statics) n local f) ∙ fit.locals n x e
 
   -- ---- forms
 
@@ -368,7 +356,7 @@ module _ (p : Program) (typing : ℕ → CodeTypes) (state : AbstractState) (mac
   -- a case of a narrowing: the int stays, or is some number of the kind
   kind_fits : (kind : Kind) (a : ℕ) (rest : List ℕ) (number : ℤ) → meaning a ≡ values.Int number → AllByRecursion Holds rest → step p machine ≡ Step.Going (gone machine onward (record running { stack = values.Int (narrowed kind number) ∷ map meaning rest })) → (found : Option Bounds) → MatchOption found (narrowed kind number ≡ number) (λ interval. IsIn (narrowed kind number) interval) → Fit (turn_narrowing (goes_on here onward (a ∷ rest)) (stack_at here onward rest) on_stack found)
   kind_fits kind a rest number e h s None same = going onward (a ∷ rest) (values.Int (narrowed kind number) ∷ map meaning rest) (ap (λ (n : ℤ). values.Int n ∷ map meaning rest) same ∙ ap (λ (v : Value). v ∷ map meaning rest) (sym e)) s
-  kind_fits kind a rest number e h s (Some interval) inside = pushing_turn p state machine meaning ints_state fits bounded frame held running fit places onward [] onward rest (map meaning rest) interval (narrowed kind number) no_rows tt h refl inside (λ fresh. no_such_row (HoldsBetween meaning (put meaning fresh (values.Int (narrowed kind number))))) s
+  kind_fits kind a rest number e h s (Some interval) inside = pushing_turn p state machine meaning ints_state fits bounded frame held running fit places onward [] onward rest (map meaning rest) interval (narrowed kind number) no_rows tt h refl inside (λ fresh. All-nil (HoldsBetween meaning (put meaning fresh (values.Int (narrowed kind number))))) s
 
   pub narrowing : (kind : Kind) → effect_of p m form Work_ ≡ on_frame Work_ (narrow_effect kind running) → Covered (narrow_plan here kind frame.stack)
   narrowing kind is =

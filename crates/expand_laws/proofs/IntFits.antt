@@ -2,6 +2,7 @@
 use Rattle.std.proofs.Common.{◌≡◌, ◌∙◌, ◌⊎◌, inl, inr, eqb, ◌==◌, ℕ, ℤ, Bool, true, false, if◌then◌else◌, List, [], ◌∷◌, map, Option, Some, None, refl, sym, ap, subst}
 use Rattle.std.specs.List.{AllByRecursion, AllZip}
 use Rattle.std.proofs.lemmas.Bool.{false≢true, eqb-true, eq-eqb}
+use Rattle.std.proofs.lemmas.Option.{none-some}
 use Rattle.lin_core.specs.Intervals.{Bounds, IsIn}
 use Rattle.jvm_values.specs.declared.heap.Value.{Value}
 use Rattle.jvm_values.specs.declared.heap.Value.TheVariants as values
@@ -9,7 +10,7 @@ use Rattle.jvm_values.specs.declared.shape.Shape.{Shape}
 use Rattle.jvm_values.specs.States.{MachineState}
 use Rattle.jvm_values.specs.Heaps.{target}
 use Rattle.jvm_values.specs.TypedHeaps.{WorldTypes}
-use Rattle.jvm_values.proofs.Options.{some_is, none_is_not_some}
+use Rattle.jvm_values.proofs.Options.{some_is}
 use Rattle.abs_cells.specs.declared.cells.Cell.{Cell}
 use Rattle.abs_cells.specs.declared.cells.Cell.TheVariants.{Int, Null, Obj, Nums, Refs, Unk}
 use Rattle.abs_cells.specs.AbstractStates.{AbstractState}
@@ -49,7 +50,7 @@ cells_of types state machine meaning ints fits id cell e =
     record { interval = int.0; number = described.0; cell_is = int.1; value_is = described.1.0; inside = described.1.1 }
 
 no_target : (meaning : Meaning) (id o : ℕ) (cell : Cell) → IsIntCell meaning id cell → target (meaning id) ≡ Some o → ⊥
-no_target meaning id o cell i e = none_is_not_some o (sym (ap target i.value_is) ∙ e)
+no_target meaning id o cell i e = none-some o (sym (ap target i.value_is) ∙ e)
 
 not_known : (meaning : Meaning) (id : ℕ) (cell : Cell) → IsIntCell meaning id cell → is_known cell ≡ true → ⊥
 not_known meaning id cell i e = false≢true (sym (ap is_known i.cell_is) ∙ e)
@@ -58,7 +59,7 @@ not_hazy : (meaning : Meaning) (id : ℕ) (cell : Cell) → IsIntCell meaning id
 not_hazy meaning id cell i e = false≢true (sym (ap is_hazy i.cell_is) ∙ e)
 
 no_shape : (meaning : Meaning) (id : ℕ) (cell : Cell) (shape : Shape) → IsIntCell meaning id cell → shape_of cell ≡ Some shape → ⊥
-no_shape meaning id cell shape i e = none_is_not_some shape (sym (ap shape_of i.cell_is) ∙ e)
+no_shape meaning id cell shape i e = none-some shape (sym (ap shape_of i.cell_is) ∙ e)
 
 -- a state with cells of ints alone fits where its positions, its mode and its cells do
 pub int_fits : (types : WorldTypes) (state : AbstractState) (machine : MachineState) (meaning : Meaning) → AllZip (FitsFrame meaning) state.frames (with_statics machine.statics machine.frames) → FitsMode meaning state.throwing machine.mode → AreIntCells state meaning → Fits types state machine meaning
@@ -81,7 +82,7 @@ first_is None b cell e = inr (refl, e)
 first_is (Some x) b cell e = inl e
 
 listed_int : (meaning : Meaning) (list : List (ℕ × Cell)) (id : ℕ) (cell : Cell) → AllByRecursion (λ c. IsIntCell meaning c.0 c.1) list → cell_in list id ≡ Some cell → IsIntCell meaning id cell
-listed_int meaning [] id cell a e = absurd (none_is_not_some cell e)
+listed_int meaning [] id cell a e = absurd (none-some cell e)
 listed_int meaning (c ∷ list) id cell a e = at (c.0 == id) refl e (λ g. listed_int meaning list id cell a.1 g)
   where
     at : (b : Bool) → eqb c.0 id ≡ b → (if b then Some c.1 else cell_in list id) ≡ Some cell → (cell_in list id ≡ Some cell → IsIntCell meaning id cell) → IsIntCell meaning id cell

@@ -4,6 +4,7 @@ use Rattle.std.specs.Prelude.{slice_set}
 use Rattle.std.specs.List.{All, AllByRecursion}
 use Rattle.std.specs.Option.{option_map, IsSomeAnd}
 use Rattle.std.proofs.lemmas.Bool.{eqb-true}
+use Rattle.std.proofs.lemmas.List.Elements.{All-nil}
 use Rattle.lin_core.specs.Intervals.{Bounds, IsIn}
 use Rattle.jvm_values.specs.declared.heap.Value.{Value}
 use Rattle.jvm_values.specs.declared.heap.Value.TheVariants as values
@@ -33,9 +34,6 @@ use Rattle.expand_laws.proofs.TurnFits.{FitsChild, whole_frame, moved, made, on_
 use Rattle.expand_laws.proofs.RowsHold.{OperandIs}
 use Rattle.expand_laws.proofs.Cases.{SomeOf}
 use Rattle.expand_laws.proofs.Machine.{gone}
-
-no_such_row : {X : Type 0} (P : X → Type 0) → All P []
-no_such_row P k d l = absurd (omega (arith, l))
 
 -- a step of the machine leads to a state that each child of the turn fits
 pub record Fitting (p : Program) (state : AbstractState) (machine : MachineState) (meaning : Meaning) (turn : Turn) : Type 0 where
@@ -136,7 +134,7 @@ module _ (p : Program) (state : AbstractState) (machine : MachineState) (meaning
   }
 
   pub going_turn : (place : ℕ) (ids : List ℕ) (stack : List Value) → stack ≡ map meaning ids → step p machine ≡ Step.Going (gone machine place (record running { stack = stack })) → Fit (goes_on here place ids)
-  going_turn place ids stack e s = narrowing_turn [] place ids stack no_rows tt e (λ fresh. no_such_row (HoldsBetween meaning meaning)) s
+  going_turn place ids stack e s = narrowing_turn [] place ids stack no_rows tt e (λ fresh. All-nil (HoldsBetween meaning meaning)) s
 
   -- a fresh int goes on the stack
   pub pushing_turn : (list : List (ℕ × Cell)) (place : ℕ) (ids : List ℕ) (stack : List Value) (interval : Bounds) (number : ℤ) (rows : ℕ → List LinkRow) → AreNarrowed list → AllByRecursion Holds ids → stack ≡ map meaning ids → IsIn number interval
@@ -169,5 +167,5 @@ module _ (p : Program) (state : AbstractState) (machine : MachineState) (meaning
     steps = s;
     child = λ child c. moved types state machine meaning ints_state fits (gone machine place (record running { locals = slice_set running.locals n (Some value); stack = stack })) refl (moves (frames_at here place (slice_set frame.locals n (Some x)) ids)) child c refl refl refl tt
         (stored meaning n x value (record { method = frame.method; pc = place; locals = frame.locals; stack = ids }) (record running { pc = place; stack = stack }) machine.statics l is (placed place ids stack e), tt)
-        (λ fresh. no_such_row (HoldsBetween meaning meaning));
+        (λ fresh. All-nil (HoldsBetween meaning meaning));
   }

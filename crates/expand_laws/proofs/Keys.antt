@@ -7,6 +7,7 @@ use Rattle.std.specs.Ordering.{int_eq}
 use Rattle.std.proofs.lemmas.Bool.{false≢true}
 use Rattle.std.proofs.lemmas.Bool.Decides.{Decides-int_eq}
 use Rattle.std.proofs.lemmas.Int.{ints}
+use Rattle.list_views.proofs.Orders.{int_eq_true}
 use Rattle.lin_core.specs.Intervals.{Bounds, IsIn}
 use Rattle.code_forms.specs.declared.insn.Case.{Case}
 use Rattle.abs_ints.specs.IntIntervals.{all_ints, just}
@@ -28,9 +29,6 @@ pub record Leads (n : ℤ) (to : ℕ) (part : Option Bounds × ℕ) : Type 0 whe
   pub inside : IsSomeAnd part.0 (λ b. IsIn n b)
   pub leads : part.1 ≡ to
 
-eq_is : (a b : ℤ) → int_eq a b ≡ true → a ≡ b
-eq_is a b e = (Decides-int_eq a b).0 e
-
 is_apart : (a b : ℤ) → int_eq a b ≡ false → a ≡ b → ⊥
 is_apart a b e f = false≢true (sym e ∙ (Decides-int_eq a b).1 f)
 
@@ -39,7 +37,7 @@ by_key default [] low n e = absurd (false≢true e)
 by_key default (key ∷ keys) low n e = at (int_eq key.0 n) refl e (λ g. by_key default keys (key.0 +ℤ pos 1) n g)
   where
     at : (b : Bool) → int_eq key.0 n ≡ b → (b || is_key n keys) ≡ true → (is_key n keys ≡ true → SomeOf (Leads n (key_target default keys n)) (parts_from (key.0 +ℤ pos 1) default keys)) → SomeOf (Leads n (if b then key.1 else key_target default keys n)) (parts_from low default (key ∷ keys))
-    at true f g rest = inr (inl (record { inside = subst (λ (x : ℤ). IsIn x (just key.0)) (eq_is key.0 n f) (omega (arith, ints), omega (arith, ints)); leads = refl }))
+    at true f g rest = inr (inl (record { inside = subst (λ (x : ℤ). IsIn x (just key.0)) (int_eq_true key.0 n f) (omega (arith, ints), omega (arith, ints)); leads = refl }))
     at false f g rest = inr (inr (rest g))
 
 order : (a b : ℤ) → (a ≡ b → ⊥) → (a <ℤ b) ⊎ (b <ℤ a)
@@ -100,6 +98,6 @@ table_target default low (to ∷ targets) n = at (int_eq low n) refl (table_targ
   where
     at : (b : Bool) → int_eq low n ≡ b → key_target default (table_keys (low +ℤ pos 1) targets) n ≡ target_at default targets (n -ℤ (low +ℤ pos 1)) → (if b then to else key_target default (table_keys (low +ℤ pos 1) targets) n) ≡ target_at default (to ∷ targets) (n -ℤ low)
     at true e rest =
-        let zero_ : pos 0 ≡ n -ℤ low = omega (arith, ints, eq_is low n e) in
+        let zero_ : pos 0 ≡ n -ℤ low = omega (arith, ints, int_eq_true low n e) in
         ap (target_at default (to ∷ targets)) zero_
     at false e rest = rest ∙ next_target default to targets (n -ℤ low) (n -ℤ (low +ℤ pos 1)) (omega (arith, ints)) (λ (z : n -ℤ low ≡ pos 0). is_apart low n e (omega (arith, ints, z)))

@@ -6,6 +6,9 @@ use Rattle.std.specs.Option.{option_map_or}
 use Rattle.std.proofs.lemmas.Bool.{false≢true}
 use Rattle.std.proofs.lemmas.Int.{ints}
 use Rattle.std.proofs.lemmas.List.Elements.{recursion_from_All}
+use Rattle.std.proofs.lemmas.Option.{none-some}
+use Rattle.list_views.proofs.Quantified.{all_at}
+use Rattle.list_views.proofs.Options.{then_some}
 use Rattle.list_views.specs.Options.{asked}
 use Rattle.jvm_values.specs.declared.state.Mode.{Mode}
 use Rattle.jvm_values.specs.declared.state.Mode.TheVariants.{Normal, Throwing}
@@ -15,7 +18,7 @@ use Rattle.jvm_values.specs.declared.types.Kind.TheVariants as kinds
 use Rattle.jvm_values.specs.Kinds.{IsOfKind}
 use Rattle.jvm_values.specs.States.{MachineFrame, MachineState, PlaceTypes}
 use Rattle.jvm_values.specs.TypedHeaps.{WorldTypes}
-use Rattle.jvm_values.proofs.Options.{given, some_is, none_is_not_some}
+use Rattle.jvm_values.proofs.Options.{some_is}
 use Rattle.abs_cells.specs.declared.cells.Cell.{Cell}
 use Rattle.abs_cells.specs.declared.cells.Cell.TheVariants as cells
 use Rattle.abs_cells.specs.AbstractStates.{AbstractFrame, AbstractState}
@@ -33,7 +36,7 @@ use Rattle.code_verify.specs.Operands.{is_int}
 use Rattle.code_verify.specs.Rows.{types_after, iload_types, iinc_types}
 use Rattle.jvm_step.specs.Running.{step, IsEnd}
 use Rattle.jvm_run.specs.Laws.{GoesTyped, HasInts, StepsAreTyped}
-use Rattle.jvm_run.proofs.Lists.{zip_get, all_get}
+use Rattle.jvm_run.proofs.Lists.{zip_get}
 use Rattle.jvm_run.proofs.Placed.{Placed, placed, at_has_all, asked_is}
 use Rattle.jvm_run.proofs.Stepping.{insn_there}
 use Rattle.term_graph.specs.Graphs.{GraphChild}
@@ -60,13 +63,13 @@ IsShortForm form = IfSome (increment_of form) (IsOfKind kinds.Int)
 -- ---- lists
 
 front_get : {A : Type 0} (count : ℕ) (xs : List A) (n : ℕ) (x : A) → slice_get (take count xs) n ≡ Some x → slice_get xs n ≡ Some x
-front_get zero xs n x e = absurd (none_is_not_some x e)
-front_get (suc count) [] n x e = absurd (none_is_not_some x e)
+front_get zero xs n x e = absurd (none-some x e)
+front_get (suc count) [] n x e = absurd (none-some x e)
 front_get (suc count) (y ∷ xs) zero x e = e
 front_get (suc count) (y ∷ xs) (suc n) x e = front_get count xs n x e
 
 sound_at : (types : WorldTypes) (state : AbstractState) (list : List (ℕ × Cell)) (id : ℕ) (cell : Cell) → AllByRecursion (λ c. IsSoundCell types state c.1) list → cell_in list id ≡ Some cell → IsSoundCell types state cell
-sound_at types state [] id cell h e = absurd (none_is_not_some cell e)
+sound_at types state [] id cell h e = absurd (none-some cell e)
 sound_at types state (c ∷ list) id cell h e = at (c.0 == id) e (λ f. sound_at types state list id cell h.1 f)
   where
     at : (b : Bool) → (if b then Some c.1 else cell_in list id) ≡ Some cell → (cell_in list id ≡ Some cell → IsSoundCell types state cell) → IsSoundCell types state cell
@@ -104,7 +107,7 @@ one_of (x ∷ y ∷ xs) e = absurd (omega (arith, e))
 is_normal : (meaning : Meaning) (thrown : Option ℕ) (mode : Mode) → thrown ≡ None → FitsMode meaning thrown mode → mode ≡ Normal
 is_normal meaning None Normal e h = refl
 is_normal meaning None (Throwing r) e h = absurd h
-is_normal meaning (Some id) mode e h = absurd (none_is_not_some id (sym e))
+is_normal meaning (Some id) mode e h = absurd (none-some id (sym e))
 
 -- ---- a local that is read is an int
 
@@ -116,61 +119,61 @@ record IntPlace (there : PlaceTypes) (n : ℕ) : Type 0 where
 loads_int : (n : ℕ) (there after : PlaceTypes) → iload_types n there ≡ Some after → IntPlace there n
 unfolding iload_types
 loads_int n there after e =
-    let place = given _ (slice_get there.locals n) after e in
-    let fit = given _ (asked (is_int place.0)) after place.1.1 in
+    let place = then_some _ (slice_get there.locals n) after e in
+    let fit = then_some _ (asked (is_int place.0)) after place.1.1 in
     record { place = place.0; is = place.1.0; int = asked_is (is_int place.0) fit.0 fit.1.0 }
 
 increments_int : (n : ℕ) (there after : PlaceTypes) → iinc_types n there ≡ Some after → IntPlace there n
 unfolding iinc_types
 increments_int n there after e =
-    let place = given _ (slice_get there.locals n) after e in
-    let fit = given _ (asked (is_int place.0)) after place.1.1 in
+    let place = then_some _ (slice_get there.locals n) after e in
+    let fit = then_some _ (asked (is_int place.0)) after place.1.1 in
     record { place = place.0; is = place.1.0; int = asked_is (is_int place.0) fit.0 fit.1.0 }
 
 read_int : (p : Program) (m : Method) (form : Form) (there after : PlaceTypes) (n : ℕ) → types_after p m form there ≡ Some after → local_read form ≡ Some n → IntPlace there n
-read_int p m Form.Nop there after n e r = absurd (none_is_not_some n r)
-read_int p m Form.AconstNull there after n e r = absurd (none_is_not_some n r)
-read_int p m (Form.Iconst k) there after n e r = absurd (none_is_not_some n r)
+read_int p m Form.Nop there after n e r = absurd (none-some n r)
+read_int p m Form.AconstNull there after n e r = absurd (none-some n r)
+read_int p m (Form.Iconst k) there after n e r = absurd (none-some n r)
 read_int p m (Form.Iload k) there after n e r = subst (IntPlace there) (some_is r) (loads_int k there after e)
-read_int p m (Form.Aload k) there after n e r = absurd (none_is_not_some n r)
-read_int p m (Form.Istore k) there after n e r = absurd (none_is_not_some n r)
-read_int p m (Form.Astore k) there after n e r = absurd (none_is_not_some n r)
+read_int p m (Form.Aload k) there after n e r = absurd (none-some n r)
+read_int p m (Form.Istore k) there after n e r = absurd (none-some n r)
+read_int p m (Form.Astore k) there after n e r = absurd (none-some n r)
 read_int p m (Form.Iinc k by) there after n e r = subst (IntPlace there) (some_is r) (increments_int k there after e)
-read_int p m (Form.Shuffle shuffle) there after n e r = absurd (none_is_not_some n r)
-read_int p m (Form.Arith op) there after n e r = absurd (none_is_not_some n r)
-read_int p m Form.Ineg there after n e r = absurd (none_is_not_some n r)
-read_int p m (Form.Narrow kind) there after n e r = absurd (none_is_not_some n r)
-read_int p m (Form.If cond place) there after n e r = absurd (none_is_not_some n r)
-read_int p m (Form.IfIcmp cond place) there after n e r = absurd (none_is_not_some n r)
-read_int p m (Form.IfAcmpeq place) there after n e r = absurd (none_is_not_some n r)
-read_int p m (Form.IfAcmpne place) there after n e r = absurd (none_is_not_some n r)
-read_int p m (Form.Ifnull place) there after n e r = absurd (none_is_not_some n r)
-read_int p m (Form.Ifnonnull place) there after n e r = absurd (none_is_not_some n r)
-read_int p m (Form.Goto place) there after n e r = absurd (none_is_not_some n r)
-read_int p m (Form.Tableswitch default low targets) there after n e r = absurd (none_is_not_some n r)
-read_int p m (Form.Lookupswitch default cases) there after n e r = absurd (none_is_not_some n r)
-read_int p m Form.Ireturn there after n e r = absurd (none_is_not_some n r)
-read_int p m Form.Areturn there after n e r = absurd (none_is_not_some n r)
-read_int p m Form.Return there after n e r = absurd (none_is_not_some n r)
-read_int p m (Form.Getstatic place) there after n e r = absurd (none_is_not_some n r)
-read_int p m (Form.Putstatic place) there after n e r = absurd (none_is_not_some n r)
-read_int p m (Form.Getfield used) there after n e r = absurd (none_is_not_some n r)
-read_int p m (Form.Putfield used) there after n e r = absurd (none_is_not_some n r)
-read_int p m (Form.Invokevirtual call) there after n e r = absurd (none_is_not_some n r)
-read_int p m (Form.Invokespecial call) there after n e r = absurd (none_is_not_some n r)
-read_int p m (Form.Invokestatic call) there after n e r = absurd (none_is_not_some n r)
-read_int p m (Form.Invokeinterface call) there after n e r = absurd (none_is_not_some n r)
-read_int p m (Form.New t) there after n e r = absurd (none_is_not_some n r)
-read_int p m (Form.Newarray kind) there after n e r = absurd (none_is_not_some n r)
-read_int p m (Form.Anewarray t) there after n e r = absurd (none_is_not_some n r)
-read_int p m Form.Arraylength there after n e r = absurd (none_is_not_some n r)
-read_int p m (Form.NumberLoad for) there after n e r = absurd (none_is_not_some n r)
-read_int p m Form.Aaload there after n e r = absurd (none_is_not_some n r)
-read_int p m (Form.NumberStore for) there after n e r = absurd (none_is_not_some n r)
-read_int p m Form.Aastore there after n e r = absurd (none_is_not_some n r)
-read_int p m Form.Athrow there after n e r = absurd (none_is_not_some n r)
-read_int p m (Form.Checkcast t) there after n e r = absurd (none_is_not_some n r)
-read_int p m (Form.Instanceof t) there after n e r = absurd (none_is_not_some n r)
+read_int p m (Form.Shuffle shuffle) there after n e r = absurd (none-some n r)
+read_int p m (Form.Arith op) there after n e r = absurd (none-some n r)
+read_int p m Form.Ineg there after n e r = absurd (none-some n r)
+read_int p m (Form.Narrow kind) there after n e r = absurd (none-some n r)
+read_int p m (Form.If cond place) there after n e r = absurd (none-some n r)
+read_int p m (Form.IfIcmp cond place) there after n e r = absurd (none-some n r)
+read_int p m (Form.IfAcmpeq place) there after n e r = absurd (none-some n r)
+read_int p m (Form.IfAcmpne place) there after n e r = absurd (none-some n r)
+read_int p m (Form.Ifnull place) there after n e r = absurd (none-some n r)
+read_int p m (Form.Ifnonnull place) there after n e r = absurd (none-some n r)
+read_int p m (Form.Goto place) there after n e r = absurd (none-some n r)
+read_int p m (Form.Tableswitch default low targets) there after n e r = absurd (none-some n r)
+read_int p m (Form.Lookupswitch default cases) there after n e r = absurd (none-some n r)
+read_int p m Form.Ireturn there after n e r = absurd (none-some n r)
+read_int p m Form.Areturn there after n e r = absurd (none-some n r)
+read_int p m Form.Return there after n e r = absurd (none-some n r)
+read_int p m (Form.Getstatic place) there after n e r = absurd (none-some n r)
+read_int p m (Form.Putstatic place) there after n e r = absurd (none-some n r)
+read_int p m (Form.Getfield used) there after n e r = absurd (none-some n r)
+read_int p m (Form.Putfield used) there after n e r = absurd (none-some n r)
+read_int p m (Form.Invokevirtual call) there after n e r = absurd (none-some n r)
+read_int p m (Form.Invokespecial call) there after n e r = absurd (none-some n r)
+read_int p m (Form.Invokestatic call) there after n e r = absurd (none-some n r)
+read_int p m (Form.Invokeinterface call) there after n e r = absurd (none-some n r)
+read_int p m (Form.New t) there after n e r = absurd (none-some n r)
+read_int p m (Form.Newarray kind) there after n e r = absurd (none-some n r)
+read_int p m (Form.Anewarray t) there after n e r = absurd (none-some n r)
+read_int p m Form.Arraylength there after n e r = absurd (none-some n r)
+read_int p m (Form.NumberLoad for) there after n e r = absurd (none-some n r)
+read_int p m Form.Aaload there after n e r = absurd (none-some n r)
+read_int p m (Form.NumberStore for) there after n e r = absurd (none-some n r)
+read_int p m Form.Aastore there after n e r = absurd (none-some n r)
+read_int p m Form.Athrow there after n e r = absurd (none-some n r)
+read_int p m (Form.Checkcast t) there after n e r = absurd (none-some n r)
+read_int p m (Form.Instanceof t) there after n e r = absurd (none-some n r)
 
 given_id : (state : AbstractState) (place : PlaceType) (local : Option ℕ) → is_int place ≡ true → IsOfPlace state place local → (x : ℕ) × (local ≡ Some x)
 given_id state place (Some x) i h = (x, refl)
@@ -245,7 +248,7 @@ module _ (typed_steps : StepsAreTyped) (p : Program) (typing : ℕ → CodeTypes
         is_form = at.form_is;
       } in
       let int_form = form_int at.op at.form (op_int p frame.method frame.pc at.op at.next forms insn) at.form_is in
-      let added : IfSome (form_of at.op) IsShortForm = at_has_all (λ (op : Op). IfSome (form_of op) IsShortForm) m.insns frame.pc (at.op, at.next) (all_get (λ (x : Method). All (λ (y : ℕ × Op). IfSome (form_of y.1) IsShortForm) x.insns) p.methods frame.method m increments running.placed.is_method) at.insn_is in
+      let added : IfSome (form_of at.op) IsShortForm = at_has_all (λ (op : Op). IfSome (form_of op) IsShortForm) m.insns frame.pc (at.op, at.next) (all_at (λ (x : Method). All (λ (y : ℕ × Op). IfSome (form_of y.1) IsShortForm) x.insns) p.methods frame.method m increments running.placed.is_method) at.insn_is in
       let here : Here = record { program = p; state = state; frame = frame; below = []; places = running.there.stack; next = option_map_or (λ (place : ℕ). place) at.next frame.pc } in
       let plan : Plan = row_of here at.form in
       record {

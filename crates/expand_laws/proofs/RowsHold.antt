@@ -5,6 +5,7 @@ use Rattle.std.specs.Ordering.{int_eq}
 use Rattle.std.proofs.lemmas.Int.{ints}
 use Rattle.std.proofs.lemmas.Bool.Decides.{Decides-int_eq}
 use Rattle.std.proofs.lemmas.List.Elements.{All-map}
+use Rattle.list_views.proofs.Orders.{zero_times, plus_zero, zero_plus}
 use Rattle.lin_core.specs.Rows.{IsOfKind}
 use Rattle.abs_cells.specs.Fits.{Meaning}
 use Rattle.abs_ints.specs.Cases.{value_of, IsTrueOf, AllTrueOf}
@@ -19,15 +20,6 @@ abbrev pub OperandIs : Meaning → Operand → ℤ → Type 0
 OperandIs meaning (known k) n = k ≡ n
 OperandIs meaning (id x) n = number_of (meaning x) ≡ n
 
-add_none : (x : ℤ) → x +ℤ pos 0 ≡ x
-add_none x = omega (arith, ints)
-
-none_add : (x : ℤ) → pos 0 +ℤ x ≡ x
-none_add x = omega (arith, ints)
-
-none_times : (x : ℤ) → pos 0 *ℤ x ≡ pos 0
-none_times x = omega (arith, ints)
-
 beside : (x y z : ℤ) → x +ℤ (y +ℤ z) ≡ (x +ℤ y) +ℤ z
 beside x y z = omega (arith, ints)
 
@@ -35,19 +27,19 @@ term_value : (before after : Meaning) (side : Side) (x : ℕ) (times : ℤ) → 
 term_value before after side x times = at (int_eq times (pos 0)) refl
   where
     at : (b : Bool) → int_eq times (pos 0) ≡ b → value_of_terms before after (if b then [] else (side, x, times) ∷ []) ≡ times *ℤ number_of (map_of before after side x)
-    at true e = sym (ap (λ (t : ℤ). t *ℤ number_of (map_of before after side x)) ((Decides-int_eq times (pos 0)).0 e) ∙ none_times (number_of (map_of before after side x)))
-    at false e = add_none (times *ℤ number_of (map_of before after side x))
+    at true e = sym (ap (λ (t : ℤ). t *ℤ number_of (map_of before after side x)) ((Decides-int_eq times (pos 0)).0 e) ∙ zero_times (number_of (map_of before after side x)))
+    at false e = plus_zero (times *ℤ number_of (map_of before after side x))
 
 terms_both : (before after : Meaning) (xs ys : List (Side × ℕ × ℤ)) → value_of_terms before after (xs ++ ys) ≡ value_of_terms before after xs +ℤ value_of_terms before after ys
-terms_both before after [] ys = sym (none_add (value_of_terms before after ys))
+terms_both before after [] ys = sym (zero_plus (value_of_terms before after ys))
 terms_both before after (x ∷ xs) ys =
     ap (λ (v : ℤ). x.2 *ℤ number_of (map_of before after x.0 x.1) +ℤ v) (terms_both before after xs ys)
     ∙ beside (x.2 *ℤ number_of (map_of before after x.0 x.1)) (value_of_terms before after xs) (value_of_terms before after ys)
 
 operand_value : (before after : Meaning) (operand : Operand) (times n : ℤ) → OperandIs before operand n → value_of_terms before after (terms_of operand times) +ℤ constant_of operand times ≡ times *ℤ n
-operand_value before after (known k) times n e = none_add (times *ℤ k) ∙ ap (λ (m : ℤ). times *ℤ m) e
+operand_value before after (known k) times n e = zero_plus (times *ℤ k) ∙ ap (λ (m : ℤ). times *ℤ m) e
 operand_value before after (id x) times n e =
-    ap (λ (v : ℤ). v +ℤ pos 0) (term_value before after Before x times) ∙ add_none (times *ℤ number_of (before x)) ∙ ap (λ (m : ℤ). times *ℤ m) e
+    ap (λ (v : ℤ). v +ℤ pos 0) (term_value before after Before x times) ∙ plus_zero (times *ℤ number_of (before x)) ∙ ap (λ (m : ℤ). times *ℤ m) e
 
 sums : (left right result lk rk constant l r v : ℤ) → left +ℤ lk ≡ l → right +ℤ rk ≡ r → result ≡ v → l +ℤ r +ℤ v +ℤ constant ≡ (left +ℤ (right +ℤ result)) +ℤ (constant +ℤ (lk +ℤ rk))
 sums left right result lk rk constant l r v a b c = omega (arith, ints, a, b, c)
@@ -75,5 +67,5 @@ pub rows_hold_without : (before after : Meaning) (left right : Operand) (fresh :
 rows_hold_without before after left right fresh rows l r a b none h =
     All-map (HoldsBetween before after) (row_over left right fresh) rows (λ k d low.
     let row = slice_index_or rows k d in
-    let zero_of : (n : ℤ) → row.result *ℤ n ≡ pos 0 = λ n. ap (λ (t : ℤ). t *ℤ n) (none k d low) ∙ none_times n in
+    let zero_of : (n : ℤ) → row.result *ℤ n ≡ pos 0 = λ n. ap (λ (t : ℤ). t *ℤ n) (none k d low) ∙ zero_times n in
     row_holds before after left right fresh row l r (pos 0) a b (zero_of (number_of (after fresh)) ∙ sym (zero_of (pos 0))) (h k d low))

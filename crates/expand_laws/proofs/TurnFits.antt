@@ -4,13 +4,14 @@ use Rattle.std.specs.Prelude.{slice_set}
 use Rattle.std.specs.List.{All, AllByRecursion, AllZip}
 use Rattle.std.proofs.lemmas.Bool.{false≢true, eqb-true, false_from_ne_true}
 use Rattle.std.proofs.lemmas.List.Elements.{recursion_from_All}
+use Rattle.std.proofs.lemmas.Option.{none-some}
 use Rattle.lin_core.specs.Intervals.{Bounds, IsIn}
 use Rattle.jvm_values.specs.declared.heap.Value.{Value}
 use Rattle.jvm_values.specs.declared.heap.Value.TheVariants as values
 use Rattle.jvm_values.specs.declared.state.Mode.TheVariants.{Normal}
 use Rattle.jvm_values.specs.States.{MachineFrame, MachineState}
 use Rattle.jvm_values.specs.TypedHeaps.{WorldTypes}
-use Rattle.jvm_values.proofs.Options.{some_is, none_is_not_some}
+use Rattle.jvm_values.proofs.Options.{some_is}
 use Rattle.abs_cells.specs.declared.cells.Cell.{Cell}
 use Rattle.abs_cells.specs.declared.cells.Cell.TheVariants.{Int}
 use Rattle.abs_cells.specs.AbstractStates.{AbstractFrame, AbstractState}
@@ -39,8 +40,8 @@ abbrev pub AreApart : AbstractState → ℕ → Type 0
 AreApart state fresh = (x : ℕ) → HasCell (λ _. true) state x → eqb fresh x ≡ false
 
 there_first : (a b : Option Cell) (cell : Cell) → b ≡ Some cell → first_cell a b ≡ None → ⊥
-there_first None b cell e f = none_is_not_some cell (sym f ∙ e)
-there_first (Some x) b cell e f = none_is_not_some x (sym f)
+there_first None b cell e f = none-some cell (sym f ∙ e)
+there_first (Some x) b cell e f = none-some x (sym f)
 
 -- an id without a cell after narrowing is fresh
 pub fresh_apart : (state changed : AbstractState) (list : List (ℕ × Cell)) (id : ℕ) → ((x : ℕ) → cell_at changed x ≡ with_cells list state x) → cell_at changed id ≡ None → AreApart state id
@@ -134,7 +135,7 @@ on_top state meaning fresh value frame running statics held apart fit = record {
 }
 
 set_local : (locals : List (Option ℕ)) (mine others : List (Option Value)) (n fresh : ℕ) (value : Value) (m : Meaning) → n < length mine → m fresh ≡ value → ((k x : ℕ) → slice_get locals k ≡ Some (Some x) → slice_get (mine ++ others) k ≡ Some (Some (m x))) → (k x : ℕ) → slice_get (slice_set locals n (Some fresh)) k ≡ Some (Some x) → slice_get (slice_set mine n (Some value) ++ others) k ≡ Some (Some (m x))
-set_local [] mine others n fresh value m l is h k x e = absurd (none_is_not_some (Some x) e)
+set_local [] mine others n fresh value m l is h k x e = absurd (none-some (Some x) e)
 set_local (a ∷ locals) [] others n fresh value m l is h k x e = absurd (omega (arith, l))
 set_local (a ∷ locals) (b ∷ mine) others zero fresh value m l is h zero x e = ap (λ (v : Value). Some (Some v)) (sym is ∙ ap m (some_is (some_is e)))
 set_local (a ∷ locals) (b ∷ mine) others zero fresh value m l is h (suc k) x e = h (suc k) x e

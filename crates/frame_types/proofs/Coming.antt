@@ -10,9 +10,6 @@ use Rattle.frame_types.specs.Growth.{IsMerged, IsApart, IsComing}
 use Rattle.frame_types.specs.GrowthLaws.{frame_refl}
 use Rattle.jvm_values.proofs.Options.{some_is}
 
-pub not_there : (frame : PlaceTypes) → None ≡ Some frame → ⊥
-not_there frame e = cc
-
 module _ (types : WorldTypes) (laws : AreLawful types) (max_locals : ℕ) where
   pub first : (before : Option PlaceTypes) (more new : PlaceTypes) → before ≡ None → new ≡ more → IsProper types max_locals more → IsMerged types max_locals before more new
   first before more new n e p = subst (IsMerged types max_locals before more) (sym e) (record {

@@ -5,6 +5,7 @@ use Rattle.std.specs.Option.{option_map, option_and_then}
 use Rattle.std.proofs.lemmas.List.{length-set, get_or-set_other, get_or-set_same}
 use Rattle.std.proofs.lemmas.List.Elements.{length_all_zip}
 use Rattle.std.proofs.lemmas.Option.{slice_get-get_or}
+use Rattle.std.proofs.lemmas.Bool.{cases_eq}
 use Rattle.jvm_values.specs.declared.typing.FrameType.{FrameType}
 use Rattle.jvm_values.specs.States.{PlaceTypes, types_of}
 use Rattle.jvm_values.specs.TypedHeaps.{WorldTypes, AreLawful}
@@ -13,7 +14,7 @@ use Rattle.frame_types.specs.Places.{IsWithin, IsFrameWithin, IsProper, IsFrame}
 use Rattle.frame_types.specs.Tables.{CodeTypes, Takes, IsAtMost, types_at}
 use Rattle.frame_types.specs.Growth.{IsMerged, IsApart, IsTable, AreFrames, is_led_to, IsGrown, AreRefused, IsRoomier, waits}
 use Rattle.frame_types.specs.GrowthLaws.{frame_refl, all_one, one_of}
-use Rattle.jvm_values.proofs.Lists.{get_set_other, same_or_not}
+use Rattle.jvm_values.proofs.Lists.{get_set_other}
 use Rattle.jvm_values.proofs.Options.{some_is}
 use Rattle.frame_types.proofs.Lists.{get_set_same}
 
@@ -42,19 +43,19 @@ module _ (types : WorldTypes) (laws : AreLawful types) where
     is_frame g e = some_is (sym e ∙ at_to)
 
     pub frames_after : (place : ℕ) (g : PlaceTypes) → types_at new.types place ≡ Some g → IsFrame types old.max_locals old.max_stack g
-    frames_after place g e = elim (same_or_not place to) [
+    frames_after place g e = elim (cases_eq place to) [
       | inl h ↦ subst (IsFrame types old.max_locals old.max_stack) (sym (is_frame g (ap (types_at new.types) (sym h) ∙ e))) merged_frame
       | inr h ↦ t.frames place g (sym (others place h) ∙ e)
     ]
 
     pub kept_after : IsAtMost types (types_at old.types) (types_at new.types)
-    kept_after place g e = elim (same_or_not place to) [
+    kept_after place g e = elim (cases_eq place to) [
       | inl h ↦ record { there = frame; is_there = ap (types_at new.types) h ∙ at_to; wide = m.left g (ap (types_at old.types) (sym h) ∙ e) }
       | inr h ↦ record { there = g; is_there = others place h ∙ e; wide = frame_refl types laws old.max_locals g (t.frames place g e).proper }
     ]
 
     pub least_after : (other : CodeTypes) → AreFrames types old other → IsAtMost types (types_at old.types) other → All (Takes types other) (record { to = to; frame = more } ∷ []) → IsAtMost types (types_at new.types) other
-    least_after other frames below all place g e = elim (same_or_not place to) [
+    least_after other frames below all place g e = elim (cases_eq place to) [
       | inl h ↦
           let k = one_of (Takes types other) (record { to = to; frame = more }) all in
           record {
@@ -72,7 +73,7 @@ module _ (types : WorldTypes) (laws : AreLawful types) where
     led place h = ap (λ (b : Bool). b || false) (eq-eqb place to h)
 
     pub places_after : (place : ℕ) (g : PlaceTypes) → types_at new.types place ≡ Some g → ((before : PlaceTypes) × (types_at old.types place ≡ Some before)) ⊎ IsTrue (is_led_to (record { to = to; frame = more } ∷ []) place)
-    places_after place g e = elim (same_or_not place to) [
+    places_after place g e = elim (cases_eq place to) [
       | inl h ↦ inr (led place h)
       | inr h ↦ inl (g, sym (others place h) ∙ e)
     ]
@@ -145,7 +146,7 @@ module _ (types : WorldTypes) (laws : AreLawful types) where
           done = λ place k. marks place ∙ t.done place (omega (arith, low, r.low));
           frames = frames;
         })
-        (λ place. elim (same_or_not place to) [
+        (λ place. elim (cases_eq place to) [
           | inl h ↦ inl (ap (types_at new.types) h ∙ at_to ∙ sym is ∙ e ∙ was ∙ ap (types_at old.types) (sym h))
           | inr h ↦ inl (at_other place h)
         ])
@@ -164,15 +165,15 @@ module _ (types : WorldTypes) (laws : AreLawful types) where
           done = λ place k. marks place (λ e. absurd (omega (arith, low, k, e))) ∙ t.done place (omega (arith, low, r.low, k));
           frames = frames;
         })
-        (λ place. elim (same_or_not place to) [
+        (λ place. elim (cases_eq place to) [
           | inl h ↦ inr (ap (waits new.waiting) h ∙ marked)
           | inr h ↦ inl (at_other place h)
         ])
-        (λ place h. elim (same_or_not place to) [
+        (λ place h. elim (cases_eq place to) [
           | inl e ↦ ap (waits new.waiting) e ∙ marked
           | inr e ↦ marks place e ∙ h
         ])
-        (λ place h. elim (same_or_not place to) [
+        (λ place h. elim (cases_eq place to) [
           | inl e ↦ inr (λ s. other (is ∙ sym at_to ∙ ap (types_at new.types) (sym e) ∙ s ∙ ap (types_at old.types) e ∙ sym was))
           | inr e ↦ inl (sym (marks place e) ∙ h)
         ])

@@ -5,11 +5,12 @@ use Rattle.std.specs.List.{AllZip, list_any}
 use Rattle.std.proofs.lemmas.List.{get_or_append_left, get_or-append-add}
 use Rattle.std.proofs.lemmas.List.Elements.{All-append}
 use Rattle.std.proofs.lemmas.List.Folds.{list_any-append}
+use Rattle.std.proofs.lemmas.Option.{none-some}
 use Rattle.jvm_values.specs.declared.typing.PlaceType.{PlaceType}
 use Rattle.jvm_values.specs.declared.typing.PlaceType.TheVariants as places
 use Rattle.jvm_values.specs.States.{PlaceTypes}
 use Rattle.jvm_values.specs.TypedHeaps.{WorldTypes, AreLawful}
-use Rattle.jvm_values.proofs.Options.{some_is, none_is_not_some}
+use Rattle.jvm_values.proofs.Options.{some_is}
 use Rattle.frame_types.specs.declared.table.Table.{Table}
 use Rattle.frame_types.specs.Places.{IsWithin, IsFrameWithin, IsOfWorld, IsProper, IsFrame}
 use Rattle.frame_types.specs.Tables.{CodeTypes, Flow, Takes, IsAtMost, types_at}
@@ -145,8 +146,8 @@ module _ (types : WorldTypes) (laws : AreLawful types) where
   -- what has grown does not come back
   pub grown_on : (a b c : CodeTypes) → IsAtMost types a b → IsAtMost types b c → (place : ℕ) → (x y : Option PlaceTypes) → a place ≡ x → b place ≡ y → c place ≡ x → y ≡ x
   grown_on a b c p q place None None e f g = refl
-  grown_on a b c p q place (Some before) None e f g = let t = p place before e in absurd (none_is_not_some t.there (sym f ∙ t.is_there))
-  grown_on a b c p q place None (Some frame) e f g = let t = q place frame f in absurd (none_is_not_some t.there (sym g ∙ t.is_there))
+  grown_on a b c p q place (Some before) None e f g = let t = p place before e in absurd (none-some t.there (sym f ∙ t.is_there))
+  grown_on a b c p q place None (Some frame) e f g = let t = q place frame f in absurd (none-some t.there (sym g ∙ t.is_there))
   grown_on a b c p q place (Some before) (Some frame) e f g =
       let t = p place before e in
       let u = q place frame f in

@@ -2,9 +2,8 @@
 use Rattle.std.proofs.Common.{◌≡◌, ◌⊎◌, inl, inr, ℕ, zero, suc, ◌+◌, ◌<◌, ◌≤◌, List, length, Option, Some, None, subst, ap, arith, ◌∙◌, sym}
 use Rattle.std.specs.Prelude.{slice_get, Result, Ok, Err, IfOk}
 use Rattle.std.proofs.lemmas.Bool.{cases_lt}
-use Rattle.std.proofs.lemmas.Option.{slice_get_within, same_Some}
+use Rattle.std.proofs.lemmas.Option.{slice_get_within, same_Some, none-some}
 use Rattle.abs_cells.specs.AbstractStates.{AbstractState}
-use Rattle.jvm_values.proofs.Options.{none_is_not_some}
 use Rattle.term_graph.specs.Graphs.{GraphNode}
 use Rattle.graph_build.specs.Rules.{GrowthRules, HaveSamePositions}
 use Rattle.graph_build.specs.Disciplined.{IsNode, IsAbove, IsAtOrAbove, is_expanded}
@@ -56,7 +55,7 @@ module _ (rules : GrowthRules) (nodes : List GraphNode) (state : AbstractState) 
 
   module _ (node : GraphNode) (there : slice_get nodes u ≡ Some node) where
     pub is_found : (found : Option (List (ℕ × ℕ))) (entries : List (ℕ × ℕ)) → found ≡ Some entries → NodeMatches rules state node found → IsFirstFound rules nodes state u entries
-    is_found None entries e h = absurd (none_is_not_some entries e)
+    is_found None entries e h = absurd (none-some entries e)
     is_found (Some mine) entries e h = record {
       other = node.state;
       by = node.by;
@@ -85,9 +84,9 @@ node_matches rules state node other (Err fault) e a h = tt
 
 -- what was found, or that nothing was
 pub found_there : (rules : GrowthRules) (nodes : List GraphNode) (state : AbstractState) (found : Option (ℕ × List (ℕ × ℕ))) (x : ℕ × List (ℕ × ℕ)) → found ≡ Some x → IsFound rules nodes state found → IsFirstFound rules nodes state x.0 x.1
-found_there rules nodes state None x e h = absurd (none_is_not_some x e)
+found_there rules nodes state None x e h = absurd (none-some x e)
 found_there rules nodes state (Some y) x e h = subst (λ (z : ℕ × List (ℕ × ℕ)). IsFirstFound rules nodes state z.0 z.1) (same_Some y x e) h
 
 pub found_nowhere : (rules : GrowthRules) (nodes : List GraphNode) (state : AbstractState) (found : Option (ℕ × List (ℕ × ℕ))) → found ≡ None → IsFound rules nodes state found → (u : ℕ) → IsPassed rules nodes state u
 found_nowhere rules nodes state None e h = h
-found_nowhere rules nodes state (Some y) e h = absurd (none_is_not_some y (sym e))
+found_nowhere rules nodes state (Some y) e h = absurd (none-some y (sym e))

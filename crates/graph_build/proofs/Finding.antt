@@ -1,7 +1,7 @@
 -- What is found at the next open node is due there.
 use Rattle.std.proofs.Common.{◌≡◌, ◌≢◌, ◌⊎◌, inl, inr, ℕ, ◌<◌, ◌≤◌, ◌&&◌, Bool, true, false, not, List, length, subst, ap, refl, ◌∙◌, sym, ltb}
 use Rattle.std.specs.Prelude.{nat_lt}
-use Rattle.std.proofs.lemmas.Bool.{false≢true, cases_lt, ltb-true, lt-ltb}
+use Rattle.std.proofs.lemmas.Bool.{false≢true, cases_lt, ltb-true, lt-ltb, and_parts, not-true, not-false, and_cases}
 use Rattle.std.proofs.lemmas.Option.{slice_get_within}
 use Rattle.abs_cells.specs.AbstractStates.{AbstractState}
 use Rattle.term_graph.specs.declared.nodes.By.{By}
@@ -12,23 +12,6 @@ use Rattle.graph_build.specs.Disciplined.{IsNode, Names, IsWidening, IsMatch, Is
 use Rattle.graph_build.specs.Disciplined.Due.{growing, widening}
 use Rattle.graph_build.specs.Working.{parent_in, is_instance, is_instance_of, is_instance_at, IsPassed, IsFirstFound, IsAlike, IsNearest, IsNextOpen}
 use Rattle.graph_build.proofs.Extending.{todo_not_expanded}
-
-and_parts : (a b : Bool) → (a && b) ≡ true → (a ≡ true) × (b ≡ true)
-and_parts true true h = (refl, refl)
-and_parts true false h = absurd (false≢true h)
-and_parts false b h = absurd (false≢true h)
-
-not_true : (a : Bool) → not a ≡ true → a ≡ false
-not_true true h = absurd (false≢true h)
-not_true false h = refl
-
-not_false : (a : Bool) → not a ≡ false → a ≡ true
-not_false true h = refl
-not_false false h = absurd (false≢true (sym h))
-
-and_false : (a b : Bool) → (a && b) ≡ false → (a ≡ false) ⊎ (b ≡ false)
-and_false true b h = inr h
-and_false false b h = inl refl
 
 module _ (rules : GrowthRules) (good : AbstractState → Type 0) (nodes : List GraphNode) (parents : List ℕ) (n : ℕ) (state : AbstractState) (open_node : IsNextOpen rules good nodes parents n state) where
   pub low : n < length nodes
@@ -64,13 +47,13 @@ module _ (rules : GrowthRules) (good : AbstractState → Type 0) (nodes : List G
       let both = and_parts (rules.is_head state) (not (nat_lt 0 n && is_instance_at nodes (parent_in parents n))) h in
       record {
         head = both.0;
-        no_widening = λ w. false≢true (sym (not_true (nat_lt 0 n && is_instance_at nodes (parent_in parents n)) both.1) ∙ widening_told w);
+        no_widening = λ w. false≢true (sym (not-true (nat_lt 0 n && is_instance_at nodes (parent_in parents n)) both.1) ∙ widening_told w);
       }
 
   pub not_seeking : (rules.is_head state && not (nat_lt 0 n && is_instance_at nodes (parent_in parents n))) ≡ false → IsDueAt rules nodes (parent_in parents) n state growing
-  not_seeking h = elim (and_false (rules.is_head state) (not (nat_lt 0 n && is_instance_at nodes (parent_in parents n))) h) as (λ o. IsDueAt rules nodes (parent_in parents) n state growing) [
+  not_seeking h = elim (and_cases (rules.is_head state) (not (nat_lt 0 n && is_instance_at nodes (parent_in parents n))) h) as (λ o. IsDueAt rules nodes (parent_in parents) n state growing) [
     | inl head ↦ inl head
-    | inr told ↦ inr (inl (told_widening (not_false (nat_lt 0 n && is_instance_at nodes (parent_in parents n)) told)))
+    | inr told ↦ inr (inl (told_widening (not-false (nat_lt 0 n && is_instance_at nodes (parent_in parents n)) told)))
   ]
 
   pub found_match : (u : ℕ) (entries : List (ℕ × ℕ)) → IsFirstFound rules nodes state u entries → IsMatch rules nodes (parent_in parents) n state u

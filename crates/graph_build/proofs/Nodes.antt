@@ -3,6 +3,7 @@ use Rattle.std.proofs.Common.{◌≡◌, ◌≢◌, ℕ, zero, suc, ◌+◌, ◌
 use Rattle.std.specs.Prelude.{slice_get}
 use Rattle.std.proofs.lemmas.List.{get_or-replicate}
 use Rattle.std.proofs.lemmas.Option.{slice_get_within, same_Some}
+use Rattle.list_views.proofs.Items.{get_front, get_behind}
 use Rattle.abs_cells.specs.AbstractStates.{AbstractState}
 use Rattle.term_graph.specs.declared.nodes.By.{By}
 use Rattle.term_graph.specs.declared.nodes.By.TheVariants.{Expand, Todo}
@@ -12,17 +13,6 @@ use Rattle.graph_build.specs.Working.{parent_in, todo}
 use Rattle.graph_build.proofs.Extending.{Extends}
 
 -- ---- lists
-
-pub get_left_part : {A : Type 0} (xs ys : List A) (m : ℕ) → m < length xs → slice_get (xs ++ ys) m ≡ slice_get xs m
-get_left_part [] ys m l = absurd (omega (arith, l))
-get_left_part (x ∷ xs) ys zero l = refl
-get_left_part (x ∷ xs) ys (suc m) l = get_left_part xs ys m (omega (arith, l))
-
-pub get_right_part : {A : Type 0} (xs ys : List A) (m : ℕ) → slice_get (xs ++ ys) (length xs + m) ≡ slice_get ys m
-get_right_part {A} [] ys m = ap (λ (k : ℕ). slice_get ys k) (omega arith)
-get_right_part {A} (x ∷ xs) ys m =
-    let next : length (x ∷ xs) + m ≡ suc (length xs + m) = omega arith in
-    ap (λ (k : ℕ). slice_get (x ∷ (xs ++ ys)) k) next ∙ get_right_part xs ys m
 
 pub or_left_part : (xs ys : List ℕ) (m : ℕ) → m < length xs → get_or (xs ++ ys) m 0 ≡ get_or xs m 0
 or_left_part [] ys m l = absurd (omega (arith, l))
@@ -83,14 +73,14 @@ module _ (nodes : List GraphNode) (parents : List ℕ) (n : ℕ) (state : Abstra
   low = slice_get_within nodes n (record { state = state; by = Todo }) was
 
   at_left : (m : ℕ) → m ≢ n → m < length nodes → slice_get (left_by (nodes ++ map todo states) n by) m ≡ slice_get nodes m
-  at_left m d l = left_elsewhere (nodes ++ map todo states) n m by d ∙ get_left_part nodes (map todo states) m l
+  at_left m d l = left_elsewhere (nodes ++ map todo states) n m by d ∙ get_front nodes (map todo states) m l
 
   fresh_open : (m : ℕ) (s : AbstractState) (b : By) → length nodes ≤ m → IsNode (left_by (nodes ++ map todo states) n by) m s b → b ≡ Todo
   fresh_open m s b l h =
       let d : m ≢ n = λ e. absurd (omega (arith, e, low, l)) in
       let place : length nodes + (m - length nodes) ≡ m = omega (arith, l) in
       todo_at states (m - length nodes) s b
-      (sym (get_right_part nodes (map todo states) (m - length nodes))
+      (sym (get_behind nodes (map todo states) (m - length nodes))
       ∙ ap (λ (k : ℕ). slice_get (nodes ++ map todo states) k) place
       ∙ sym (left_elsewhere (nodes ++ map todo states) n m by d) ∙ h)
 
@@ -104,7 +94,7 @@ module _ (nodes : List GraphNode) (parents : List ℕ) (n : ℕ) (state : Abstra
   pub extends : Extends nodes (left_by (nodes ++ map todo states) n by) (parent_in parents) (parent_in (parents ++ replicate (length states) n)) n state by
   extends = record {
     was = was;
-    now = left_here (nodes ++ map todo states) n by state Todo (get_left_part nodes (map todo states) n low ∙ was);
+    now = left_here (nodes ++ map todo states) n by state Todo (get_front nodes (map todo states) n low ∙ was);
     done = f.done;
     kept = λ m s b d h. at_left m d (slice_get_within nodes m (record { state = s; by = b }) h) ∙ h;
     back = λ m s b d l h. sym (at_left m d l) ∙ h;

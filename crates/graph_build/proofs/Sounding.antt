@@ -5,6 +5,7 @@ use Rattle.std.specs.List.{AllByRecursion}
 use Rattle.std.proofs.lemmas.Bool.{cases_eq, cases_lt}
 use Rattle.std.proofs.lemmas.List.{length-replicate}
 use Rattle.std.proofs.lemmas.Option.{slice_get_within, same_Some}
+use Rattle.list_views.proofs.Items.{get_behind}
 use Rattle.abs_cells.specs.AbstractStates.{AbstractState}
 use Rattle.term_graph.specs.declared.nodes.By.{By}
 use Rattle.term_graph.specs.declared.nodes.By.TheVariants.{Expand, Todo}
@@ -16,7 +17,7 @@ use Rattle.graph_build.specs.Working.{parent_in, todo, AreInOrder, IsSound}
 use Rattle.graph_build.proofs.Ancestry.{one_is_before}
 use Rattle.graph_build.proofs.Extending.{Extends, same_by, same_state, before_kept, fresh_before, fresh_order}
 use Rattle.graph_build.proofs.Keeping.{grown_disciplined, due_kept, state_kept}
-use Rattle.graph_build.proofs.Nodes.{Fresh, extends, count, get_right_part, left_elsewhere}
+use Rattle.graph_build.proofs.Nodes.{Fresh, extends, count, left_elsewhere}
 use Rattle.graph_build.proofs.Growths.{pushed, pushed_has, has_pushed_old, has_pushed_new, pushed_order}
 
 -- ---- the new nodes
@@ -69,7 +70,7 @@ module _ (rules : GrowthRules) (good : AbstractState → Type 0) (root : Abstrac
       let place : length nodes + (m - length nodes) ≡ m = omega (arith, l) in
       left_elsewhere (nodes ++ map todo states) n m by other
       ∙ ap (λ (k : ℕ). slice_get (nodes ++ map todo states) k) (sym place)
-      ∙ get_right_part nodes (map todo states) (m - length nodes)
+      ∙ get_behind nodes (map todo states) (m - length nodes)
 
   are_good : AllByRecursion good states → (m : ℕ) (s : AbstractState) (b : By) → IsNode nodes' m s b → good s
   are_good new m s b is = elim (cases_eq m n) as (λ o. good s) [

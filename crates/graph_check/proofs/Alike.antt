@@ -3,16 +3,17 @@
 use Rattle.std.proofs.Common.{◌≡◌, ◌<◌, ◌+◌, ◌∙◌, ◌↔◌, ◌++◌, ℕ, zero, suc, Bool, true, false, cond, eqb, List, [], ◌∷◌, map, length, Option, Some, None, slice_get, slice_index_or, inl, inr, refl, sym, ap, subst, arith, eq-eqb}
 use Rattle.std.specs.List.{AllZip, AllByRecursion, Contains, flat_map}
 use Rattle.std.specs.Option.{option_and_then}
-use Rattle.std.proofs.lemmas.Bool.{cases_lt, eqb-true, ne_eqb, false≢true}
+use Rattle.std.proofs.lemmas.Bool.{cases_lt, eqb-true, ne_eqb, false≢true, cases_Bool}
 use Rattle.std.proofs.lemmas.List.Elements.{All-head}
-use Rattle.jvm_values.proofs.Options.{some_is, none_is_not_some}
+use Rattle.std.proofs.lemmas.Option.{none-some}
+use Rattle.abs_cells.proofs.CellLaws.{first_cell_is, past_first_cell}
+use Rattle.jvm_values.proofs.Options.{some_is}
 use Rattle.jvm_values.specs.Paths.{Reaches}
 use Rattle.jvm_values.specs.TypedHeaps.{WorldTypes}
 use Rattle.abs_cells.specs.declared.cells.Cell.{Cell}
 use Rattle.abs_cells.specs.AbstractStates.{AbstractFrame, AbstractState}
 use Rattle.abs_cells.specs.Cells.{ids_in, cell_in, cell_at, HasCell, AreEqual, Share}
 use Rattle.abs_cells.specs.Sound.{AreIdsRising, given_ids, ids_of_frame}
-use Rattle.abs_cells.proofs.PairLaws.{bool_cases}
 use Rattle.abs_equal.proofs.Same.{state_same, pairs_same}
 use Rattle.abs_reach.specs.Reached.{IsReached}
 use Rattle.abs_heap.specs.Given.{IsPair, IsGiven, AreFresh, with_cells, first_cell}
@@ -23,28 +24,18 @@ use Rattle.abs_expand.specs.Children.{IsActed, gone_to, IsTurnChild, IsLean}
 
 -- ---- cells
 
-here : (c : ℕ × Cell) (cells : List (ℕ × Cell)) → cell_in (c ∷ cells) c.0 ≡ Some c.1
-here c cells = at (eqb c.0 c.0) refl
-  where
-    at : (b : Bool) → eqb c.0 c.0 ≡ b → cond b (Some c.1) (cell_in cells c.0) ≡ Some c.1
-    at true e = refl
-    at false e = absurd (false≢true (sym e ∙ eq-eqb c.0 c.0 refl))
-
-past : (c : ℕ × Cell) (cells : List (ℕ × Cell)) (id : ℕ) → eqb c.0 id ≡ false → cell_in (c ∷ cells) id ≡ cell_in cells id
-past c cells id f = ap (λ b. cond b (Some c.1) (cell_in cells id)) f
-
 none_low : (low id : ℕ) (cells : List (ℕ × Cell)) → AreIdsRising low cells → id < low → cell_in cells id ≡ None
 none_low low id [] rise l = refl
-none_low low id (c ∷ cells) rise l = past c cells id (ne_eqb c.0 id (omega (arith, l, rise.0))) ∙ none_low (suc c.0) id cells rise.1.1 (omega (arith, l, rise.0))
+none_low low id (c ∷ cells) rise l = past_first_cell c cells id (ne_eqb c.0 id (omega (arith, l, rise.0))) ∙ none_low (suc c.0) id cells rise.1.1 (omega (arith, l, rise.0))
 
 no_lower : (x y : ℕ × Cell) (xs ys : List (ℕ × Cell)) (low : ℕ) → AreIdsRising low (y ∷ ys) → ((id : ℕ) → cell_in (x ∷ xs) id ≡ cell_in (y ∷ ys) id) → x.0 < y.0 → ⊥
 no_lower x y xs ys low rise same l =
-    none_is_not_some x.1 (sym (none_low y.0 x.0 (y ∷ ys) (omega arith, rise.1) l) ∙ sym (same x.0) ∙ here x xs)
+    none-some x.1 (sym (none_low y.0 x.0 (y ∷ ys) (omega arith, rise.1) l) ∙ sym (same x.0) ∙ first_cell_is x xs)
 
 pub cells_one : (low : ℕ) (xs ys : List (ℕ × Cell)) → AreIdsRising low xs → AreIdsRising low ys → ((id : ℕ) → cell_in xs id ≡ cell_in ys id) → xs ≡ ys
 cells_one low [] [] r s same = refl
-cells_one low [] (y ∷ ys) r s same = absurd (none_is_not_some y.1 (same y.0 ∙ here y ys))
-cells_one low (x ∷ xs) [] r s same = absurd (none_is_not_some x.1 (sym (same x.0) ∙ here x xs))
+cells_one low [] (y ∷ ys) r s same = absurd (none-some y.1 (same y.0 ∙ first_cell_is y ys))
+cells_one low (x ∷ xs) [] r s same = absurd (none-some x.1 (sym (same x.0) ∙ first_cell_is x xs))
 cells_one low (x ∷ xs) (y ∷ ys) r s same =
     let e : x.0 ≡ y.0 = elim (cases_lt x.0 y.0) [
       | inl l ↦ absurd (no_lower x y xs ys low s same l)
@@ -53,12 +44,12 @@ cells_one low (x ∷ xs) (y ∷ ys) r s same =
         | inr m ↦ omega (arith, l, m)
       ]
     ] in
-    let cell : x.1 ≡ y.1 = some_is (sym (here x xs) ∙ same x.0 ∙ ap (cell_in (y ∷ ys)) e ∙ here y ys) in
-    let tails : xs ≡ ys = cells_one (suc x.0) xs ys r.1.1 (subst (λ n. AreIdsRising (suc n) ys) (sym e) s.1.1) (λ id. elim (bool_cases (eqb x.0 id)) [
+    let cell : x.1 ≡ y.1 = some_is (sym (first_cell_is x xs) ∙ same x.0 ∙ ap (cell_in (y ∷ ys)) e ∙ first_cell_is y ys) in
+    let tails : xs ≡ ys = cells_one (suc x.0) xs ys r.1.1 (subst (λ n. AreIdsRising (suc n) ys) (sym e) s.1.1) (λ id. elim (cases_Bool (eqb x.0 id)) [
       | inl t ↦
           let is = eqb-true x.0 id t in
           none_low (suc x.0) id xs r.1.1 (omega (arith, is)) ∙ sym (none_low (suc y.0) id ys s.1.1 (omega (arith, is, e)))
-      | inr f ↦ sym (past x xs id f) ∙ same id ∙ past y ys id (ap (λ n. eqb n id) (sym e) ∙ f)
+      | inr f ↦ sym (past_first_cell x xs id f) ∙ same id ∙ past_first_cell y ys id (ap (λ n. eqb n id) (sym e) ∙ f)
     ]) in
     ap (λ n. (n, x.1) ∷ xs) e ∙ ap (λ d. (y.0, d) ∷ xs) cell ∙ ap (λ zs. y ∷ zs) tails
 
@@ -140,7 +131,7 @@ not_lower : (a b : AbstractState) (id other : ℕ) → Alike a b → AreFresh a 
 not_lower a b id other s f g l = elim (g.least other id (0, omega arith, refl) l) [
   | inl h ↦
       let k = has_alike b a (λ _. true) id (back a b s) h in
-      none_is_not_some k.cell (sym (All-head (λ n. cell_at a n ≡ None) id [] f.free) ∙ k.is)
+      none-some k.cell (sym (All-head (λ n. cell_at a n ≡ None) id [] f.free) ∙ k.is)
   | inr c ↦ let e = only_one other id c in omega (arith, l, e)
 ]
 

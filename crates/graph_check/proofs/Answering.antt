@@ -1,9 +1,9 @@
 -- What the calls that test a graph answer.
 use Rattle.std.proofs.Common.{◌≡◌, ◌<◌, ◌≤◌, ◌+◌, ℕ, zero, suc, List, [], ◌∷◌, ◌++◌, length, take, Some, slice_get, Result, Ok, Err, inl, inr, refl, sym, subst, arith}
-use Rattle.std.proofs.lemmas.Option.{slice_get_cases}
+use Rattle.std.proofs.lemmas.Option.{slice_get_cases, none-some}
 use Rattle.std.proofs.lemmas.List.{take_all}
 use Rattle.std.specs.List.{AllZip}
-use Rattle.jvm_values.proofs.Options.{some_is, none_is_not_some}
+use Rattle.jvm_values.proofs.Options.{some_is}
 use Rattle.abs_cells.specs.AbstractStates.{AbstractState}
 use Rattle.class_program.specs.Programs.{Program}
 use Rattle.frame_types.specs.Tables.{CodeTypes}
@@ -62,7 +62,7 @@ module _ (p : Program) (typing : ℕ → CodeTypes) (nodes : List GraphNode) (st
   not_ended children are = (are.0, λ ended. no_children (plan_of p typing state) are.1.wholes ended.1 are.1.are)
 
   none_many : (plan : Plan) (n : ℕ) → plan ≡ ends → IsFirstTooMany (counts_of (types_of p.world) state plan) n → ⊥
-  none_many plan n e many = none_is_not_some many.count (subst (λ (q : Plan). slice_get (counts_of (types_of p.world) state q) n ≡ Some many.count) e many.is)
+  none_many plan n e many = none-some many.count (subst (λ (q : Plan). slice_get (counts_of (types_of p.world) state q) n ≡ Some many.count) e many.is)
 
   pub not_ended_many : (child : ℕ) → Answers p typing state (Err (expansion.TooManyIds child)) → LeavesOr p typing nodes state End (Err (Fails whats.NotEnd))
   not_ended_many child many = (many.0, λ ended. none_many (plan_of p typing state) child ended.1 many.1)
@@ -87,14 +87,14 @@ module _ (p : Program) (typing : ℕ → CodeTypes) (nodes : List GraphNode) (st
 
 module _ (p : Program) (typing : ℕ → CodeTypes) (nodes : List GraphNode) where
   zip_more : {A B : Type 0} (R : A → B → Type 0) (xs : List A) (ys : List B) (n : ℕ) (x : A) (y : B) → slice_get xs n ≡ Some x → R x y → AllZip R (take n xs) ys → AllZip R (take (suc n) xs) (ys ++ y ∷ [])
-  zip_more R [] ys n x y at r all = absurd (none_is_not_some x at)
+  zip_more R [] ys n x y at r all = absurd (none-some x at)
   zip_more R (z ∷ xs) [] zero x y at r all = (subst (λ w. R w y) (sym (some_is at)) r, tt)
   zip_more R (z ∷ xs) (w ∷ ys) zero x y at r all = absurd all
   zip_more R (z ∷ xs) [] (suc n) x y at r all = absurd all
   zip_more R (z ∷ xs) (w ∷ ys) (suc n) x y at r all = (all.0, zip_more R xs ys n x y at r all.1)
 
   zip_at : {A B : Type 0} (R : A → B → Type 0) (xs : List A) (ys : List B) (n k : ℕ) (x : A) → AllZip R (take n xs) ys → k < n → slice_get xs k ≡ Some x → (y : B) × R x y
-  zip_at R [] ys n k x all l at = absurd (none_is_not_some x at)
+  zip_at R [] ys n k x all l at = absurd (none-some x at)
   zip_at R (z ∷ xs) ys zero k x all l at = absurd (omega (arith, l))
   zip_at R (z ∷ xs) [] (suc n) k x all l at = absurd all
   zip_at R (z ∷ xs) (y ∷ ys) (suc n) zero x all l at = (y, subst (λ w. R w y) (some_is at) all.0)

@@ -3,9 +3,9 @@ use Rattle.std.proofs.Common.{◌≡◌, ◌≢◌, ◌≤◌, ◌∙◌, ℕ, z
 use Rattle.std.specs.List.{AllZip}
 use Rattle.std.proofs.lemmas.List.{length-map}
 use Rattle.std.proofs.lemmas.List.Elements.{All-get_or}
-use Rattle.std.proofs.lemmas.Option.{slice_get_within, get_or_from_slice_get}
+use Rattle.std.proofs.lemmas.Option.{slice_get_within, get_or_from_slice_get, none-some}
 use Rattle.std.proofs.lemmas.Slice.Zip.{AllZip-long}
-use Rattle.jvm_values.proofs.Options.{some_is, none_is_not_some}
+use Rattle.jvm_values.proofs.Options.{some_is}
 use Rattle.abs_cells.specs.AbstractStates.{AbstractState}
 use Rattle.abs_reach.specs.Instances.{InstanceOf, IsFirstFault}
 use Rattle.class_world.specs.WorldTypes.{types_of}
@@ -54,7 +54,7 @@ pub record SameAt (children : List GraphChild) (place : ℕ) (state : AbstractSt
   pub state_is : child.state ≡ state
 
 pub same_at : (a b : List GraphChild) (place : ℕ) (child : GraphChild) → states_of a ≡ states_of b → slice_get b place ≡ Some child → SameAt a place child.state
-same_at [] [] place child e at = absurd (none_is_not_some child at)
+same_at [] [] place child e at = absurd (none-some child at)
 same_at [] (y ∷ b) place child e at = absurd (cc)
 same_at (x ∷ a) [] place child e at = absurd (cc)
 same_at (x ∷ a) (y ∷ b) zero child e at =
@@ -124,7 +124,7 @@ module _ (p : Program) (typing : ℕ → CodeTypes) (nodes : List GraphNode) (st
   no_fault_by (Instance target entries) links whats.ChildCount left fails = fails
   no_fault_by (Instance target entries) links (whats.Child place) left fails = fails
   no_fault_by (Instance target entries) links whats.NotEnd left fails = fails
-  no_fault_by (Instance target entries) links whats.BadTarget left fails = none_is_not_some left.0.node (sym fails ∙ left.0.is)
+  no_fault_by (Instance target entries) links whats.BadTarget left fails = none-some left.0.node (sym fails ∙ left.0.is)
   no_fault_by (Instance target entries) links (whats.Match fault) left fails =
       no_match_fault left.0.node.state entries fault.clause fault.id left.0.instance (subst (λ (n : GraphNode). IsFirstFault (types_of p.world).sub state n.state entries fault.clause fault.id) (some_is (sym fails.is ∙ left.0.is)) fails.first)
   no_fault_by End links whats.Root left fails = fails

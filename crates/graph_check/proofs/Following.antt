@@ -2,16 +2,16 @@
 use Rattle.std.proofs.Common.{◌≡◌, ◌≤◌, ◌+◌, ◌∙◌, ℕ, zero, suc, cond, List, [], ◌∷◌, map, Some, slice_get, ◌⊎◌, inl, inr, refl, sym, ap, subst, arith, eq-eqb}
 use Rattle.std.specs.Prelude.{All}
 use Rattle.std.proofs.lemmas.Bool.{ne_eqb}
-use Rattle.std.proofs.lemmas.Option.{slice_get_within, get_or_from_slice_get}
+use Rattle.std.proofs.lemmas.Option.{slice_get_within, get_or_from_slice_get, none-some}
 use Rattle.std.proofs.lemmas.List.Elements.{All-get_or, All-from_recursion}
 use Rattle.std.specs.List.{AllByRecursion}
-use Rattle.jvm_values.proofs.Options.{some_is, none_is_not_some}
+use Rattle.code_verify.proofs.RowLaws.{deeper}
+use Rattle.jvm_values.proofs.Options.{some_is}
 use Rattle.jvm_values.specs.declared.heap.Heap.{Heap}
 use Rattle.jvm_values.specs.declared.heap.Object.{Object}
 use Rattle.jvm_values.specs.declared.heap.Object.TheVariants as objects
 use Rattle.jvm_values.specs.declared.types.Base.{Base}
 use Rattle.jvm_values.specs.declared.types.Base.TheVariants as bases
-use Rattle.jvm_values.specs.Subtyping.{IsReferenceBase}
 use Rattle.jvm_values.specs.States.{MachineState}
 use Rattle.jvm_values.specs.TypedHeaps.{WorldTypes, IsTypedObject, IsTypedHeap}
 use Rattle.abs_cells.specs.declared.cells.Cell.{Cell}
@@ -38,15 +38,11 @@ use Rattle.graph_check.specs.Laws.{GoesOn, EndsHere, KeepsPromise, GraphsHoldRun
 -- ---- lists
 
 pub mapped_at : {A B : Type 0} (f : A → B) (xs : List A) (n : ℕ) (x : A) → slice_get xs n ≡ Some x → slice_get (map f xs) n ≡ Some (f x)
-mapped_at f [] n x at = absurd (none_is_not_some x at)
+mapped_at f [] n x at = absurd (none-some x at)
 mapped_at f (y ∷ xs) zero x at = ap Some (ap f (some_is at))
 mapped_at f (y ∷ xs) (suc n) x at = mapped_at f xs n x at
 
 -- ---- heaps
-
-base_above : (classes dims : ℕ) (base : Base) → IsReferenceBase classes dims base → IsReferenceBase classes (dims + 1) base
-base_above classes dims (bases.Class class) r = r
-base_above classes dims (bases.Num kind) r = omega (arith, r)
 
 object_at : (types : WorldTypes) (heap : Heap) → IsTypedHeap types heap → (place : ℕ) (object : Object) → slice_get heap.objects place ≡ Some object → IsTypedObject types heap object
 object_at types heap typed place object at =
@@ -55,7 +51,7 @@ object_at types heap typed place object at =
 pub arrays_of_world : (types : WorldTypes) (heap : Heap) → IsTypedHeap types heap → HasArraysOfWorld types heap
 arrays_of_world types heap typed place element items at =
     let object = object_at types heap typed place (objects.Refs element items) at in
-    (omega (arith, object.1.0), base_above types.classes element.dims element.base object.1.1.0.1)
+    (omega (arith, object.1.0), deeper types.classes element.dims element.base object.1.1.0.1)
 
 -- ---- maps
 

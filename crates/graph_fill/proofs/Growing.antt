@@ -4,8 +4,10 @@ use Rattle.std.specs.List.{list_any}
 use Rattle.std.specs.Option.{option_map, option_map_or}
 use Rattle.std.proofs.lemmas.Bool.{false≢true}
 use Rattle.std.proofs.lemmas.List.{map-append, take_all}
-use Rattle.std.proofs.lemmas.Option.{slice_get_within}
-use Rattle.jvm_values.proofs.Options.{some_is, none_is_not_some}
+use Rattle.std.proofs.lemmas.Option.{slice_get_within, none-some}
+use Rattle.std.proofs.lemmas.Map.Keys.{any_passes_from_place}
+use Rattle.list_views.proofs.Items.{get_last, get_before, get_within, take_next, length_set}
+use Rattle.jvm_values.proofs.Options.{some_is}
 use Rattle.abs_cells.specs.AbstractStates.{AbstractState}
 use Rattle.class_program.specs.Programs.{Program}
 use Rattle.frame_types.specs.Tables.{CodeTypes}
@@ -22,14 +24,14 @@ use Rattle.graph_fill.specs.declared.fault.FillFault.{FillFault}
 use Rattle.graph_fill.specs.declared.fault.FillFault.TheVariants.{NotOfInts, Memory}
 use Rattle.graph_fill.specs.Answers.{IsRefused, FillsOr}
 use Rattle.graph_fill.specs.Words.{IsFull, is_wanted, taken_at, put_all, HasChildrenOrNone, Puts, Adds, HasNoInts, AddsOr}
-use Rattle.graph_fill.proofs.Lists.{in_front, of_front, at_end, in_more, of_take, in_take, take_next, set_other, set_length, paired, item_at}
+use Rattle.graph_fill.proofs.Lists.{of_front, in_more, of_take, in_take, set_other, paired}
 use Rattle.graph_fill.proofs.Plain.{int_plain, child_same}
-use Rattle.graph_fill.proofs.SlotStates.{wanted, all_length, all_keep, all_put, any_at}
+use Rattle.graph_fill.proofs.SlotStates.{wanted, all_length, all_keep, all_put}
 
 -- ---- what is known of a number is known when nodes come behind
 
 pub names_more : (front more : List GraphNode) (namer place number : ℕ) → Names front namer place number → Names (front ++ more) namer place number
-names_more front more namer place number n = record { node = n.node; named = n.named; is = in_front front more namer n.node n.is; by = n.by; at = n.at }
+names_more front more namer place number n = record { node = n.node; named = n.named; is = get_before front more namer n.node n.is; by = n.by; at = n.at }
 
 pub names_front : (front more : List GraphNode) (namer place number : ℕ) → namer < length front → Names (front ++ more) namer place number → Names front namer place number
 names_front front more namer place number l n = record { node = n.node; named = n.named; is = of_front front more namer n.node l n.is; by = n.by; at = n.at }
@@ -49,7 +51,7 @@ first_more front more namer place number first =
 module _ (p : Program) (typing : ℕ → CodeTypes) where
   pub child_more : (front more : List GraphNode) (namer place : ℕ) (state : AbstractState) → IsChildAt p typing front namer place state → IsChildAt p typing (front ++ more) namer place state
   child_more front more namer place state c =
-      record { node = c.node; is = in_front front more namer c.node c.is; children = c.children; are = c.are; child = c.child; at = c.at; state_is = c.state_is }
+      record { node = c.node; is = get_before front more namer c.node c.is; children = c.children; are = c.are; child = c.child; at = c.at; state_is = c.state_is }
 
   pub child_front : (front more : List GraphNode) (namer place : ℕ) (state : AbstractState) → namer < length front → IsChildAt p typing (front ++ more) namer place state → IsChildAt p typing front namer place state
   child_front front more namer place state l c =
@@ -57,7 +59,7 @@ module _ (p : Program) (typing : ℕ → CodeTypes) where
 
   stands_more : (front more : List GraphNode) (namer place : ℕ) (state : AbstractState) → namer < length front → StandsForNone p typing front namer place state → StandsForNone p typing (front ++ more) namer place state
   stands_more front more namer place state l s =
-      record { none = λ other c. s.none other (child_front front more namer place other l c); first = s.first; is = in_front front more 0 s.first s.is; state_is = s.state_is }
+      record { none = λ other c. s.none other (child_front front more namer place other l c); first = s.first; is = get_before front more 0 s.first s.is; state_is = s.state_is }
 
   taken_more : (front more : List GraphNode) (number : ℕ) (state : AbstractState) → IsTakenState p typing front number state → IsTakenState p typing (front ++ more) number state
   taken_more front more number state t =
@@ -96,14 +98,14 @@ module _ (p : Program) (typing : ℕ → CodeTypes) where
   module _ (parts : List GraphPart) where
     start_waits : (number : ℕ) (given slot : Option AbstractState) → slot ≡ given → WaitsFor [] number given slot
     start_waits number (Some given) slot e = e
-    start_waits number None None e = λ namer place n. absurd (none_is_not_some n.node n.is)
-    start_waits number None (Some state) e = absurd (none_is_not_some state (sym e))
+    start_waits number None None e = λ namer place n. absurd (none-some n.node n.is)
+    start_waits number None (Some state) e = absurd (none-some state (sym e))
 
     pub start : IsSoFar parts 0 [] (map (λ (part : GraphPart). part.state) parts)
     start = record {
       count = refl;
-      filled = record { ways = refl; states = λ number part node at there. absurd (none_is_not_some node there) };
-      ints = λ n node there. absurd (none_is_not_some node there);
+      filled = record { ways = refl; states = λ number part node at there. absurd (none-some node there) };
+      ints = λ n node there. absurd (none-some node there);
       long = mapped_length parts;
       waits = λ number part slot l at there. start_waits number part.state slot (some_is (sym there ∙ mapped_at (λ (q : GraphPart). q.state) parts number part at));
     }
@@ -127,8 +129,8 @@ module _ (p : Program) (typing : ℕ → CodeTypes) where
 
       pub next_full : n < length parts → CanBeFilled parts → IsFull slots n
       next_full l can =
-          let part = item_at parts n l in
-          let slot = item_at slots n (subst (λ k. n < k) (sym so.long) l) in
+          let part = get_within parts n l in
+          let slot = get_within slots n (subst (λ k. n < k) (sym so.long) l) in
           waits_full part.0 part.0.state slot.0 refl part.1 slot.1 (so.waits n part.0 slot.0 (omega arith) part.1 slot.1) can
 
       -- ---- one more node
@@ -136,7 +138,7 @@ module _ (p : Program) (typing : ℕ → CodeTypes) where
       own_state : (given slot : Option AbstractState) (state : AbstractState) → slot ≡ Some state → WaitsFor nodes n given slot → HasStateOf p typing nodes n given state
       own_state (Some given) slot state e w = some_is (sym e ∙ w)
       own_state None (Some other) state e w = subst (λ s. IsTakenState p typing nodes n s) (some_is e) w
-      own_state None None state e w = absurd (none_is_not_some state e)
+      own_state None None state e w = absurd (none-some state e)
 
       module _ (part : GraphPart) (at : slice_get parts n ≡ Some part) (state : AbstractState) (was : slice_get slots n ≡ Some (Some state)) where
         abbrev node : GraphNode
@@ -180,7 +182,7 @@ module _ (p : Program) (typing : ℕ → CodeTypes) where
         -- ---- the slots behind it
 
         at_node : slice_get (nodes ++ node ∷ []) n ≡ Some node
-        at_node = ap (λ k. slice_get (nodes ++ node ∷ []) k) (sym so.count) ∙ at_end nodes node
+        at_node = ap (λ k. slice_get (nodes ++ node ∷ []) k) (sym so.count) ∙ get_last nodes node
 
         -- a node that names is an old one, or the new one
         named_by : (namer place number : ℕ) → Names (nodes ++ node ∷ []) namer place number → Names nodes namer place number ⊎ ((namer ≡ n) × ((named : List ℕ) × ((part.by ≡ Expand named) × (slice_get named place ≡ Some number))))
@@ -203,7 +205,7 @@ module _ (p : Program) (typing : ℕ → CodeTypes) where
           none_there : (children others : List GraphChild) (place : ℕ) (child : GraphChild) → HasChildren p typing state children → HasChildren p typing state others → slice_get children place ≡ None → slice_get others place ≡ Some child → ⊥
           none_there children others place child g h none there =
               let same = child_same p typing state children others place child (int_plain p typing state forms g.0 (ints g.0)) g h there in
-              none_is_not_some same.child (sym none ∙ same.is)
+              none-some same.child (sym none ∙ same.is)
 
           no_child_at : (place : ℕ) (other : AbstractState) → ((others : List GraphChild) (child : GraphChild) → HasChildren p typing state others → slice_get others place ≡ Some child → ⊥) → IsChildAt p typing (nodes ++ node ∷ []) n place other → ⊥
           no_child_at place other none c =
@@ -213,7 +215,7 @@ module _ (p : Program) (typing : ℕ → CodeTypes) where
           taken_of : (children : List GraphChild) (place : ℕ) (found : Option GraphChild) → slice_get children place ≡ found → HasChildrenOrNone p typing state children
               → IsChildAt p typing (nodes ++ node ∷ []) n place (option_map_or (λ (c : GraphChild). c.state) found first.state) ⊎ StandsForNone p typing (nodes ++ node ∷ []) n place (option_map_or (λ (c : GraphChild). c.state) found first.state)
           taken_of children place (Some child) e (inl has) = inl (record { node = node; is = at_node; children = children; are = has; child = child; at = e; state_is = refl })
-          taken_of children place (Some child) e (inr none) = absurd (none_is_not_some child (ap (λ cs. slice_get cs place) (sym none.0) ∙ e))
+          taken_of children place (Some child) e (inr none) = absurd (none-some child (ap (λ cs. slice_get cs place) (sym none.0) ∙ e))
           taken_of children place None e (inl has) = inr (record { none = λ other c. no_child_at place other (λ others child h there. none_there children others place child has h e there) c; first = first; is = is_first; state_is = refl })
           taken_of children place None e (inr none) = inr (record { none = λ other c. no_child_at place other (λ others child h there. none.1 others h) c; first = first; is = is_first; state_is = refl })
 
@@ -243,8 +245,8 @@ module _ (p : Program) (typing : ℕ → CodeTypes) where
               → WaitsFor nodes number given slot → slice_get before number ≡ Some slot → slice_get after number ≡ Some slot_after → WaitsFor (nodes ++ node ∷ []) number given slot_after
           named_slot named children number given (Some s) slot_after before after by has e l w there is =
               let same : Some s ≡ slot_after = some_is (sym (all_keep n first.state children 0 named before number s there) ∙ ap (λ ss. slice_get ss number) (sym e) ∙ is) in
-              subst (WaitsFor (nodes ++ node ∷ []) number given) same (still number given (Some s) (λ ns k none. absurd (none_is_not_some s (sym none))) w)
-          named_slot named children number (Some given) None slot_after before after by has e l w there is = absurd (none_is_not_some given w)
+              subst (WaitsFor (nodes ++ node ∷ []) number given) same (still number given (Some s) (λ ns k none. absurd (none-some s (sym none))) w)
+          named_slot named children number (Some given) None slot_after before after by has e l w there is = absurd (none-some given w)
           named_slot named children number None None slot_after before after by has e l w there is = elim (all_put n first.state children 0 named before number l there) [
             | inl u ↦
                 let same : None ≡ slot_after = some_is (sym u.is ∙ ap (λ ss. slice_get ss number) (sym e) ∙ is) in
@@ -265,7 +267,7 @@ module _ (p : Program) (typing : ℕ → CodeTypes) where
               still number given slot (λ ns k empty way at_k.
               let bys : Expand ns ≡ Expand named = sym way ∙ by in
               let lists : ns ≡ named = cc in
-              false≢true (sym none ∙ any_at (λ m. is_wanted before n m) named k number (ap (λ ms. slice_get ms k) (sym lists) ∙ at_k) (wanted before n number l (there ∙ ap Some empty)))) w
+              false≢true (sym none ∙ any_passes_from_place (λ m. is_wanted before n m) named k number (ap (λ ms. slice_get ms k) (sym lists) ∙ at_k) (wanted before n number l (there ∙ ap Some empty)))) w
 
           slot_by : (by : By) (number : ℕ) (given slot slot_after : Option AbstractState) (before after : List (Option AbstractState)) → part.by ≡ by → Puts p typing first.state n state by before after → n < number
               → WaitsFor nodes number given slot → slice_get before number ≡ Some slot → slice_get after number ≡ Some slot_after → WaitsFor (nodes ++ node ∷ []) number given slot_after
@@ -297,10 +299,10 @@ module _ (p : Program) (typing : ℕ → CodeTypes) where
                 count = ends;
                 filled = filled_more;
                 ints = ints_more ints;
-                long = long_by part.by (slice_set slots n None) after puts ∙ set_length slots n None ∙ so.long;
+                long = long_by part.by (slice_set slots n None) after puts ∙ length_set slots n None ∙ so.long;
                 waits = λ number q slot l there is.
                     let inside = slice_get_within parts number q there in
-                    let old = item_at slots number (subst (λ k. number < k) (sym so.long) inside) in
+                    let old = get_within slots number (subst (λ k. number < k) (sym so.long) inside) in
                     let far : n ≡ number → ⊥ = λ e. omega (arith, l, e) in
                     slot_by part.by number q.state old.0 slot (slice_set slots n None) after refl puts (omega (arith, l))
                     (so.waits number q old.0 (omega (arith, l)) there old.1) (set_other slots n number None far ∙ old.1) is;
@@ -315,7 +317,7 @@ module _ (p : Program) (typing : ℕ → CodeTypes) where
   part_at parts n by e = go (slice_get parts n) refl e
     where
       go : (found : Option GraphPart) → slice_get parts n ≡ found → option_map (λ (q : GraphPart). q.by) found ≡ Some by → (part : GraphPart) × ((slice_get parts n ≡ Some part) × (part.by ≡ by))
-      go None at f = absurd (none_is_not_some by f)
+      go None at f = absurd (none-some by f)
       go (Some part) at f = (part, (at, some_is f))
 
   pub one_more : (parts : List GraphPart) (n : ℕ) (by : By) (nodes more : List GraphNode) (slots after : List (Option AbstractState)) → HasIntForms p → IsSoFar parts n nodes slots → by_at parts n ≡ Some by → Adds p typing by n slots after nodes more → IsSoFar parts (n + 1) more after
@@ -330,7 +332,7 @@ module _ (p : Program) (typing : ℕ → CodeTypes) where
 
   pub is_refused : (parts : List GraphPart) (n : ℕ) (nodes : List GraphNode) (slots : List (Option AbstractState)) → n < length parts → IsSoFar parts n nodes slots → HasNoInts p typing n slots → IsRefused p typing parts n
   is_refused parts n nodes slots l so has_no =
-      let part = item_at parts n l in
+      let part = get_within parts n l in
       refused parts n nodes slots so part.0 part.1 has_no.state has_no.was has_no.good has_no.fails
 
   pub all_filled : (parts : List GraphPart) (n : ℕ) (nodes : List GraphNode) (slots : List (Option AbstractState)) → length parts ≤ n → IsSoFar parts n nodes slots → IsFilled p typing parts nodes × HasIntStates p typing nodes

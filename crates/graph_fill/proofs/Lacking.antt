@@ -3,7 +3,7 @@
 use Rattle.std.proofs.Common.{◌≡◌, ◌∙◌, ◌<◌, ◌≤◌, ◌==◌, ℕ, zero, suc, Bool, true, false, ◌||◌, List, [], ◌∷◌, length, take, Option, Some, None, slice_get, refl, ap, arith}
 use Rattle.std.specs.List.{list_any}
 use Rattle.std.proofs.lemmas.Bool.{false≢true, eqb-true}
-use Rattle.jvm_values.proofs.Options.{none_is_not_some}
+use Rattle.std.proofs.lemmas.Option.{none-some}
 use Rattle.abs_cells.specs.AbstractStates.{AbstractState}
 use Rattle.class_program.specs.Programs.{Program}
 use Rattle.frame_types.specs.Tables.{CodeTypes}
@@ -29,8 +29,8 @@ some_place {X} f (x ∷ xs) h = go (f x) refl h (λ g. some_place f xs g)
     go false e g rest = let r = rest g in record { place = suc r.place; item = r.item; is = r.is; passes = r.passes }
 
 taken_at : {X : Type 0} (n : ℕ) (xs : List X) (k : ℕ) (x : X) → slice_get (take n xs) k ≡ Some x → (slice_get xs k ≡ Some x) × (k < n)
-taken_at zero xs k x e = absurd (none_is_not_some x e)
-taken_at (suc n) [] k x e = absurd (none_is_not_some x e)
+taken_at zero xs k x e = absurd (none-some x e)
+taken_at (suc n) [] k x e = absurd (none-some x e)
 taken_at (suc n) (y ∷ xs) zero x e = (e, omega arith)
 taken_at (suc n) (y ∷ xs) (suc k) x e = let r = taken_at n xs k x e in (r.0, omega (arith, r.1))
 

@@ -1,25 +1,17 @@
 -- Lists by place: behind another one, their first items, and with one item set.
 use Rattle.std.proofs.Common.{◌≡◌, ◌<◌, ◌∙◌, ℕ, zero, suc, List, [], ◌∷◌, ◌++◌, map, length, take, Some, slice_get, slice_set, ◌⊎◌, inl, inr, refl, sym, ap, arith}
-use Rattle.jvm_values.proofs.Options.{some_is, none_is_not_some}
-
-pub in_front : {A : Type 0} (front more : List A) (n : ℕ) (x : A) → slice_get front n ≡ Some x → slice_get (front ++ more) n ≡ Some x
-in_front [] more n x at = absurd (none_is_not_some x at)
-in_front (y ∷ front) more zero x at = at
-in_front (y ∷ front) more (suc n) x at = in_front front more n x at
+use Rattle.std.proofs.lemmas.Option.{none-some}
+use Rattle.jvm_values.proofs.Options.{some_is}
 
 pub of_front : {A : Type 0} (front more : List A) (n : ℕ) (x : A) → n < length front → slice_get (front ++ more) n ≡ Some x → slice_get front n ≡ Some x
 of_front [] more n x l at = absurd (omega (arith, l))
 of_front (y ∷ front) more zero x l at = at
 of_front (y ∷ front) more (suc n) x l at = of_front front more n x (omega (arith, l)) at
 
-pub at_end : {A : Type 0} (front : List A) (x : A) → slice_get (front ++ x ∷ []) (length front) ≡ Some x
-at_end [] x = refl
-at_end (y ∷ front) x = at_end front x
-
 -- an item of a list with one more is an old one, or the new one
 pub in_more : {A : Type 0} (front : List A) (x y : A) (n : ℕ) → slice_get (front ++ x ∷ []) n ≡ Some y → (slice_get front n ≡ Some y) ⊎ ((n ≡ length front) × (y ≡ x))
 in_more [] x y zero at = inr (refl, sym (some_is at))
-in_more [] x y (suc n) at = absurd (none_is_not_some y at)
+in_more [] x y (suc n) at = absurd (none-some y at)
 in_more (z ∷ front) x y zero at = inl at
 in_more (z ∷ front) x y (suc n) at = elim (in_more front x y n at) [
   | inl l ↦ inl l
@@ -27,27 +19,17 @@ in_more (z ∷ front) x y (suc n) at = elim (in_more front x y n at) [
 ]
 
 pub of_take : {A : Type 0} (xs : List A) (m n : ℕ) (x : A) → slice_get (take m xs) n ≡ Some x → slice_get xs n ≡ Some x
-of_take [] zero n x at = absurd (none_is_not_some x at)
-of_take [] (suc m) n x at = absurd (none_is_not_some x at)
-of_take (y ∷ xs) zero n x at = absurd (none_is_not_some x at)
+of_take [] zero n x at = absurd (none-some x at)
+of_take [] (suc m) n x at = absurd (none-some x at)
+of_take (y ∷ xs) zero n x at = absurd (none-some x at)
 of_take (y ∷ xs) (suc m) zero x at = at
 of_take (y ∷ xs) (suc m) (suc n) x at = of_take xs m n x at
 
 pub in_take : {A : Type 0} (xs : List A) (m n : ℕ) (x : A) → n < m → slice_get xs n ≡ Some x → slice_get (take m xs) n ≡ Some x
-in_take [] m n x l at = absurd (none_is_not_some x at)
+in_take [] m n x l at = absurd (none-some x at)
 in_take (y ∷ xs) zero n x l at = absurd (omega (arith, l))
 in_take (y ∷ xs) (suc m) zero x l at = at
 in_take (y ∷ xs) (suc m) (suc n) x l at = in_take xs m n x (omega (arith, l)) at
-
-pub take_next : {A : Type 0} (xs : List A) (n : ℕ) (x : A) → slice_get xs n ≡ Some x → take (suc n) xs ≡ take n xs ++ x ∷ []
-take_next [] n x at = absurd (none_is_not_some x at)
-take_next (y ∷ xs) zero x at = ap (λ z. z ∷ []) (some_is at)
-take_next (y ∷ xs) (suc n) x at = ap (λ zs. y ∷ zs) (take_next xs n x at)
-
-pub set_same : {A : Type 0} (xs : List A) (n : ℕ) (x y : A) → slice_get xs n ≡ Some y → slice_get (slice_set xs n x) n ≡ Some x
-set_same [] n x y at = absurd (none_is_not_some y at)
-set_same (z ∷ xs) zero x y at = refl
-set_same (z ∷ xs) (suc n) x y at = set_same xs n x y at
 
 pub set_other : {A : Type 0} (xs : List A) (n k : ℕ) (x : A) → (n ≡ k → ⊥) → slice_get (slice_set xs n x) k ≡ slice_get xs k
 set_other [] n k x d = refl
@@ -56,11 +38,6 @@ set_other (y ∷ xs) zero (suc k) x d = refl
 set_other (y ∷ xs) (suc n) zero x d = refl
 set_other (y ∷ xs) (suc n) (suc k) x d = set_other xs n k x (λ e. d (ap suc e))
 
-pub set_length : {A : Type 0} (xs : List A) (n : ℕ) (x : A) → length (slice_set xs n x) ≡ length xs
-set_length [] n x = refl
-set_length (y ∷ xs) zero x = refl
-set_length (y ∷ xs) (suc n) x = ap suc (set_length xs n x)
-
 -- where the images of two lists are one list, each item of one has an item with its image in the other
 pub record Paired {A C : Type 0} (f : A → C) (image : C) (xs : List A) (n : ℕ) : Type 0 where
   pub other : A
@@ -68,7 +45,7 @@ pub record Paired {A C : Type 0} (f : A → C) (image : C) (xs : List A) (n : �
   pub same : f other ≡ image
 
 pub paired : {A B C : Type 0} (f : A → C) (g : B → C) (xs : List A) (ys : List B) (n : ℕ) (y : B) → map f xs ≡ map g ys → slice_get ys n ≡ Some y → Paired f (g y) xs n
-paired f g xs [] n y e at = absurd (none_is_not_some y at)
+paired f g xs [] n y e at = absurd (none-some y at)
 paired f g [] (z ∷ ys) n y e at = let no : ⊥ = cc in absurd no
 paired f g (x ∷ xs) (z ∷ ys) zero y e at =
     let same : f x ≡ g z = cc in
@@ -85,9 +62,3 @@ same_length f g (x ∷ xs) [] e = let no : ⊥ = cc in absurd no
 same_length f g (x ∷ xs) (y ∷ ys) e =
     let rest : map f xs ≡ map g ys = cc in
     ap suc (same_length f g xs ys rest)
-
--- there is an item at each place below the length
-pub item_at : {A : Type 0} (xs : List A) (n : ℕ) → n < length xs → (x : A) × (slice_get xs n ≡ Some x)
-item_at [] n l = absurd (omega (arith, l))
-item_at (x ∷ xs) zero l = (x, refl)
-item_at (x ∷ xs) (suc n) l = item_at xs n (omega (arith, l))

@@ -2,8 +2,9 @@
 use Rattle.std.proofs.Common.{◌≡◌, ◌<◌, ◌≤◌, ◌∙◌, ℕ, zero, suc, List, [], ◌∷◌, map, Option, Some, None, slice_get, ◌⊎◌, inl, inr, refl, sym, ap, subst, arith}
 use Rattle.std.specs.List.{AllZip}
 use Rattle.std.proofs.lemmas.Bool.{cases_lt}
-use Rattle.std.proofs.lemmas.Option.{slice_get_within}
-use Rattle.jvm_values.proofs.Options.{some_is, none_is_not_some}
+use Rattle.std.proofs.lemmas.Option.{slice_get_within, none-some}
+use Rattle.list_views.proofs.Items.{get_within}
+use Rattle.jvm_values.proofs.Options.{some_is}
 use Rattle.abs_cells.specs.AbstractStates.{AbstractState}
 use Rattle.class_program.specs.Programs.{Program}
 use Rattle.frame_types.specs.Tables.{CodeTypes}
@@ -14,7 +15,7 @@ use Rattle.graph_check.specs.Filling.{Names, IsFirstNamed, IsChildAt, StandsForN
 use Rattle.graph_check.specs.Good.{HasChildren, NamesChild, IsExpanded, IsLeftBy, IsGoodNode, GraphOk}
 use Rattle.abs_expand.proofs.ZipLists.{beside}
 use Rattle.graph_fill.specs.Laws.{ArePlainWhereGood, FilledGraphsAreOne, IsStateOrNone, GoodGraphsFillThemselves}
-use Rattle.graph_fill.proofs.Lists.{paired, same_length, item_at}
+use Rattle.graph_fill.proofs.Lists.{paired, same_length}
 use Rattle.graph_fill.proofs.Plain.{child_same}
 
 abbrev by_of : GraphNode → By
@@ -65,7 +66,7 @@ record Behind {A B : Type 0} (R : A → B → Type 0) (xs : List A) (n : ℕ) (y
   alike : R other y
 
 behind : {A B : Type 0} (R : A → B → Type 0) (xs : List A) (ys : List B) (n : ℕ) (y : B) → AllZip R xs ys → slice_get ys n ≡ Some y → Behind R xs n y
-behind R xs [] n y all at = absurd (none_is_not_some y at)
+behind R xs [] n y all at = absurd (none-some y at)
 behind R [] (z ∷ ys) n y all at = absurd all
 behind R (x ∷ xs) (z ∷ ys) zero y all at = record { other = x; there = refl; alike = subst (R x) (some_is at) all.0 }
 behind R (x ∷ xs) (z ∷ ys) (suc n) y all at =
@@ -104,7 +105,7 @@ module _ (p : Program) (typing : ℕ → CodeTypes) where
     part_of n node at =
         let inside = slice_get_within nodes n node at in
         let long = same_length by_of way_of nodes parts filled.ways in
-        item_at parts n (omega (arith, inside, long))
+        get_within parts n (omega (arith, inside, long))
 
     by_part : (n : ℕ) (node other : GraphNode) → slice_get others n ≡ Some other → ((k : ℕ) (a b : GraphNode) → k < n → slice_get nodes k ≡ Some a → slice_get others k ≡ Some b → a.state ≡ b.state)
         → (part : GraphPart) (given : Option AbstractState) → part.state ≡ given → slice_get parts n ≡ Some part → HasStateOf p typing nodes n part.state node.state → node.state ≡ other.state

@@ -1,6 +1,7 @@
 -- Where filling refuses, no filled graph has states of ints alone.
 use Rattle.std.proofs.Common.{◌≡◌, ◌<◌, ◌∙◌, ℕ, zero, suc, List, [], ◌∷◌, ◌++◌, map, length, take, drop, Option, Some, None, slice_get, inl, inr, refl, sym, ap, subst, arith}
 use Rattle.std.proofs.lemmas.Option.{slice_get_within}
+use Rattle.list_views.proofs.Items.{get_last}
 use Rattle.abs_cells.specs.AbstractStates.{AbstractState}
 use Rattle.class_program.specs.Programs.{Program}
 use Rattle.frame_types.specs.Tables.{CodeTypes}
@@ -9,7 +10,7 @@ use Rattle.graph_check.specs.Conditions.{HasIntStates}
 use Rattle.graph_check.specs.Filling.{IsFirstNamed, IsTakenState, HasStateOf, IsFilled}
 use Rattle.graph_fill.specs.Laws.{RefusedPartsHaveOtherStates}
 use Rattle.graph_fill.proofs.Growing.{names_more, names_front, child_more, child_front}
-use Rattle.graph_fill.proofs.Lists.{of_front, at_end, of_take}
+use Rattle.graph_fill.proofs.Lists.{of_front, of_take}
 use Rattle.graph_fill.proofs.Once.{filled_once}
 use Rattle.graph_fill.proofs.Plain.{int_graphs}
 
@@ -69,6 +70,6 @@ refused_has_other p typing parts number nodes forms refused filled ints =
     let front = filled_front p typing parts nodes (suc number) filled in
     let few : HasIntStates p typing (take (suc number) nodes) = λ n node at. ints n node (of_take nodes (suc number) n node at) in
     let same : take (suc number) nodes ≡ refused.earlier ++ refused.node ∷ [] = filled_once p typing (take (suc number) parts) (take (suc number) nodes) (refused.earlier ++ refused.node ∷ []) (int_graphs p typing (take (suc number) nodes) forms few) front refused.filled in
-    let last : slice_get (refused.earlier ++ refused.node ∷ []) number ≡ Some refused.node = ap (λ k. slice_get (refused.earlier ++ refused.node ∷ []) k) (sym refused.count) ∙ at_end refused.earlier refused.node in
+    let last : slice_get (refused.earlier ++ refused.node ∷ []) number ≡ Some refused.node = ap (λ k. slice_get (refused.earlier ++ refused.node ∷ []) k) (sym refused.count) ∙ get_last refused.earlier refused.node in
     let there : slice_get (take (suc number) nodes) number ≡ Some refused.node = ap (λ ns. slice_get ns number) same ∙ last in
     refused.fails (ints number refused.node (of_take nodes (suc number) number refused.node there) refused.good)

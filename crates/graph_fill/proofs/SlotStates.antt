@@ -2,13 +2,14 @@
 use Rattle.std.proofs.Common.{◌≡◌, ◌<◌, ◌≤◌, ◌+◌, ◌∙◌, ◌||◌, ◌++◌, ℕ, zero, suc, Bool, true, false, cond, not, is_some, nat_lt, List, [], ◌∷◌, map, take, drop, length, Option, Some, None, slice_get, slice_set, slice_index_or, ◌⊎◌, inl, inr, refl, sym, ap, arith}
 use Rattle.std.specs.List.{list_any}
 use Rattle.std.proofs.lemmas.Bool.{lt-ltb, false≢true, cases_eq}
-use Rattle.jvm_values.proofs.Options.{some_is, none_is_not_some}
+use Rattle.jvm_values.proofs.Options.{some_is}
 use Rattle.abs_cells.specs.AbstractStates.{AbstractState}
 use Rattle.std.proofs.lemmas.List.{take_all}
-use Rattle.std.proofs.lemmas.Option.{slice_get_read, slice_get_within}
+use Rattle.std.proofs.lemmas.Option.{slice_get_read, slice_get_within, none-some}
+use Rattle.list_views.proofs.Items.{drop_past, length_set, get_set}
 use Rattle.term_graph.specs.Graphs.{GraphChild, GraphPart, state_at}
 use Rattle.graph_fill.specs.Words.{IsFull, is_empty, is_empty_at, is_wanted, taken_at, put, put_all}
-use Rattle.graph_fill.proofs.Lists.{set_same, set_other, set_length}
+use Rattle.graph_fill.proofs.Lists.{set_other}
 
 abbrev Slots : Type 0
 Slots = List (Option AbstractState)
@@ -22,7 +23,7 @@ taken_not_wanted false slot state at = refl
 
 put_here : (slots : Slots) (low number : ℕ) (state : AbstractState) → low < number → slice_get slots number ≡ Some None → slice_get (put low number state slots) number ≡ Some (Some state)
 put_here slots low number state l at =
-    ap (λ b. slice_get (cond b (slice_set slots number (Some state)) slots) number) (wanted slots low number l at) ∙ set_same slots number (Some state) None at
+    ap (λ b. slice_get (cond b (slice_set slots number (Some state)) slots) number) (wanted slots low number l at) ∙ get_set slots number (Some state) None at
 
 put_other : (slots : Slots) (low other number : ℕ) (state : AbstractState) → (other ≡ number → ⊥) → slice_get (put low other state slots) number ≡ slice_get slots number
 put_other slots low other number state d = go (is_wanted slots low other)
@@ -44,7 +45,7 @@ put_length : (slots : Slots) (low number : ℕ) (state : AbstractState) → leng
 put_length slots low number state = go (is_wanted slots low number)
   where
     go : (b : Bool) → length (cond b (slice_set slots number (Some state)) slots) ≡ length slots
-    go true = set_length slots number (Some state)
+    go true = length_set slots number (Some state)
     go false = refl
 
 -- ---- the states of several nodes
@@ -81,7 +82,7 @@ before_cons other number named place d n (suc k) l at = n k (omega (arith, l)) a
 
 pub all_put : (low : ℕ) (first : AbstractState) (children : List GraphChild) (from : ℕ) (named : List ℕ) (slots : Slots) (number : ℕ) → low < number → slice_get slots number ≡ Some None
     → IsUnnamed named (put_all low first children from named slots) number ⊎ IsNamedAt first children from named (put_all low first children from named slots) number
-all_put low first children from [] slots number l at = inl (record { is = at; never = λ place none. none_is_not_some number none })
+all_put low first children from [] slots number l at = inl (record { is = at; never = λ place none. none-some number none })
 all_put low first children from (other ∷ named) slots number l at = elim (cases_eq other number) [
   | inl e ↦
       let here : slice_get (put low other (taken_at first children from) slots) number ≡ Some (Some (taken_at first children from)) =
@@ -109,15 +110,6 @@ all_put low first children from (other ∷ named) slots number l at = elim (case
 ]
 
 -- ---- tests
-
-pub any_at : {A : Type 0} (test : A → Bool) (xs : List A) (n : ℕ) (x : A) → slice_get xs n ≡ Some x → test x ≡ true → list_any test xs ≡ true
-any_at test [] n x at t = absurd (none_is_not_some x at)
-any_at test (y ∷ xs) zero x at t = ap (λ b. b || list_any test xs) (ap test (some_is at) ∙ t)
-any_at test (y ∷ xs) (suc n) x at t = go (test y) (any_at test xs n x at t)
-  where
-    go : (b : Bool) → list_any test xs ≡ true → (b || list_any test xs) ≡ true
-    go true e = refl
-    go false e = e
 
 -- ---- a slot, and a child, by place
 
@@ -173,12 +165,6 @@ next_named [] place number l is = absurd (omega (arith, l))
 next_named (x ∷ named) zero number l is = ap (λ n. n ∷ named) (sym is)
 next_named (x ∷ named) (suc place) number l is = next_named named place number (omega (arith, l)) is
 
-no_more : (named : List ℕ) (place : ℕ) → length named ≤ place → drop place named ≡ []
-no_more [] zero l = refl
-no_more [] (suc place) l = refl
-no_more (x ∷ named) zero l = absurd (omega (arith, l))
-no_more (x ∷ named) (suc place) l = no_more named place (omega (arith, l))
-
 pub put_next : (low : ℕ) (first : AbstractState) (children : List GraphChild) (place : ℕ) (named : List ℕ) (number : ℕ) (slots after whole : List (Option AbstractState)) → place < length named → number ≡ slice_index_or named place number
     → after ≡ put low number (taken_at first children place) slots → put_all low first children place (drop place named) slots ≡ whole → put_all low first children (place + 1) (drop (place + 1) named) after ≡ whole
 put_next low first children place named number slots after whole l is e so =
@@ -190,7 +176,7 @@ put_next low first children place named number slots after whole l is e so =
 
 pub put_done : (low : ℕ) (first : AbstractState) (children : List GraphChild) (place : ℕ) (named : List ℕ) (slots whole : List (Option AbstractState)) → length named ≤ place
     → put_all low first children place (drop place named) slots ≡ whole → slots ≡ whole
-put_done low first children place named slots whole l so = sym (ap (λ ns. put_all low first children place ns slots) (no_more named place l)) ∙ so
+put_done low first children place named slots whole l so = sym (ap (λ ns. put_all low first children place ns slots) (drop_past named place l)) ∙ so
 
 -- ---- the states of parts
 
@@ -200,7 +186,7 @@ given_next parts n state slots e so =
     ap (λ ss. ss ++ state ∷ []) so ∙ one_more parts n state e ∙ ap (λ k. map (λ (part : GraphPart). part.state) (take k parts)) next
   where
     one_more : (ps : List GraphPart) (k : ℕ) (s : Option AbstractState) → state_at ps k ≡ Some s → map (λ (part : GraphPart). part.state) (take k ps) ++ s ∷ [] ≡ map (λ (part : GraphPart). part.state) (take (suc k) ps)
-    one_more [] k s f = absurd (none_is_not_some s f)
+    one_more [] k s f = absurd (none-some s f)
     one_more (x ∷ ps) zero s f = ap (λ o. o ∷ []) (sym (some_is f))
     one_more (x ∷ ps) (suc k) s f = ap (λ ss. x.state ∷ ss) (one_more ps k s f)
 

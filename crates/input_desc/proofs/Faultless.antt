@@ -7,10 +7,6 @@ use Rattle.input_text.specs.declared.fault.DescFault.{DescFault}
 use Rattle.input_text.specs.declared.fault.DescFault.TheVariants.{Json, NoMethod, Abstract, ParamCount, ParamKind, EmptyInterval, UnknownType, BadPair, BadObject, StaticCount, Memory}
 use Rattle.input_desc.specs.Due.{IsFault, is_memory, fault_if}
 
-pub neither : (first second : Option DescFault) → option_or first second ≡ None → (first ≡ None) × (second ≡ None)
-neither None second e = (refl, e)
-neither (Some fault) second e = absurd cc
-
 pub not_mapped : {A : Type 0} (f : A → DescFault) (o : Option A) → option_map f o ≡ None → o ≡ None
 not_mapped f None e = refl
 not_mapped f (Some x) e = absurd cc

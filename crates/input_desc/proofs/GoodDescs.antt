@@ -7,6 +7,8 @@ use Rattle.std.proofs.lemmas.Bool.{false≢true, and_parts, not-true, not-false,
 use Rattle.std.proofs.lemmas.List.{length-map}
 use Rattle.std.proofs.lemmas.List.Elements.{All-nil, All-cons, All-head, All-tail, All-weaker}
 use Rattle.std.proofs.lemmas.Option.{slice_get_within}
+use Rattle.list_views.proofs.Options.{both_none}
+use Rattle.list_views.proofs.Quantified.{every_back, every_front}
 use Rattle.jvm_values.specs.declared.types.Slot.{Slot}
 use Rattle.jvm_values.specs.declared.types.Slot.TheVariants as slots
 use Rattle.jvm_values.specs.Slots.{is_reference_slot}
@@ -20,8 +22,9 @@ use Rattle.input_desc.specs.declared.desc.Desc.{Desc}
 use Rattle.input_desc.specs.Given.{params_of, statics_of, field_slot, argument_slot, slots_of}
 use Rattle.input_desc.specs.Pairs.{is_reference_at, is_pair, is_no_pair, IsPairBelow}
 use Rattle.input_desc.specs.Typed.{first_unfit}
-use Rattle.input_desc.specs.Descs.{inputs_from, has_ints, has_a_type, found_fault, later_fault, desc_fault, Finds, IsMade, IsGoodDesc}
-use Rattle.input_desc.proofs.Faultless.{neither, not_mapped}
+use Rattle.input_desc.specs.Descs.{inputs_from, has_ints, has_a_type, found_fault, later_fault, desc_fault, IsGoodDesc}
+use Rattle.input_desc.specs.Words.{Finds, IsMade}
+use Rattle.input_desc.proofs.Faultless.{not_mapped}
 
 -- ---- each input is there
 
@@ -51,13 +54,13 @@ record IsClean (wanted : List Slot) (found : List (Option Input)) (pairs : List 
 clean : (wanted : List Slot) (found : List (Option Input)) (pairs : List (ℕ × ℕ)) → found_fault wanted found pairs ≡ None → IsClean wanted found pairs
 unfolding found_fault
 clean wanted found pairs e =
-    let a = neither _ _ e in
-    let b = neither _ _ a.1 in
+    let a = both_none _ _ e in
+    let b = both_none _ _ a.1 in
     record { ints = not_mapped EmptyInterval _ a.0; types = not_mapped UnknownType _ b.0; good = not_mapped BadPair _ b.1 }
 
 later_clean : (p : Program) (texts' : List InputText) (pairs : List (ℕ × ℕ)) → later_fault p texts' pairs ≡ None → IsClean (slots_of p) (inputs_from p.world (slots_of p) texts') pairs
 unfolding later_fault
-later_clean p texts' pairs e = clean (slots_of p) (inputs_from p.world (slots_of p) texts') pairs (neither _ _ e).1
+later_clean p texts' pairs e = clean (slots_of p) (inputs_from p.world (slots_of p) texts') pairs (both_none _ _ e).1
 
 pub found_are_there : (p : Program) (texts' : List InputText) (pairs : List (ℕ × ℕ)) (found : List (Option Input)) → length texts' ≡ length (slots_of p) → Finds p texts' pairs (Ok found) → list_all is_some found ≡ true
 found_are_there p texts' pairs found l h =
@@ -121,21 +124,13 @@ references wanted n (pair ∷ pairs) e = go (references wanted (n + 1) pairs) (i
 pub pairs_are : (p : Program) (text : DescText) → desc_fault p text ≡ None → All (λ pair. is_pair (slots_of p) pair ≡ true) (text.same ++ text.share)
 unfolding desc_fault
 pairs_are p text e =
-    let later = (neither _ _ (neither _ _ e).1).1 in
+    let later = (both_none _ _ (both_none _ _ e).1).1 in
     references (slots_of p) 0 (text.same ++ text.share) (later_clean p (text.params ++ text.statics) (text.same ++ text.share) later).good
 
 pub few_made : (inputs : List Input) (found : List (Option Input)) → map Some inputs ≡ found → length found ≤ 512 → length inputs ≤ 512
 few_made inputs found e l = let same : length found ≡ length inputs = ap length (sym e) ∙ length-map inputs Some in omega (arith, same)
 
 -- ---- what the initial state needs
-
-all_front : {A : Type 0} (P : A → Type 0) (xs ys : List A) → All P (xs ++ ys) → All P xs
-all_front P [] ys h = All-nil P
-all_front P (x ∷ xs) ys h = All-cons P x xs (All-head P x (xs ++ ys) h) (all_front P xs ys (All-tail P x (xs ++ ys) h))
-
-all_back : {A : Type 0} (P : A → Type 0) (xs ys : List A) → All P (xs ++ ys) → All P ys
-all_back P [] ys h = h
-all_back P (x ∷ xs) ys h = all_back P xs ys (All-tail P x (xs ++ ys) h)
 
 lower : (n : ℕ) (pair : ℕ × ℕ) → n ≤ 512 → IsPairBelow n pair → IsPairBelow 2048 pair
 lower n pair l h =
@@ -144,10 +139,10 @@ lower n pair l h =
     (h.0, (omega arith, omega arith))
 
 pub same_below : (p : Program) (desc : Desc) → IsGoodDesc p desc → All (IsPairBelow 2048) desc.same
-same_below p desc good = all_front (IsPairBelow 2048) desc.same desc.share (All-weaker (IsPairBelow (length desc.inputs)) (IsPairBelow 2048) (λ pair h. lower (length desc.inputs) pair good.few h) (desc.same ++ desc.share) good.pairs)
+same_below p desc good = every_front (IsPairBelow 2048) desc.same desc.share (All-weaker (IsPairBelow (length desc.inputs)) (IsPairBelow 2048) (λ pair h. lower (length desc.inputs) pair good.few h) (desc.same ++ desc.share) good.pairs)
 
 pub share_below : (p : Program) (desc : Desc) → IsGoodDesc p desc → All (IsPairBelow 2048) desc.share
-share_below p desc good = all_back (IsPairBelow 2048) desc.same desc.share (All-weaker (IsPairBelow (length desc.inputs)) (IsPairBelow 2048) (λ pair h. lower (length desc.inputs) pair good.few h) (desc.same ++ desc.share) good.pairs)
+share_below p desc good = every_back (IsPairBelow 2048) desc.same desc.share (All-weaker (IsPairBelow (length desc.inputs)) (IsPairBelow 2048) (λ pair h. lower (length desc.inputs) pair good.few h) (desc.same ++ desc.share) good.pairs)
 
 pub inputs_few : (p : Program) (desc : Desc) → IsGoodDesc p desc → length (params_of p) + length p.statics ≤ 2048
 inputs_few p desc good =

@@ -8,6 +8,7 @@ use Rattle.std.proofs.lemmas.Int.{ints}
 use Rattle.std.proofs.lemmas.List.{length-map}
 use Rattle.std.proofs.lemmas.Option.{slice_get-map}
 use Rattle.std.proofs.lemmas.List.Elements.{All-nil, All-cons}
+use Rattle.list_views.proofs.Options.{both_none}
 use Rattle.jvm_values.specs.declared.types.Kind.{Kind}
 use Rattle.jvm_values.specs.declared.types.Ty.{Ty}
 use Rattle.jvm_values.specs.declared.types.Slot.{Slot}
@@ -33,7 +34,7 @@ use Rattle.input_desc.specs.Given.{params_of, statics_of, argument_slot, inputs_
 use Rattle.input_desc.specs.TypeNames.{type_named}
 use Rattle.input_desc.specs.Typed.{Objects, object_of, has_type, is_of_kind, is_held, first_unfit, all_fit, is_typed, is_bad}
 use Rattle.input_desc.specs.States.{IsTypedInput, GivesState, fault_of, value_fault, first_fault, objects_of}
-use Rattle.input_desc.proofs.Faultless.{neither, not_mapped, counted}
+use Rattle.input_desc.proofs.Faultless.{not_mapped, counted}
 use Rattle.input_desc.proofs.NamedTypes.{named_is}
 use Rattle.input_desc.proofs.Unfit.{all_fitting}
 
@@ -157,9 +158,9 @@ pub record IsFaultless (types : WorldTypes) (params fields : List Slot) (objects
 pub faultless : (types : WorldTypes) (params fields : List Slot) (objects : Objects) (args statics : List Value) → first_fault types params fields objects args statics ≡ None → IsFaultless types params fields objects args statics
 unfolding first_fault value_fault
 faultless types params fields objects args statics e =
-    let a = neither _ _ e in
-    let b = neither _ _ a.1 in
-    let c = neither _ _ b.1 in
+    let a = both_none _ _ e in
+    let b = both_none _ _ a.1 in
+    let c = both_none _ _ b.1 in
     record {
       args_count = counted (length args) (length params) ParamCount a.0;
       statics_count = counted (length statics) (length fields) StaticCount b.0;

@@ -3,20 +3,6 @@ use Rattle.std.proofs.Common.{◌≡◌, ℕ, zero, suc, List, [], ◌∷◌, �
 use Rattle.std.specs.Prelude.{slice_get}
 use Rattle.std.specs.List.{AllZip}
 
-pub zip_append : {A B : Type 0} (R : A → B → Type 0) (xs more : List A) (ys others : List B) → AllZip R xs ys → AllZip R more others → AllZip R (xs ++ more) (ys ++ others)
-zip_append R [] more [] others h k = k
-zip_append R [] more (y ∷ ys) others h k = absurd h
-zip_append R (x ∷ xs) more [] others h k = absurd h
-zip_append R (x ∷ xs) more (y ∷ ys) others h k = (h.0, zip_append R xs more ys others h.1 k)
-
--- what stands beside an item
-pub zip_at : {A B : Type 0} (R : A → B → Type 0) (xs : List A) (ys : List B) (n : ℕ) (x : A) → AllZip R xs ys → slice_get xs n ≡ Some x → (y : B) × ((slice_get ys n ≡ Some y) × R x y)
-zip_at R [] [] n x h e = absurd cc
-zip_at R [] (y ∷ ys) n x h e = absurd h
-zip_at R (z ∷ xs) [] n x h e = absurd h
-zip_at R (z ∷ xs) (y ∷ ys) zero x h e = let same : z ≡ x = cc in (y, (refl, subst (λ a. R a y) same h.0))
-zip_at R (z ∷ xs) (y ∷ ys) (suc n) x h e = zip_at R xs ys n x h.1 e
-
 pub zip_replicate : {A B : Type 0} (R : A → B → Type 0) (n : ℕ) (x : A) (y : B) → R x y → AllZip R (replicate n x) (replicate n y)
 zip_replicate R zero x y h = tt
 zip_replicate R (suc n) x y h = (h, zip_replicate R n x y h)

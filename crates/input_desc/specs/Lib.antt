@@ -8,3 +8,4 @@ pub mod Descs
 pub mod Initial
 pub mod Fitting
 pub mod States
+pub mod Words

@@ -1,22 +1,22 @@
 -- Pairs that are put into a set of pairs are there.
 use Rattle.std.proofs.Common.{◌≡◌, ℕ, ◌<◌, min, max, Bool, true, false, cond, List, [], ◌∷◌, ◌++◌, ◌⊎◌, inl, inr, sym, refl, ap, ◌∙◌, arith}
 use Rattle.std.specs.Prelude.{filter, All}
-use Rattle.std.proofs.lemmas.Bool.{false≢true, or_cases, cases_order, or_right}
+use Rattle.std.proofs.lemmas.Bool.{false≢true, or_cases, cases_order, or_right, or_left}
 use Rattle.std.proofs.lemmas.List.Elements.{All-head, All-tail}
 use Rattle.abs_cells.specs.PairLists.{pair_of, is_same, is_before, has_pair, with_pair, has, added}
-use Rattle.abs_cells.proofs.PairLaws.{has_swapped, is_same_from, same_is, or_true}
+use Rattle.abs_cells.proofs.PairLaws.{has_swapped, is_same_from, same_is}
 use Rattle.input_desc.specs.Initial.{with_pairs}
 use Rattle.input_desc.specs.Fitting.{IsListed}
 
 -- ---- one pair more
 
 itself : (p : ℕ × ℕ) (xs : List (ℕ × ℕ)) → has_pair p (with_pair p xs) ≡ true
-itself p [] = or_true (is_same p p) false (is_same_from p p refl)
+itself p [] = or_left (is_same p p) false (is_same_from p p refl)
 itself p (q ∷ rest) = go (itself p rest) (is_same p q) refl (is_before p q)
   where
     go : has_pair p (with_pair p rest) ≡ true → (b : Bool) → is_same p q ≡ b → (c : Bool) → has_pair p (cond b (q ∷ rest) (cond c (p ∷ q ∷ rest) (q ∷ with_pair p rest))) ≡ true
-    go in_rest true e c = or_true (is_same p q) (has_pair p rest) e
-    go in_rest false e true = or_true (is_same p p) (has_pair p (q ∷ rest)) (is_same_from p p refl)
+    go in_rest true e c = or_left (is_same p q) (has_pair p rest) e
+    go in_rest false e true = or_left (is_same p p) (has_pair p (q ∷ rest)) (is_same_from p p refl)
     go in_rest false e false = or_right (is_same p q) (has_pair p (with_pair p rest)) in_rest
 
 stays : (p q : ℕ × ℕ) (xs : List (ℕ × ℕ)) → has_pair q xs ≡ true → has_pair q (with_pair p xs) ≡ true
@@ -24,7 +24,7 @@ stays p q [] h = absurd (false≢true h)
 stays p q (r ∷ rest) h = go (stays p q rest) (is_same p r) (is_before p r)
   where
     more : (has_pair q rest ≡ true → has_pair q (with_pair p rest) ≡ true) → (is_same q r ≡ true) ⊎ (has_pair q rest ≡ true) → has_pair q (r ∷ with_pair p rest) ≡ true
-    more in_rest (inl e) = or_true (is_same q r) (has_pair q (with_pair p rest)) e
+    more in_rest (inl e) = or_left (is_same q r) (has_pair q (with_pair p rest)) e
     more in_rest (inr e) = or_right (is_same q r) (has_pair q (with_pair p rest)) (in_rest e)
 
     go : (has_pair q rest ≡ true → has_pair q (with_pair p rest) ≡ true) → (b c : Bool) → has_pair q (cond b (r ∷ rest) (cond c (p ∷ r ∷ rest) (r ∷ with_pair p rest))) ≡ true
@@ -99,7 +99,7 @@ pair_added p q (r ∷ rest) h = go (pair_added p q rest) (is_same p r) (is_befor
     later (inr e) = inr (or_right (is_same q r) (has_pair q rest) e)
 
     behind : (has_pair q (with_pair p rest) ≡ true → (q ≡ p) ⊎ (has_pair q rest ≡ true)) → (is_same q r ≡ true) ⊎ (has_pair q (with_pair p rest) ≡ true) → (q ≡ p) ⊎ (has_pair q (r ∷ rest) ≡ true)
-    behind in_rest (inl e) = inr (or_true (is_same q r) (has_pair q rest) e)
+    behind in_rest (inl e) = inr (or_left (is_same q r) (has_pair q rest) e)
     behind in_rest (inr e) = later (in_rest e)
 
     go : (has_pair q (with_pair p rest) ≡ true → (q ≡ p) ⊎ (has_pair q rest ≡ true)) → (b c : Bool) → has_pair q (cond b (r ∷ rest) (cond c (p ∷ r ∷ rest) (r ∷ with_pair p rest))) ≡ true → (q ≡ p) ⊎ (has_pair q (r ∷ rest) ≡ true)

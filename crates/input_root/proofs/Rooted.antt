@@ -7,6 +7,8 @@ use Rattle.std.proofs.lemmas.Bool.{false≢true, and_from}
 use Rattle.std.proofs.lemmas.List.{length-map}
 use Rattle.std.proofs.lemmas.List.Elements.{All-nil, All-append, All-map, All-replicate, All-cons}
 use Rattle.std.proofs.lemmas.Slice.Zip.{AllZip-long}
+use Rattle.list_views.proofs.Options.{both_none}
+use Rattle.list_views.proofs.Zipped.{zip_left, zip_joined}
 use Rattle.jvm_values.specs.declared.types.Ty.{Ty}
 use Rattle.jvm_values.specs.declared.types.Slot.{Slot}
 use Rattle.jvm_values.specs.declared.types.Slot.TheVariants as slots
@@ -45,11 +47,11 @@ use Rattle.input_desc.specs.Given.{params_of, statics_of, field_slot, argument_s
 use Rattle.input_desc.specs.Descs.{desc_fault, IsDescribed}
 use Rattle.input_desc.specs.Fitting.{FitsInput, FitsDescription}
 use Rattle.input_desc.specs.Initial.{cell_of, cells_from, are_alike, locals_of, initial_locals, initial_of}
-use Rattle.input_desc.proofs.Faultless.{neither, counted}
+use Rattle.input_desc.proofs.Faultless.{counted}
 use Rattle.input_desc.proofs.GoodDescs.{texts_count}
 use Rattle.input_desc.proofs.TypedInputs.{split}
 use Rattle.input_root.specs.Roots.{input_values, FittingStatesAreTyped, FittingStatesAreDescribed}
-use Rattle.input_desc.proofs.Zipped.{zip_append, zip_at, zip_replicate, zip_map}
+use Rattle.input_desc.proofs.Zipped.{zip_replicate, zip_map}
 use Rattle.input_desc.proofs.Wider.{Laws, has_wider}
 use Rattle.input_root.proofs.Holding.{all_hold, input_erased}
 use Rattle.input_root.proofs.Listed.{listed, listed_kept, listed_in_both}
@@ -62,8 +64,8 @@ use Rattle.input_root.proofs.Shown.{locals_shown}
 counts : (p : Program) (text : DescText) → desc_fault p text ≡ None → (length text.params ≡ length (params_of p)) × (length text.statics ≡ length (statics_of p))
 unfolding desc_fault
 counts p text e =
-    let a = neither _ _ e in
-    let b = neither _ _ a.1 in
+    let a = both_none _ _ e in
+    let b = both_none _ _ a.1 in
     (counted (length text.params) (length (params_of p)) ParamCount a.0, counted (length text.statics) (length (statics_of p)) StaticCount b.0)
 
 params_are : (p : Program) (method : Method) → slice_get p.methods 0 ≡ Some method → params_of p ≡ method.params
@@ -150,7 +152,7 @@ running p text desc typing state laws types_are e is fits =
     let front = argument_places types heap method.params args held_here in
     let behind : AllZip (HasPlaceType types heap) (replicate (method.max_locals - length method.params) places.Unset) (replicate (method.max_locals - length method.params) None) = zip_replicate (HasPlaceType types heap) (method.max_locals - length method.params) places.Unset None tt in
     let moved : AllZip (HasPlaceType types heap) (replicate (method.max_locals - length method.params) places.Unset) (replicate (method.max_locals - length args) None) = subst (λ n. AllZip (HasPlaceType types heap) (replicate (method.max_locals - length method.params) places.Unset) (replicate (method.max_locals - n) None)) (sym fits.count) behind in
-    let narrow = zip_append (HasPlaceType types heap) (map (place_of types) method.params) (replicate (method.max_locals - length method.params) places.Unset) (map Some args) (replicate (method.max_locals - length args) None) front moved in
+    let narrow = zip_joined (HasPlaceType types heap) (map (place_of types) method.params) (replicate (method.max_locals - length method.params) places.Unset) (map Some args) (replicate (method.max_locals - length args) None) front moved in
     let wide = all_wider p.world heap (entry_frame types method).locals taken.there.locals (map Some args ++ replicate (method.max_locals - length args) None) laws taken.wide.locals narrow in
     let within : All (λ local. IfSome local (IsInHeap (length heap.objects))) (map Some args ++ replicate (method.max_locals - length args) None) =
     All-append (λ local. IfSome local (IsInHeap (length heap.objects))) (map Some args) (replicate (method.max_locals - length args) None)
@@ -198,7 +200,7 @@ record IsMeant (types : WorldTypes) (heap : Heap) (inputs : List Input) (given :
 meant : (types : WorldTypes) (heap : Heap) (inputs : List Input) (given : List Value) (id : ℕ) (cell : Cell) → AllZip (FitsInput types heap) inputs given → cell_in (cells_from 0 inputs) id ≡ Some cell → IsMeant types heap inputs given id cell
 meant types heap inputs given id cell all e =
     let found = cell_found inputs id cell e in
-    let beside = zip_at (FitsInput types heap) inputs given id found.input all found.there in
+    let beside = zip_left (FitsInput types heap) inputs given id found.input all found.there in
     let same = value_is given id beside.0 beside.1.0 in
     record {
       input = found.input;

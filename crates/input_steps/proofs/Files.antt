@@ -1,6 +1,7 @@
 -- Class files, read one after another.
 use Rattle.std.proofs.Common.{◌≡◌, ℕ, zero, suc, ◌<◌, List, [], ◌∷◌, ◌++◌, length, map, take, get_or, slice_get, Option, Some, Ok, refl, sym, ap, ◌∙◌, subst, arith}
 use Rattle.std.specs.List.{AllByRecursion}
+use Rattle.std.proofs.lemmas.Option.{same_Some}
 use Rattle.class_read.specs.Content.{ClassContent}
 use Rattle.class_read.specs.Rules.{Spells}
 use Rattle.class_read.specs.Reading.{Fails}
@@ -40,12 +41,9 @@ spell_more (f ∷ files) (c ∷ read) file class all s = (all.0, spell_more file
 spell_more [] (c ∷ read) file class all s = absurd all
 spell_more (f ∷ files) [] file class all s = absurd all
 
-some_file : (a b : List ℕ) → (let o : Option (List ℕ) = Some a in o) ≡ Some b → a ≡ b
-some_file a b e = cc
-
 broken_at : (files : List (List ℕ)) (number : ℕ) (read : List ClassContent) (file : List ℕ) (fault : ClassFault) → AllSpell (take number files) read → slice_get files number ≡ Some file → IsBrokenFile file fault → IsFirstBroken files number fault
 broken_at [] number read file fault all e broken = absurd (cc)
-broken_at (f ∷ files) zero read file fault all e broken = subst (λ (x : List ℕ). IsBrokenFile x fault) (sym (some_file f file e)) broken
+broken_at (f ∷ files) zero read file fault all e broken = subst (λ (x : List ℕ). IsBrokenFile x fault) (sym (same_Some f file e)) broken
 broken_at (f ∷ files) (suc number) [] file fault all e broken = absurd all
 broken_at (f ∷ files) (suc number) (c ∷ read) file fault all e broken = (c, all.0, broken_at files number read file fault all.1 e broken)
 

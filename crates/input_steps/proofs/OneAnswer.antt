@@ -1,6 +1,8 @@
 -- Steps that give one thing, and refuse for one fault.
 use Rattle.std.proofs.Common.{◌≡◌, ℕ, zero, suc, ◌<◌, arith, List, [], ◌∷◌, map, Option, Some, None, Result, Ok, Err, refl, sym, ap, ◌∙◌, subst, inl, inr}
 use Rattle.std.specs.Prelude.{◌≢◌, slice_get}
+use Rattle.list_views.proofs.Orders.{neither_below}
+use Rattle.list_views.proofs.Options.{one_answer}
 use Rattle.class_read.specs.Content.{ClassContent}
 use Rattle.class_read.specs.declared.fault.ClassFault.{ClassFault}
 use Rattle.class_read.proofs.ClassLaws.{class_one}
@@ -75,9 +77,6 @@ err_one {A} {E} said a b e f = let k : (let r : Result A E = Err a in r) ≡ Err
 pub ok_err : {A E : Type 0} (said : Result A E) (a : A) (b : E) → said ≡ Ok a → said ≡ Err b → ⊥
 ok_err {A} {E} said a b e f = let k : (let r : Result A E = Ok a in r) ≡ Err b = sym e ∙ f in cc
 
-pub some_one : {A : Type 0} (o : Option A) (x y : A) → o ≡ Some x → o ≡ Some y → x ≡ y
-some_one o x y e f = let k : Some x ≡ Some y = sym e ∙ f in cc
-
 pub none_some : {A : Type 0} (o : Option A) (x : A) → o ≡ None → o ≡ Some x → ⊥
 none_some {A} o x e f = let k : (let n : Option A = None in n) ≡ Some x = sym e ∙ f in cc
 
@@ -132,7 +131,7 @@ pub world_exact : (classes : List ClassContent) → IsExact (IsWorldOf classes) 
 world_exact classes = record {
   one = λ a b h k. h.world_is ∙ sym k.world_is;
   apart = λ world place fault h r. none_some (link_fault (world_of classes)) r.cause (ap link_fault (sym h.world_is) ∙ h.links) r.holds;
-  named = at_one {C = LinkFault} (λ fault. places.Link) faults.Link (λ fault. link_fault (world_of classes) ≡ Some fault) (λ x y e f. some_one (link_fault (world_of classes)) x y e f);
+  named = at_one {C = LinkFault} (λ fault. places.Link) faults.Link (λ fault. link_fault (world_of classes) ≡ Some fault) (λ x y e f. one_answer (link_fault (world_of classes)) x y e f);
 }
 
 -- ---- the program
@@ -159,18 +158,11 @@ program_exact world entry = record {
 
 -- ---- numbers that are least
 
--- neither of two numbers is below the other
-pub neither_below : (a b : ℕ) → (a < b → ⊥) → (b < a → ⊥) → a ≡ b
-neither_below zero zero n m = refl
-neither_below zero (suc b) n m = absurd (n (omega arith))
-neither_below (suc a) zero n m = absurd (m (omega arith))
-neither_below (suc a) (suc b) n m = ap suc (neither_below a b (λ l. n (omega (arith, l))) (λ l. m (omega (arith, l))))
-
 name_one : (p : Program) (a b : ℕ) (n m : MethodName) → a ≡ b → IsNameOf p a n → IsNameOf p b m → n ≡ m
 name_one p a b n m e x y =
-    let method : x.method ≡ y.method = some_one (slice_get p.methods b) x.method y.method (subst (λ (k : ℕ). slice_get p.methods k ≡ Some x.method) e x.there) y.there in
+    let method : x.method ≡ y.method = one_answer (slice_get p.methods b) x.method y.method (subst (λ (k : ℕ). slice_get p.methods k ≡ Some x.method) e x.there) y.there in
     let declares : slice_get p.world y.method.class ≡ Some x.class = subst (λ (k : Method). slice_get p.world k.class ≡ Some x.class) method x.declares in
-    let class : x.class ≡ y.class = some_one (slice_get p.world y.method.class) x.class y.class declares y.declares in
+    let class : x.class ≡ y.class = one_answer (slice_get p.world y.method.class) x.class y.class declares y.declares in
     let first : n.class ≡ m.class = x.class_is ∙ ap (λ (c : ClassContent). c.name) class ∙ sym y.class_is in
     let name : n.name ≡ m.name = x.name_is ∙ ap (λ (k : Method). k.name) method ∙ sym y.name_is in
     let desc : n.desc ≡ m.desc = x.desc_is ∙ ap (λ (k : Method). k.desc) method ∙ sym y.desc_is in

@@ -1,5 +1,6 @@
 -- A description, or a state, says one thing, and has one first fault.
 use Rattle.std.proofs.Common.{◌≡◌, ◌⊎◌, ℕ, List, Result, Ok, Err, refl, sym, ap, ◌∙◌, inl, inr}
+use Rattle.list_views.proofs.Options.{one_answer}
 use Rattle.serde_json.specs.Data.{Data}
 use Rattle.json_view.specs.Answers.{Reads}
 use Rattle.json_view.specs.Located.{root_of}
@@ -11,7 +12,7 @@ use Rattle.input_text.specs.declared.fault.DescFault.TheVariants as descs
 use Rattle.input_steps.specs.declared.refused.Place.{Place}
 use Rattle.input_steps.specs.declared.refused.Fault.TheVariants as faults
 use Rattle.input_steps.specs.Texts.{OfInput, IsTextFault}
-use Rattle.input_steps.proofs.OneAnswer.{IsExact, at_one, ok_one, err_one, ok_err, some_one}
+use Rattle.input_steps.proofs.OneAnswer.{IsExact, at_one, ok_one, err_one, ok_err}
 
 -- what is computed of the input is one result
 pub said_exact : {A : Type 0} (place : Place) (said : Result A DescFault) → IsExact (λ a. said ≡ Ok a) (OfInput place (λ fault. said ≡ Err fault))
@@ -26,7 +27,7 @@ said_exact place said = record {
 module _ {A : Type 0} (reader : Reader A) (bytes : List ℕ) where
   says_one : (a b : Result A JsonFault) → SaysOf reader bytes a → SaysOf reader bytes b → a ≡ b
   says_one a b h k =
-      let same : h.0 ≡ k.0 = some_one _ h.0 k.0 h.1.0.1 k.1.0.1 in
+      let same : h.0 ≡ k.0 = one_answer _ h.0 k.0 h.1.0.1 k.1.0.1 in
       sym h.1.1 ∙ ap (λ (v : Data). reader (root_of v)) same ∙ k.1.1
 
   -- a fault that a reader says, or no value is read

@@ -11,9 +11,7 @@ use Rattle.json_view.specs.Reading.{int_of, within, whole_number_of}
 use Rattle.json_view.specs.declared.fault.JsonFault.{JsonFault}
 use Rattle.json_view.specs.declared.fault.JsonFault.TheVariants.{OutOfRange, WrongKind}
 use Rattle.std.specs.Option.{ok_or}
-
-is_at_most : (m n : ℤ) → int_le m n ≡ true → m ≤ℤ n
-is_at_most m n e = omega (arith, ints)
+use Rattle.list_views.proofs.Orders.{int_le_true}
 
 pub record IsWithin (low high n : ℤ) : Type 0 where
   pub least : low ≤ℤ n
@@ -23,7 +21,7 @@ inside : (fault : JsonFault) (low high m n : ℤ) (t : Bool) → (int_le low m &
 inside fault low high m n true t e =
     let p = and_parts (int_le low m) (int_le m high) t in
     let same : m ≡ n = cc in
-    subst (λ (x : ℤ). IsWithin low high x) same (record { least = is_at_most low m p.0; greatest = is_at_most m high p.1 })
+    subst (λ (x : ℤ). IsWithin low high x) same (record { least = int_le_true low m p.0; greatest = int_le_true m high p.1 })
 inside fault low high m n false t e = let no : ⊥ = cc in absurd no
 
 inside_kind : (place : List ℕ) (low high n : ℤ) (found : Option ℤ) → (ok_or found (WrongKind place) >>= within place low high) ≡ Ok n → IsWithin low high n

@@ -2,17 +2,17 @@
 use Rattle.std.proofs.Common.{◌≡◌, ◌≢◌, ◌∙◌, ◌<◌, ℕ, zero, suc, ℤ, Bool, true, false, not, cond, eqb, if◌then◌else◌, IsTrue, List, [], ◌∷◌, ◌++◌, length, Option, Some, None, slice_get, inl, inr, refl, sym, ap, subst, arith, eq-eqb}
 use Rattle.std.specs.Prelude.{All, IfSome, slice_set}
 use Rattle.std.specs.List.{AllByRecursion, AllZip, flat_map}
-use Rattle.std.proofs.lemmas.Bool.{false≢true}
+use Rattle.std.proofs.lemmas.Bool.{false≢true, cases_Bool}
 use Rattle.std.proofs.lemmas.Int.{ints}
 use Rattle.std.proofs.lemmas.List.Elements.{All-from_recursion, recursion_from_All}
+use Rattle.std.proofs.lemmas.Option.{none-some}
 use Rattle.jvm_values.specs.TypedHeaps.{WorldTypes}
-use Rattle.jvm_values.proofs.Options.{some_is, none_is_not_some}
+use Rattle.jvm_values.proofs.Options.{some_is}
 use Rattle.abs_cells.specs.declared.cells.Cell.{Cell}
 use Rattle.abs_cells.specs.declared.cells.Cell.TheVariants as cells
 use Rattle.abs_cells.specs.AbstractStates.{AbstractFrame, AbstractState}
 use Rattle.abs_cells.specs.Cells.{is_int, cell_in, cell_at, HasCell}
 use Rattle.abs_cells.specs.Sound.{given_ids, ids_of_frame, IsSoundCell, IsSound}
-use Rattle.abs_cells.proofs.PairLaws.{bool_cases}
 use Rattle.abs_reach.specs.Reached.{IsReached}
 use Rattle.class_world.specs.WorldTypes.{types_of}
 use Rattle.class_program.specs.declared.op.Op.{Op}
@@ -46,7 +46,7 @@ abbrev Stands : List ℕ → ℕ → Type 0
 Stands xs id = (n : ℕ) × (slice_get xs n ≡ Some id)
 
 stands_before : (xs ys : List ℕ) (id n : ℕ) → slice_get xs n ≡ Some id → slice_get (xs ++ ys) n ≡ Some id
-stands_before [] ys id n e = absurd (none_is_not_some id e)
+stands_before [] ys id n e = absurd (none-some id e)
 stands_before (x ∷ xs) ys id zero e = e
 stands_before (x ∷ xs) ys id (suc n) e = stands_before xs ys id n e
 
@@ -133,13 +133,13 @@ rows_between state child K fresh kept [] h = tt
 rows_between state child K fresh kept (row ∷ rows) h =
     (record { short = h.0.short; terms = All-from_recursion (IsTermBetween state child) row.terms (terms_between state child K fresh kept row.terms h.0.terms); constant = h.0.constant }, rows_between state child K fresh kept rows h.1)
 
-no_and_int : (b : Bool) → b ≡ true → not b ≡ true → ⊥
+pub no_and_int : (b : Bool) → b ≡ true → not b ≡ true → ⊥
 no_and_int true e f = false≢true f
 no_and_int false e f = false≢true e
 
 found_int : (listed : List (ℕ × Cell)) (id : ℕ) (cell : Cell) → AllByRecursion (λ (c : ℕ × Cell). IsTrue (is_int c.1)) listed → cell_in listed id ≡ Some cell → is_int cell ≡ true
-found_int [] id cell all e = absurd (none_is_not_some cell e)
-found_int (c ∷ listed) id cell all e = elim (bool_cases (eqb c.0 id)) [
+found_int [] id cell all e = absurd (none-some cell e)
+found_int (c ∷ listed) id cell all e = elim (cases_Bool (eqb c.0 id)) [
   | inl t ↦ ap is_int (sym (some_is (ap (λ b. cond b (Some c.1) (cell_in listed id)) (sym t) ∙ e))) ∙ all.0
   | inr f ↦ found_int listed id cell all.1 (ap (λ b. cond b (Some c.1) (cell_in listed id)) (sym f) ∙ e)
 ]
@@ -152,7 +152,7 @@ link_fits types state turn whole child ints_state rowed is lean alone =
     record {
       ints = λ id has other. no_and_int (is_int other.cell) (found_int child.state.cells id other.cell child_ints other.is) other.sort_is;
       references = λ id has other. no_and_int (is_int has.cell) (ints_state.cells id has.cell has.is) has.sort_is;
-      merged = λ goes stays e has. none_is_not_some (goes, stays) (sym (ap (λ (l : Link). l.merged) link) ∙ e);
+      merged = λ goes stays e has. none-some (goes, stays) (sym (ap (λ (l : Link). l.merged) link) ∙ e);
       rows = subst (λ (l : Link). All (IsRowBetween state child.state) l.rows) (sym link) (All-from_recursion (IsRowBetween state child.state) (turn.rows is.id) rows);
     }
 
@@ -173,8 +173,8 @@ planned_fit types state (by_equal x y) wholes children ints_state rowed are lean
 -- ---- the plan of a state
 
 sound_in : (types : WorldTypes) (state : AbstractState) (listed : List (ℕ × Cell)) (id : ℕ) (cell : Cell) → AllByRecursion (λ (c : ℕ × Cell). IsSoundCell types state c.1) listed → cell_in listed id ≡ Some cell → IsSoundCell types state cell
-sound_in types state [] id cell all e = absurd (none_is_not_some cell e)
-sound_in types state (c ∷ listed) id cell all e = elim (bool_cases (eqb c.0 id)) [
+sound_in types state [] id cell all e = absurd (none-some cell e)
+sound_in types state (c ∷ listed) id cell all e = elim (cases_Bool (eqb c.0 id)) [
   | inl t ↦ subst (IsSoundCell types state) (some_is (ap (λ b. cond b (Some c.1) (cell_in listed id)) (sym t) ∙ e)) all.0
   | inr f ↦ sound_in types state listed id cell all.1 (ap (λ b. cond b (Some c.1) (cell_in listed id)) (sym f) ∙ e)
 ]

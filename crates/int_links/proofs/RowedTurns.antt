@@ -4,11 +4,13 @@ use Rattle.std.specs.Prelude.{unsigned_abs}
 use Rattle.std.specs.List.{AllByRecursion}
 use Rattle.std.specs.Ordering.{int_eq}
 use Rattle.std.proofs.lemmas.Int.{ints}
+use Rattle.std.proofs.lemmas.Option.{none-some}
+use Rattle.list_views.proofs.Quantified.{all_joined}
+use Rattle.list_views.proofs.Options.{map_some, then_some}
 use Rattle.lin_core.specs.Intervals.{Bounds}
 use Rattle.jvm_values.specs.declared.ints.IntOp.{IntOp}
 use Rattle.jvm_values.specs.declared.ints.IntOp.TheVariants.{Add, Sub}
 use Rattle.jvm_values.specs.declared.ints.Cond.{Cond}
-use Rattle.jvm_values.proofs.Options.{given, none_is_not_some}
 use Rattle.abs_cells.specs.declared.cells.Cell.{Cell}
 use Rattle.abs_cells.specs.declared.cells.Cell.TheVariants as cells
 use Rattle.abs_cells.specs.AbstractStates.{AbstractFrame, AbstractState}
@@ -29,9 +31,8 @@ use Rattle.abs_expand.specs.IntForms.{is_int_form, IsIntState}
 use Rattle.abs_expand.specs.Plans.{Goal, on_stack, in_local, Turn, steps, makes, no_rows}
 use Rattle.abs_expand.specs.Table.{local_here, row_of}
 use Rattle.abs_expand.specs.Turns.{Here, Operand, known, id, with_stack, interval_at, interval_of_id, are_one, narrowings, term_of, terms_of, constant_of, row_over, rows_over, turn_of_result, turn_of_case, turns_of, narrows, place_of_way, branch_of_case, branches}
-use Rattle.abs_expand.proofs.Grown.{both_all}
 use Rattle.abs_expand.proofs.IntTurns.{local_held}
-use Rattle.abs_expand.proofs.OptionLists.{mapped, filtered}
+use Rattle.abs_expand.proofs.OptionLists.{filtered}
 use Rattle.int_plans.proofs.EachRow.{IsFine, AreFine, each_sum, each_difference}
 use Rattle.int_plans.proofs.EachTurn.{EachTurn, HoldsOfInts, each_turn}
 use Rattle.int_links.specs.Increments.{IsShortForm}
@@ -166,7 +167,7 @@ module _ (here : Here) (ints_state : IsIntState here.state) (int_ends : (x : ℕ
         let rest : length (second ++ third) ≡ length second + length third = length-append second third in
         record {
           short = omega (arith, one, two, three, long, rest);
-          terms = both_all (IsTermOf here.state K fresh) first (second ++ third) (terms_fit left row.left hl over.small.left) (both_all (IsTermOf here.state K fresh) second third (terms_fit right row.right hr over.small.right) (term_after row.result named over.small.result));
+          terms = all_joined (IsTermOf here.state K fresh) first (second ++ third) (terms_fit left row.left hl over.small.left) (all_joined (IsTermOf here.state K fresh) second third (terms_fit right row.right hr over.small.right) (term_after row.result named over.small.result));
           constant = medium_size (row.constant +ℤ (constant_of left row.left +ℤ constant_of right row.right)) over.constant;
         }
 
@@ -186,7 +187,7 @@ module _ (here : Here) (ints_state : IsIntState here.state) (int_ends : (x : ℕ
 
   case_rowed : (left right : Operand) (frames : List AbstractFrame) (goal : Goal) → HoldsOperand left → HoldsOperand right → Keeps goal frames → (case : IntCase) → IsFine (IsOver left right) case → (turn : Turn) → turn_of_case here left right frames goal case ≡ Some turn → Rowed turn
   case_rowed left right frames goal hl hr keeps case fine turn e =
-      let m = mapped (λ (narrowed : List (ℕ × Cell)). turn_of_result here frames goal narrowed (rows_over left right case.rows) case.result) (narrowings left case.left right case.right) turn e in
+      let m = map_some (λ (narrowed : List (ℕ × Cell)). turn_of_result here frames goal narrowed (rows_over left right case.rows) case.result) (narrowings left case.left right case.right) turn e in
       subst Rowed m.1.1 (result_rowed left right frames goal m.0 case.rows case.result hl hr keeps fine.0 fine.1)
 
   operator_rowed : (op : IntOp) (left right : Operand) (frames : List AbstractFrame) (goal : Goal) → HoldsOperand left → HoldsOperand right → Keeps goal frames → AreFine (IsOver left right) (operated op (interval_at here.state left) (interval_at here.state right)) → AllByRecursion Rowed (turns_of here op left right frames goal)
@@ -199,17 +200,17 @@ module _ (here : Here) (ints_state : IsIntState here.state) (int_ends : (x : ℕ
   compared_rowed cond x y place stack hx hy =
       filtered (λ (case : IntCase). AllByRecursion IsPlainRow case.rows) Rowed (branch_of_case here (id x) (id y) place stack true) (compared cond (are_one (id x) (id y)) (interval_of_id here.state x) (interval_of_id here.state y)) (λ case plain turn e.
       let frames = with_stack here (place_of_way here place case.way) stack in
-      let m = mapped (λ (narrowed : List (ℕ × Cell)). narrows narrowed frames (rows_over (id x) (id y) case.rows)) (narrowings (id x) case.left (id y) case.right) turn e in
+      let m = map_some (λ (narrowed : List (ℕ × Cell)). narrows narrowed frames (rows_over (id x) (id y) case.rows)) (narrowings (id x) case.left (id y) case.right) turn e in
       subst Rowed m.1.1 (λ fresh. plain_fit (IsKept (narrows m.0 frames (rows_over (id x) (id y) case.rows))) fresh x y case.rows hx hy plain))
       (compared_plain cond (are_one (id x) (id y)) (interval_of_id here.state x) (interval_of_id here.state y))
 
   found_local : (n x : ℕ) → local_here here n ≡ Some x → Holds x × (n < length here.frame.locals)
   found_local n x e =
-      let m = given (λ (local : Option ℕ). local) (slice_get here.frame.locals n) x e in
+      let m = then_some (λ (local : Option ℕ). local) (slice_get here.frame.locals n) x e in
       (local_held Holds here.frame.locals n x held.locals (m.1.0 ∙ ap Some m.1.1), within here.frame.locals n m.0 m.1.0)
     where
       within : (locals : List (Option ℕ)) (n : ℕ) (local : Option ℕ) → slice_get locals n ≡ Some local → n < length locals
-      within [] n local f = absurd (none_is_not_some local f)
+      within [] n local f = absurd (none-some local f)
       within (first ∷ rest) zero local f = omega arith
       within (first ∷ rest) (suc n) local f = let l = within rest n local f in omega (arith, l)
 

@@ -5,13 +5,14 @@ use Rattle.std.specs.Int.{w32, cast_unsigned}
 use Rattle.std.specs.Ordering.{int_eq}
 use Rattle.std.proofs.Math.Nat.{mod-lt, pow-le-pow_right}
 use Rattle.std.proofs.lemmas.Int.{ints}
+use Rattle.std.proofs.lemmas.Option.{none-some}
 use Rattle.lin_core.specs.Intervals.{Bounds, interval_of}
 use Rattle.jvm_values.specs.declared.ints.IntOp.{IntOp}
 use Rattle.jvm_values.specs.declared.ints.Cond.{Cond}
 use Rattle.jvm_values.specs.declared.types.Kind.TheVariants as kinds
 use Rattle.jvm_values.specs.Kinds.{IsOfKind}
 use Rattle.jvm_values.specs.Ints.{shift_count}
-use Rattle.jvm_values.proofs.Options.{some_is, none_is_not_some}
+use Rattle.jvm_values.proofs.Options.{some_is}
 use Rattle.abs_ints.specs.Comparing.{row_of, compared}
 use Rattle.abs_ints.specs.Divisions.{divisors_of}
 use Rattle.abs_ints.specs.Operating.{operated}
@@ -109,7 +110,7 @@ divisor_is lo hi d e = go (int_le lo hi) e
   where
     go : (t : Bool) → cond t (Some (let b : Bounds = record { lo = lo; hi = hi } in b)) None ≡ Some d → d.lo ≡ lo
     go true f = ap (λ (x : Bounds). x.lo) (sym (some_is f))
-    go false f = absurd (none_is_not_some d f)
+    go false f = absurd (none-some d f)
 
 one_or_int : (n : ℤ) → IsInt n → IsInt (cond (int_eq n (pos 0)) (pos 1) n)
 one_or_int n h = if_either IsInt (int_eq n (pos 0)) (pos 1) n (λ t. (omega (arith, ints), omega (arith, ints))) (λ f. h)

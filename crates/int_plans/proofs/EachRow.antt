@@ -3,6 +3,7 @@ use Rattle.std.proofs.Common.{◌≡◌, ◌==◌, ℤ, pos, negsuc, ◌-ℤ◌,
 use Rattle.std.specs.Prelude.{int_le, ◌&&◌}
 use Rattle.std.specs.List.{AllByRecursion, cons_option}
 use Rattle.std.specs.Option.{IfSome, option_and_then}
+use Rattle.std.proofs.lemmas.Option.{none-some}
 use Rattle.lin_core.specs.Intervals.{Bounds, interval_of}
 use Rattle.jvm_values.specs.declared.ints.IntOp.{IntOp}
 use Rattle.jvm_values.specs.declared.ints.IntOp.TheVariants.{Add, Sub, Mul, Div, Rem, Shl, Shr, Ushr, And, Or, Xor, Narrow}
@@ -10,7 +11,6 @@ use Rattle.jvm_values.specs.declared.ints.Cond.{Cond}
 use Rattle.jvm_values.specs.declared.ints.Cond.TheVariants.{Eq, Ne, Lt, Ge, Gt, Le}
 use Rattle.jvm_values.specs.Kinds.{least_of, greatest_of}
 use Rattle.jvm_values.specs.Ints.{int_result, shift_count}
-use Rattle.jvm_values.proofs.Options.{none_is_not_some}
 use Rattle.abs_ints.specs.Bits.{is_natural, below_left, below_right, and_case, or_case, xor_case}
 use Rattle.abs_ints.specs.Cases.{at_least_zero, is_zero, case_between, case_with, inside}
 use Rattle.abs_ints.specs.Comparing.{standing_so, exchanged, row_of, related, both_of, cases_between, compared}
@@ -93,7 +93,7 @@ module _ (P : ShortRow → Type 0) where
   with_rows way None right result rows h = tt
   with_rows way (Some a) None result rows h = tt
   with_rows way (Some a) (Some b) None rows h = tt
-  with_rows way (Some a) (Some b) (Some r) rows h = (h, λ e. absurd (none_is_not_some r (sym e)))
+  with_rows way (Some a) (Some b) (Some r) rows h = (h, λ e. absurd (none-some r (sym e)))
 
   within : (a b : Bounds) (result : Option Bounds) (rows : List ShortRow) → AllByRecursion P rows → IfFine (inside a b result rows)
   within a b result rows h = with_rows Inside (Some a) (Some b) result rows h

@@ -4,6 +4,8 @@ use Rattle.std.specs.Prelude.{slice_set}
 use Rattle.std.specs.List.{AllByRecursion}
 use Rattle.std.specs.Option.{option_map, option_and_then, option_map_or}
 use Rattle.std.proofs.lemmas.Bool.{false≢true}
+use Rattle.list_views.proofs.Quantified.{all_filtered}
+use Rattle.list_views.proofs.Options.{map_some}
 use Rattle.lin_core.specs.Intervals.{Bounds}
 use Rattle.jvm_values.specs.declared.ints.IntOp.{IntOp}
 use Rattle.jvm_values.specs.declared.ints.IntOp.TheVariants.{Add, Sub, Narrow as NarrowOp}
@@ -34,7 +36,7 @@ use Rattle.abs_expand.specs.Switches.{table_keys, lookup_keys, parts_of}
 use Rattle.abs_expand.specs.Table.{number_cell, local_here, load_plan, store_plan, increment_plan, negation_plan, narrow_plan, switch_plan, unary, binary, value_plan, returned_to, row_of}
 use Rattle.abs_expand.proofs.IntTurns.{row_sound}
 use Rattle.abs_expand.proofs.IntStates.{one_frame, form_int, op_int, plan_is_row, plan_alone, frame_held}
-use Rattle.abs_expand.proofs.OptionLists.{mapped, filtered_any, each_any, if_there}
+use Rattle.abs_expand.proofs.OptionLists.{each_any, if_there}
 use Rattle.int_plans.specs.Laws.{IntPlansAreOfInts}
 
 -- each step of a plan, and no state is split
@@ -62,16 +64,16 @@ module _ (here : Here) (P : Turn → Type 0) (form : Form) (holds : HoldsOfInts 
 
   zero_compared : (cond : Cond) (a place : ℕ) (stack : List ℕ) → AllByRecursion P (branches here cond (id a) (known (pos 0)) place stack false)
   zero_compared cond a place stack =
-      filtered_any P (branch_of_case here (id a) (known (pos 0)) place stack false) (compared cond false (interval_of_id here.state a) (interval_at here.state (known (pos 0)))) (λ case turn e.
+      all_filtered P (branch_of_case here (id a) (known (pos 0)) place stack false) (compared cond false (interval_of_id here.state a) (interval_at here.state (known (pos 0)))) (λ case turn e.
       let frames = with_stack here (place_of_way here place case.way) stack in
-      let m = mapped (λ (narrowed : List (ℕ × Cell)). narrows narrowed frames no_rows) (narrowings (id a) case.left (known (pos 0)) case.right) turn e in
+      let m = map_some (λ (narrowed : List (ℕ × Cell)). narrows narrowed frames no_rows) (narrowings (id a) case.left (known (pos 0)) case.right) turn e in
       subst P m.1.1 (holds.still (narrows m.0 frames no_rows) refl))
 
   switched : (default : ℕ) (keys : List (ℤ × ℕ)) (stack : List ℕ) → EachTurn P (switch_plan here default keys stack)
   switched default keys [] = tt
   switched default keys (a ∷ stack) =
-      filtered_any P (switch_turn here a stack) (parts_of default keys) (λ part turn e.
-      let m = mapped (λ (both : Bounds). narrows ((a, cells.Int both) ∷ []) (with_stack here part.1 stack) no_rows) (option_and_then (meet_of (interval_of_id here.state a)) part.0) turn e in
+      all_filtered P (switch_turn here a stack) (parts_of default keys) (λ part turn e.
+      let m = map_some (λ (both : Bounds). narrows ((a, cells.Int both) ∷ []) (with_stack here part.1 stack) no_rows) (option_and_then (meet_of (interval_of_id here.state a)) part.0) turn e in
       subst P m.1.1 (holds.still (narrows ((a, cells.Int m.0) ∷ []) (with_stack here part.1 stack) no_rows) refl))
 
   kind_kept : (kept : Turn) (frames : List AbstractFrame) (goal : Goal) (result : Option Bounds) → P kept → P (turn_narrowing kept frames goal result)
@@ -92,7 +94,7 @@ module _ (here : Here) (P : Turn → Type 0) (form : Form) (holds : HoldsOfInts 
   loaded : (n : ℕ) → EachTurn P (load_plan here n)
   loaded n =
       if_there P (option_map (λ x. goes_on here here.next (x ∷ here.frame.stack)) (local_here here n)) (λ turn e.
-      let m = mapped (λ (x : ℕ). goes_on here here.next (x ∷ here.frame.stack)) (local_here here n) turn e in
+      let m = map_some (λ (x : ℕ). goes_on here here.next (x ∷ here.frame.stack)) (local_here here n) turn e in
       subst P m.1.1 (goes here.next (m.0 ∷ here.frame.stack)))
 
   stored : (n : ℕ) (stack : List ℕ) → EachTurn P (store_plan here n stack)
@@ -102,7 +104,7 @@ module _ (here : Here) (P : Turn → Type 0) (form : Form) (holds : HoldsOfInts 
   reordered : (shuffle : StackShuffle) → EachTurn P (row_of here (Shuffle shuffle))
   reordered shuffle =
       if_there P (option_map (goes_on here here.next) (shuffled shuffle here.frame.stack)) (λ turn e.
-      let m = mapped (goes_on here here.next) (shuffled shuffle here.frame.stack) turn e in
+      let m = map_some (goes_on here here.next) (shuffled shuffle here.frame.stack) turn e in
       subst P m.1.1 (goes here.next m.0))
 
   negated : (stack : List ℕ) → here.frame.stack ≡ stack → EachTurn P (negation_plan here stack)

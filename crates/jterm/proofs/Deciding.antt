@@ -1,5 +1,6 @@
 -- From what a command says of the bytes of its files to the answer.
 use Rattle.std.proofs.Common.{◌≡◌, ◌≤◌, ◌-◌, ℕ, List, [], ◌∷◌, length, Result, Ok, Err, IfOk, map, drop, take, get_or, refl, sym, subst, ap, ◌∙◌, arith}
+use Rattle.list_views.proofs.Items.{take_length}
 use Rattle.input_steps.specs.declared.refused.Refused.{Refused}
 use Rattle.prove_call.specs.Answers as prove
 use Rattle.prove_call.specs.declared.answer.Answer.{Answer}
@@ -14,16 +15,16 @@ use Rattle.check_call.specs.Lines.{accepted_line}
 use Rattle.jterm.specs.declared.verdict.Request.{Request}
 use Rattle.jterm.specs.declared.verdict.Request.TheVariants.{Prove, Check, Run, Asm}
 use Rattle.jterm.specs.declared.verdict.Verdict.{Verdict}
-use Rattle.jterm.specs.Decision.{Takes, Says, Proved, done_of, Done, verdict_of, IsAnswer}
+use Rattle.jterm.specs.Decision.{Takes, Says, Proved, done_of, DoneWith, verdict_of, IsAnswer}
 use Rattle.jterm.proofs.Proving.{verdict_of_prove, proved_true}
 use Rattle.jterm.proofs.Checking.{judged_with, accepted_true}
 
 -- ---- outputs
 
 -- an output of which something holds is that of a verdict of which it does
-pub done_with : (P : Result (List ℕ) Refused → Type 0) (out : Result (List ℕ) Refused) (result : Result Verdict Refused) → result ≡ done_of out → P out → Done P result
-done_with P (Ok out) result e h = subst (Done P) (sym e) (refl, refl, h)
-done_with P (Err refused) result e h = subst (Done P) (sym e) h
+pub done_with : (P : Result (List ℕ) Refused → Type 0) (out : Result (List ℕ) Refused) (result : Result Verdict Refused) → result ≡ done_of out → P out → DoneWith P result
+done_with P (Ok out) result e h = subst (DoneWith P) (sym e) (refl, refl, h)
+done_with P (Err refused) result e h = subst (DoneWith P) (sym e) h
 
 -- an answer of which something holds is that of a verdict of which it does
 pub proved_with : (P : Result Answer Refused → Type 0) (answer : Result Answer Refused) (result : Result Verdict Refused) → result ≡ verdict_of_prove answer → P answer → Proved P result
@@ -31,10 +32,6 @@ proved_with P (Ok answer) result e h = subst (Proved P) (sym e) h
 proved_with P (Err refused) result e h = subst (Proved P) (sym e) h
 
 -- ---- inputs
-
-take_all : {A : Type 0} (xs : List A) → take (length xs) xs ≡ xs
-take_all [] = refl
-take_all {A} (x ∷ xs) = ap (λ (ys : List A). x ∷ ys) (take_all xs)
 
 -- there is an input
 pub some_inputs : (request : Request) (given : List (List ℕ)) → Takes request given → 1 ≤ length given
@@ -50,7 +47,7 @@ inputs_are f [] one first some at is = absurd (omega arith)
 inputs_are {A} f (x ∷ xs) one first some at is =
     let here : f x ≡ first = sym (is ∙ ap f at) in
     let long : length (x ∷ xs) - 1 ≡ length xs = omega arith in
-    let others : xs ≡ take (length (x ∷ xs) - 1) xs = sym (ap (λ (n : ℕ). take n xs) long ∙ take_all xs) in
+    let others : xs ≡ take (length (x ∷ xs) - 1) xs = sym (ap (λ (n : ℕ). take n xs) long ∙ take_length xs) in
     ap (λ (w : List ℕ). w ∷ map f xs) here ∙ ap (λ (ys : List A). first ∷ map f ys) others
 
 -- the first two inputs and the others, as they are handed on
@@ -62,7 +59,7 @@ inputs_are_two {A} f (x ∷ y ∷ xs) one two first second some at is at_two is_
     let here : f x ≡ first = sym (is ∙ ap f at) in
     let there : f y ≡ second = sym (is_two ∙ ap f at_two) in
     let long : length (x ∷ y ∷ xs) - 2 ≡ length xs = omega arith in
-    let others : xs ≡ take (length (x ∷ y ∷ xs) - 2) xs = sym (ap (λ (n : ℕ). take n xs) long ∙ take_all xs) in
+    let others : xs ≡ take (length (x ∷ y ∷ xs) - 2) xs = sym (ap (λ (n : ℕ). take n xs) long ∙ take_length xs) in
     ap (λ (w : List ℕ). w ∷ f y ∷ map f xs) here ∙ (ap (λ (w : List ℕ). first ∷ w ∷ map f xs) there ∙ ap (λ (ys : List A). first ∷ second ∷ map f ys) others)
 
 pub three_inputs : {A : Type 0} (f : A → List ℕ) (inputs : List A) (request : Request) → request ≡ Check → Takes request (map f inputs) → 3 ≤ length (map f inputs)

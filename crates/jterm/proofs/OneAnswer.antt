@@ -20,7 +20,7 @@ use Rattle.run_call.proofs.OneAnswer as running
 use Rattle.jterm.specs.declared.verdict.Request.{Request}
 use Rattle.jterm.specs.declared.verdict.Request.TheVariants.{Prove, Check, Run, Asm}
 use Rattle.jterm.specs.declared.verdict.Verdict.{Verdict}
-use Rattle.jterm.specs.Decision.{Assembles, Proved, Done, Judged, IsAnswer}
+use Rattle.jterm.specs.Decision.{Assembles, Proved, DoneWith, Judged, IsAnswer}
 use Rattle.jterm.specs.Laws.{AreAlike, AreOne}
 
 -- ---- verdicts
@@ -53,8 +53,8 @@ module _ {X : Type 0} (verdict_of : X → Verdict) (P : Result X Refused → Typ
   verdict_one (Err (At place fault)) (Err Memory) h k nr ns = absurd (ns refl)
   verdict_one (Err Memory) s h k nr ns = absurd (nr refl)
 
-done_one : (P : Result (List ℕ) Refused → Type 0) → IsOne P → IsOne (Done P)
-done_one P = verdict_one (λ (out : List ℕ). record { status = 0; out = out; reason = None }) P (Done P) (λ v h. (v.out, (h.2, λ i. record { status = h.0 i; out = v.out; reason = h.1 i }))) (λ r h. h)
+done_one : (P : Result (List ℕ) Refused → Type 0) → IsOne P → IsOne (DoneWith P)
+done_one P = verdict_one (λ (out : List ℕ). record { status = 0; out = out; reason = None }) P (DoneWith P) (λ v h. (v.out, (h.2, λ i. record { status = h.0 i; out = v.out; reason = h.1 i }))) (λ r h. h)
 
 judged_one : (P : Result Outcome Refused → Type 0) → IsOne P → IsOne (Judged P)
 judged_one P = verdict_one (λ (outcome : Outcome). record { status = outcome.status; out = outcome.out; reason = None }) P (Judged P) (λ v h. (record { status = v.status; out = v.out }, (h.1, λ i. record { status = v.status; out = v.out; reason = h.0 i }))) (λ r h. h)

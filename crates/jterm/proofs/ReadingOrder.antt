@@ -9,23 +9,9 @@ use Rattle.jterm.specs.declared.verdict.Request.{Request}
 use Rattle.jterm.specs.Outside.{AreContents, AreRead, behind}
 use Rattle.jterm.specs.Failure.{HasCause, failure_at}
 
--- the first k + 1 words
-pub take_words_more : {A : Type 0} (f : A → List ℕ) (xs : List A) (k : ℕ) (x : A) (y : List ℕ) → k < length xs → x ≡ get_or xs k x → y ≡ f x
-    → take (suc k) (map f xs) ≡ take k (map f xs) ++ y ∷ []
-take_words_more f [] k x y less is named = absurd (omega (arith, less))
-take_words_more f (z ∷ xs) zero x y less is named = ap (λ l. l ∷ []) (ap f (sym is) ∙ sym named)
-take_words_more f (z ∷ xs) (suc k) x y less is named =
-    ap (λ l. f z ∷ l) (take_words_more f xs k x y (omega (arith, less)) is named)
-
 -- one item more, as contents
 pub map_more : {A : Type 0} (f : A → List ℕ) (xs all : List A) (x : A) → all ≡ xs ++ x ∷ [] → map f all ≡ map f xs ++ f x ∷ []
 map_more f xs all x e = ap (map f) e ∙ map-append f xs (x ∷ [])
-
-pub get_word : {A : Type 0} (f : A → List ℕ) (xs : List A) (k : ℕ) (x : A) (y : List ℕ) → k < length xs → x ≡ get_or xs k x → y ≡ f x
-    → slice_get (map f xs) k ≡ Some y
-get_word f [] k x y less is named = absurd (omega (arith, less))
-get_word f (z ∷ xs) zero x y less is named = ap Some (ap f (sym is) ∙ sym named)
-get_word f (z ∷ xs) (suc k) x y less is named = get_word f xs k x y (omega (arith, less)) is named
 
 pub read_more : {F : Type 0} (leaves : F → List ℕ → F → Type 0) (names : List (List ℕ)) (name : List ℕ) (a b c : F)
     → AreRead leaves names a b → leaves b name c → AreRead leaves (names ++ name ∷ []) a c

@@ -69,9 +69,9 @@ done_of (Ok out) = Ok (record { status = 0; out = out; reason = None })
 done_of (Err refused) = Err refused
 
 -- a verdict of status 0 with an output of which this holds; or a refusal of which it does
-abbrev pub Done : (Result (List ℕ) Refused → Type 0) → Result Verdict Refused → Type 0
-Done Answers (Ok verdict) = (verdict.status ≡ 0) × (verdict.reason ≡ None) × Answers (Ok verdict.out)
-Done Answers (Err refused) = Answers (Err refused)
+abbrev pub DoneWith : (Result (List ℕ) Refused → Type 0) → Result Verdict Refused → Type 0
+DoneWith Answers (Ok verdict) = (verdict.status ≡ 0) × (verdict.reason ≡ None) × Answers (Ok verdict.out)
+DoneWith Answers (Err refused) = Answers (Err refused)
 
 -- the verdict that a certificate is accepted
 abbrev pub accepted : Verdict
@@ -95,8 +95,8 @@ Judged Answers (Err refused) = Answers (Err refused)
 abbrev pub IsAnswer : Request → List (List ℕ) → Result Verdict Refused → Type 0
 IsAnswer (Prove nodes) (desc ∷ classes) result = Proved (prove.Answers nodes desc classes) result
 IsAnswer Check (cert ∷ desc ∷ classes) result = Judged (check.Answers cert desc classes) result
-IsAnswer (Run fuel) (state ∷ classes) result = Done (run.Answers fuel state classes) result
-IsAnswer Asm (listing ∷ []) result = Done (Assembles listing) result
+IsAnswer (Run fuel) (state ∷ classes) result = DoneWith (run.Answers fuel state classes) result
+IsAnswer Asm (listing ∷ []) result = DoneWith (Assembles listing) result
 IsAnswer request files result = ⊥
 
 -- the contents have no cause of refusal

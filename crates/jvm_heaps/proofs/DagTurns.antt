@@ -6,15 +6,16 @@ use Rattle.std.proofs.Math.ListN.{length-set, length-replicate}
 use Rattle.std.proofs.Math.Nat.{mul-le-mul_right, suc-mul}
 use Rattle.std.proofs.lemmas.List.{get_or-set_same, drop_all}
 use Rattle.std.proofs.lemmas.List.Sums.{get_or-le-sum_by}
-use Rattle.std.proofs.lemmas.Option.{slice_get_within, slice_get_cases, get_or_from_slice_get}
+use Rattle.std.proofs.lemmas.Option.{slice_get_within, slice_get_cases, get_or_from_slice_get, none-some}
 use Rattle.std.proofs.lemmas.Bool.{false≢true}
+use Rattle.list_views.proofs.Options.{then_some}
 use Rattle.jvm_values.specs.declared.heap.Value.{Value}
 use Rattle.jvm_values.specs.declared.heap.Value.TheVariants.{Int, Null, Ref}
 use Rattle.jvm_values.specs.declared.heap.Object.{Object}
 use Rattle.jvm_values.specs.declared.heap.Heap.{Heap}
 use Rattle.jvm_values.specs.Paths.{Steps, Reaches, IsDagFrom}
 use Rattle.jvm_values.specs.Heaps.{target, values_of, value_at, heap_steps, IsClosed}
-use Rattle.jvm_values.proofs.Options.{given, some_is, none_is_not_some}
+use Rattle.jvm_values.proofs.Options.{some_is}
 use Rattle.jvm_values.proofs.PathLaws.{here, joined, onward, one_more}
 use Rattle.jvm_heaps.specs.declared.dags.Turn.{Turn}
 use Rattle.jvm_heaps.specs.declared.dags.Turn.TheVariants.{Enter, Leave}
@@ -139,13 +140,13 @@ cover_ref r vs over named zero w c e t = inl (sym (some_is (ap target (some_is e
 cover_ref r vs over named (suc k) w c e t = inr (named k w c e t)
 
 cover_one : (steps : Steps) (left : List Bool) (above : List ℕ) (v : Value) (vs : List Value) (todo : List Turn) → IsCoveredBelow steps left above (v ∷ vs) todo → IsCoveredBelow steps left above vs (enter_after v todo)
-cover_one steps left above (Int n) vs todo h = λ over on named. h over on (cover_none (Int n) vs over (λ c e. none_is_not_some c e) named)
-cover_one steps left above Null vs todo h = λ over on named. h over on (cover_none Null vs over (λ c e. none_is_not_some c e) named)
+cover_one steps left above (Int n) vs todo h = λ over on named. h over on (cover_none (Int n) vs over (λ c e. none-some c e) named)
+cover_one steps left above Null vs todo h = λ over on named. h over on (cover_none Null vs over (λ c e. none-some c e) named)
 cover_one steps left above (Ref r) vs todo h = λ over on named. h (r ∷ over) (λ x k. inr (on x k)) (cover_ref r vs over named)
 
 cover_all : (steps : Steps) (left : List Bool) (above : List ℕ) (vs : List Value) (todo : List Turn) → IsCoveredBelow steps left above vs todo → AllCovered steps left above (all_enter vs todo)
 unfolding all_enter
-cover_all steps left above [] todo h = h above (λ x k. k) (λ k v c e. absurd (none_is_not_some v e))
+cover_all steps left above [] todo h = h above (λ x k. k) (λ k v c e. absurd (none-some v e))
 cover_all steps left above (v ∷ vs) todo h = cover_all steps left above vs (enter_after v todo) (cover_one steps left above v vs todo h)
 
 -- ---- the turns
@@ -205,7 +206,7 @@ module _ (heap : Heap) (start a : ℕ) (entered left : List Bool) (todo : List T
 
 nothing_past : (heap : Heap) (a : ℕ) → slice_get heap.objects a ≡ None → a < length heap.objects → ⊥
 nothing_past heap a e l = elim (slice_get_cases heap.objects a).1 [
-  | inl h ↦ none_is_not_some h.0 (sym e ∙ h.2)
+  | inl h ↦ none-some h.0 (sym e ∙ h.2)
   | inr h ↦ absurd (omega (arith, l, h.0))
 ]
 
@@ -222,8 +223,8 @@ object_there heap a None e l = absurd (nothing_past heap a e l)
 -- a step of a place goes through one of the values of its object
 step_named : (heap : Heap) (a i c : ℕ) (object : Object) → slice_get heap.objects a ≡ Some object → heap_steps heap a i ≡ Some c → (v : Value) × ((slice_get (values_of object) i ≡ Some v) × (target v ≡ Some c))
 step_named heap a i c object s e =
-    let p = given target (value_at heap a i) c e in
-    let q = given (λ (ob : Object). slice_get (values_of ob) i) (slice_get heap.objects a) p.0 p.1.0 in
+    let p = then_some target (value_at heap a i) c e in
+    let q = then_some (λ (ob : Object). slice_get (values_of ob) i) (slice_get heap.objects a) p.0 p.1.0 in
     (p.0, (ap (λ (ob : Object). slice_get (values_of ob) i) (some_is (sym s ∙ q.1.0)) ∙ q.1.1, p.1.1))
 
 module _ (heap : Heap) (start a : ℕ) (entered left : List Bool) (todo : List Turn) (object : Object) (stands : slice_get heap.objects a ≡ Some object) (below : a < length heap.objects) where
@@ -315,13 +316,13 @@ module _ (heap : Heap) (start a : ℕ) (entered left : List Bool) (todo : List T
 
   entered_if : (was done : Bool) → get_or entered a false ≡ was → get_or left a false ≡ done → Some after ≡ cond was (cond done (Some (record { entered = entered; left = left; todo = todo })) None) (Some (entering heap a (record { entered = entered; left = left; todo = todo }))) → IsTurned heap start (record { entered = entered; left = left; todo = Enter a ∷ todo }) after
   entered_if true true e f g = entered_old e f (some_is g)
-  entered_if true false e f g = absurd (none_is_not_some after (sym g))
+  entered_if true false e f g = absurd (none-some after (sym g))
   entered_if false done e f g = entered_new e (some_is g)
 
   closed_if : (was done : Bool) → get_or entered a false ≡ was → get_or left a false ≡ done → None ≡ cond was (cond done (Some (record { entered = entered; left = left; todo = todo })) None) (Some (entering heap a (record { entered = entered; left = left; todo = todo }))) → IsDagFrom (heap_steps heap) start → ⊥
-  closed_if true true e f g dag = absurd (none_is_not_some _ g)
+  closed_if true true e f g dag = absurd (none-some _ g)
   closed_if true false e f g dag = closing heap start a entered left todo e (λ m. false≢true (sym f ∙ m)) h dag
-  closed_if false done e f g dag = absurd (none_is_not_some _ g)
+  closed_if false done e f g dag = absurd (none-some _ g)
 
 turned_on : (heap : Heap) (start : ℕ) (turn : Turn) (entered left : List Bool) (todo : List Turn) (after : Search) → place_of turn < length heap.objects → IsSearch heap start (record { entered = entered; left = left; todo = turn ∷ todo }) → Some after ≡ turned heap turn (record { entered = entered; left = left; todo = todo }) → IsTurned heap start (record { entered = entered; left = left; todo = turn ∷ todo }) after
 unfolding turned
@@ -333,15 +334,15 @@ turned_on heap start (Enter a) entered left todo after l h e = entered_if heap s
 
 turned_off : (heap : Heap) (start : ℕ) (turn : Turn) (entered left : List Bool) (todo : List Turn) → place_of turn < length heap.objects → IsSearch heap start (record { entered = entered; left = left; todo = turn ∷ todo }) → None ≡ turned heap turn (record { entered = entered; left = left; todo = todo }) → IsDagFrom (heap_steps heap) start → ⊥
 unfolding turned
-turned_off heap start (Leave a) entered left todo l h e dag = absurd (none_is_not_some _ e)
+turned_off heap start (Leave a) entered left todo l h e dag = absurd (none-some _ e)
 turned_off heap start (Enter a) entered left todo l h e dag = closed_if heap start a entered left todo (record { entered = entered; left = left; todo = todo }) l h (get_or entered a false) (get_or left a false) refl refl e dag
 
 -- ---- the same, with what the code knows
 
 step_below : (heap : Heap) (a i c : ℕ) → IsClosed heap → heap_steps heap a i ≡ Some c → c < length heap.objects
 step_below heap a i c closed e =
-    let p = given target (value_at heap a i) c e in
-    let q = given (λ (ob : Object). slice_get (values_of ob) i) (slice_get heap.objects a) p.0 p.1.0 in
+    let p = then_some target (value_at heap a i) c e in
+    let q = then_some (λ (ob : Object). slice_get (values_of ob) i) (slice_get heap.objects a) p.0 p.1.0 in
     below_heap heap closed a q.0 q.1.0 i p.0 q.1.1 c p.1.1
 
 hanging_below : (heap : Heap) (start c : ℕ) (below : List Turn) → IsClosed heap → start < length heap.objects → Hangs (heap_steps heap) start c below → c < length heap.objects

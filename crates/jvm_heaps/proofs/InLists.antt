@@ -21,7 +21,3 @@ In-push x b [] (inl s) = inr s
 In-push x b [] (inr t) = absurd t
 In-push x b (z ∷ zs) (inl s) = inl (inl s)
 In-push x b (z ∷ zs) (inr t) = elim (In-push x b zs t) [ inl a ↦ inl (inr a) | inr s ↦ inr s ]
-
--- what holds of each item holds of the one at a place
-pub all_at : {X : Type 0} (P : X → Type 0) (xs : List X) (k : ℕ) (x : X) → All P xs → slice_get xs k ≡ Some x → P x
-all_at P xs k x h e = subst P (get_or_from_slice_get xs k x x e) (h k x (slice_get_within xs k x e))

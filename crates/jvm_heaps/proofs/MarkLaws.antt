@@ -4,13 +4,13 @@ use Rattle.std.specs.Prelude.{slice_get, sum_by}
 use Rattle.std.proofs.Math.ListN.{length-set}
 use Rattle.std.proofs.lemmas.List.{get_or-set_same, get_or-set_other, get_or_past}
 use Rattle.std.proofs.lemmas.List.Sums.{sum_by-set}
-use Rattle.std.proofs.lemmas.Bool.{false≢true, cases_lt}
+use Rattle.std.proofs.lemmas.Bool.{false≢true, cases_lt, cases_eq}
+use Rattle.std.proofs.lemmas.Option.{none-some}
 use Rattle.list_views.specs.Lists.{open_count}
 use Rattle.jvm_values.specs.declared.heap.Value.{Value}
 use Rattle.jvm_values.specs.declared.heap.Value.TheVariants.{Int, Null, Ref}
 use Rattle.jvm_values.specs.Heaps.{target, IsInHeap}
-use Rattle.jvm_values.proofs.Options.{some_is, none_is_not_some}
-use Rattle.jvm_values.proofs.Lists.{same_or_not}
+use Rattle.jvm_values.proofs.Options.{some_is}
 use Rattle.jvm_heaps.specs.Marks.{IsMarked, marks_after, todo_after, all_marks, all_todo}
 use Rattle.jvm_heaps.proofs.InLists.{IsIn, In-left, In-last, In-push}
 
@@ -21,13 +21,13 @@ marked_within marks x e = elim (cases_lt x (length marks)) [
 ]
 
 pub set_keeps : (marks : List Bool) (b x : ℕ) → IsMarked marks x → IsMarked (set marks b true) x
-set_keeps marks b x e = elim (same_or_not x b) [
+set_keeps marks b x e = elim (cases_eq x b) [
   | inl s ↦ subst (λ (y : ℕ). get_or (set marks y true) x false ≡ true) s (get_or-set_same marks x true false (marked_within marks x e))
   | inr d ↦ get_or-set_other marks b x true false d ∙ e
 ]
 
 pub set_only : (marks : List Bool) (b x : ℕ) → IsMarked (set marks b true) x → IsMarked marks x ⊎ (x ≡ b)
-set_only marks b x e = elim (same_or_not x b) [
+set_only marks b x e = elim (cases_eq x b) [
   | inl s ↦ inr s
   | inr d ↦ inl (sym (get_or-set_other marks b x true false d) ∙ e)
 ]
@@ -48,8 +48,8 @@ marked_if true marks r e l = e
 marked_if false marks r e l = get_or-set_same marks r true false l
 
 pub marked_one : (v : Value) (marks : List Bool) (c : ℕ) → target v ≡ Some c → c < length marks → IsMarked (marks_after v marks) c
-marked_one (Int n) marks c e l = absurd (none_is_not_some c e)
-marked_one Null marks c e l = absurd (none_is_not_some c e)
+marked_one (Int n) marks c e l = absurd (none-some c e)
+marked_one Null marks c e l = absurd (none-some c e)
 marked_one (Ref r) marks c e l =
     subst (λ (x : ℕ). IsMarked (marks_after (Ref r) marks) x) (some_is e) (marked_if (get_or marks r false) marks r refl (subst (λ (x : ℕ). x < length marks) (sym (some_is e)) l))
 
@@ -136,7 +136,7 @@ keep_all (v ∷ vs) marks x h = keep_all vs (marks_after v marks) x (keep_one v 
 
 pub marked_all : (vs : List Value) (marks : List Bool) (k : ℕ) (v : Value) (c : ℕ) → slice_get vs k ≡ Some v → target v ≡ Some c → c < length marks → IsMarked (all_marks vs marks) c
 unfolding all_marks
-marked_all [] marks k v c e t l = absurd (none_is_not_some v e)
+marked_all [] marks k v c e t l = absurd (none-some v e)
 marked_all (w ∷ vs) marks zero v c e t l = keep_all vs (marks_after w marks) c (marked_one w marks c (ap target (some_is e) ∙ t) l)
 marked_all (w ∷ vs) marks (suc k) v c e t l = marked_all vs (marks_after w marks) k v c e t (subst (λ (n : ℕ). c < n) (sym (length_one w marks)) l)
 

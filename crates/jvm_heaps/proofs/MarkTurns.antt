@@ -3,18 +3,20 @@ use Rattle.std.proofs.Common.{◌≡◌, ℕ, ◌+◌, ◌<◌, Bool, false, Lis
 use Rattle.std.specs.Prelude.{All, slice_get, ◌↔◌}
 use Rattle.std.specs.Option.{option_and_then}
 use Rattle.std.proofs.Math.ListN.{length-replicate}
-use Rattle.std.proofs.lemmas.List.{get_or-replicate, drop_all}
+use Rattle.std.proofs.lemmas.List.{get_or-replicate, drop_all, nil_from_length}
 use Rattle.std.proofs.lemmas.Bool.{false≢true}
 use Rattle.std.proofs.lemmas.Option.{slice_get_read}
+use Rattle.list_views.proofs.Quantified.{all_at}
+use Rattle.list_views.proofs.Options.{then_some}
 use Rattle.jvm_values.specs.declared.heap.Value.{Value}
 use Rattle.jvm_values.specs.declared.heap.Object.{Object}
 use Rattle.jvm_values.specs.declared.heap.Heap.{Heap}
 use Rattle.jvm_values.specs.Paths.{follow}
 use Rattle.jvm_values.specs.Heaps.{target, values_of, value_at, heap_steps, Region, IsInHeap, IsClosed}
-use Rattle.jvm_values.proofs.Options.{given, some_is}
+use Rattle.jvm_values.proofs.Options.{some_is}
 use Rattle.jvm_values.proofs.PathLaws.{here, joined}
 use Rattle.jvm_heaps.specs.Marks.{IsMarked, marks_after, todo_after, all_marks, all_todo}
-use Rattle.jvm_heaps.proofs.InLists.{IsIn, In-left, In-last, In-push, all_at}
+use Rattle.jvm_heaps.proofs.InLists.{IsIn, In-left, In-last, In-push}
 use Rattle.list_views.specs.Lists.{open_count}
 use Rattle.jvm_heaps.proofs.MarkLaws.{AreBelow, marked_within, only_one, new_one, only_todo_one, marked_one, length_one, length_all, keep_all, marked_all, only_all, keep_todo_all, new_all, only_todo_all, work_all}
 
@@ -87,8 +89,8 @@ turn heap value marks todo rest a object closed e s h =
           | inr t ↦ elim (In-push b a rest (subst (λ (xs : List ℕ). IsIn b xs) e t)) [
             | inl u ↦ inr (keep_todo_all (values_of object) marks rest b u)
             | inr u ↦
-                let p = given target (value_at heap b i) c f in
-                let q = given (λ (ob : Object). slice_get (values_of ob) i) (slice_get heap.objects b) p.0 p.1.0 in
+                let p = then_some target (value_at heap b i) c f in
+                let q = then_some (λ (ob : Object). slice_get (values_of ob) i) (slice_get heap.objects b) p.0 p.1.0 in
                 let same : q.0 ≡ object = some_is (sym q.1.0 ∙ ap (slice_get heap.objects) u ∙ s) in
                 let here_too : slice_get (values_of object) i ≡ Some p.0 = ap (λ (ob : Object). slice_get (values_of ob) i) (sym same) ∙ q.1.1 in
                 inl (marked_all (values_of object) marks i p.0 c here_too p.1.1 (below i p.0 here_too c p.1.1))
@@ -107,7 +109,7 @@ less_work heap value marks todo rest a object closed e s h =
 reached_marked : (heap : Heap) (value : Value) (marks : List Bool) → IsMarking heap value marks [] → (path : List ℕ) (a b : ℕ) → IsMarked marks a → follow (heap_steps heap) path a ≡ Some b → IsMarked marks b
 reached_marked heap value marks h [] a b m e = subst (λ (x : ℕ). IsMarked marks x) (some_is e) m
 reached_marked heap value marks h (i ∷ path) a b m e =
-    let p = given (follow (heap_steps heap) path) (heap_steps heap a i) b e in
+    let p = then_some (follow (heap_steps heap) path) (heap_steps heap a i) b e in
     reached_marked heap value marks h path p.0 b (elim (h.followed a i p.0 m p.1.0) [ inl k ↦ k | inr t ↦ absurd t ]) p.1.1
 
 pub finish : (heap : Heap) (value : Value) (marks : List Bool) → IsMarking heap value marks [] → (b : ℕ) → IsMarked marks b ↔ Region heap value b
@@ -154,12 +156,8 @@ pub held : (heap : Heap) (a n : ℕ) (object : Object) (values : List Value) →
 held heap a n object values closed l e f g =
     subst (λ (vs : List Value). All (IsInHeap n) vs) (sym f) (subst (λ (k : ℕ). All (IsInHeap k) (values_of object)) (sym g) (subst (λ (ob : Object). All (IsInHeap (length heap.objects)) (values_of ob)) (sym e) (closed a object l)))
 
-no_items : (xs : List ℕ) → length xs ≡ 0 → xs ≡ []
-no_items [] e = refl
-no_items (x ∷ xs) e = absurd (omega arith)
-
 pub finished : (heap : Heap) (value : Value) (marks : List Bool) (todo : List ℕ) → length todo ≡ 0 → IsMarking heap value marks todo → (b : ℕ) → IsMarked marks b ↔ Region heap value b
-finished heap value marks todo e h = finish heap value marks (subst (λ (ts : List ℕ). IsMarking heap value marks ts) (no_items todo e) h)
+finished heap value marks todo e h = finish heap value marks (subst (λ (ts : List ℕ). IsMarking heap value marks ts) (nil_from_length todo e) h)
 
 -- ---- one value after another
 

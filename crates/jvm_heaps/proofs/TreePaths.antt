@@ -1,8 +1,8 @@
 -- Paths by their last steps: where each place is entered by at most one step, and the start by none, one path leads to
 -- each place.
 use Rattle.std.proofs.Common.{◌≡◌, ℕ, zero, suc, ◌<◌, ◌≤◌, List, [], ◌∷◌, ◌++◌, length, Some, ◌⊎◌, inl, inr, refl, sym, ap, ◌∙◌, arith, length-append}
+use Rattle.list_views.proofs.Options.{then_some}
 use Rattle.jvm_values.specs.Paths.{Steps, follow, Reaches, IsTreeFrom}
-use Rattle.jvm_values.proofs.Options.{given}
 use Rattle.jvm_values.proofs.PathLaws.{follow-append}
 
 pub nil_is_not_last : (p : List ℕ) (i : ℕ) → [] ≡ p ++ i ∷ [] → ⊥
@@ -14,15 +14,6 @@ same_head x y xs ys e = cc
 
 same_tail : (x y : ℕ) (xs ys : List ℕ) → x ∷ xs ≡ y ∷ ys → xs ≡ ys
 same_tail x y xs ys e = cc
-
--- equal paths with a last step each have equal last steps, and are equal before
-pub same_last : (p q : List ℕ) (i j : ℕ) → p ++ i ∷ [] ≡ q ++ j ∷ [] → (p ≡ q) × (i ≡ j)
-same_last [] [] i j e = (refl, same_head i j [] [] e)
-same_last [] (y ∷ q) i j e = absurd (nil_is_not_last q j (same_tail i y [] (q ++ j ∷ []) e))
-same_last (x ∷ p) [] i j e = absurd (nil_is_not_last p i (sym (same_tail x j (p ++ i ∷ []) [] e)))
-same_last (x ∷ p) (y ∷ q) i j e =
-    let r = same_last p q i j (same_tail x y (p ++ i ∷ []) (q ++ j ∷ []) e) in
-    (ap (λ (z : ℕ). z ∷ p) (same_head x y (p ++ i ∷ []) (q ++ j ∷ []) e) ∙ ap (λ (zs : List ℕ). y ∷ zs) r.0, r.1)
 
 record HasLast (p : List ℕ) : Type 0 where
   pub front : List ℕ
@@ -43,8 +34,8 @@ record LastStep (steps : Steps) (p : List ℕ) (a i b : ℕ) : Type 0 where
 
 last_step : (steps : Steps) (p : List ℕ) (a i b : ℕ) → follow steps (p ++ i ∷ []) a ≡ Some b → LastStep steps p a i b
 last_step steps p a i b e =
-    let g = given (follow steps (i ∷ [])) (follow steps p a) b (sym (follow-append steps p (i ∷ []) a) ∙ e) in
-    let h = given (follow steps []) (steps g.0 i) b g.1.1 in
+    let g = then_some (follow steps (i ∷ [])) (follow steps p a) b (sym (follow-append steps p (i ∷ []) a) ∙ e) in
+    let h = then_some (follow steps []) (steps g.0 i) b g.1.1 in
     record { place = g.0; reached = g.1.0; leads = h.1.0 ∙ h.1.1 }
 
 module _ (steps : Steps) (a : ℕ) (one : (c d i j b : ℕ) → Reaches steps a c → Reaches steps a d → steps c i ≡ Some b → steps d j ≡ Some b → (c ≡ d) × (i ≡ j)) (none : (c i : ℕ) → Reaches steps a c → steps c i ≡ Some a → ⊥) where

@@ -3,8 +3,8 @@ use Rattle.std.proofs.Common.{◌≡◌, ℕ, zero, suc, ◌+◌, ◌<◌, ◌�
 use Rattle.std.specs.Prelude.{slice_get, ◌↔◌}
 use Rattle.std.specs.Option.{option_and_then}
 use Rattle.std.proofs.Math.ListN.{length-replicate}
-use Rattle.std.proofs.lemmas.List.{get_or-set_same, get_or-replicate, drop_all}
-use Rattle.std.proofs.lemmas.Option.{slice_get_read}
+use Rattle.std.proofs.lemmas.List.{get_or-set_same, get_or-replicate, drop_all, same_from_push}
+use Rattle.std.proofs.lemmas.Option.{slice_get_read, none-some}
 use Rattle.std.proofs.lemmas.Bool.{false≢true, cases_lt}
 use Rattle.jvm_values.specs.declared.heap.Value.{Value}
 use Rattle.jvm_values.specs.declared.heap.Value.TheVariants.{Int, Null, Ref}
@@ -12,13 +12,13 @@ use Rattle.jvm_values.specs.declared.heap.Object.{Object}
 use Rattle.jvm_values.specs.declared.heap.Heap.{Heap}
 use Rattle.jvm_values.specs.Paths.{follow, Reaches}
 use Rattle.jvm_values.specs.Heaps.{target, values_of, value_at, heap_steps, Region, IsInHeap, IsClosed, IsTree}
-use Rattle.jvm_values.proofs.Options.{some_is, none_is_not_some}
+use Rattle.jvm_values.proofs.Options.{some_is}
 use Rattle.jvm_values.proofs.PathLaws.{joined}
 use Rattle.jvm_heaps.specs.Marks.{IsMarked, marks_after, all_marks}
 use Rattle.jvm_heaps.specs.Trees.{new_after, all_new, values_if}
 use Rattle.jvm_heaps.proofs.MarkLaws.{AreBelow, set_only, set_keeps, only_one, marked_one, marked_within, length_one}
 use Rattle.jvm_heaps.proofs.MarkTurns.{none_marked, below_heap}
-use Rattle.jvm_heaps.proofs.TreePaths.{nil_is_not_last, same_last, tree_from}
+use Rattle.jvm_heaps.proofs.TreePaths.{nil_is_not_last, tree_from}
 
 -- passed are all steps of the objects before `k`, and those of `k` before `m`
 abbrev pub IsPast : ℕ → ℕ → ℕ → ℕ → Type 0
@@ -128,7 +128,7 @@ module _ (heap : Heap) (value : Value) (region named : List Bool) (k m : ℕ) wh
             let starts : z.start ≡ x.start = some_is (sym z.names ∙ x.names) in
             let way : follow (heap_steps heap) z.reaches.path x.start ≡ Some y.from = subst (λ (s : ℕ). follow (heap_steps heap) z.reaches.path s ≡ Some y.from) starts z.reaches.leads in
             let too : follow (heap_steps heap) (z.reaches.path ++ y.place ∷ []) x.start ≡ Some r = joined (heap_steps heap) z.reaches.path (y.place ∷ []) x.start y.from r way (ap (option_and_then (follow (heap_steps heap) [])) y.leads) in
-            let same = same_last z.reaches.path x.reaches.path y.place m (tree x.start x.names (z.reaches.path ++ y.place ∷ []) (x.reaches.path ++ m ∷ []) r too there) in
+            let same = same_from_push z.reaches.path x.reaches.path y.place m (tree x.start x.names (z.reaches.path ++ y.place ∷ []) (x.reaches.path ++ m ∷ []) r too there) in
             let from : y.from ≡ k = some_is (sym way ∙ ap (λ (p : List ℕ). follow (heap_steps heap) p x.start) same.0 ∙ x.reaches.leads) in
             not_past k m (subst (λ (i : ℕ). IsPast k m k i) same.1 (subst (λ (a : ℕ). IsPast k m a y.place) from y.past))
       ]
@@ -150,8 +150,8 @@ turn_none : (heap : Heap) (value : Value) (region named : List Bool) (k m : ℕ)
 turn_none heap value region named k m new never h = record { good = λ f. pass_none heap value region named k m never (h.good f); bad = h.bad }
 
 turn_value : (heap : Heap) (value v : Value) (region named : List Bool) (k m : ℕ) (new : Bool) → ((b : ℕ) → IsMarked region b → Region heap value b) → IsMarked region k → heap_steps heap k m ≡ target v → IsInHeap (length named) v → IsTurn heap value region k m named new → IsTurn heap value region k (suc m) (marks_after v named) (new_after v named new)
-turn_value heap value (Int n) region named k m new sound inside is below h = turn_none heap value region named k m new (λ c e. none_is_not_some c (sym is ∙ e)) h
-turn_value heap value Null region named k m new sound inside is below h = turn_none heap value region named k m new (λ c e. none_is_not_some c (sym is ∙ e)) h
+turn_value heap value (Int n) region named k m new sound inside is below h = turn_none heap value region named k m new (λ c e. none-some c (sym is ∙ e)) h
+turn_value heap value Null region named k m new sound inside is below h = turn_none heap value region named k m new (λ c e. none-some c (sym is ∙ e)) h
 turn_value heap value (Ref r) region named k m new sound inside is below h = one_if heap value region named k m r (get_or named r false) new refl sound inside is (below r refl) h
 
 -- ---- all values of an object
@@ -173,7 +173,7 @@ over_back heap region k m never a i c (inl l) r e = elim (cases_lt a k) [
 ]
 
 no_value : (heap : Heap) (k m j i c : ℕ) → i ≡ m + j → value_at heap k (m + j) ≡ None → heap_steps heap k i ≡ Some c → ⊥
-no_value heap k m j i c s is e = none_is_not_some c (sym (ap (option_and_then target) is) ∙ subst (λ (x : ℕ). heap_steps heap k x ≡ Some c) s e)
+no_value heap k m j i c s is e = none-some c (sym (ap (option_and_then target) is) ∙ subst (λ (x : ℕ). heap_steps heap k x ≡ Some c) s e)
 
 beyond : (m i : ℕ) → m ≤ i → (j : ℕ) × (i ≡ m + j)
 beyond zero i l = (i, omega arith)

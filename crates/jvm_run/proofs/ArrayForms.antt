@@ -4,10 +4,13 @@ use Rattle.std.specs.Prelude.{slice_get, All, IfSome, nat_lt}
 use Rattle.std.specs.List.{AllZip}
 use Rattle.std.specs.Option.{option_and_then, option_map, option_map_or, is_some}
 use Rattle.std.proofs.lemmas.Bool.{false≢true, and_from, lt-ltb, ltb-true}
-use Rattle.std.proofs.lemmas.Option.{slice_get_within}
+use Rattle.std.proofs.lemmas.Option.{slice_get_within, none-some}
 use Rattle.std.proofs.lemmas.List.{length-replicate}
 use Rattle.std.proofs.lemmas.List.Elements.{All-set, All-replicate}
 use Rattle.std.proofs.lemmas.Int.{ints}
+use Rattle.list_views.proofs.Quantified.{all_at}
+use Rattle.list_views.proofs.Items.{get_last}
+use Rattle.list_views.proofs.Options.{then_some}
 use Rattle.jvm_values.specs.declared.heap.Value.{Value}
 use Rattle.jvm_values.specs.declared.heap.Value.TheVariants as values
 use Rattle.jvm_values.specs.declared.heap.Object.{Object}
@@ -25,7 +28,7 @@ use Rattle.jvm_values.specs.States.{MachineFrame, PlaceTypes}
 use Rattle.jvm_values.specs.Kinds.{IsOfKind, narrowed}
 use Rattle.jvm_values.specs.Subtyping.{array_of, array_of_numbers, IsReference}
 use Rattle.jvm_values.specs.TypedHeaps.{WorldTypes, AreLawful, type_of, HasType, IsTypedObject}
-use Rattle.jvm_values.proofs.Options.{given, some_is, none_is_not_some}
+use Rattle.jvm_values.proofs.Options.{some_is}
 use Rattle.class_world.specs.Types.{erase}
 use Rattle.code_verify.specs.declared.want.Want.{Want}
 use Rattle.code_verify.specs.declared.want.Want.TheVariants as wants
@@ -38,10 +41,8 @@ use Rattle.code_verify.proofs.RowLaws.{array_reference}
 use Rattle.jvm_values.specs.Joins.{item_of}
 use Rattle.jvm_step.specs.Effects.{Effect, with_stack, pushes, on_item, item_at, index_below, length_of, numbers_in, references_in, with_number, with_item, array_made, zeros, nulls, newarray_effect, anewarray_effect, arraylength_effect, number_load_effect, aaload_effect, number_store_effect, aastore_effect}
 use Rattle.jvm_step.specs.Operands.{is_null_or_below, top_int}
-use Rattle.jvm_run.proofs.Lists.{all_get}
 use Rattle.jvm_run.proofs.Numbers.{of_int, narrowed_is, zero_is}
 use Rattle.jvm_run.proofs.Values.{Grows, grows_by, grows_set, heap_with, heap_set, own_type, type_wider}
-use Rattle.jvm_run.proofs.Lists.{get_last}
 use Rattle.jvm_run.proofs.Forms.{Here, Stands, Well, FrameGood, HeapGood, Fits, types_here, acted_of, left, pushed, top_int_of, top_reference_of, asks_any, asks_array, asks_numbers, asks_references, reference_top, rest_has, on_object_well, bind_well, asked_well, fits_grown}
 use Rattle.jvm_run.proofs.IntForms.{one_int}
 use Rattle.jvm_run.proofs.Objects.{reference_numbers, number_array, ReferenceArray, reference_array_of, some_array, typed_at}
@@ -134,7 +135,7 @@ item_well {A} here G P list (pos i) act h k = go (slice_get list i) refl
   where
     go : (o : Option A) → slice_get list i ≡ o → Well here G (Some (on_item o act))
     go None e = (omega arith, omega arith)
-    go (Some x) e = k x (all_get P list i x h e)
+    go (Some x) e = k x (all_at P list i x h e)
 
 pub number_load_well : (here : Here) → Stands here → IsTrue (falls here.form) → (for : ItemKind) (after : PlaceTypes) → acted (types_here here) (wants.Int ∷ wants.Numbers for ∷ []) (Some places.Int) here.before ≡ Some after → Well here (FrameGood here after) (number_load_effect for here.work.heap here.work.frame)
 unfolding number_load_effect
@@ -169,18 +170,18 @@ record Loads (here : Here) (after : PlaceTypes) : Type 0 where
 loads : (here : Here) (after : PlaceTypes) → aaload_types (types_here here) here.before ≡ Some after → Loads here after
 unfolding aaload_types
 loads here after e =
-    let g = given _ (taken (types_here here) (wants.Int ∷ []) here.before.stack) after e in
-    let h = given _ (top_place g.0) after g.1.1 in
-    let k = given _ (item_place h.0.0) after h.1.1 in
+    let g = then_some _ (taken (types_here here) (wants.Int ∷ []) here.before.stack) after e in
+    let h = then_some _ (top_place g.0) after g.1.1 in
+    let k = then_some _ (item_place h.0.0) after h.1.1 in
     record { below = g.0; int_is = g.1.0; array = h.0.0; under = h.0.1; below_is = is_top g.0 h.0 h.1.0; item = k.0; item_is = k.1.0; after_is = sym (some_is k.1.1) }
   where
     is_top : (xs : List PlaceType) (x : PlaceType × List PlaceType) → top_place xs ≡ Some x → xs ≡ x.0 ∷ x.1
-    is_top [] x f = absurd (none_is_not_some x f)
+    is_top [] x f = absurd (none-some x f)
     is_top (y ∷ ys) x f = ap (λ (z : PlaceType × List PlaceType). z.0 ∷ z.1) (some_is f)
 
 item_reference : (place item : PlaceType) → item_place place ≡ Some item → is_reference place ≡ true
-item_reference places.Unset item e = absurd (none_is_not_some item e)
-item_reference places.Int item e = absurd (none_is_not_some item e)
+item_reference places.Unset item e = absurd (none-some item e)
+item_reference places.Int item e = absurd (none-some item e)
 item_reference places.Null item e = refl
 item_reference (places.Ref t) item e = refl
 
@@ -194,7 +195,7 @@ item_type : (t : Ty) (item : PlaceType) → item_place (places.Ref t) ≡ Some i
 item_type t item e = go (item_of t) refl e
   where
     go : (o : Option Ty) → item_of t ≡ o → option_map places.Ref o ≡ Some item → ItemType t item
-    go None p q = absurd (none_is_not_some item q)
+    go None p q = absurd (none-some item q)
     go (Some of) p q = record { of = of; of_is = p; item_is = sym (some_is q) }
 
 load_item : (here : Here) → Stands here → IsTrue (falls here.form) → (after : PlaceTypes) (under : List PlaceType) (item : PlaceType) (index : ℤ) (rest : List Value) (t : Ty) (object : Object) → item_place (places.Ref t) ≡ Some item → after ≡ record { locals = here.before.locals; stack = item ∷ under } → HasStack (types_here here) here.work.heap under rest → IsTypedObject (types_here here) here.work.heap object → IsTrue ((types_here here).sub (type_of object) t) → Well here (FrameGood here after) (option_and_then (λ (references : Ty × List Value). Some (on_item (item_at references.1 index) (λ (value : Value). pushes value rest here.work.frame))) (references_in object))

@@ -4,7 +4,7 @@ use Rattle.std.specs.Prelude.{slice_get, All, IfSome, nat_lt}
 use Rattle.std.specs.List.{AllZip, AllByRecursion}
 use Rattle.std.specs.Option.{option_and_then, option_map, option_map_or}
 use Rattle.std.proofs.lemmas.Bool.{false≢true, and_parts, and_from, lt-ltb, ltb-true}
-use Rattle.std.proofs.lemmas.Option.{slice_get_within}
+use Rattle.std.proofs.lemmas.Option.{slice_get_within, none-some}
 use Rattle.std.proofs.lemmas.List.{length-replicate}
 use Rattle.std.proofs.lemmas.List.Elements.{All-set, All-replicate}
 use Rattle.std.proofs.lemmas.Int.{ints}
@@ -24,7 +24,6 @@ use Rattle.jvm_values.specs.declared.typing.PlaceType.TheVariants as places
 use Rattle.jvm_values.specs.States.{MachineFrame, PlaceTypes}
 use Rattle.jvm_values.specs.Subtyping.{class_type, array_of, array_of_numbers, IsReference}
 use Rattle.jvm_values.specs.TypedHeaps.{WorldTypes, AreLawful, type_of, HasType, IsTypedObject}
-use Rattle.jvm_values.proofs.Options.{none_is_not_some}
 use Rattle.class_world.specs.Fields.{can_be_made}
 use Rattle.class_world.specs.Linked.{class_order}
 use Rattle.class_world.specs.Types.{is_class_below, erase}
@@ -33,6 +32,7 @@ use Rattle.code_verify.specs.declared.want.Want.TheVariants as wants
 use Rattle.std.proofs.Common.{take, drop, reverse, append-nil}
 use Rattle.std.proofs.lemmas.List.{reverse-append, reverse-reverse, length-reverse}
 use Rattle.std.specs.Str.{bytes_eq}
+use Rattle.list_views.proofs.Options.{cond_guarded}
 use Rattle.jvm_values.specs.Subtyping.{IsSlot}
 use Rattle.class_world.specs.World.{World, is_interface_class, is_abstract}
 use Rattle.class_world.specs.Descriptors.{class_slot}
@@ -52,7 +52,6 @@ use Rattle.class_program.proofs.Got.{all_at}
 use Rattle.code_verify.specs.Operands.{fits, place_of, want_of}
 use Rattle.code_verify.specs.Rows.{taken, acted, called, argument_wants, special_receiver}
 use Rattle.code_verify.specs.TypedStates.{HasPlaceType, HasStack, argument_count}
-use Rattle.code_verify.proofs.Basics.{chosen}
 use Rattle.code_verify.proofs.RowLaws.{array_reference}
 use Rattle.jvm_step.specs.Effects.{are_passed, below_arguments, is_constructor, is_special_receiver, runs_or_lacks, class_of_object, answer_of, selected_effect, invokestatic_effect, invokespecial_effect, selecting_effect}
 use Rattle.jvm_step.specs.Operands.{top_reference, is_passed, is_assignable}
@@ -75,10 +74,10 @@ record Passed (types : WorldTypes) (heap : Heap) (params : List Slot) (more : Li
 
 passed_of : (types : WorldTypes) → AreLawful types → (heap : Heap) (params : List Slot) (more : List Want) (below wanted : List PlaceType) (stack : List Value) → HasStack types heap wanted stack → taken types (map want_of params ++ more) wanted ≡ Some below → Passed types heap params more below wanted stack
 passed_of types laws heap [] more below wanted stack h e = record { typed = tt; has = h; others = e }
-passed_of types laws heap (slot ∷ params) more below [] stack h e = absurd (none_is_not_some below e)
+passed_of types laws heap (slot ∷ params) more below [] stack h e = absurd (none-some below e)
 passed_of types laws heap (slot ∷ params) more below (place ∷ wanted) [] h e = absurd h
 passed_of types laws heap (slot ∷ params) more below (place ∷ wanted) (value ∷ rest) h e =
-    let g = chosen (fits types (want_of slot) place) (taken types (map want_of params ++ more) wanted) below e in
+    let g = cond_guarded (fits types (want_of slot) place) (taken types (map want_of params ++ more) wanted) below e in
     let k = passed_of types laws heap params more below wanted rest h.1 g.1 in
     record { typed = (fits_slot types laws heap slot place value g.0 h.0, k.typed); has = k.has; others = k.others }
 

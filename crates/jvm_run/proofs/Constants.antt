@@ -155,9 +155,3 @@ op_int (ops.Checkcast x) h = tt
 op_int (ops.Instanceof x) h = tt
 
 -- ---- what holds of each item, while a loop goes over them
-
-pub all_more : {X : Type 0} (P : X → Type 0) (xs : List X) (i : ℕ) (x : X) → i < length xs → x ≡ get_or xs i x → All P (take i xs) → P x → All P (take (i + 1) xs)
-all_more P xs i x l e h p = All-more P xs i x l h (subst P e p)
-
-pub all_whole : {X : Type 0} (P : X → Type 0) (xs : List X) (i : ℕ) → length xs ≤ i → All P (take i xs) → All P xs
-all_whole P xs i l h = subst (All P) (take_all i xs l) h

@@ -4,11 +4,12 @@ use Rattle.std.specs.Prelude.{slice_get, All, IfSome, nat_lt}
 use Rattle.std.specs.List.{AllZip}
 use Rattle.std.specs.Option.{option_and_then, option_map, option_map_or}
 use Rattle.std.proofs.lemmas.Bool.{false≢true, and_from, lt-ltb, ltb-true}
-use Rattle.std.proofs.lemmas.Option.{slice_get_within}
+use Rattle.std.proofs.lemmas.Option.{slice_get_within, none-some}
 use Rattle.std.proofs.lemmas.List.{length-replicate}
 use Rattle.std.proofs.lemmas.List.Elements.{All-set, All-replicate}
 use Rattle.std.proofs.lemmas.Int.{ints}
 use Rattle.std.proofs.lemmas.Slice.Zip.{AllZip-long}
+use Rattle.list_views.proofs.Options.{then_some}
 use Rattle.list_views.specs.Options.{asked}
 use Rattle.jvm_values.specs.declared.heap.Value.{Value}
 use Rattle.jvm_values.specs.declared.heap.Value.TheVariants as values
@@ -26,7 +27,7 @@ use Rattle.jvm_values.specs.declared.typing.PlaceType.TheVariants as places
 use Rattle.jvm_values.specs.States.{MachineFrame, PlaceTypes}
 use Rattle.jvm_values.specs.Subtyping.{class_type}
 use Rattle.jvm_values.specs.TypedHeaps.{WorldTypes, AreLawful, type_of, Holds, IsTypedObject}
-use Rattle.jvm_values.proofs.Options.{given, some_is, none_is_not_some}
+use Rattle.jvm_values.proofs.Options.{some_is}
 use Rattle.class_world.specs.Fields.{fields_of}
 use Rattle.class_world.specs.Linked.{class_order}
 use Rattle.class_world.specs.Types.{is_class_below, erase}
@@ -67,7 +68,7 @@ static_there : (here : Here) (place : ℕ) (slot : Slot) → static_slot here.pr
 static_there here place slot e = go (slice_get here.program.statics place) refl e
   where
     go : (o : Option StaticField) → slice_get here.program.statics place ≡ o → option_map (λ (f : StaticField). f.slot) o ≡ Some slot → StaticThere here place slot
-    go None p q = absurd (none_is_not_some slot q)
+    go None p q = absurd (none-some slot q)
     go (Some f) p q = record { field_ = f; there = p; slot_is = some_is q }
 
 pub getstatic_well : (here : Here) → Stands here → IsTrue (falls here.form) → (place : ℕ) (after : PlaceTypes) → getstatic_types here.program place here.before ≡ Some after → Well here (FrameGood here after) (getstatic_effect place here.work.statics here.work.frame)
@@ -75,7 +76,7 @@ unfolding getstatic_effect getstatic_types
 getstatic_well here s f place after e =
     let types = types_here here in
     let heap = here.work.heap in
-    let g = given _ (static_slot here.program place) after e in
+    let g = then_some _ (static_slot here.program place) after e in
     let there = static_there here place g.0 g.1.0 in
     let b = zip_get (λ (field_ : StaticField) (value : Value). Holds types heap field_.slot value) here.program.statics here.work.statics place there.field_ s.statics there.there in
     let a = acted_of types [] (Some (place_of types g.0)) here.before after g.1.1 in
@@ -90,7 +91,7 @@ putstatic_well here s f place after e =
     let frame = here.work.frame in
     let statics = here.work.statics in
     let R : StaticField → Value → Type 0 = λ (x : StaticField) (value : Value). Holds types heap x.slot value in
-    let g = given _ (static_slot here.program place) after e in
+    let g = then_some _ (static_slot here.program place) after e in
     let there = static_there here place g.0 g.1.0 in
     let a = acted_of types (want_of g.0 ∷ []) None here.before after g.1.1 in
     let top = top_passed_of types s.laws heap g.0 [] a.below here.before.stack frame.stack s.stack a.taken_is in
@@ -121,7 +122,7 @@ no_field here s used good z =
     let order = class_order world s.linked in
     let below : is_class_below world 0 used.class ≡ true = subst (λ (c : ℕ). is_class_below world 0 c ≡ true) (sym z) (order.same 0) in
     let slot = good.right 0 order.some below in
-    none_is_not_some used.slot (ap (λ (fields : List Slot). slice_get fields used.place) (sym (s.built_ins.without_fields 0 (omega arith))) ∙ slot)
+    none-some used.slot (ap (λ (fields : List Slot). slice_get fields used.place) (sym (s.built_ins.without_fields 0 (omega arith))) ∙ slot)
 
 has_field : (here : Here) → Stands here → (used : FieldUse) → IsGoodField here.program.world used → (object : Object) → IsTypedObject (types_here here) here.work.heap object → is_assignable (types_here here) object (class_type used.class) ≡ true → HasField here used object
 has_field here s used good object typed e =

@@ -5,6 +5,8 @@ use Rattle.std.specs.List.{AllZip, list_any}
 use Rattle.std.specs.Option.{option_map, option_map_or, option_and_then}
 use Rattle.std.proofs.lemmas.Bool.{false≢true, and_parts}
 use Rattle.std.proofs.lemmas.List.Elements.{All-weaker}
+use Rattle.std.proofs.lemmas.Option.{none-some}
+use Rattle.list_views.proofs.Options.{cond_guarded, then_some}
 use Rattle.list_views.specs.Options.{asked}
 use Rattle.jvm_values.specs.declared.heap.Value.{Value}
 use Rattle.jvm_values.specs.declared.heap.Value.TheVariants as values
@@ -21,7 +23,7 @@ use Rattle.jvm_values.specs.Heaps.{IsInHeap}
 use Rattle.jvm_values.specs.Kinds.{IsOfKind}
 use Rattle.jvm_values.specs.Subtyping.{class_type}
 use Rattle.jvm_values.specs.TypedHeaps.{WorldTypes, AreLawful, type_of, HasType, Holds, IsTypedHeap}
-use Rattle.jvm_values.proofs.Options.{given, some_is, none_is_not_some}
+use Rattle.jvm_values.proofs.Options.{some_is}
 use Rattle.class_world.specs.BuiltIns.{HasBuiltIns, throwable}
 use Rattle.class_world.specs.Linking.{is_linked}
 use Rattle.class_world.specs.WorldTypes.{types_of}
@@ -38,7 +40,6 @@ use Rattle.code_verify.specs.Operands.{fits, want_of, place_of, is_reference}
 use Rattle.code_verify.specs.Rows.{taken, with_result, acted}
 use Rattle.code_verify.specs.Flows.{falls, jumps}
 use Rattle.code_verify.specs.TypedStates.{HasPlaceType, HasStack, argument_count}
-use Rattle.code_verify.proofs.Basics.{chosen}
 use Rattle.jvm_step.specs.Effects.{Effect, effect_on, with_stack, on_object}
 use Rattle.jvm_step.specs.Operands.{top, top_int, top_reference, is_of_type, is_passed}
 use Rattle.jvm_step.specs.Table.{Work, on_frame, on_heap, on_statics}
@@ -165,7 +166,7 @@ pub record IsActed (types : WorldTypes) (asks : List Want) (result : Option Plac
 pub acted_of : (types : WorldTypes) (asks : List Want) (result : Option PlaceType) (before after : PlaceTypes) → acted types asks result before ≡ Some after → IsActed types asks result before after
 unfolding acted
 acted_of types asks result before after e =
-    let g = given _ (taken types asks before.stack) after e in
+    let g = then_some _ (taken types asks before.stack) after e in
     record { below = g.0; taken_is = g.1.0; after_is = sym (some_is g.1.1) }
 
 -- the stack is what is below the operands
@@ -190,14 +191,14 @@ pub record TopInt (types : WorldTypes) (heap : Heap) (more : List Want) (below :
   pub others : taken types more under ≡ Some below
 
 pub top_int_of : (types : WorldTypes) (heap : Heap) (more : List Want) (below wanted : List PlaceType) (stack : List Value) → HasStack types heap wanted stack → taken types (wants.Int ∷ more) wanted ≡ Some below → TopInt types heap more below stack
-top_int_of types heap more below [] stack h e = absurd (none_is_not_some below e)
+top_int_of types heap more below [] stack h e = absurd (none-some below e)
 top_int_of types heap more below (place ∷ under) [] h e = absurd h
-top_int_of types heap more below (places.Unset ∷ under) (value ∷ rest) h e = absurd (none_is_not_some below e)
+top_int_of types heap more below (places.Unset ∷ under) (value ∷ rest) h e = absurd (none-some below e)
 top_int_of types heap more below (places.Int ∷ under) (values.Int n ∷ rest) h e = record { number = n; rest = rest; under = under; is_top = refl; kind = h.0; has = h.1; others = e }
 top_int_of types heap more below (places.Int ∷ under) (values.Null ∷ rest) h e = absurd h.0
 top_int_of types heap more below (places.Int ∷ under) (values.Ref r ∷ rest) h e = absurd h.0
-top_int_of types heap more below (places.Null ∷ under) (value ∷ rest) h e = absurd (none_is_not_some below e)
-top_int_of types heap more below (places.Ref t ∷ under) (value ∷ rest) h e = absurd (none_is_not_some below e)
+top_int_of types heap more below (places.Null ∷ under) (value ∷ rest) h e = absurd (none-some below e)
+top_int_of types heap more below (places.Ref t ∷ under) (value ∷ rest) h e = absurd (none-some below e)
 
 -- nothing more is taken
 pub rest_has : (types : WorldTypes) (heap : Heap) (under below : List PlaceType) (rest : List Value) → taken types [] under ≡ Some below → HasStack types heap under rest → HasStack types heap below rest
@@ -232,10 +233,10 @@ reference_top types heap (places.Ref t) values.Null rest r h = refl
 reference_top types heap (places.Ref t) (values.Ref a) rest r h = refl
 
 pub top_reference_of : (types : WorldTypes) (heap : Heap) (want : Want) (more : List Want) (below wanted : List PlaceType) (stack : List Value) → AsksReference types want → HasStack types heap wanted stack → taken types (want ∷ more) wanted ≡ Some below → TopReference types heap want more below stack
-top_reference_of types heap want more below [] stack asks h e = absurd (none_is_not_some below e)
+top_reference_of types heap want more below [] stack asks h e = absurd (none-some below e)
 top_reference_of types heap want more below (place ∷ under) [] asks h e = absurd h
 top_reference_of types heap want more below (place ∷ under) (value ∷ rest) asks h e =
-    let g = chosen (fits types want place) (taken types more under) below e in
+    let g = cond_guarded (fits types want place) (taken types more under) below e in
     record {
       place = place;
       value = value;
@@ -310,7 +311,7 @@ pub record Found (types : WorldTypes) (heap : Heap) (want : Want) (place : Place
 pub on_object_well : {X : Type 0} (here : Here) (G : X → Type 0) (want : Want) (place : PlaceType) (value : Value) (act : ℕ → Object → Option (Effect X)) → fits (types_here here) want place ≡ true → is_reference place ≡ true → HasPlaceType (types_here here) here.work.heap place (Some value)
     → ((r : ℕ) (object : Object) → value ≡ values.Ref r → Found (types_here here) here.work.heap want place r object → Well here G (act r object))
     → Well here G (on_object here.work.heap value act)
-on_object_well here G want place (values.Int n) act fit r h k = let e = reference_top (types_here here) here.work.heap place (values.Int n) [] r h in absurd (none_is_not_some _ e)
+on_object_well here G want place (values.Int n) act fit r h k = let e = reference_top (types_here here) here.work.heap place (values.Int n) [] r h in absurd (none-some _ e)
 on_object_well here G want place values.Null act fit r h k = (omega arith, omega arith)
 on_object_well {X} here G want place (values.Ref a) act fit r h k =
     let n = named_by (types_here here) here.work.heap place a r h in
@@ -384,8 +385,8 @@ pub record TopPassed (types : WorldTypes) (heap : Heap) (slot : Slot) (more : Li
   pub others : taken types more under ≡ Some below
 
 pub top_passed_of : (types : WorldTypes) → AreLawful types → (heap : Heap) (slot : Slot) (more : List Want) (below wanted : List PlaceType) (stack : List Value) → HasStack types heap wanted stack → taken types (want_of slot ∷ more) wanted ≡ Some below → TopPassed types heap slot more below stack
-top_passed_of types laws heap slot more below [] stack h e = absurd (none_is_not_some below e)
+top_passed_of types laws heap slot more below [] stack h e = absurd (none-some below e)
 top_passed_of types laws heap slot more below (place ∷ under) [] h e = absurd h
 top_passed_of types laws heap slot more below (place ∷ under) (value ∷ rest) h e =
-    let g = chosen (fits types (want_of slot) place) (taken types more under) below e in
+    let g = cond_guarded (fits types (want_of slot) place) (taken types more under) below e in
     record { value = value; rest = rest; under = under; is_top = refl; typed = fits_slot types laws heap slot place value g.0 h.0; has = h.1; others = g.1 }

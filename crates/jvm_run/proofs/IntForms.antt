@@ -5,6 +5,7 @@ use Rattle.std.specs.List.{list_any}
 use Rattle.std.specs.Int.{int_wrap, w32}
 use Rattle.std.specs.Ordering.{int_eq}
 use Rattle.std.proofs.lemmas.Bool.{false≢true, or_left, or_right}
+use Rattle.std.proofs.lemmas.Option.{none-some}
 use Rattle.code_forms.specs.declared.insn.Case.{Case}
 use Rattle.jvm_values.specs.declared.heap.Value.{Value}
 use Rattle.jvm_values.specs.declared.heap.Value.TheVariants as values
@@ -17,7 +18,7 @@ use Rattle.jvm_values.specs.declared.typing.PlaceType.TheVariants as places
 use Rattle.jvm_values.specs.States.{PlaceTypes}
 use Rattle.jvm_values.specs.Ints.{int_result, cond_holds}
 use Rattle.jvm_values.specs.Kinds.{IsOfKind, narrowed}
-use Rattle.jvm_values.proofs.Options.{some_is, none_is_not_some}
+use Rattle.jvm_values.proofs.Options.{some_is}
 use Rattle.code_verify.specs.declared.want.Want.{Want}
 use Rattle.code_verify.specs.declared.want.Want.TheVariants as wants
 use Rattle.code_verify.specs.Rows.{taken, acted}
@@ -129,7 +130,7 @@ goto_well here s place after j e = (j, left here s after here.before.stack here.
 -- ---- switches
 
 among : (xs more : List ℕ) (i x : ℕ) → slice_get xs i ≡ Some x → list_any (eqb x) (xs ++ more) ≡ true
-among [] more i x e = absurd (none_is_not_some x e)
+among [] more i x e = absurd (none-some x e)
 among (y ∷ xs) more zero x e = or_left (eqb x y) (list_any (eqb x) (xs ++ more)) (eq-eqb x y (sym (some_is e)))
 among (y ∷ xs) more (suc i) x e = or_right (eqb x y) (list_any (eqb x) (xs ++ more)) (among xs more i x e)
 

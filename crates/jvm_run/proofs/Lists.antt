@@ -5,7 +5,8 @@ use Rattle.std.specs.List.{AllZip, list_any}
 use Rattle.std.proofs.lemmas.List.{reverse-append, length-append}
 use Rattle.std.proofs.lemmas.List.Elements.{All-nil, All-cons, All-head, All-tail}
 use Rattle.std.proofs.lemmas.Bool.{false≢true, eqb-true, or_cases}
-use Rattle.jvm_values.proofs.Options.{some_is, none_is_not_some}
+use Rattle.std.proofs.lemmas.Option.{none-some}
+use Rattle.jvm_values.proofs.Options.{some_is}
 
 -- ---- options and tests
 
@@ -19,7 +20,7 @@ module _ {A B : Type 0} (R : A → B → Type 0) where
     pub alike : R x other
 
   pub zip_get : (xs : List A) (ys : List B) (i : ℕ) (x : A) → AllZip R xs ys → slice_get xs i ≡ Some x → Beside ys i x
-  zip_get [] ys i x h e = absurd (none_is_not_some x e)
+  zip_get [] ys i x h e = absurd (none-some x e)
   zip_get (a ∷ xs) [] i x h e = absurd h
   zip_get (a ∷ xs) (b ∷ ys) zero x h e = record { other = b; there = refl; alike = subst (λ (z : A). R z b) (some_is e) h.0 }
   zip_get (a ∷ xs) (b ∷ ys) (suc i) x h e = let k = zip_get xs ys i x h.1 e in record { other = k.other; there = k.there; alike = k.alike }
@@ -32,7 +33,7 @@ module _ {A B : Type 0} (R : A → B → Type 0) where
   zip_set (a ∷ xs) (b ∷ ys) (suc i) x y h r = (h.0, zip_set xs ys i x y h.1 r)
 
   pub zip_set_right : (xs : List A) (ys : List B) (i : ℕ) (x : A) (y : B) → AllZip R xs ys → slice_get xs i ≡ Some x → R x y → AllZip R xs (set ys i y)
-  zip_set_right [] ys i x y h e r = absurd (none_is_not_some x e)
+  zip_set_right [] ys i x y h e r = absurd (none-some x e)
   zip_set_right (a ∷ xs) [] i x y h e r = absurd h
   zip_set_right (a ∷ xs) (b ∷ ys) zero x y h e r = (subst (λ (z : A). R z y) (sym (some_is e)) r, h.1)
   zip_set_right (a ∷ xs) (b ∷ ys) (suc i) x y h e r = (h.0, zip_set_right xs ys i x y h.1 e r)
@@ -77,25 +78,10 @@ zip_through Q R S f (x ∷ xs) (y ∷ ys) (z ∷ zs) h k = (f x y z h.0 k.0, zip
 
 -- ---- places of lists
 
-pub get_append : {A : Type 0} (xs ys : List A) (i : ℕ) (x : A) → slice_get xs i ≡ Some x → slice_get (xs ++ ys) i ≡ Some x
-get_append [] ys i x e = absurd (none_is_not_some x e)
-get_append (a ∷ xs) ys zero x e = e
-get_append (a ∷ xs) ys (suc i) x e = get_append xs ys i x e
-
-pub get_last : {A : Type 0} (xs : List A) (x : A) → slice_get (xs ++ x ∷ []) (length xs) ≡ Some x
-get_last [] x = refl
-get_last (a ∷ xs) x = get_last xs x
-
 pub get_set_same : {A : Type 0} (xs : List A) (i : ℕ) (v x : A) → slice_get xs i ≡ Some x → slice_get (set xs i v) i ≡ Some v
-get_set_same [] i v x e = absurd (none_is_not_some x e)
+get_set_same [] i v x e = absurd (none-some x e)
 get_set_same (a ∷ xs) zero v x e = refl
 get_set_same (a ∷ xs) (suc i) v x e = get_set_same xs i v x e
-
--- what stands at a place is one of the items
-pub all_get : {A : Type 0} (P : A → Type 0) (xs : List A) (i : ℕ) (x : A) → All P xs → slice_get xs i ≡ Some x → P x
-all_get P [] i x h e = absurd (none_is_not_some x e)
-all_get P (a ∷ xs) zero x h e = subst P (some_is e) (All-head P a xs h)
-all_get P (a ∷ xs) (suc i) x h e = all_get P xs i x (All-tail P a xs h) e
 
 -- ---- items of a list
 
@@ -109,7 +95,7 @@ all_among P f (y ∷ xs) x h e = elim (or_cases (eqb x y) (list_any (eqb x) xs) 
 
 -- the first that passes one test, where what passes it passes another, by which the list is filtered
 pub all_found : {A B : Type 0} (P : B → Type 0) (f : A → B) (test other : A → Bool) → ((x : A) → test x ≡ true → other x ≡ true) → (xs : List A) (x : A) → All P (map f (filter other xs)) → find test xs ≡ Some x → P (f x)
-all_found P f test other k [] x h e = absurd (none_is_not_some x e)
+all_found P f test other k [] x h e = absurd (none-some x e)
 all_found {A} P f test other k (y ∷ xs) x h e = go (test y) refl e (all_found P f test other k xs x)
   where
     passed : (b : Bool) → b ≡ true → All P (map f (cond b (y ∷ filter other xs) (filter other xs))) → P (f y)
@@ -123,11 +109,3 @@ all_found {A} P f test other k (y ∷ xs) x h e = go (test y) refl e (all_found 
     go : (b : Bool) → test y ≡ b → cond b (Some y) (find test xs) ≡ Some x → (All P (map f (filter other xs)) → find test xs ≡ Some x → P (f x)) → P (f x)
     go true p q more = subst (λ (z : A). P (f z)) (some_is q) (passed (other y) (k y p) h)
     go false p q more = more (rest (other y) h) q
-
-pub all_left : {A : Type 0} (P : A → Type 0) (xs ys : List A) → All P (xs ++ ys) → All P xs
-all_left P [] ys h = All-nil P
-all_left P (x ∷ xs) ys h = All-cons P x xs (All-head P x (xs ++ ys) h) (all_left P xs ys (All-tail P x (xs ++ ys) h))
-
-pub all_right : {A : Type 0} (P : A → Type 0) (xs ys : List A) → All P (xs ++ ys) → All P ys
-all_right P [] ys h = h
-all_right P (x ∷ xs) ys h = all_right P xs ys (All-tail P x (xs ++ ys) h)

@@ -6,8 +6,9 @@ use Rattle.std.specs.Int.{int_wrap, w32}
 use Rattle.std.specs.Option.{option_and_then}
 use Rattle.std.proofs.lemmas.Bool.{false≢true, ltb-true, lt-ltb}
 use Rattle.std.proofs.lemmas.List.Elements.{All-set}
-use Rattle.std.proofs.lemmas.Option.{slice_get_within}
+use Rattle.std.proofs.lemmas.Option.{slice_get_within, none-some}
 use Rattle.std.proofs.lemmas.Slice.Zip.{AllZip-long}
+use Rattle.list_views.proofs.Options.{cond_guarded, then_some}
 use Rattle.list_views.specs.Options.{asked}
 use Rattle.jvm_values.specs.declared.heap.Value.{Value}
 use Rattle.jvm_values.specs.declared.heap.Value.TheVariants as values
@@ -19,13 +20,12 @@ use Rattle.jvm_values.specs.States.{MachineFrame, PlaceTypes}
 use Rattle.jvm_values.specs.Heaps.{IsInHeap}
 use Rattle.jvm_values.specs.Kinds.{IsOfKind}
 use Rattle.jvm_values.specs.TypedHeaps.{WorldTypes}
-use Rattle.jvm_values.proofs.Options.{given, some_is, none_is_not_some}
+use Rattle.jvm_values.proofs.Options.{some_is}
 use Rattle.code_verify.specs.declared.want.Want.TheVariants as wants
 use Rattle.code_verify.specs.Operands.{is_int, is_reference}
 use Rattle.code_verify.specs.Rows.{taken, top_place, iload_types, aload_types, istore_types, astore_types, iinc_types, sets as types_set}
 use Rattle.code_verify.specs.Flows.{falls}
 use Rattle.code_verify.specs.TypedStates.{HasPlaceType, HasStack}
-use Rattle.code_verify.proofs.Basics.{chosen}
 use Rattle.jvm_step.specs.Effects.{Effect, int_of_local, reference_of_local, sets, iload_effect, aload_effect, istore_effect, astore_effect, iinc_effect}
 use Rattle.jvm_step.specs.Operands.{reference_of, top_reference}
 use Rattle.jvm_run.proofs.Lists.{zip_get, zip_set, zip_set_right}
@@ -96,7 +96,7 @@ reference_local here s n place there i =
 -- what a test lets through
 asked_given : {A : Type 0} (test : Bool) (x y : A) → option_and_then (λ (u : Unit {0}). Some x) (asked test) ≡ Some y → (test ≡ true) × (y ≡ x)
 asked_given true x y e = (refl, sym (some_is e))
-asked_given false x y e = absurd (none_is_not_some y e)
+asked_given false x y e = absurd (none-some y e)
 
 record Loaded (locals : List PlaceType) (n : ℕ) (test : PlaceType → Bool) (result : PlaceType → PlaceTypes) (after : PlaceTypes) : Type 0 where
   place : PlaceType
@@ -106,7 +106,7 @@ record Loaded (locals : List PlaceType) (n : ℕ) (test : PlaceType → Bool) (r
 
 loaded : (locals : List PlaceType) (n : ℕ) (test : PlaceType → Bool) (result : PlaceType → PlaceTypes) (after : PlaceTypes) → option_and_then (λ (local : PlaceType). option_and_then (λ (u : Unit {0}). Some (result local)) (asked (test local))) (slice_get locals n) ≡ Some after → Loaded locals n test result after
 loaded locals n test result after e =
-    let g = given (λ (local : PlaceType). option_and_then (λ (u : Unit {0}). Some (result local)) (asked (test local))) (slice_get locals n) after e in
+    let g = then_some (λ (local : PlaceType). option_and_then (λ (u : Unit {0}). Some (result local)) (asked (test local))) (slice_get locals n) after e in
     let k = asked_given (test g.0) (result g.0) after g.1.1 in
     record { place = g.0; there = g.1.0; passes = k.0; after_is = k.1 }
 
@@ -133,7 +133,7 @@ set_well here s f n place value below rest after e set_ h k =
     let types = types_here here in
     let heap = here.work.heap in
     let frame = here.work.frame in
-    let g = chosen (ltb n (length here.before.locals)) (Some (record { locals = set here.before.locals n place; stack = below })) after e in
+    let g = cond_guarded (ltb n (length here.before.locals)) (Some (record { locals = set here.before.locals n place; stack = below })) after e in
     let long : length here.before.locals ≡ length frame.locals = sym (AllZip-long (HasPlaceType types heap) here.before.locals frame.locals s.locals) in
     let within : ltb n (length frame.locals) ≡ true = subst (λ (k : ℕ). ltb n k ≡ true) long g.0 in
     let new : MachineFrame = record frame { locals = set frame.locals n (Some value); stack = rest } in
@@ -155,7 +155,7 @@ reference_is_set place e u = false≢true (ap is_reference (sym u) ∙ e)
 pub istore_well : (here : Here) → Stands here → IsTrue (falls here.form) → (n : ℕ) (after : PlaceTypes) → istore_types (types_here here) n here.before ≡ Some after → Well here (FrameGood here after) (istore_effect n here.work.frame)
 unfolding istore_effect istore_types
 istore_well here s f n after e =
-    let g = given _ (taken (types_here here) (wants.Int ∷ []) here.before.stack) after e in
+    let g = then_some _ (taken (types_here here) (wants.Int ∷ []) here.before.stack) after e in
     let one = one_int here s g.0 g.1.0 in
     rw one.is_top (set_well here s f n places.Int (values.Int one.number) g.0 one.rest after g.1.1 int_is_set one.kind one.has)
 
@@ -170,7 +170,7 @@ record TopPlace (here : Here) : Type 0 where
   has : HasStack (types_here here) here.work.heap under rest
 
 top_by : (here : Here) (wanted : List PlaceType) (stack : List Value) (top : PlaceType × List PlaceType) → here.before.stack ≡ wanted → here.work.frame.stack ≡ stack → HasStack (types_here here) here.work.heap wanted stack → top_place wanted ≡ Some top → TopPlace here
-top_by here [] stack top p q h e = absurd (none_is_not_some top e)
+top_by here [] stack top p q h e = absurd (none-some top e)
 top_by here (place ∷ under) [] top p q h e = absurd h
 top_by here (place ∷ under) (value ∷ rest) top p q h e = record {
   place = place;
@@ -188,10 +188,10 @@ unfolding astore_effect astore_types
 astore_well here s f n after e =
     let types = types_here here in
     let heap = here.work.heap in
-    let g = given _ (top_place here.before.stack) after e in
+    let g = then_some _ (top_place here.before.stack) after e in
     let top = top_by here here.before.stack here.work.frame.stack g.0 refl refl s.stack g.1.0 in
     let same : g.0 ≡ (top.place, top.under) = some_is (sym g.1.0 ∙ top.place_is) in
-    let k = given _ (asked (is_reference g.0.0)) after g.1.1 in
+    let k = then_some _ (asked (is_reference g.0.0)) after g.1.1 in
     let passes : is_reference top.place ≡ true = ap (λ (x : PlaceType × List PlaceType). is_reference x.0) (sym same) ∙ asked_is (is_reference g.0.0) k.0 k.1.0 in
     let stored : types_set n top.place top.under here.before ≡ Some after = subst (λ (x : PlaceType × List PlaceType). types_set n x.0 x.1 here.before ≡ Some after) same k.1.1 in
     let is_top : top_reference here.work.frame.stack ≡ Some (top.value, top.rest) = ap top_reference top.stack_is ∙ reference_top types heap top.place top.value top.rest passes top.typed in
@@ -199,7 +199,7 @@ astore_well here s f n after e =
   where
     asked_is : (b : Bool) (u : Unit {0}) → asked b ≡ Some u → b ≡ true
     asked_is true u e = refl
-    asked_is false u e = absurd (none_is_not_some u e)
+    asked_is false u e = absurd (none-some u e)
 
 pub iinc_well : (here : Here) → Stands here → IsTrue (falls here.form) → (n : ℕ) (by : ℤ) (after : PlaceTypes) → iinc_types n here.before ≡ Some after → Well here (FrameGood here after) (iinc_effect n by here.work.frame)
 unfolding iinc_effect iinc_types

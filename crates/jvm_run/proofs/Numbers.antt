@@ -5,6 +5,7 @@ use Rattle.std.specs.Int.{int_wrap, int_rem_euclid, int_shr, int_min, int_max}
 use Rattle.std.specs.Ordering.{int_eq}
 use Rattle.std.proofs.Math.Nat.{div-le_self, mod-le}
 use Rattle.std.proofs.lemmas.Int.{ints, clamps, SFits-int_wrap}
+use Rattle.jvm_values.proofs.IntRanges.{remainder_near, shift_near, bit_in, char_in}
 use Rattle.jvm_values.specs.Kinds.{IsOfKind, narrowed}
 use Rattle.jvm_values.specs.Ints.{int_result, shift_count}
 use Rattle.jvm_values.specs.declared.ints.IntOp.{IntOp}
@@ -27,14 +28,6 @@ wrapped_is_int n = let f : FitsSigned w32 (int_wrap w32 n) = SFits-int_wrap w32 
 bits_are_int : (n : ℕ) → IsOfKind Int (to_z w32 n)
 bits_are_int n = (omega (arith, ints), omega (arith, ints))
 
-bit_in : (m : ℤ) → (pos 0 ≤ℤ int_rem_euclid m (pos 2)) × (int_rem_euclid m (pos 2) ≤ℤ pos 1)
-bit_in (pos n) = (omega (arith, ints), omega (arith, ints))
-bit_in (negsuc n) = (omega (arith, ints), omega (arith, ints))
-
-char_in : (m : ℤ) → (pos 0 ≤ℤ int_rem_euclid m (pos 65536)) × (int_rem_euclid m (pos 65536) ≤ℤ pos 65535)
-char_in (pos n) = (omega (arith, ints), omega (arith, ints))
-char_in (negsuc n) = (omega (arith, ints), omega (arith, ints))
-
 -- what is narrowed is of the kind
 pub narrowed_is : (kind : Kind) (m : ℤ) → IsOfKind Int m → IsOfKind kind (narrowed kind m)
 narrowed_is Boolean m h = bit_in m
@@ -42,14 +35,6 @@ narrowed_is Char m h = char_in m
 narrowed_is Byte m h = let f : FitsSigned w8 (int_wrap w8 m) = SFits-int_wrap w8 m in (omega (arith, ints), omega (arith, ints))
 narrowed_is Short m h = let f : FitsSigned w16 (int_wrap w16 m) = SFits-int_wrap w16 m in (omega (arith, ints), omega (arith, ints))
 narrowed_is Int m h = h
-
-remainder_near : (m n : ℤ) → (int_min m (pos 0) ≤ℤ int_rem m n) × (int_rem m n ≤ℤ int_max m (pos 0))
-remainder_near (pos x) n = let h = mod-le x (unsigned_abs n) in (omega (arith, ints, clamps), omega (arith, ints, clamps))
-remainder_near (negsuc x) n = let h = mod-le (suc x) (unsigned_abs n) in (omega (arith, ints, clamps), omega (arith, ints, clamps))
-
-shift_near : (m : ℤ) (k : ℕ) → (int_min m (pos 0) ≤ℤ int_shr m k) × (int_shr m k ≤ℤ int_max m (negsuc 0))
-shift_near (pos x) k = let h = div-le_self x (2 ^ k) in (omega (arith, ints, clamps), omega (arith, ints, clamps))
-shift_near (negsuc x) k = let h = div-le_self x (2 ^ k) in (omega (arith, ints, clamps), omega (arith, ints, clamps))
 
 near_is_int : (m r : ℤ) → IsOfKind Int m → int_min m (pos 0) ≤ℤ r → r ≤ℤ int_max m (pos 0) → IsOfKind Int r
 near_is_int m r h a b = let l = h.0 in let k = h.1 in (omega (arith, ints, clamps), omega (arith, ints, clamps))

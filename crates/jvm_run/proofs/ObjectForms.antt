@@ -4,7 +4,7 @@ use Rattle.std.specs.Prelude.{slice_get, All, IfSome, nat_lt}
 use Rattle.std.specs.List.{AllZip}
 use Rattle.std.specs.Option.{option_and_then, option_map, option_map_or}
 use Rattle.std.proofs.lemmas.Bool.{false≢true, and_from, lt-ltb, ltb-true}
-use Rattle.std.proofs.lemmas.Option.{slice_get_within}
+use Rattle.std.proofs.lemmas.Option.{slice_get_within, none-some}
 use Rattle.std.proofs.lemmas.List.{length-replicate}
 use Rattle.std.proofs.lemmas.List.Elements.{All-set, All-replicate}
 use Rattle.std.proofs.lemmas.Int.{ints}
@@ -24,7 +24,7 @@ use Rattle.jvm_values.specs.States.{MachineFrame, PlaceTypes}
 use Rattle.jvm_values.specs.Kinds.{IsOfKind}
 use Rattle.jvm_values.specs.Subtyping.{class_type, IsReference}
 use Rattle.jvm_values.specs.TypedHeaps.{WorldTypes, AreLawful, type_of, HasType, IsTypedObject}
-use Rattle.jvm_values.proofs.Options.{some_is, none_is_not_some}
+use Rattle.jvm_values.proofs.Options.{some_is}
 use Rattle.class_world.specs.BuiltIns.{throwable}
 use Rattle.class_world.specs.Fields.{can_be_made}
 use Rattle.class_world.specs.Types.{erase}
@@ -92,8 +92,8 @@ same_frame : (here : Here) → Stands here → (after : PlaceTypes) (place : Pla
 same_frame here s after place below value rest e q h k = subst (λ (stack : List Value). FrameGood here after (with_stack here.work.frame stack)) (sym q) (pushed here s after place below value rest e h k)
 
 pub top_is : (stack : List Value) (value : Value) (rest : List Value) → top_reference stack ≡ Some (value, rest) → stack ≡ value ∷ rest
-top_is [] value rest e = absurd (none_is_not_some _ e)
-top_is (values.Int n ∷ more) value rest e = absurd (none_is_not_some _ e)
+top_is [] value rest e = absurd (none-some _ e)
+top_is (values.Int n ∷ more) value rest e = absurd (none-some _ e)
 top_is (values.Null ∷ more) value rest e = ap (λ (x : Value × List Value). x.0 ∷ x.1) (some_is e)
 top_is (values.Ref r ∷ more) value rest e = ap (λ (x : Value × List Value). x.0 ∷ x.1) (some_is e)
 
@@ -168,15 +168,15 @@ ireturn_well here s after e = by here.method.result refl e
         let one = one_int here s a.below a.taken_is in
         let typed : IsResult (types_here here) here.work.heap here.method.result (Some (values.Int one.number)) = subst (λ (o : Option Slot). IsResult (types_here here) here.work.heap o (Some (values.Int one.number))) (sym p) one.kind in
         rw one.is_top typed
-    by (Some (slots.Ref t)) p q = absurd (none_is_not_some after q)
-    by None p q = absurd (none_is_not_some after q)
+    by (Some (slots.Ref t)) p q = absurd (none-some after q)
+    by None p q = absurd (none-some after q)
 
 pub areturn_well : (here : Here) → Stands here → (after : PlaceTypes) → areturn_types (types_here here) here.method.result here.before ≡ Some after → Well here (FrameGood here after) (areturn_effect (types_here here) here.method.result here.work.heap here.work.frame)
 unfolding areturn_effect
 areturn_well here s after e = by here.method.result refl e
   where
     by : (result : Option Slot) → here.method.result ≡ result → areturn_types (types_here here) result here.before ≡ Some after → Well here (FrameGood here after) (option_and_then (λ (value : Value × List Value). cond (is_returned (types_here here) here.work.heap result value.0) (Some (Effect.Return (Some value.0))) None) (top_reference here.work.frame.stack))
-    by (Some (slots.Num kind)) p q = absurd (none_is_not_some after q)
+    by (Some (slots.Num kind)) p q = absurd (none-some after q)
     by (Some (slots.Ref t)) p q =
         let types = types_here here in
         let heap = here.work.heap in
@@ -185,11 +185,11 @@ areturn_well here s after e = by here.method.result refl e
         let typed = fits_slot types s.laws heap (slots.Ref t) top.place top.value top.fit top.typed in
         let result : IsResult types heap here.method.result (Some top.value) = subst (λ (o : Option Slot). IsResult types heap o (Some top.value)) (sym p) typed in
         rw top.is_top (if_well here (FrameGood here after) (is_returned types heap (Some (slots.Ref t)) top.value) (Some (Effect.Return (Some top.value))) (of_type_by types heap t top.value typed) result)
-    by None p q = absurd (none_is_not_some after q)
+    by None p q = absurd (none-some after q)
 
 pub return_well : (here : Here) → Stands here → (after : PlaceTypes) → return_types here.method.result here.before ≡ Some after → Well here (FrameGood here after) (return_effect here.method.result here.work.frame)
 return_well here s after e = by here.method.result refl e
   where
     by : (result : Option Slot) → here.method.result ≡ result → return_types result here.before ≡ Some after → Well here (FrameGood here after) (return_effect result here.work.frame)
-    by (Some slot) p q = absurd (none_is_not_some after q)
+    by (Some slot) p q = absurd (none-some after q)
     by None p q = subst (λ (o : Option Slot). IsResult (types_here here) here.work.heap o None) (sym p) tt

@@ -4,6 +4,8 @@ use Rattle.std.specs.Prelude.{slice_get, All, nat_lt, ◌==◌}
 use Rattle.std.specs.List.{AllZip, list_any}
 use Rattle.std.specs.Option.{option_map, is_some}
 use Rattle.std.proofs.lemmas.Bool.{false≢true, and_parts, ltb-true, eqb-true, or_cases}
+use Rattle.std.proofs.lemmas.Option.{none-some}
+use Rattle.list_views.proofs.Quantified.{all_at}
 use Rattle.jvm_values.specs.declared.heap.Value.{Value}
 use Rattle.jvm_values.specs.declared.heap.Value.TheVariants as values
 use Rattle.jvm_values.specs.declared.heap.Object.{Object}
@@ -20,7 +22,6 @@ use Rattle.jvm_values.specs.declared.typing.PlaceType.TheVariants as places
 use Rattle.jvm_values.specs.Subtyping.{class_type, object_type, array_of, array_of_numbers, IsReference, IsReferenceBase}
 use Rattle.jvm_values.specs.TypedHeaps.{WorldTypes, AreLawful, type_of, Holds, IsTypedObject, IsTypedHeap}
 use Rattle.jvm_values.specs.Joins.{item_of, item_under}
-use Rattle.jvm_values.proofs.Options.{none_is_not_some}
 use Rattle.jvm_values.proofs.Joining.{array_of_item, same_type}
 use Rattle.class_world.specs.World.{World, is_interface_class, super_of, supers_of, leads_up, is_above}
 use Rattle.class_world.specs.Walks.{IsIn}
@@ -35,7 +36,6 @@ use Rattle.op_forms.specs.declared.form.ItemKind.TheVariants as items
 use Rattle.code_verify.specs.Operands.{is_numbers, is_base_for, is_for as typed_for}
 use Rattle.jvm_step.specs.Effects.{is_for, numbers_in, length_of}
 use Rattle.jvm_values.specs.Slots.{initial_value}
-use Rattle.jvm_run.proofs.Lists.{all_get}
 use Rattle.jvm_run.proofs.Numbers.{zero_is}
 
 -- ---- types
@@ -236,12 +236,12 @@ pub record ReferenceArray (types : WorldTypes) (heap : Heap) (item : Ty) (object
   pub typed : IsTypedObject types heap (Refs element list)
 
 item_deep : (dims : ℕ) (base : Base) (item : Ty) → item_under dims base ≡ Some item → 0 < dims
-item_deep zero (bases.Class class) item e = absurd (none_is_not_some item e)
-item_deep zero (bases.Num kind) item e = absurd (none_is_not_some item e)
+item_deep zero (bases.Class class) item e = absurd (none-some item e)
+item_deep zero (bases.Num kind) item e = absurd (none-some item e)
 item_deep (suc dims) base item e = omega arith
 
 item_of_numbers : (kind : Kind) (item : Ty) → item_of (array_of_numbers kind) ≡ Some item → ⊥
-item_of_numbers kind item e = none_is_not_some item e
+item_of_numbers kind item e = none-some item e
 
 pub reference_array_of : (types : WorldTypes) → AreLawful types → (heap : Heap) (object : Object) (t item : Ty) → IsTypedObject types heap object → IsTrue (types.sub (type_of object) t) → item_of t ≡ Some item → ReferenceArray types heap item object
 reference_array_of types laws heap (Instance class fields) t item h s e = absurd (omega (arith, item_deep t.dims t.base item e, laws.class_below class t s))
@@ -278,4 +278,4 @@ defaults_held types heap (slots.Num kind ∷ fields) = (zero_is kind, defaults_h
 defaults_held types heap (slots.Ref t ∷ fields) = (tt, defaults_held types heap fields)
 
 pub typed_at : (types : WorldTypes) (heap : Heap) (r : ℕ) (object : Object) → IsTypedHeap types heap → slice_get heap.objects r ≡ Some object → IsTypedObject types heap object
-typed_at types heap r object h e = all_get (IsTypedObject types heap) heap.objects r object h e
+typed_at types heap r object h e = all_at (IsTypedObject types heap) heap.objects r object h e

@@ -5,10 +5,13 @@ use Rattle.std.specs.List.{list_any, AllByRecursion}
 use Rattle.std.specs.Option.{option_and_then, option_to_list, is_some}
 use Rattle.std.proofs.lemmas.Bool.{false≢true, or_left, or_right}
 use Rattle.std.proofs.lemmas.List.Elements.{All-head, All-tail}
+use Rattle.std.proofs.lemmas.Option.{none-some}
+use Rattle.list_views.proofs.Quantified.{every_back, every_front}
+use Rattle.list_views.proofs.Options.{then_some}
 use Rattle.list_views.specs.Options.{asked}
 use Rattle.jvm_values.specs.States.{PlaceTypes}
 use Rattle.jvm_values.specs.TypedHeaps.{WorldTypes}
-use Rattle.jvm_values.proofs.Options.{given, some_is, none_is_not_some}
+use Rattle.jvm_values.proofs.Options.{some_is}
 use Rattle.class_world.specs.WorldTypes.{types_of}
 use Rattle.class_program.specs.declared.op.Op.{Op}
 use Rattle.class_program.specs.declared.program.CatchRange.{CatchRange}
@@ -20,7 +23,7 @@ use Rattle.frame_types.specs.Tables.{CodeTypes, Flow, Takes}
 use Rattle.code_verify.specs.Rows.{types_after}
 use Rattle.code_verify.specs.Flows.{falls, jumps, ways, is_inside, covers, onward, caught, caught_frame, runs_at, flows_from}
 use Rattle.code_verify.specs.Typings.{IsTyped}
-use Rattle.jvm_run.proofs.Lists.{all_among, all_found, all_left, all_right}
+use Rattle.jvm_run.proofs.Lists.{all_among, all_found}
 
 -- an instruction stands at the place, and what it leads to is taken
 pub record Placed (p : Program) (m : Method) (typing : CodeTypes) (place : ℕ) (frame : PlaceTypes) : Type 0 where
@@ -37,16 +40,16 @@ pub record Placed (p : Program) (m : Method) (typing : CodeTypes) (place : ℕ) 
 
 pub asked_is : (b : Bool) (u : Unit {0}) → asked b ≡ Some u → b ≡ true
 asked_is true u e = refl
-asked_is false u e = absurd (none_is_not_some u e)
+asked_is false u e = absurd (none-some u e)
 
 pub placed : (p : Program) (m : Method) (typing : CodeTypes) (place : ℕ) (frame : PlaceTypes) → IsTyped p m typing place frame → Placed p m typing place frame
 unfolding flows_from runs_at
 placed p m typing place frame h =
-    let ran = given _ (runs_at p m place frame) h.flows h.runs in
-    let here = given _ (instruction_at m.insns place) ran.0 ran.1.0 in
-    let form = given _ (form_of here.0.0) ran.0 here.1.1 in
-    let inside = given _ (asked (is_inside form.0 here.0.1)) ran.0 form.1.1 in
-    let after = given _ (types_after p m form.0 frame) ran.0 inside.1.1 in
+    let ran = then_some _ (runs_at p m place frame) h.flows h.runs in
+    let here = then_some _ (instruction_at m.insns place) ran.0 ran.1.0 in
+    let form = then_some _ (form_of here.0.0) ran.0 here.1.1 in
+    let inside = then_some _ (asked (is_inside form.0 here.0.1)) ran.0 form.1.1 in
+    let after = then_some _ (types_after p m form.0 frame) ran.0 inside.1.1 in
     let is : (form.0, here.0.1, after.0) ≡ ran.0 = some_is after.1.1 in
     let flows_are : onward after.0 (ways form.0 here.0.1) ++ caught p.world place frame m.table ≡ h.flows = ap (λ (x : Form × Option ℕ × PlaceTypes). onward x.2 (ways x.0 x.1) ++ caught p.world place frame m.table) is ∙ some_is ran.1.1 in
     let all : All (Takes (types_of p.world) typing) (onward after.0 (ways form.0 here.0.1) ++ caught p.world place frame m.table) = subst (All (Takes (types_of p.world) typing)) (sym flows_are) h.taken in
@@ -59,8 +62,8 @@ placed p m typing place frame h =
       inside = asked_is (is_inside form.0 here.0.1) inside.0 inside.1.0;
       after = after.0;
       types_are = after.1.0;
-      onwards = all_left (Takes (types_of p.world) typing) (onward after.0 (ways form.0 here.0.1)) (caught p.world place frame m.table) all;
-      handlers = all_right (Takes (types_of p.world) typing) (onward after.0 (ways form.0 here.0.1)) (caught p.world place frame m.table) all;
+      onwards = every_front (Takes (types_of p.world) typing) (onward after.0 (ways form.0 here.0.1)) (caught p.world place frame m.table) all;
+      handlers = every_back (Takes (types_of p.world) typing) (onward after.0 (ways form.0 here.0.1)) (caught p.world place frame m.table) all;
     }
 
 -- ---- where the instruction leads
@@ -103,7 +106,7 @@ handler_taken p m typing place frame h test range k e =
 
 -- what stands at some place has what all of the instructions have
 pub at_has : {A : Type 0} (P : A → Type 0) (xs : List (ℕ × A)) (pc : ℕ) (x : A × Option ℕ) → AllByRecursion (λ (y : ℕ × A). P y.1) xs → instruction_at xs pc ≡ Some x → P x.0
-at_has P [] pc x h e = absurd (none_is_not_some x e)
+at_has P [] pc x h e = absurd (none-some x e)
 at_has {A} P (y ∷ ys) pc x h e = go (eqb y.0 pc) e (at_has P ys pc x h.1)
   where
     go : (b : Bool) → cond b (Some (y.1, first_place ys)) (instruction_at ys pc) ≡ Some x → (instruction_at ys pc ≡ Some x → P x.0) → P x.0
@@ -111,7 +114,7 @@ at_has {A} P (y ∷ ys) pc x h e = go (eqb y.0 pc) e (at_has P ys pc x h.1)
     go false f rest = rest f
 
 pub at_has_all : {A : Type 0} (P : A → Type 0) (xs : List (ℕ × A)) (pc : ℕ) (x : A × Option ℕ) → All (λ (y : ℕ × A). P y.1) xs → instruction_at xs pc ≡ Some x → P x.0
-at_has_all P [] pc x h e = absurd (none_is_not_some x e)
+at_has_all P [] pc x h e = absurd (none-some x e)
 at_has_all {A} P (y ∷ ys) pc x h e = go (eqb y.0 pc) e (at_has_all P ys pc x (All-tail (λ (z : ℕ × A). P z.1) y ys h))
   where
     go : (b : Bool) → cond b (Some (y.1, first_place ys)) (instruction_at ys pc) ≡ Some x → (instruction_at ys pc ≡ Some x → P x.0) → P x.0

@@ -4,12 +4,14 @@ use Rattle.std.specs.Prelude.{slice_get}
 use Rattle.std.specs.Option.{option_map, option_and_then}
 use Rattle.std.proofs.lemmas.Bool.{false≢true}
 use Rattle.std.proofs.lemmas.List.{length-reverse, length-map}
+use Rattle.std.proofs.lemmas.Option.{none-some}
+use Rattle.list_views.proofs.Options.{cond_guarded}
 use Rattle.jvm_values.specs.declared.types.Slot.{Slot}
 use Rattle.jvm_values.specs.declared.typing.PlaceType.{PlaceType}
 use Rattle.jvm_values.specs.States.{PlaceTypes}
 use Rattle.jvm_values.specs.Subtyping.{class_type}
 use Rattle.jvm_values.specs.TypedHeaps.{WorldTypes}
-use Rattle.jvm_values.proofs.Options.{some_is, none_is_not_some}
+use Rattle.jvm_values.proofs.Options.{some_is}
 use Rattle.class_world.specs.World.{is_abstract}
 use Rattle.class_world.specs.WorldTypes.{types_of}
 use Rattle.class_world.specs.Descriptors.{class_slot}
@@ -29,13 +31,12 @@ use Rattle.code_verify.specs.Operands.{fits, place_of, want_of}
 use Rattle.code_verify.specs.Rows.{taken, with_result, acted, argument_wants, special_receiver, types_after}
 use Rattle.code_verify.specs.Flows.{falls}
 use Rattle.code_verify.specs.TypedStates.{argument_count}
-use Rattle.code_verify.proofs.Basics.{chosen}
 use Rattle.jvm_run.proofs.Forms.{acted_of}
 
 taken_drop : (types : WorldTypes) (asks : List Want) (stack below : List PlaceType) → taken types asks stack ≡ Some below → drop (length asks) stack ≡ below
 taken_drop types [] stack below e = some_is e
-taken_drop types (want ∷ asks) [] below e = absurd (none_is_not_some below e)
-taken_drop types (want ∷ asks) (place ∷ stack) below e = taken_drop types asks stack below (chosen (fits types want place) (taken types asks stack) below e).1
+taken_drop types (want ∷ asks) [] below e = absurd (none-some below e)
+taken_drop types (want ∷ asks) (place ∷ stack) below e = taken_drop types asks stack below (cond_guarded (fits types want place) (taken types asks stack) below e).1
 
 arguments_count : (call : Call) → length (argument_wants call) ≡ length call.params
 arguments_count call = length-map (reverse call.params) want_of ∙ length-reverse call.params
@@ -62,7 +63,7 @@ of_takes : (p : Program) (op : Op) (number : ℕ) (form : Form) (there after : P
 of_takes p op number form there after call receiver f t e = record { result = call.result; falls_on = f; after_is = e; method = t.method; is_method = t.there; result_is = t.result }
 
 special_takes : (p : Program) (call : Call) (target : Option ℕ) (abstract_ : Bool) (number : ℕ) → SpecialRuns p call target abstract_ → target ≡ Some number → (receiver : List Slot) × Takes p.methods receiver call number
-special_takes p call None abstract_ number h e = absurd (none_is_not_some number e)
+special_takes p call None abstract_ number h e = absurd (none-some number e)
 special_takes p call (Some n) abstract_ number h e =
     let receiver : List Slot = class_slot 0 call.method.class ∷ [] in
     (receiver, subst (λ (k : ℕ). Takes p.methods receiver call k) (some_is e) h.1)

@@ -2,12 +2,14 @@
 use Rattle.std.proofs.Common.{◌≡◌, ℕ, Bool, true, false, List, [], ◌∷◌, Option, Some, None, IsTrue, refl, sym, subst, ap, ◌∙◌}
 use Rattle.std.specs.Prelude.{nat_eq}
 use Rattle.std.specs.List.{list_any}
+use Rattle.std.proofs.lemmas.Option.{none-some}
+use Rattle.list_views.proofs.Options.{then_some}
 use Rattle.jvm_values.specs.declared.heap.Value.{Value}
 use Rattle.jvm_values.specs.declared.heap.Heap.{Heap}
 use Rattle.jvm_values.specs.declared.typing.PlaceType.{PlaceType}
 use Rattle.jvm_values.specs.States.{PlaceTypes}
 use Rattle.jvm_values.specs.TypedHeaps.{WorldTypes}
-use Rattle.jvm_values.proofs.Options.{given, some_is, none_is_not_some}
+use Rattle.jvm_values.proofs.Options.{some_is}
 use Rattle.op_forms.specs.declared.form.Shuffle.{Shuffle}
 use Rattle.op_forms.specs.declared.form.Shuffle.TheVariants as shuffles
 use Rattle.op_forms.specs.Forms.{shuffled}
@@ -29,52 +31,52 @@ pub record Shuffled (types : WorldTypes) (heap : Heap) (shuffle : Shuffle) (want
 
 -- values are reordered as their types are
 pub shuffled_alike : (types : WorldTypes) (heap : Heap) (shuffle : Shuffle) (before after : List PlaceType) (stack : List Value) → HasStack types heap before stack → shuffled shuffle before ≡ Some after → Shuffled types heap shuffle after stack
-shuffled_alike types heap shuffles.Pop [] after stack h e = absurd (none_is_not_some after e)
+shuffled_alike types heap shuffles.Pop [] after stack h e = absurd (none-some after e)
 shuffled_alike types heap shuffles.Pop (p ∷ below) after [] h e = absurd h
 shuffled_alike types heap shuffles.Pop (p ∷ below) after (a ∷ rest) h e = record { new = rest; is = refl; has = subst (λ (x : List PlaceType). HasStack types heap x (rest)) (some_is e) h.1 }
-shuffled_alike types heap shuffles.Pop2 [] after stack h e = absurd (none_is_not_some after e)
-shuffled_alike types heap shuffles.Pop2 (p ∷ []) after stack h e = absurd (none_is_not_some after e)
+shuffled_alike types heap shuffles.Pop2 [] after stack h e = absurd (none-some after e)
+shuffled_alike types heap shuffles.Pop2 (p ∷ []) after stack h e = absurd (none-some after e)
 shuffled_alike types heap shuffles.Pop2 (p ∷ q ∷ below) after [] h e = absurd h
 shuffled_alike types heap shuffles.Pop2 (p ∷ q ∷ below) after (a ∷ []) h e = absurd h.1
 shuffled_alike types heap shuffles.Pop2 (p ∷ q ∷ below) after (a ∷ b ∷ rest) h e = record { new = rest; is = refl; has = subst (λ (x : List PlaceType). HasStack types heap x (rest)) (some_is e) h.1.1 }
-shuffled_alike types heap shuffles.Dup [] after stack h e = absurd (none_is_not_some after e)
+shuffled_alike types heap shuffles.Dup [] after stack h e = absurd (none-some after e)
 shuffled_alike types heap shuffles.Dup (p ∷ below) after [] h e = absurd h
 shuffled_alike types heap shuffles.Dup (p ∷ below) after (a ∷ rest) h e = record { new = a ∷ a ∷ rest; is = refl; has = subst (λ (x : List PlaceType). HasStack types heap x (a ∷ a ∷ rest)) (some_is e) (h.0, (h.0, h.1)) }
-shuffled_alike types heap shuffles.DupX1 [] after stack h e = absurd (none_is_not_some after e)
-shuffled_alike types heap shuffles.DupX1 (p ∷ []) after stack h e = absurd (none_is_not_some after e)
+shuffled_alike types heap shuffles.DupX1 [] after stack h e = absurd (none-some after e)
+shuffled_alike types heap shuffles.DupX1 (p ∷ []) after stack h e = absurd (none-some after e)
 shuffled_alike types heap shuffles.DupX1 (p ∷ q ∷ below) after [] h e = absurd h
 shuffled_alike types heap shuffles.DupX1 (p ∷ q ∷ below) after (a ∷ []) h e = absurd h.1
 shuffled_alike types heap shuffles.DupX1 (p ∷ q ∷ below) after (a ∷ b ∷ rest) h e = record { new = a ∷ b ∷ a ∷ rest; is = refl; has = subst (λ (x : List PlaceType). HasStack types heap x (a ∷ b ∷ a ∷ rest)) (some_is e) (h.0, (h.1.0, (h.0, h.1.1))) }
-shuffled_alike types heap shuffles.DupX2 [] after stack h e = absurd (none_is_not_some after e)
-shuffled_alike types heap shuffles.DupX2 (p ∷ []) after stack h e = absurd (none_is_not_some after e)
-shuffled_alike types heap shuffles.DupX2 (p ∷ q ∷ []) after stack h e = absurd (none_is_not_some after e)
+shuffled_alike types heap shuffles.DupX2 [] after stack h e = absurd (none-some after e)
+shuffled_alike types heap shuffles.DupX2 (p ∷ []) after stack h e = absurd (none-some after e)
+shuffled_alike types heap shuffles.DupX2 (p ∷ q ∷ []) after stack h e = absurd (none-some after e)
 shuffled_alike types heap shuffles.DupX2 (p ∷ q ∷ r ∷ below) after [] h e = absurd h
 shuffled_alike types heap shuffles.DupX2 (p ∷ q ∷ r ∷ below) after (a ∷ []) h e = absurd h.1
 shuffled_alike types heap shuffles.DupX2 (p ∷ q ∷ r ∷ below) after (a ∷ b ∷ []) h e = absurd h.1.1
 shuffled_alike types heap shuffles.DupX2 (p ∷ q ∷ r ∷ below) after (a ∷ b ∷ c ∷ rest) h e = record { new = a ∷ b ∷ c ∷ a ∷ rest; is = refl; has = subst (λ (x : List PlaceType). HasStack types heap x (a ∷ b ∷ c ∷ a ∷ rest)) (some_is e) (h.0, (h.1.0, (h.1.1.0, (h.0, h.1.1.1)))) }
-shuffled_alike types heap shuffles.Dup2 [] after stack h e = absurd (none_is_not_some after e)
-shuffled_alike types heap shuffles.Dup2 (p ∷ []) after stack h e = absurd (none_is_not_some after e)
+shuffled_alike types heap shuffles.Dup2 [] after stack h e = absurd (none-some after e)
+shuffled_alike types heap shuffles.Dup2 (p ∷ []) after stack h e = absurd (none-some after e)
 shuffled_alike types heap shuffles.Dup2 (p ∷ q ∷ below) after [] h e = absurd h
 shuffled_alike types heap shuffles.Dup2 (p ∷ q ∷ below) after (a ∷ []) h e = absurd h.1
 shuffled_alike types heap shuffles.Dup2 (p ∷ q ∷ below) after (a ∷ b ∷ rest) h e = record { new = a ∷ b ∷ a ∷ b ∷ rest; is = refl; has = subst (λ (x : List PlaceType). HasStack types heap x (a ∷ b ∷ a ∷ b ∷ rest)) (some_is e) (h.0, (h.1.0, (h.0, (h.1.0, h.1.1)))) }
-shuffled_alike types heap shuffles.Dup2X1 [] after stack h e = absurd (none_is_not_some after e)
-shuffled_alike types heap shuffles.Dup2X1 (p ∷ []) after stack h e = absurd (none_is_not_some after e)
-shuffled_alike types heap shuffles.Dup2X1 (p ∷ q ∷ []) after stack h e = absurd (none_is_not_some after e)
+shuffled_alike types heap shuffles.Dup2X1 [] after stack h e = absurd (none-some after e)
+shuffled_alike types heap shuffles.Dup2X1 (p ∷ []) after stack h e = absurd (none-some after e)
+shuffled_alike types heap shuffles.Dup2X1 (p ∷ q ∷ []) after stack h e = absurd (none-some after e)
 shuffled_alike types heap shuffles.Dup2X1 (p ∷ q ∷ r ∷ below) after [] h e = absurd h
 shuffled_alike types heap shuffles.Dup2X1 (p ∷ q ∷ r ∷ below) after (a ∷ []) h e = absurd h.1
 shuffled_alike types heap shuffles.Dup2X1 (p ∷ q ∷ r ∷ below) after (a ∷ b ∷ []) h e = absurd h.1.1
 shuffled_alike types heap shuffles.Dup2X1 (p ∷ q ∷ r ∷ below) after (a ∷ b ∷ c ∷ rest) h e = record { new = a ∷ b ∷ c ∷ a ∷ b ∷ rest; is = refl; has = subst (λ (x : List PlaceType). HasStack types heap x (a ∷ b ∷ c ∷ a ∷ b ∷ rest)) (some_is e) (h.0, (h.1.0, (h.1.1.0, (h.0, (h.1.0, h.1.1.1))))) }
-shuffled_alike types heap shuffles.Dup2X2 [] after stack h e = absurd (none_is_not_some after e)
-shuffled_alike types heap shuffles.Dup2X2 (p ∷ []) after stack h e = absurd (none_is_not_some after e)
-shuffled_alike types heap shuffles.Dup2X2 (p ∷ q ∷ []) after stack h e = absurd (none_is_not_some after e)
-shuffled_alike types heap shuffles.Dup2X2 (p ∷ q ∷ r ∷ []) after stack h e = absurd (none_is_not_some after e)
+shuffled_alike types heap shuffles.Dup2X2 [] after stack h e = absurd (none-some after e)
+shuffled_alike types heap shuffles.Dup2X2 (p ∷ []) after stack h e = absurd (none-some after e)
+shuffled_alike types heap shuffles.Dup2X2 (p ∷ q ∷ []) after stack h e = absurd (none-some after e)
+shuffled_alike types heap shuffles.Dup2X2 (p ∷ q ∷ r ∷ []) after stack h e = absurd (none-some after e)
 shuffled_alike types heap shuffles.Dup2X2 (p ∷ q ∷ r ∷ s ∷ below) after [] h e = absurd h
 shuffled_alike types heap shuffles.Dup2X2 (p ∷ q ∷ r ∷ s ∷ below) after (a ∷ []) h e = absurd h.1
 shuffled_alike types heap shuffles.Dup2X2 (p ∷ q ∷ r ∷ s ∷ below) after (a ∷ b ∷ []) h e = absurd h.1.1
 shuffled_alike types heap shuffles.Dup2X2 (p ∷ q ∷ r ∷ s ∷ below) after (a ∷ b ∷ c ∷ []) h e = absurd h.1.1.1
 shuffled_alike types heap shuffles.Dup2X2 (p ∷ q ∷ r ∷ s ∷ below) after (a ∷ b ∷ c ∷ d ∷ rest) h e = record { new = a ∷ b ∷ c ∷ d ∷ a ∷ b ∷ rest; is = refl; has = subst (λ (x : List PlaceType). HasStack types heap x (a ∷ b ∷ c ∷ d ∷ a ∷ b ∷ rest)) (some_is e) (h.0, (h.1.0, (h.1.1.0, (h.1.1.1.0, (h.0, (h.1.0, h.1.1.1.1)))))) }
-shuffled_alike types heap shuffles.Swap [] after stack h e = absurd (none_is_not_some after e)
-shuffled_alike types heap shuffles.Swap (p ∷ []) after stack h e = absurd (none_is_not_some after e)
+shuffled_alike types heap shuffles.Swap [] after stack h e = absurd (none-some after e)
+shuffled_alike types heap shuffles.Swap (p ∷ []) after stack h e = absurd (none-some after e)
 shuffled_alike types heap shuffles.Swap (p ∷ q ∷ below) after [] h e = absurd h
 shuffled_alike types heap shuffles.Swap (p ∷ q ∷ below) after (a ∷ []) h e = absurd h.1
 shuffled_alike types heap shuffles.Swap (p ∷ q ∷ below) after (a ∷ b ∷ rest) h e = record { new = b ∷ a ∷ rest; is = refl; has = subst (λ (x : List PlaceType). HasStack types heap x (b ∷ a ∷ rest)) (some_is e) (h.1.0, (h.0, h.1.1)) }
@@ -82,7 +84,7 @@ shuffled_alike types heap shuffles.Swap (p ∷ q ∷ below) after (a ∷ b ∷ r
 pub shuffle_well : (here : Here) → Stands here → IsTrue (falls here.form) → (shuffle : Shuffle) (after : PlaceTypes) → shuffle_types shuffle here.before ≡ Some after → Well here (FrameGood here after) (shuffle_effect shuffle here.work.frame)
 unfolding shuffle_effect shuffle_types
 shuffle_well here s f shuffle after e =
-    let g = given _ (shuffled shuffle here.before.stack) after e in
+    let g = then_some _ (shuffled shuffle here.before.stack) after e in
     let k = shuffled_alike (types_here here) here.work.heap shuffle here.before.stack g.0 here.work.frame.stack s.stack g.1.0 in
     rw k.is (f, left here s after g.0 k.new (sym (some_is g.1.1)) k.has)
 

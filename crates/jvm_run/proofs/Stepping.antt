@@ -5,6 +5,9 @@ use Rattle.std.specs.List.{AllZip}
 use Rattle.std.specs.Option.{option_map, option_map_or, option_and_then, is_some}
 use Rattle.std.proofs.lemmas.Bool.{false≢true, and_parts}
 use Rattle.std.proofs.lemmas.List.Elements.{All-nil, All-drop}
+use Rattle.std.proofs.lemmas.Option.{none-some}
+use Rattle.list_views.proofs.Quantified.{all_at as all_get}
+use Rattle.list_views.proofs.Items.{get_last}
 use Rattle.jvm_values.specs.declared.heap.Value.{Value}
 use Rattle.jvm_values.specs.declared.heap.Value.TheVariants as values
 use Rattle.jvm_values.specs.declared.heap.Object.{Object}
@@ -19,7 +22,7 @@ use Rattle.jvm_values.specs.States.{MachineFrame, PlaceTypes}
 use Rattle.jvm_values.specs.Heaps.{IsInHeap}
 use Rattle.jvm_values.specs.Subtyping.{class_type}
 use Rattle.jvm_values.specs.TypedHeaps.{WorldTypes, AreLawful, type_of, HasType, Holds, IsTypedObject, IsTypedHeap}
-use Rattle.jvm_values.proofs.Options.{some_is, none_is_not_some}
+use Rattle.jvm_values.proofs.Options.{some_is}
 use Rattle.class_world.specs.BuiltIns.{HasBuiltIns, throwable}
 use Rattle.class_world.specs.Linking.{is_linked}
 use Rattle.class_world.specs.Types.{is_sub, erase}
@@ -44,7 +47,7 @@ use Rattle.jvm_step.specs.Operands.{object_at}
 use Rattle.jvm_step.specs.Table.{Work, effect_of}
 use Rattle.jvm_step.specs.Running.{Step, goes_on, throws, with_object, entered, invokes, with_result, returns, applied, normal_step, takes, handled, throwing_step, step_in}
 use Rattle.jvm_run.specs.Laws.{GoesTyped, HasInts, IsIntForm}
-use Rattle.jvm_run.proofs.Lists.{zip_map, get_last, all_get}
+use Rattle.jvm_run.proofs.Lists.{zip_map}
 use Rattle.jvm_run.proofs.Values.{Grows, grows_same, grows_by, holds_grown, heap_with, own_type}
 use Rattle.jvm_run.proofs.Forms.{Here, Stands, Well, WorkGood, IsCalling, IsResult}
 use Rattle.jvm_run.proofs.Objects.{defaults_held}
@@ -282,7 +285,7 @@ caught_below p laws t range thrown takes_ = laws.transitive t (caught_class rang
     sub = by range.catch takes_
 
 found_passes : {A : Type 0} (test : A → Bool) (xs : List A) (x : A) → find test xs ≡ Some x → test x ≡ true
-found_passes test [] x e = absurd (none_is_not_some x e)
+found_passes test [] x e = absurd (none-some x e)
 found_passes {A} test (y ∷ xs) x e = go (test y) refl e (found_passes test xs x)
   where
     go : (b : Bool) → test y ≡ b → cond b (Some y) (find test xs) ≡ Some x → (find test xs ≡ Some x → test x ≡ true) → test x ≡ true

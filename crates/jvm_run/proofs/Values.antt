@@ -2,8 +2,9 @@
 use Rattle.std.proofs.Common.{◌≡◌, ℕ, zero, suc, ◌+◌, ◌<◌, ◌≤◌, ℤ, pos, negsuc, Bool, true, false, List, [], ◌∷◌, ◌++◌, length, get_or, set, Option, Some, None, IsTrue, refl, sym, ap, ◌∙◌, subst, length-append, length-set, arith}
 use Rattle.std.specs.Prelude.{slice_get, All, IfSome}
 use Rattle.std.specs.List.{AllZip}
-use Rattle.std.proofs.lemmas.Option.{slice_get_within}
+use Rattle.std.proofs.lemmas.Option.{slice_get_within, none-some}
 use Rattle.std.proofs.lemmas.List.Elements.{All-push, All-set, All-weaker}
+use Rattle.list_views.proofs.Items.{get_before}
 use Rattle.jvm_values.specs.declared.heap.Value.{Value}
 use Rattle.jvm_values.specs.declared.heap.Value.TheVariants as values
 use Rattle.jvm_values.specs.declared.heap.Object.{Object}
@@ -18,12 +19,12 @@ use Rattle.jvm_values.specs.declared.typing.PlaceType.{PlaceType}
 use Rattle.jvm_values.specs.declared.typing.PlaceType.TheVariants as places
 use Rattle.jvm_values.specs.Heaps.{IsInHeap}
 use Rattle.jvm_values.specs.TypedHeaps.{WorldTypes, AreLawful, type_of, HasType, Holds, IsTypedObject, IsTypedHeap}
-use Rattle.jvm_values.proofs.Options.{some_is, none_is_not_some}
+use Rattle.jvm_values.proofs.Options.{some_is}
 use Rattle.jvm_values.proofs.Typed.{value_in_heap}
 use Rattle.frame_types.specs.Places.{IsWithin}
 use Rattle.code_verify.specs.Operands.{place_of}
 use Rattle.code_verify.specs.TypedStates.{HasPlaceType}
-use Rattle.jvm_run.proofs.Lists.{zip_map, get_append}
+use Rattle.jvm_run.proofs.Lists.{zip_map}
 use Rattle.jvm_run.proofs.Numbers.{of_int}
 
 -- ---- heaps that grow
@@ -38,12 +39,12 @@ grows_same heap = record { kept = λ r object e. (object, (e, refl)); longer = o
 
 pub grows_by : (heap : Heap) (object : Object) → Grows heap (record { objects = heap.objects ++ object ∷ [] })
 grows_by heap object = record {
-  kept = λ r other e. (other, (get_append heap.objects (object ∷ []) r other e, refl));
+  kept = λ r other e. (other, (get_before heap.objects (object ∷ []) r other e, refl));
   longer = omega (arith, length-append heap.objects (object ∷ []));
 }
 
 place_after : (objects : List Object) (r : ℕ) (object new : Object) → slice_get objects r ≡ Some object → type_of new ≡ type_of object → (k : ℕ) (other : Object) → slice_get objects k ≡ Some other → (after : Object) × ((slice_get (set objects r new) k ≡ Some after) × (type_of after ≡ type_of other))
-place_after [] r object new e t k other f = absurd (none_is_not_some other f)
+place_after [] r object new e t k other f = absurd (none-some other f)
 place_after (first ∷ more) zero object new e t zero other f = (new, (refl, t ∙ ap type_of (sym (some_is e) ∙ some_is f)))
 place_after (first ∷ more) zero object new e t (suc k) other f = (other, (f, refl))
 place_after (first ∷ more) (suc r) object new e t zero other f = (other, (f, refl))
@@ -150,11 +151,11 @@ held types heap (slots.Ref t) value h = h
 -- what an int or a reference of a type is lies in the heap
 pub placed_in_heap : (types : WorldTypes) (heap : Heap) (place : PlaceType) (value : Value) → (place ≡ places.Unset → ⊥) → HasPlaceType types heap place (Some value) → IsInHeap (length heap.objects) value
 placed_in_heap types heap places.Unset value s h = absurd (s refl)
-placed_in_heap types heap places.Int (values.Int n) s h = λ a e. absurd (none_is_not_some a e)
+placed_in_heap types heap places.Int (values.Int n) s h = λ a e. absurd (none-some a e)
 placed_in_heap types heap places.Int values.Null s h = absurd h
 placed_in_heap types heap places.Int (values.Ref r) s h = absurd h
 placed_in_heap types heap places.Null (values.Int n) s h = absurd h
-placed_in_heap types heap places.Null values.Null s h = λ a e. absurd (none_is_not_some a e)
+placed_in_heap types heap places.Null values.Null s h = λ a e. absurd (none-some a e)
 placed_in_heap types heap places.Null (values.Ref r) s h = absurd h
 placed_in_heap types heap (places.Ref t) value s h = value_in_heap types heap value t h
 

@@ -3,12 +3,12 @@ use Rattle.std.proofs.Common.{◌≡◌, ℕ, ◌<◌, List, [], ◌∷◌, leng
 use Rattle.std.specs.Prelude.{slice_get, unwrap_or}
 use Rattle.std.specs.Option.{option_and_then}
 use Rattle.std.proofs.lemmas.List.{length-map}
+use Rattle.std.proofs.lemmas.Option.{none-some}
 use Rattle.jvm_values.specs.declared.heap.Value.{Value}
 use Rattle.jvm_values.specs.declared.heap.Heap.{Heap}
 use Rattle.jvm_values.specs.declared.state.Frame.{Frame}
 use Rattle.jvm_values.specs.declared.state.Mode.{Mode}
 use Rattle.jvm_values.specs.States.{MachineFrame, MachineState, frame_of}
-use Rattle.jvm_values.proofs.Options.{none_is_not_some}
 use Rattle.class_program.specs.declared.op.Op.{Op}
 use Rattle.class_program.specs.declared.program.Method.{Method}
 use Rattle.class_program.specs.Programs.{Program, insn_at}
@@ -26,7 +26,7 @@ abbrev given_to : MachineFrame → Option Value → MachineFrame
 given_to caller value = record caller { stack = with_result value caller.stack }
 
 pub behind : (o : Option (Op × Option ℕ)) (place : ℕ) (on : ℕ → Step) → option_and_then (λ (x : Op × Option ℕ). x.1) o ≡ Some place → option_and_then (λ (here : Op × Option ℕ). option_and_then (λ (q : ℕ). Some (on q)) here.1) o ≡ Some (on place)
-behind None place on e = absurd (none_is_not_some place e)
+behind None place on e = absurd (none-some place e)
 behind (Some here) place on e = ap (option_and_then (λ (q : ℕ). Some (on q))) e
 
 none_behind : (o : Option (Op × Option ℕ)) (on : ℕ → Step) → option_and_then (λ (x : Op × Option ℕ). x.1) o ≡ None → option_and_then (λ (here : Op × Option ℕ). option_and_then (λ (q : ℕ). Some (on q)) here.1) o ≡ None

@@ -2,7 +2,7 @@
 use Rattle.std.proofs.Common.{◌≡◌, true, false, Option, Some, None, refl, sym, ap, ◌∙◌}
 use Rattle.std.specs.Option.{option_map_or, option_and_then}
 use Rattle.std.proofs.lemmas.Bool.{false≢true}
-use Rattle.jvm_values.proofs.Options.{none_is_not_some}
+use Rattle.std.proofs.lemmas.Option.{none-some}
 use Rattle.code_forms.specs.declared.insn.Insn.{Insn}
 use Rattle.class_program.specs.declared.op.Op.{Op}
 use Rattle.class_program.specs.declared.op.Op.TheVariants as ops
@@ -31,7 +31,7 @@ virtual_op_of (ops.Instanceof a) call e = cc
 
 pub virtual_op : (op : Option Op) (call : Call) → option_and_then form_of op ≡ Some (Form.Invokevirtual call) → op ≡ Some (ops.Invokevirtual call)
 virtual_op (Some op) call e = ap Some (virtual_op_of op call e)
-virtual_op None call e = absurd (none_is_not_some _ e)
+virtual_op None call e = absurd (none-some _ e)
 
 interface_op_of : (op : Op) (call : Call) → form_of op ≡ Some (Form.Invokeinterface call) → op ≡ ops.Invokeinterface call
 interface_op_of (ops.Plain insn) call e = absurd (no_plain insn (Form.Invokeinterface call) refl e)
@@ -51,4 +51,4 @@ interface_op_of (ops.Instanceof a) call e = cc
 
 pub interface_op : (op : Option Op) (call : Call) → option_and_then form_of op ≡ Some (Form.Invokeinterface call) → op ≡ Some (ops.Invokeinterface call)
 interface_op (Some op) call e = ap Some (interface_op_of op call e)
-interface_op None call e = absurd (none_is_not_some _ e)
+interface_op None call e = absurd (none-some _ e)

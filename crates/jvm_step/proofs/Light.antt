@@ -3,6 +3,7 @@ use Rattle.std.proofs.Common.{◌≡◌, ℕ, zero, suc, ◌<◌, ◌≤◌, ◌
 use Rattle.std.specs.Prelude.{All, IsOk, OnErr, slice_get, unwrap_or}
 use Rattle.std.specs.List.{find}
 use Rattle.std.specs.Option.{option_and_then, option_map}
+use Rattle.list_views.proofs.Options.{then_some}
 use Rattle.jvm_values.specs.declared.heap.Value.{Value}
 use Rattle.jvm_values.specs.declared.heap.Value.TheVariants as values
 use Rattle.jvm_values.specs.declared.heap.Heap.{Heap}
@@ -10,7 +11,6 @@ use Rattle.jvm_values.specs.declared.state.Frame.{Frame}
 use Rattle.jvm_values.specs.declared.state.Mode.{Mode}
 use Rattle.jvm_values.specs.declared.state.Mode.TheVariants.{Normal}
 use Rattle.jvm_values.specs.States.{MachineFrame, MachineState, frame_of}
-use Rattle.jvm_values.proofs.Options.{given}
 use Rattle.class_program.specs.declared.op.Op.{Op}
 use Rattle.class_program.specs.declared.program.CatchRange.{CatchRange}
 use Rattle.class_program.specs.declared.program.Method.{Method}
@@ -169,8 +169,8 @@ module _ (p : Program) (heap : Heap) (mode : Mode) (statics : List Value) where
   method_there : (number pc place : ℕ) → option_and_then (λ (x : Op × Option ℕ). x.1) (insn_at p.methods number pc) ≡ Some place → (m : Method) × (slice_get p.methods number ≡ Some m)
   unfolding insn_at
   method_there number pc place e =
-      let here = given (λ (x : Op × Option ℕ). x.1) (option_and_then (λ (m : Method). instruction_at m.insns pc) (slice_get p.methods number)) place e in
-      let found = given (λ (m : Method). instruction_at m.insns pc) (slice_get p.methods number) here.0 here.1.0 in
+      let here = then_some (λ (x : Op × Option ℕ). x.1) (option_and_then (λ (m : Method). instruction_at m.insns pc) (slice_get p.methods number)) place e in
+      let found = then_some (λ (m : Method). instruction_at m.insns pc) (slice_get p.methods number) here.0 here.1.0 in
       (found.0, found.1.0)
 
   pub return_heavy : (next : Option ℕ) (frames : List Frame) (place : ℕ) (value : Option Value) → place_in p (map frame_of frames) ≡ Some place → CallerLacks value frames → TakesNone p.methods frames (at (map frame_of frames)) (applied_in p next (afters.Return value) (at (map frame_of frames)) (map frame_of frames)) → ⊥
@@ -199,5 +199,5 @@ catch_heavy p s r [] o (Some range) (Err fault) e f lacks t = absurd lacks
 catch_heavy p s r (frame ∷ below) o (Some range) (Err fault) e f lacks t =
     let is : throwing_step p s r (map frame_of (frame ∷ below)) ≡ Some (handled s r (frame_of frame) (map frame_of below) (Some range)) = throwing_is p s r (map frame_of (frame ∷ below)) ∙ ap (option_map (λ (y : Option CatchRange). handled_in s r y (map frame_of (frame ∷ below)))) (sym e ∙ f) in
     let light : TakesNone p.methods (frame ∷ below) s (handled s r (frame_of frame) (map frame_of below) (Some range)) = subst (λ (x : Option Step). TakesNone p.methods (frame ∷ below) s (unwrap_or x Step.Stuck)) is t in
-    let there = given _ (slice_get p.methods frame.method) (Some range) (sym e ∙ f) in
+    let there = then_some _ (slice_get p.methods frame.method) (Some range) (sym e ∙ f) in
     absurd (handler_heavy p s r frame below there.0 range there.1.0 lacks light)

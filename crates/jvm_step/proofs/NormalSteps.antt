@@ -3,13 +3,14 @@ use Rattle.std.proofs.Common.{◌≡◌, ℕ, zero, suc, ◌<◌, Bool, true, fa
 use Rattle.std.specs.Prelude.{slice_get, unwrap_or, OnErr, ◌==◌}
 use Rattle.std.proofs.lemmas.Bool.{false≢true}
 use Rattle.std.specs.Option.{option_and_then, option_map}
+use Rattle.std.proofs.lemmas.Option.{none-some}
 use Rattle.jvm_values.specs.declared.heap.Value.{Value}
 use Rattle.jvm_values.specs.declared.heap.Heap.{Heap}
 use Rattle.jvm_values.specs.declared.state.Frame.{Frame}
 use Rattle.jvm_values.specs.declared.state.Mode.{Mode}
 use Rattle.jvm_values.specs.declared.state.Mode.TheVariants.{Normal, Throwing}
 use Rattle.jvm_values.specs.States.{MachineFrame, MachineState, frame_of}
-use Rattle.jvm_values.proofs.Options.{none_is_not_some, some_is}
+use Rattle.jvm_values.proofs.Options.{some_is}
 use Rattle.class_program.specs.declared.op.Op.{Op}
 use Rattle.class_program.specs.declared.program.Method.{Method}
 use Rattle.class_program.specs.Programs.{Program, insn_at}
@@ -49,11 +50,11 @@ form_then on None = refl
 form_then on (Some here) = form_then_by on here.1 (form_of here.0)
 
 form_alone_by : (next : Option ℕ) (form : Option Form) (x : Form × Option ℕ) → option_and_then (λ (f : Form). Some (f, next)) form ≡ Some x → form ≡ Some x.0
-form_alone_by next None x e = absurd (none_is_not_some x e)
+form_alone_by next None x e = absurd (none-some x e)
 form_alone_by next (Some form) x e = ap (λ (y : Form × Option ℕ). Some y.0) (some_is e)
 
 form_alone : (o : Option (Op × Option ℕ)) (x : Form × Option ℕ) → option_and_then (λ (here : Op × Option ℕ). option_and_then (λ (form : Form). Some (form, here.1)) (form_of here.0)) o ≡ Some x → option_and_then form_of (option_map (λ (y : Op × Option ℕ). y.0) o) ≡ Some x.0
-form_alone None x e = absurd (none_is_not_some x e)
+form_alone None x e = absurd (none-some x e)
 form_alone (Some here) x e = form_alone_by here.1 (form_of here.0) x e
 
 pub form_there : (p : Program) (frame : MachineFrame) (x : Form × Option ℕ) → form_here p frame ≡ Some x → form_at p frame.method frame.pc ≡ Some x.0

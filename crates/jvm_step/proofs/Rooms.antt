@@ -3,8 +3,8 @@ use Rattle.std.proofs.Common.{◌≡◌, Option, Some, None, ℕ, zero, suc, ◌
 use Rattle.std.specs.Prelude.{All, MatchOption, slice_get, slice_set}
 use Rattle.std.proofs.Math.ListN.{length-set}
 use Rattle.std.proofs.lemmas.List.{get_or-set_same, get_or-set_other}
+use Rattle.std.proofs.lemmas.Bool.{cases_eq}
 use Rattle.jvm_values.specs.declared.state.Frame.{Frame}
-use Rattle.jvm_values.proofs.Lists.{same_or_not}
 use Rattle.class_program.specs.declared.program.Method.{Method}
 use Rattle.jvm_step.specs.Steps.{HasRoom}
 
@@ -13,7 +13,7 @@ room_kept methods old new e l h m s = omega (arith, l, h m (subst (λ (k : ℕ).
 
 -- another frame in the place of one
 pub rooms_with : (methods : List Method) (frames : List Frame) (i : ℕ) (new : Frame) → All (HasRoom methods) frames → HasRoom methods new → All (HasRoom methods) (slice_set frames i new)
-rooms_with methods frames i new h k j d l = elim (same_or_not j i) [
+rooms_with methods frames i new h k j d l = elim (cases_eq j i) [
   | inl s ↦ subst (HasRoom methods) (sym (ap (λ (n : ℕ). get_or (set frames i new) n d) s ∙ get_or-set_same frames i new d (subst (λ (n : ℕ). n < length frames) s (omega (arith, l, length-set frames i new))))) k
   | inr o ↦ subst (HasRoom methods) (sym (get_or-set_other frames i j new d o)) (h j d (omega (arith, l, length-set frames i new)))
 ]

@@ -3,13 +3,14 @@ use Rattle.std.proofs.Common.{◌≡◌, ℕ, suc, ◌+◌, ◌<◌, ◌≤◌, 
 use Rattle.std.specs.Prelude.{OnErr, slice_get, ℤ}
 use Rattle.std.specs.Option.{option_and_then}
 use Rattle.std.proofs.lemmas.List.{length-append}
+use Rattle.std.proofs.lemmas.Option.{none-some}
 use Rattle.jvm_values.specs.declared.heap.Value.{Value}
 use Rattle.jvm_values.specs.declared.heap.Value.TheVariants as values
 use Rattle.jvm_values.specs.declared.heap.Object.{Object}
 use Rattle.jvm_values.specs.declared.types.Kind.{Kind}
 use Rattle.jvm_values.specs.declared.types.Ty.{Ty}
 use Rattle.jvm_values.specs.TypedHeaps.{WorldTypes}
-use Rattle.jvm_values.proofs.Options.{none_is_not_some, some_is}
+use Rattle.jvm_values.proofs.Options.{some_is}
 use Rattle.class_program.specs.declared.program.Method.{Method}
 use Rattle.class_program.specs.Programs.{Program}
 use Rattle.op_forms.specs.declared.form.Shuffle.{Shuffle}
@@ -21,10 +22,6 @@ use Rattle.jvm_step.specs.Table.{Work, on_frame, on_heap, effect_of}
 use Rattle.jvm_step.specs.Memory.{Wants}
 
 -- ---- answers that are errors
-
-pub on_err : {A E : Type 0} {P Q : Type 0} (result : Result A E) → (P → Q) → OnErr result P → OnErr result Q
-on_err (Ok x) f h = tt
-on_err (Err fault) f h = f h
 
 pub any_err : {A E : Type 0} {P : Type 0} (result : Result A E) → P → OnErr result P
 any_err (Ok x) h = tt
@@ -63,36 +60,36 @@ getstatic_wants w room place l = pushed_by w room (slice_get w.statics place) (�
 -- ---- a stack that is reordered
 
 dup_is : (stack after : List Value) → shuffled shuffles.Dup stack ≡ Some after → length after ≡ suc (length stack)
-dup_is [] after e = absurd (none_is_not_some after e)
+dup_is [] after e = absurd (none-some after e)
 dup_is (a ∷ below) after e = sym (ap length (some_is e))
 
 dup_x1_is : (stack after : List Value) → shuffled shuffles.DupX1 stack ≡ Some after → length after ≡ suc (length stack)
-dup_x1_is [] after e = absurd (none_is_not_some after e)
-dup_x1_is (a ∷ []) after e = absurd (none_is_not_some after e)
+dup_x1_is [] after e = absurd (none-some after e)
+dup_x1_is (a ∷ []) after e = absurd (none-some after e)
 dup_x1_is (a ∷ b ∷ below) after e = sym (ap length (some_is e))
 
 dup_x2_is : (stack after : List Value) → shuffled shuffles.DupX2 stack ≡ Some after → length after ≡ suc (length stack)
-dup_x2_is [] after e = absurd (none_is_not_some after e)
-dup_x2_is (a ∷ []) after e = absurd (none_is_not_some after e)
-dup_x2_is (a ∷ b ∷ []) after e = absurd (none_is_not_some after e)
+dup_x2_is [] after e = absurd (none-some after e)
+dup_x2_is (a ∷ []) after e = absurd (none-some after e)
+dup_x2_is (a ∷ b ∷ []) after e = absurd (none-some after e)
 dup_x2_is (a ∷ b ∷ c ∷ below) after e = sym (ap length (some_is e))
 
 dup2_is : (stack after : List Value) → shuffled shuffles.Dup2 stack ≡ Some after → length after ≡ suc (suc (length stack))
-dup2_is [] after e = absurd (none_is_not_some after e)
-dup2_is (a ∷ []) after e = absurd (none_is_not_some after e)
+dup2_is [] after e = absurd (none-some after e)
+dup2_is (a ∷ []) after e = absurd (none-some after e)
 dup2_is (a ∷ b ∷ below) after e = sym (ap length (some_is e))
 
 dup2_x1_is : (stack after : List Value) → shuffled shuffles.Dup2X1 stack ≡ Some after → length after ≡ suc (suc (length stack))
-dup2_x1_is [] after e = absurd (none_is_not_some after e)
-dup2_x1_is (a ∷ []) after e = absurd (none_is_not_some after e)
-dup2_x1_is (a ∷ b ∷ []) after e = absurd (none_is_not_some after e)
+dup2_x1_is [] after e = absurd (none-some after e)
+dup2_x1_is (a ∷ []) after e = absurd (none-some after e)
+dup2_x1_is (a ∷ b ∷ []) after e = absurd (none-some after e)
 dup2_x1_is (a ∷ b ∷ c ∷ below) after e = sym (ap length (some_is e))
 
 dup2_x2_is : (stack after : List Value) → shuffled shuffles.Dup2X2 stack ≡ Some after → length after ≡ suc (suc (length stack))
-dup2_x2_is [] after e = absurd (none_is_not_some after e)
-dup2_x2_is (a ∷ []) after e = absurd (none_is_not_some after e)
-dup2_x2_is (a ∷ b ∷ []) after e = absurd (none_is_not_some after e)
-dup2_x2_is (a ∷ b ∷ c ∷ []) after e = absurd (none_is_not_some after e)
+dup2_x2_is [] after e = absurd (none-some after e)
+dup2_x2_is (a ∷ []) after e = absurd (none-some after e)
+dup2_x2_is (a ∷ b ∷ []) after e = absurd (none-some after e)
+dup2_x2_is (a ∷ b ∷ c ∷ []) after e = absurd (none-some after e)
 dup2_x2_is (a ∷ b ∷ c ∷ d ∷ below) after e = sym (ap length (some_is e))
 
 -- the stack after is longer than a room that was full

@@ -1,4 +1,4 @@
--- The machine's table: the effect of each form of instruction, in a method of a program.
+-- The machine's table: the effect of each form of instruction, in a method of a program (JVM specification, section 6.5).
 use Rattle.std.specs.Prelude.{true, false, List, Option, Some}
 use Rattle.std.specs.Option.{option_map}
 use Rattle.jvm_values.specs.declared.heap.Value.{Value}

@@ -2,6 +2,9 @@
 use Rattle.std.proofs.Common.{◌≡◌, ℕ, zero, suc, List, [], ◌∷◌, ◌++◌, Option, Some, None, ◌⊎◌, inl, inr, refl, sym, ap, ◌∙◌}
 use Rattle.std.specs.Prelude.{slice_get}
 use Rattle.std.specs.Option.{option_map, option_and_then}
+use Rattle.std.proofs.lemmas.Bool.{cases_eq}
+use Rattle.std.proofs.lemmas.Option.{none-some}
+use Rattle.list_views.proofs.Options.{same_answer, then_some}
 use Rattle.jvm_values.specs.declared.heap.Value.{Value}
 use Rattle.jvm_values.specs.declared.heap.Value.TheVariants as values
 use Rattle.jvm_values.specs.declared.heap.Object.{Object}
@@ -15,13 +18,8 @@ use Rattle.jvm_values.specs.Terms.{HeapTerm, HeapTerms, term_within, term_of_obj
 use Rattle.jvm_values.specs.Terms.HeapTerm.{null, node}
 use Rattle.jvm_values.specs.Terms.HeapTerms.{more}
 use Rattle.jvm_values.specs.Writes.{IsWritten, with_value, WriteKeeps, PathSplits, WriteGains, WriteMakesNoCycle, NullKeepsShapes}
-use Rattle.jvm_values.proofs.Options.{given, none_is_not_some}
-use Rattle.jvm_values.proofs.Lists.{get_set_cases, get_set_other, same_or_not}
+use Rattle.jvm_values.proofs.Lists.{get_set_cases, get_set_other}
 use Rattle.jvm_values.proofs.PathLaws.{one_more, here, joined, onward, rest_of}
-
-same_answer : {A B : Type 0} (f g : A → Option B) (x : Option A) → ((c : A) → x ≡ Some c → f c ≡ g c) → option_and_then f x ≡ option_and_then g x
-same_answer f g None h = refl
-same_answer f g (Some c) h = h c refl
 
 value_cases : (place : ℕ) (value : Value) (object : Object) (j : ℕ) (y : Value) → slice_get (values_of (with_value place value object)) j ≡ Some y → (slice_get (values_of object) j ≡ Some y) ⊎ (y ≡ value)
 value_cases place value (Instance class fields) j y e = elim (get_set_cases fields place value j y e) [ inl h ↦ inl h | inr h ↦ inr h.1 ]
@@ -46,8 +44,8 @@ module _ (old new : Heap) (o place : ℕ) (value : Value) (w : IsWritten old o p
   -- a step of the new heap is one of the old heap, or goes from the object to what the written value names
   pub step_cases : (a j c : ℕ) → heap_steps new a j ≡ Some c → (heap_steps old a j ≡ Some c) ⊎ ((a ≡ o) × (target value ≡ Some c))
   step_cases a j c e =
-      let p = given target (value_at new a j) c e in
-      let q = given (λ (ob : Object). slice_get (values_of ob) j) (slice_get new.objects a) p.0 p.1.0 in
+      let p = then_some target (value_at new a j) c e in
+      let q = then_some (λ (ob : Object). slice_get (values_of ob) j) (slice_get new.objects a) p.0 p.1.0 in
       elim (object_cases a q.0 q.1.0) [
         | inl h ↦ inl (old_step a j c q.0 p.0 h q.1.1 p.1.1)
         | inr h ↦ written_values a j c q.0 p.0 h.0 h.1 q.1.1 p.1.1
@@ -64,7 +62,7 @@ module _ (old new : Heap) (o place : ℕ) (value : Value) (w : IsWritten old o p
   pub split : (path : List ℕ) (a b : ℕ) → follow (heap_steps new) path a ≡ Some b → (follow (heap_steps old) path a ≡ Some b) ⊎ (Reaches (heap_steps old) a o × Region old value b)
   split [] a b e = inl e
   split (j ∷ path) a b e =
-      let p = given (follow (heap_steps new) path) (heap_steps new a j) b e in
+      let p = then_some (follow (heap_steps new) path) (heap_steps new a j) b e in
       join (step_cases a j p.0 p.1.0) (split path p.0 b p.1.1)
     where
       join : {c : ℕ} → (heap_steps old a j ≡ Some c) ⊎ ((a ≡ o) × (target value ≡ Some c)) → (follow (heap_steps old) path c ≡ Some b) ⊎ (Reaches (heap_steps old) c o × Region old value b) → (follow (heap_steps old) (j ∷ path) a ≡ Some b) ⊎ (Reaches (heap_steps old) a o × Region old value b)
@@ -88,8 +86,8 @@ module _ (old new : Heap) (o place : ℕ) (value : Value) (w : IsWritten old o p
   pub still_reaches : (path : List ℕ) (a : ℕ) → follow (heap_steps old) path a ≡ Some o → Reaches (heap_steps new) a o
   still_reaches [] a e = record { path = []; leads = e }
   still_reaches (j ∷ path) a e =
-      let p = given (follow (heap_steps old) path) (heap_steps old a j) o e in
-      elim (same_or_not a o) [
+      let p = then_some (follow (heap_steps old) path) (heap_steps old a j) o e in
+      elim (cases_eq a o) [
         | inl h ↦ here (heap_steps new) a o h
         | inr h ↦ one_more (heap_steps new) a j p.0 o (same_step a j h ∙ p.1.0) (still_reaches path p.0 p.1.1)
       ]
@@ -99,7 +97,7 @@ module _ (old new : Heap) (o place : ℕ) (value : Value) (w : IsWritten old o p
   pub no_new_paths : target value ≡ None → (path : List ℕ) (a b : ℕ) → follow (heap_steps new) path a ≡ Some b → follow (heap_steps old) path a ≡ Some b
   no_new_paths nothing path a b e = elim (split path a b e) [
     | inl h ↦ h
-    | inr h ↦ absurd (none_is_not_some h.1.start (sym nothing ∙ h.1.names))
+    | inr h ↦ absurd (none-some h.1.start (sym nothing ∙ h.1.names))
   ]
 
   -- ---- terms
@@ -130,7 +128,7 @@ from_region : (heap : Heap) (x : Value) (b : ℕ) → (Region heap x b → ⊥) 
 from_region heap x b lacks a t r = lacks (record { start = a; names = t; reaches = r })
 
 -- the same paths give the same shapes
-same_shape : (one two : Heap) (x : Value) → ((a : ℕ) → target x ≡ Some a → (p : List ℕ) (b : ℕ) → follow (heap_steps two) p a ≡ Some b → follow (heap_steps one) p a ≡ Some b) → (shape : Shape) → HasShape shape one x → HasShape shape two x
+pub same_shape : (one two : Heap) (x : Value) → ((a : ℕ) → target x ≡ Some a → (p : List ℕ) (b : ℕ) → follow (heap_steps two) p a ≡ Some b → follow (heap_steps one) p a ≡ Some b) → (shape : Shape) → HasShape shape one x → HasShape shape two x
 same_shape one two x back Tree h = λ a t p q b e f. h a t p q b (back a t p b e) (back a t q b f)
 same_shape one two x back Dag h = λ a t p b e q f.
     let start = back a t p b e in

@@ -7,6 +7,7 @@ use Rattle.std.specs.Prelude.{unsigned_abs, int_div}
 use Rattle.std.proofs.Math.Nat.{div-le_self, mod-eq_of_lt, mod-lt}
 use Rattle.std.proofs.lemmas.Bool.Decides.{Decides-int_eq}
 use Rattle.std.proofs.Math.Pow.{pow-lt}
+use Rattle.std.proofs.lemmas.Bool.{false_from_ne_true}
 use Rattle.jvm_values.specs.Ints.{int_shifted_left, int_quotient}
 
 -- a number below 2^32 in size, read as 32 bits, is the number wrapped
@@ -15,13 +16,13 @@ unfolding int_wrap
 wrapped (pos n) h = ap (to_z w32) (sym (mod-eq_of_lt h))
 wrapped (negsuc n) h = ap (to_z w32) (omega arith)
 
-abs_quotient : (a b : ℤ) → unsigned_abs (int_div a b) ≤ unsigned_abs a
+pub abs_quotient : (a b : ℤ) → unsigned_abs (int_div a b) ≤ unsigned_abs a
 abs_quotient (pos a) (pos b) = div-le_self a b
 abs_quotient (pos a) (negsuc b) = omega (arith, ints, div-le_self a (suc b))
 abs_quotient (negsuc a) (pos b) = omega (arith, ints, div-le_self (suc a) b)
 abs_quotient (negsuc a) (negsuc b) = div-le_self (suc a) (suc b)
 
-abs_of_int : (z : ℤ) → FitsSigned w32 z → unsigned_abs z ≤ 2147483648
+pub abs_of_int : (z : ℤ) → FitsSigned w32 z → unsigned_abs z ≤ 2147483648
 abs_of_int (pos n) h = omega (arith, ints, h)
 abs_of_int (negsuc n) h = omega (arith, ints, h)
 
@@ -71,12 +72,8 @@ short_in_range v r e = let f : FitsSigned w16 r = rw e (SFits-int_wrap w16 v) in
 pub quotient_is : (a b r : ℤ) → FitsSigned w32 a → FitsSigned w32 b → FitsSigned w32 r → r ≡ to_z w32 (of_z w32 (int_div (to_z w32 (of_z w32 a)) (to_z w32 (of_z w32 b)))) → to_z w32 (of_z w32 r) ≡ int_wrap w32 (int_div a b)
 quotient_is a b r f g h e = to_z-of_z h ∙ e ∙ ap (λ (z : ℤ). to_z w32 (of_z w32 (int_div z (to_z w32 (of_z w32 b))))) (to_z-of_z f) ∙ ap (λ (z : ℤ). to_z w32 (of_z w32 (int_div a z))) (to_z-of_z g) ∙ quotient_wrapped a b f
 
-is_false : (b : Bool) → (b ≡ true → ⊥) → b ≡ false
-is_false true h = absurd (h refl)
-is_false false h = refl
-
 -- the answer where the divisor is not 0
 pub given_quotient : (a b z : ℤ) → (of_z w32 b ≡ 0 → ⊥) → z ≡ int_wrap w32 (int_div a b) → Some z ≡ int_quotient a b
 given_quotient a b z h e =
-    let no : int_eq b (pos 0) ≡ false = is_false (int_eq b (pos 0)) (λ t. h (ap (of_z w32) ((Decides-int_eq b (pos 0)).0 t))) in
+    let no : int_eq b (pos 0) ≡ false = false_from_ne_true (int_eq b (pos 0)) (λ t. h (ap (of_z w32) ((Decides-int_eq b (pos 0)).0 t))) in
     rw no (ap Some e)

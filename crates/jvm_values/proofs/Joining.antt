@@ -2,6 +2,7 @@
 use Rattle.std.proofs.Common.{◌≡◌, ℕ, zero, suc, ◌+◌, ◌-◌, ◌<◌, ◌≤◌, Bool, true, false, cond, ltb, List, Option, Some, None, ◌⊎◌, inl, inr, refl, sym, ap, subst, ◌∙◌, arith}
 use Rattle.std.specs.Prelude.{IsTrue}
 use Rattle.std.proofs.lemmas.Bool.{ltb-true, ltb-false, cases_lt}
+use Rattle.std.proofs.lemmas.Option.{none-some}
 use Rattle.jvm_values.specs.declared.types.Ty.{Ty}
 use Rattle.jvm_values.specs.declared.types.Kind.{Kind}
 use Rattle.jvm_values.specs.declared.types.Base.{Base}
@@ -9,7 +10,7 @@ use Rattle.jvm_values.specs.declared.types.Base.TheVariants.{Class, Num}
 use Rattle.jvm_values.specs.declared.types.Slot.{Slot}
 use Rattle.jvm_values.specs.Subtyping.{class_type, object_type, array_of, array_of_numbers, IsReference, IsReferenceBase, SubtypeLaws}
 use Rattle.jvm_values.specs.Joins.{IsErasedAbove, IsJoin, item_under, item_of, AreApart}
-use Rattle.jvm_values.proofs.Options.{some_is, none_is_not_some}
+use Rattle.jvm_values.proofs.Options.{some_is}
 
 pub same_type : (a b : Ty) → a.dims ≡ b.dims → a.base ≡ b.base → a ≡ b
 same_type a b p q =
@@ -17,12 +18,12 @@ same_type a b p q =
     let g : Base → Ty = λ x. record { dims = b.dims; base = x } in
     ap f p ∙ ap g q
 
-array_inside : (a b : Ty) → array_of a ≡ array_of b → a ≡ b
+pub array_inside : (a b : Ty) → array_of a ≡ array_of b → a ≡ b
 array_inside a b e =
     let d : a.dims + 1 ≡ b.dims + 1 = ap (λ (t : Ty). t.dims) e in
     same_type a b (omega arith) (ap (λ (t : Ty). t.base) e)
 
-no_dims : (t item : Ty) → t.dims ≡ 0 → t ≡ array_of item → ⊥
+pub no_dims : (t item : Ty) → t.dims ≡ 0 → t ≡ array_of item → ⊥
 no_dims t item z e = let d : t.dims ≡ item.dims + 1 = ap (λ (x : Ty). x.dims) e in omega arith
 
 -- the items' type: what it is, and that the array is the array of it
@@ -35,7 +36,7 @@ item_is dims (Class class) item e = by_test (ltb 0 dims) refl e
         let d : dims - 1 ≡ item.dims = ap (λ (x : Ty). x.dims) is in
         let l : 0 < dims = ltb-true 0 dims h in
         (omega arith, (ap (λ (x : Ty). x.base) is, λ k (n : Class class ≡ Num k). cc))
-    by_test false h f = absurd (none_is_not_some item f)
+    by_test false h f = absurd (none-some item f)
 item_is dims (Num kind) item e = by_test (ltb 1 dims) refl e
   where
     by_test : (t : Bool) → ltb 1 dims ≡ t → cond t (Some (record { dims = dims - 1; base = Num kind })) None ≡ Some item → (dims ≡ item.dims + 1) × ((Num kind ≡ item.base) × ((k : Kind) → Num kind ≡ Num k → 0 < item.dims))
@@ -44,7 +45,7 @@ item_is dims (Num kind) item e = by_test (ltb 1 dims) refl e
         let d : dims - 1 ≡ item.dims = ap (λ (x : Ty). x.dims) is in
         let l : 1 < dims = ltb-true 1 dims h in
         (omega arith, (ap (λ (x : Ty). x.base) is, λ k n. omega arith))
-    by_test false h f = absurd (none_is_not_some item f)
+    by_test false h f = absurd (none-some item f)
 
 narrower : (n d e : ℕ) (base : Base) → IsReferenceBase n d base → ((k : Kind) → base ≡ Num k → 0 < e) → IsReferenceBase n e base
 narrower n d e (Class k) r h = r
@@ -155,12 +156,12 @@ module _ (sub : Ty → Ty → Bool) (erase : Ty → Ty) (n : ℕ) (fields : ℕ 
   numbers_under dims (Class class) e h = by_test (ltb 0 dims) refl e
     where
       by_test : (t : Bool) → ltb 0 dims ≡ t → cond {A = Option Ty} t (Some (record { dims = dims - 1; base = Class class })) None ≡ None → (k : Kind) × ((dims ≡ 1) × (Class class ≡ Num k))
-      by_test true l f = absurd (none_is_not_some (record { dims = dims - 1; base = Class class }) (sym f))
+      by_test true l f = absurd (none-some (record { dims = dims - 1; base = Class class }) (sym f))
       by_test false l f = absurd (omega (arith, ltb-false 0 dims l, h))
   numbers_under dims (Num kind) e h = by_test (ltb 1 dims) refl e
     where
       by_test : (t : Bool) → ltb 1 dims ≡ t → cond {A = Option Ty} t (Some (record { dims = dims - 1; base = Num kind })) None ≡ None → (k : Kind) × ((dims ≡ 1) × (Num kind ≡ Num k))
-      by_test true l f = absurd (none_is_not_some (record { dims = dims - 1; base = Num kind }) (sym f))
+      by_test true l f = absurd (none-some (record { dims = dims - 1; base = Num kind }) (sym f))
       by_test false l f = (kind, (omega (arith, ltb-false 1 dims l, h), refl))
 
   numbers_of : (t : Ty) → item_of t ≡ None → 0 < t.dims → (k : Kind) × (t ≡ array_of_numbers k)

@@ -6,3 +6,4 @@ pub mod Options
 pub mod PathLaws
 pub mod Ranges
 pub mod Typed
+pub mod IntRanges

@@ -17,9 +17,3 @@ get_set_other (x ∷ xs) zero zero v h = absurd (h refl)
 get_set_other (x ∷ xs) zero (suc j) v h = refl
 get_set_other (x ∷ xs) (suc i) zero v h = refl
 get_set_other (x ∷ xs) (suc i) (suc j) v h = get_set_other xs i j v (λ e. h (ap suc e))
-
-pub same_or_not : (a b : ℕ) → (a ≡ b) ⊎ (a ≡ b → ⊥)
-same_or_not zero zero = inl refl
-same_or_not zero (suc b) = inr (λ (e : zero ≡ suc b). cc)
-same_or_not (suc a) zero = inr (λ (e : suc a ≡ zero). cc)
-same_or_not (suc a) (suc b) = elim (same_or_not a b) [ inl h ↦ inl (ap suc h) | inr h ↦ inr (λ e. h (cc)) ]

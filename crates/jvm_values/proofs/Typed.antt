@@ -2,7 +2,7 @@
 use Rattle.std.proofs.Common.{◌≡◌, ℕ, ◌<◌, List, [], ◌∷◌, length, Option, Some, None, sym, ap, subst, ◌∙◌}
 use Rattle.std.specs.Prelude.{All, slice_get}
 use Rattle.std.proofs.lemmas.List.Elements.{All-nil, All-cons}
-use Rattle.std.proofs.lemmas.Option.{slice_get_within}
+use Rattle.std.proofs.lemmas.Option.{slice_get_within, none-some}
 use Rattle.std.specs.List.{AllZip}
 use Rattle.jvm_values.specs.declared.types.Ty.{Ty}
 use Rattle.jvm_values.specs.declared.types.Slot.{Slot}
@@ -14,15 +14,15 @@ use Rattle.jvm_values.specs.declared.heap.Object.TheVariants.{Instance, Nums, Re
 use Rattle.jvm_values.specs.declared.heap.Heap.{Heap}
 use Rattle.jvm_values.specs.Heaps.{values_of, IsInHeap}
 use Rattle.jvm_values.specs.TypedHeaps.{WorldTypes, HasType, Holds, IsTypedObject, TypedHeapsAreClosed}
-use Rattle.jvm_values.proofs.Options.{some_is, none_is_not_some}
+use Rattle.jvm_values.proofs.Options.{some_is}
 
 pub value_in_heap : (types : WorldTypes) (heap : Heap) (value : Value) (t : Ty) → HasType types heap value t → IsInHeap (length heap.objects) value
 value_in_heap types heap (values.Int n) t h = absurd h
-value_in_heap types heap values.Null t h = λ a e. absurd (none_is_not_some a e)
+value_in_heap types heap values.Null t h = λ a e. absurd (none-some a e)
 value_in_heap types heap (values.Ref r) t h = λ a e. slice_get_within heap.objects a h.0 (ap (slice_get heap.objects) (sym (some_is e)) ∙ h.1.0)
 
 held_in_heap : (types : WorldTypes) (heap : Heap) (slot : Slot) (value : Value) → Holds types heap slot value → IsInHeap (length heap.objects) value
-held_in_heap types heap (slots.Num kind) (values.Int n) h = λ a e. absurd (none_is_not_some a e)
+held_in_heap types heap (slots.Num kind) (values.Int n) h = λ a e. absurd (none-some a e)
 held_in_heap types heap (slots.Num kind) values.Null h = absurd h
 held_in_heap types heap (slots.Num kind) (values.Ref r) h = absurd h
 held_in_heap types heap (slots.Ref t) value h = value_in_heap types heap value (types.erase t) h

@@ -1,6 +1,6 @@
 //! The values, objects, frames and states of the written machine, and its types.
 //!
-//! The machine is that of the Java virtual machine specification (Java SE 6), chapter 2, in the part that this
+//! The machine is that of the Java virtual machine specification (Java SE 8), chapter 2, in the part that this
 //! library knows: ints, references and null. Two values of these types are equal where they hold the same lists and
 //! numbers: capacity and allocator play no part.
 #![tactic(auto)]

@@ -8,3 +8,4 @@ pub mod Partly
 pub mod Signs
 pub mod Soundness
 pub mod Weighs
+pub mod Coefficients

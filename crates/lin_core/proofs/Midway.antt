@@ -4,6 +4,7 @@ use Rattle.std.specs.Prelude.{unsigned_abs}
 use Rattle.std.proofs.lemmas.Int.{ints}
 use Rattle.std.proofs.lemmas.Bool.{eqb-true, eq-eqb}
 use Rattle.std.proofs.lemmas.List.{get_or-set_same, get_or-set_other, length-set, at_drop_more, at_drop_all}
+use Rattle.list_views.proofs.Orders.{size_of_sum}
 use Rattle.lin_core.specs.Rows.{coefficient_of, RiseFrom}
 use Rattle.lin_core.specs.Sums.{Sum, variables, coefficient_in}
 use Rattle.list_views.proofs.Ring.{times_plus}
@@ -23,9 +24,6 @@ pub record IsMidway (all rest : List (ℕ × ℤ)) (by : ℤ) (old now : Sum) : 
 pub written_at : (numbers : List ℤ) (y x : ℕ) (v : ℤ) (t : Bool) → y < length numbers → eqb y x ≡ t → get_or (set numbers y v) x (pos 0) ≡ cond t v (get_or numbers x (pos 0))
 written_at numbers y x v true h e = subst (λ (z : ℕ). get_or (set numbers y v) z (pos 0) ≡ v) (eqb-true y x e) (get_or-set_same numbers y v (pos 0) h)
 written_at numbers y x v false h e = get_or-set_other numbers y x v (pos 0) (λ same. cc (eq-eqb y x (sym same)))
-
-size_of_sum : (a b : ℤ) → unsigned_abs (a +ℤ b) ≤ unsigned_abs a + unsigned_abs b
-size_of_sum a b = omega (arith, ints)
 
 -- one number of the sum, where its term has come (`here`) and where it has not
 one_sum : (here : Bool) (next now old by k rest all : ℤ) → next ≡ cond here (now +ℤ by *ℤ k) now → now +ℤ by *ℤ (cond here k (pos 0) +ℤ rest) ≡ old +ℤ by *ℤ all → next +ℤ by *ℤ rest ≡ old +ℤ by *ℤ all
@@ -48,7 +46,7 @@ other_place : (t : Bool) (y x : ℕ) (a b : ℤ) → eqb y x ≡ t → y ≢ x �
 other_place true y x a b e far = absurd (far (eqb-true y x e))
 other_place false y x a b e far = refl
 
-no_rest : (now by all : ℤ) → now +ℤ by *ℤ pos 0 ≡ all → now ≡ all
+pub no_rest : (now by all : ℤ) → now +ℤ by *ℤ pos 0 ≡ all → now ≡ all
 no_rest now by all h =
     let z = mul-zero_ℤ by in
     omega (arith, ints)

@@ -3,6 +3,8 @@ use Rattle.std.proofs.Common.{◌≡◌, ℕ, zero, suc, ◌+◌, ◌*◌, ◌�
 use Rattle.std.specs.Prelude.{slice_get}
 use Rattle.std.proofs.lemmas.Int.{ints}
 use Rattle.std.proofs.lemmas.List.{at_drop_more, at_drop_all, length-replicate}
+use Rattle.list_views.proofs.Orders.{zero_plus}
+use Rattle.list_views.proofs.Marks.{zero_at}
 use Rattle.lin_core.specs.Combination.{number_of, summed_coefficient, summed_constant, first_fault_from, IsSumOf}
 use Rattle.lin_core.specs.Rows.{Row, coefficient_of}
 use Rattle.lin_core.specs.Steps.{AddsMultiple}
@@ -17,14 +19,6 @@ pub record IsPartly (rows : List Row) (all rest : List (ℕ × ℤ)) (i end : �
   pub coefficients : (x : ℕ) → coefficient_in now x +ℤ summed_coefficient rows rest x ≡ summed_coefficient rows all x
   pub constant : now.constant +ℤ summed_constant rows rest ≡ summed_constant rows all
   pub within : IsWithin (i * 2 ^ 94) now
-
-zero_at : (n x : ℕ) → get_or (replicate n (pos 0)) x (pos 0) ≡ pos 0
-zero_at zero x = refl
-zero_at (suc n) zero = refl
-zero_at (suc n) (suc x) = zero_at n x
-
-zero_plus : (z : ℤ) → pos 0 +ℤ z ≡ z
-zero_plus z = omega (arith, ints)
 
 pub partly_first : (rows : List Row) (all : List (ℕ × ℤ)) (end : ℕ) (now : Sum) → first_fault_from rows 0 all ≡ None → now ≡ zero_sum end → IsPartly rows all all 0 end now
 partly_first rows all end now none e = rw e (record {

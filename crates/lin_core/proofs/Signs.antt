@@ -3,9 +3,6 @@ use Rattle.std.proofs.Common.{◌≡◌, ℤ, pos, negsuc, ◌*ℤ◌, ◌≤ℤ
 use Rattle.std.proofs.lemmas.Int.{ints}
 use lib.IntN.{zero-*ℤ, *ℤ-zero}
 
-pub zero-mul_ℤ : (a : ℤ) → pos 0 *ℤ a ≡ pos 0
-zero-mul_ℤ a = zero-*ℤ a
-
 pub mul-zero_ℤ : (a : ℤ) → a *ℤ pos 0 ≡ pos 0
 mul-zero_ℤ a = *ℤ-zero a
 

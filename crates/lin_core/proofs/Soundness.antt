@@ -5,13 +5,14 @@ use Rattle.std.proofs.lemmas.Int.{ints}
 use Rattle.std.proofs.lemmas.Bool.{eqb-true, eq-eqb}
 use Rattle.std.proofs.lemmas.Bool.Decides.{nat_tests}
 use Rattle.std.proofs.lemmas.Option.{get_or_from_slice_get, slice_get_within}
+use Rattle.list_views.proofs.Orders.{zero_times}
 use Rattle.lin_core.specs.declared.rows.RowKind.{RowKind}
 use Rattle.lin_core.specs.declared.rows.RowKind.TheVariants.{AtLeastZero, IsZero}
 use Rattle.lin_core.specs.Combination.{number_of, sum_of, summed_coefficient, IsSumOf, IsAllowedAt, AllAllowed}
 use Rattle.lin_core.specs.Rows.{Row, coefficient_of, value_of_terms, value_of_row, IsOfKind, Holds, AllHold, RiseFrom, Rise, AllRise}
 use Rattle.lin_core.specs.Sums.{Sum, value_from, value_of_sum}
 use Rattle.list_views.proofs.Ring.{times_plus, plus_times, times_assoc}
-use Rattle.lin_core.proofs.Signs.{mul-zero_ℤ, zero-mul_ℤ, mul_nonneg_ℤ}
+use Rattle.lin_core.proofs.Signs.{mul-zero_ℤ, mul_nonneg_ℤ}
 
 -- the sum of coefficient times number over the n variables from k on
 abbrev pub span : (ℕ → ℤ) → (ℕ → ℤ) → ℕ → ℕ → ℤ
@@ -27,7 +28,7 @@ span_same numbers f g e k (suc n) =
 
 pub span_zero : (numbers : ℕ → ℤ) (k n : ℕ) → span numbers (λ x. pos 0) k n ≡ pos 0
 span_zero numbers k zero = refl
-span_zero numbers k (suc n) = omega (arith, ints, zero-mul_ℤ (numbers k), span_zero numbers (suc k) n)
+span_zero numbers k (suc n) = omega (arith, ints, zero_times (numbers k), span_zero numbers (suc k) n)
 
 add_both : (a b c d p q : ℤ) → p ≡ a +ℤ b → q ≡ c +ℤ d → p +ℤ q ≡ (a +ℤ c) +ℤ (b +ℤ d)
 add_both a b c d p q e h = omega (arith, ints)
@@ -52,7 +53,7 @@ only_off y x v true e far = absurd (far (eqb-true y x e))
 only_off y x v false e far = refl
 
 no_head : (a b c d : ℤ) → a ≡ pos 0 → b ≡ d → a *ℤ c +ℤ b ≡ d
-no_head a b c d e h = rw e (omega (arith, ints, zero-mul_ℤ c))
+no_head a b c d e h = rw e (omega (arith, ints, zero_times c))
 
 span_past : (numbers : ℕ → ℤ) (y : ℕ) (v : ℤ) (k n : ℕ) → y < k → span numbers (only y v) k n ≡ pos 0
 span_past numbers y v k zero h = refl

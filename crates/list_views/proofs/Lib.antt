@@ -1,4 +1,12 @@
 pub mod ByteLists
+pub mod Items
+pub mod Marks
+pub mod Options
+pub mod Orders
+pub mod Quantified
 pub mod Reversed
 pub mod Ring
 pub mod Steps
+pub mod Truths
+pub mod Zipped
+pub mod SameBytes

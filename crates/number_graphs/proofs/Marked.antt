@@ -2,9 +2,10 @@
 use Rattle.std.proofs.Common.{◌≡◌, ◌⊎◌, inl, inr, ℕ, ◌+◌, ◌<◌, Bool, true, false, cond, List, [], ◌∷◌, ◌++◌, length, get_or, set, subst, arith, refl, ◌∙◌, sym, length-append}
 use Rattle.std.specs.Prelude.{not, nat_lt}
 use Rattle.std.proofs.Math.ListN.{length-set}
-use Rattle.std.proofs.lemmas.Bool.{false≢true, true≢false, cases_eq, and_parts, and_cases, cases_lt, ltb-true, ltb-false}
+use Rattle.std.proofs.lemmas.Bool.{false≢true, true≢false, cases_eq, and_parts, and_cases, cases_lt, ltb-true, ltb-false, not-false, not-true}
 use Rattle.std.proofs.lemmas.List.{get_or-set_same, get_or-set_other, get_or_past}
 use Rattle.std.proofs.lemmas.List.Sums.{sum_by-set}
+use Rattle.list_views.proofs.Orders.{nat_lt_true}
 use Rattle.list_views.specs.Lists.{open_count}
 use Rattle.number_graphs.specs.Lists.{Has}
 use Rattle.number_graphs.specs.Marking.{Front, is_open, come, visit}
@@ -56,22 +57,11 @@ pub record Grows (row : List ℕ) (f g : Front) : Type 0 where
   pub todo_new : (x : ℕ) → Has g.todo x → Has f.todo x ⊎ Marked g.marks x
   pub work : open_count g.marks + length g.todo ≡ open_count f.marks + length f.todo
 
-not_false : (t : Bool) → not t ≡ false → t ≡ true
-not_false true e = refl
-not_false false e = absurd (true≢false e)
-
-not_true : (t : Bool) → not t ≡ true → t ≡ false
-not_true true e = absurd (false≢true e)
-not_true false e = refl
-
-lower : (a b : ℕ) → nat_lt a b ≡ true → a < b
-lower a b e = ltb-true a b e
-
 -- a number without an open mark
 closed_by : (b : ℕ) (f : Front) → is_open f.marks b ≡ false → b < length f.marks → Marked f.marks b
 closed_by b f e l = elim (and_cases (nat_lt b (length f.marks)) (not (get_or f.marks b false)) e) as (λ o. Marked f.marks b) [
   | inl n ↦ let k = ltb-false b (length f.marks) n in absurd (omega (arith, k, l))
-  | inr n ↦ not_false (get_or f.marks b false) n
+  | inr n ↦ not-false (get_or f.marks b false) n
 ]
 
 come_by : (b : ℕ) (f : Front) (t : Bool) → is_open f.marks b ≡ t → Grows (b ∷ []) f (cond t (record { marks = set f.marks b true; todo = f.todo ++ b ∷ [] }) f)
@@ -89,8 +79,8 @@ come_by b f false e = record {
 }
 come_by b f true e =
     let both = and_parts (nat_lt b (length f.marks)) (not (get_or f.marks b false)) e in
-    let low : b < length f.marks = lower b (length f.marks) both.0 in
-    let was : get_or f.marks b false ≡ false = not_true (get_or f.marks b false) both.1 in
+    let low : b < length f.marks = nat_lt_true b (length f.marks) both.0 in
+    let was : get_or f.marks b false ≡ false = not-true (get_or f.marks b false) both.1 in
     record {
       count = length-set f.marks b true;
       keeps = λ x m. set_keeps f.marks b x m;

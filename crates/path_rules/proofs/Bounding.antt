@@ -4,7 +4,8 @@ use Rattle.std.specs.Prelude.{unsigned_abs, All}
 use Rattle.std.specs.List.{flat_map}
 use Rattle.std.proofs.Math.Seq.{drop-cons}
 use Rattle.std.proofs.lemmas.Bool.{cases_lt}
-use Rattle.std.proofs.lemmas.List.{append_assoc}
+use Rattle.std.proofs.lemmas.List.{append_assoc, get_or_default}
+use Rattle.list_views.proofs.Orders.{one_more as one_on}
 use Rattle.lin_core.specs.declared.rows.WRow.{WRow}
 use Rattle.lin_core.specs.Intervals.{Bounds}
 use Rattle.abs_cells.specs.declared.cells.Cell.{Cell}
@@ -21,17 +22,12 @@ pub record AreBoundedBelow (cells : List (ℕ × Cell)) (n : ℕ) : Type 0 where
 pub none_bounded : (cells : List (ℕ × Cell)) → AreBoundedBelow cells 0
 none_bounded cells = record { each = λ k d l m. absurd (omega (arith, l)) }
 
-same_get : (cells : List (ℕ × Cell)) (n : ℕ) (d e : ℕ × Cell) → n < length cells → get_or cells n d ≡ get_or cells n e
-same_get [] n d e l = absurd (omega (arith, l))
-same_get (c ∷ cells) zero d e l = refl
-same_get (c ∷ cells) (suc n) d e l = same_get cells n d e (omega (arith, l))
-
 one_more : (cells : List (ℕ × Cell)) (n : ℕ) (item : ℕ × Cell) → AreBoundedBelow cells n → n < length cells → item ≡ get_or cells n item → IsBounded item.1 → AreBoundedBelow cells (n + 1)
 one_more cells n item so l is bounded = record {
   each = λ k d m w. elim (cases_lt k n) as (λ o. IsBounded (get_or cells k d).1) [
     | inl below ↦ so.each k d below w
     | inr past ↦ let same : n ≡ k = omega (arith, m, past) in
-        subst (λ (i : ℕ). IsBounded (get_or cells i d).1) same (subst (λ (c : ℕ × Cell). IsBounded c.1) (is ∙ same_get cells n item d l) bounded)
+        subst (λ (i : ℕ). IsBounded (get_or cells i d).1) same (subst (λ (c : ℕ × Cell). IsBounded c.1) (is ∙ get_or_default cells n item d l) bounded)
   ];
 }
 
@@ -45,9 +41,6 @@ pub all_bounded : (items cells : List (ℕ × Cell)) (n : ℕ) → items ≡ cel
 all_bounded items cells n same so l k d w =
     let long = ap (λ (c : List (ℕ × Cell)). length c) same in
     so.each k d (omega (arith, l, w, long)) w
-
-one_on : (n : ℕ) → suc n ≡ n + 1
-one_on n = omega arith
 
 rows_more : (f : ℕ × Cell → List WRow) (cells : List (ℕ × Cell)) (n : ℕ) (item : ℕ × Cell) (rows more first : List WRow) → n < length cells → item ≡ get_or cells n item → more ≡ rows ++ f item → rows ++ flat_map f (drop n cells) ≡ first ++ flat_map f cells → more ++ flat_map f (drop (suc n) cells) ≡ first ++ flat_map f cells
 rows_more f cells n item rows more first l is made so =

@@ -7,6 +7,7 @@ use Rattle.std.proofs.Math.ListN.{drop_of_length-le}
 use Rattle.std.proofs.Math.Seq.{drop-cons, take-suc}
 use Rattle.std.proofs.lemmas.Bool.{cases_eq, cases_lt, eqb-true, eqb-false, eq-eqb, ltb-true, ltb-false, false≢true}
 use Rattle.std.proofs.lemmas.List.{append_assoc, append-nil}
+use Rattle.list_views.proofs.Orders.{size_of_sum}
 use Rattle.lin_core.specs.Weights.{total_size}
 use Rattle.term_graph.specs.declared.links.Side.{Side}
 use Rattle.abs_cells.specs.AbstractStates.{AbstractState}
@@ -127,15 +128,12 @@ total_unless name number rest = at (int_eq number (pos 0))
     at true = omega arith
     at false = omega arith
 
-abs_sum : (a b : ℤ) → unsigned_abs (a +ℤ b) ≤ unsigned_abs a + unsigned_abs b
-abs_sum a b = omega (arith, ints)
-
 pub total_with : (term : ℕ × ℤ) (terms : List (ℕ × ℤ)) → total_size (with_term term terms) ≤ unsigned_abs term.1 + total_size terms
 total_with term [] = total_unless term.0 term.1 []
 total_with term (first ∷ rest) = at (eqb term.0 first.0) (nat_lt term.0 first.0) (total_with term rest)
   where
     at : (same lower : Bool) → total_size (with_term term rest) ≤ unsigned_abs term.1 + total_size rest → total_size (cond same (unless_zero term.0 (term.1 +ℤ first.1) rest) (cond lower (unless_zero term.0 term.1 (first ∷ rest)) (first ∷ with_term term rest))) ≤ unsigned_abs term.1 + (unsigned_abs first.1 + total_size rest)
-    at true lower k = let l = total_unless term.0 (term.1 +ℤ first.1) rest in let m = abs_sum term.1 first.1 in omega (arith, l, m)
+    at true lower k = let l = total_unless term.0 (term.1 +ℤ first.1) rest in let m = size_of_sum term.1 first.1 in omega (arith, l, m)
     at false true k = total_unless term.0 term.1 (first ∷ rest)
     at false false k = omega (arith, k)
 

@@ -3,6 +3,7 @@ use Rattle.std.proofs.Common.{◌≡◌, ◌⊎◌, inl, inr, ℕ, zero, suc, �
 use Rattle.std.specs.Prelude.{nat_lt, not}
 use Rattle.std.proofs.lemmas.Bool.{ltb-true, ltb-false, cases_lt}
 use Rattle.std.proofs.lemmas.List.{length-append, length-map}
+use Rattle.list_views.proofs.Orders.{zero_before}
 use Rattle.number_graphs.specs.Lists.{Has, row_at, Edge, Fall}
 use Rattle.path_rules.specs.Ways.{has_mark, inner_row, ways_by, AreWays, counted, counted_on, count_over, count_row, most_of, AreCounts}
 
@@ -85,11 +86,8 @@ counted_again : (size : ℕ → ℕ) (count : ℕ) (row : List ℕ) → counted 
 counted_again size count [] e = e
 counted_again size count (to ∷ row) e = counted_again size (counted (count + size to)) row (counted_alike (counted (count + size to)) (count + size to) (count_alike (count + size to)))
 
-none_more : (n : ℕ) → 0 + n ≡ n
-none_more n = omega arith
-
 pub counted_all : (size long : ℕ → ℕ) (row : List ℕ) → ((to : ℕ) → Has row to → AreAlike (size to) (long to)) → counted_on size 0 row ≡ counted (added_up long row)
-counted_all size long row each = sym (counted_again size 0 row refl) ∙ counted_alike (counted_on size 0 row) (added_up long row) (subst (λ (n : ℕ). AreAlike (counted_on size 0 row) n) (none_more (added_up long row)) (counts_alike size long 0 0 row each (inl refl)))
+counted_all size long row each = sym (counted_again size 0 row refl) ∙ counted_alike (counted_on size 0 row) (added_up long row) (subst (λ (n : ℕ). AreAlike (counted_on size 0 row) n) (zero_before (added_up long row)) (counts_alike size long 0 0 row each (inl refl)))
 
 pub row_right : (ways : ℕ → List (List ℕ)) (marks : List Bool) (counts : List ℕ) (row : List ℕ) → ((to : ℕ) → Has row to → has_mark marks to ≡ false → IsRight ways counts to) → count_row marks counts row ≡ counted (length (ways_by ways marks 0 row))
 row_right ways marks counts row right =

@@ -4,6 +4,7 @@ use Rattle.std.specs.Prelude.{filter, slice_get, Result, Ok, Err, OnOk}
 use Rattle.std.specs.List.{flat_map}
 use Rattle.std.specs.Option.{option_map}
 use Rattle.std.proofs.lemmas.List.{append_assoc, append-nil}
+use Rattle.std.proofs.lemmas.Option.{same_Some, none-some}
 use Rattle.lin_core.specs.declared.rows.WRow.{WRow}
 use Rattle.abs_cells.specs.AbstractStates.{AbstractState}
 use Rattle.abs_cells.specs.Cells.{is_int}
@@ -43,34 +44,28 @@ images_all first state entries next target =
 pub rows_instance : (first : ℕ) (state : AbstractState) (entries : List (ℕ × ℕ)) (next : ℕ) (target : AbstractState) (rows more : List WRow) → more ≡ rows ++ flat_map (λ (id : ℕ). image_row first (bare state) (variable_of next target id) (image_in entries id)) (ids_with is_int target) → more ≡ rows ++ rows_of_instance first (bare state) entries next (bare target)
 rows_instance first state entries next target rows more is = is ∙ ap (λ (r : List WRow). rows ++ r) (images_all first state entries next target)
 
-same_leg : (a b : Leg) → Some a ≡ Some b → a ≡ b
-same_leg a b e = cc
-
-no_leg : (leg : Leg) → None ≡ Some leg → ⊥
-no_leg leg e = cc
-
 -- so are those of the edge to a child
 pub leg_child : (first : ℕ) (state : AbstractState) (by : By) (children : List ℕ) (links : List Link) (link : Link) (place next : ℕ) (after : AbstractState) (rows more : List WRow) (leg : Leg) → by ≡ Expand children → Some link ≡ slice_get links place → more ≡ rows ++ rows_of_child first (bare state) link next (bare after) → leg_by by links place ≡ Some leg → more ≡ rows ++ rows_of_leg first (bare state) leg next (bare after)
 leg_child first state by children links link place next after rows more leg by_is there is leg_is =
     let one : Some (child link) ≡ Some leg = ap (option_map child) there ∙ (sym (ap (λ (b : By). leg_by b links place) by_is) ∙ leg_is) in
-    is ∙ ap (λ (g : Leg). rows ++ rows_of_leg first (bare state) g next (bare after)) (same_leg (child link) leg one)
+    is ∙ ap (λ (g : Leg). rows ++ rows_of_leg first (bare state) g next (bare after)) (same_Some (child link) leg one)
 
 -- where there is no link there is no edge
 pub leg_past : (by : By) (children : List ℕ) (links : List Link) (place : ℕ) (leg : Leg) → by ≡ Expand children → None ≡ slice_get links place → leg_by by links place ≡ Some leg → ⊥
-leg_past by children links place leg by_is none leg_is = no_leg leg (ap (option_map child) none ∙ (sym (ap (λ (b : By). leg_by b links place) by_is) ∙ leg_is))
+leg_past by children links place leg by_is none leg_is = none-some leg (ap (option_map child) none ∙ (sym (ap (λ (b : By). leg_by b links place) by_is) ∙ leg_is))
 
 pub leg_end : (by : By) (links : List Link) (place : ℕ) (leg : Leg) → by ≡ End → leg_by by links place ≡ Some leg → ⊥
-leg_end by links place leg by_is leg_is = no_leg leg (sym (ap (λ (b : By). leg_by b links place) by_is) ∙ leg_is)
+leg_end by links place leg by_is leg_is = none-some leg (sym (ap (λ (b : By). leg_by b links place) by_is) ∙ leg_is)
 
 pub leg_todo : (by : By) (links : List Link) (place : ℕ) (leg : Leg) → by ≡ Todo → leg_by by links place ≡ Some leg → ⊥
-leg_todo by links place leg by_is leg_is = no_leg leg (sym (ap (λ (b : By). leg_by b links place) by_is) ∙ leg_is)
+leg_todo by links place leg by_is leg_is = none-some leg (sym (ap (λ (b : By). leg_by b links place) by_is) ∙ leg_is)
 
 -- so are those of the edge to an instance's target
 pub leg_instance : (first : ℕ) (state : AbstractState) (by : By) (target : ℕ) (entries list : List (ℕ × ℕ)) (links : List Link) (place next : ℕ) (after : AbstractState) (rows more : List WRow) (leg : Leg) → by ≡ Instance target entries → list ≡ entries → more ≡ rows ++ flat_map (λ (id : ℕ). image_row first (bare state) (variable_of next after id) (image_in list id)) (ids_with is_int after) → leg_by by links place ≡ Some leg → more ≡ rows ++ rows_of_leg first (bare state) leg next (bare after)
 leg_instance first state by target entries list links place next after rows more leg by_is same is leg_is =
     let one : Some (instance entries) ≡ Some leg = sym (ap (λ (b : By). leg_by b links place) by_is) ∙ leg_is in
     rows_instance first state entries next after rows more (is ∙ ap (λ (l : List (ℕ × ℕ)). rows ++ flat_map (λ (id : ℕ). image_row first (bare state) (variable_of next after id) (image_in l id)) (ids_with is_int after)) same)
-    ∙ ap (λ (g : Leg). rows ++ rows_of_leg first (bare state) g next (bare after)) (same_leg (instance entries) leg one)
+    ∙ ap (λ (g : Leg). rows ++ rows_of_leg first (bare state) g next (bare after)) (same_Some (instance entries) leg one)
 
 pub legs_instance : {A E : Type 0} (first : ℕ) (own state : AbstractState) (by : By) (target : ℕ) (entries list : List (ℕ × ℕ)) (links : List Link) (place next : ℕ) (after : AbstractState) (rows more : List WRow) (r : Result A E) → own ≡ state → by ≡ Instance target entries → list ≡ entries → OnOk r (more ≡ rows ++ flat_map (λ (id : ℕ). image_row first (bare own) (variable_of next after id) (image_in list id)) (ids_with is_int after)) → OnOk r ((leg : Leg) → leg_by by links place ≡ Some leg → more ≡ rows ++ rows_of_leg first (bare state) leg next (bare after))
 legs_instance first own state by target entries list links place next after rows more (Ok x) own_is by_is same is = λ leg leg_is. leg_instance first state by target entries list links place next after rows more leg by_is same (is ∙ ap (λ (s : AbstractState). rows ++ flat_map (λ (id : ℕ). image_row first (bare s) (variable_of next after id) (image_in list id)) (ids_with is_int after)) own_is) leg_is

@@ -2,6 +2,8 @@
 use Rattle.std.proofs.Common.{◌≡◌, ℕ, zero, suc, ◌<◌, ◌≤◌, Bool, true, false, cond, eqb, List, [], ◌∷◌, length, map, get_or, Some, subst, ap, arith, refl, ◌∙◌, sym}
 use Rattle.std.specs.Prelude.{slice_get, filter, IsTrue}
 use Rattle.std.proofs.lemmas.Bool.{eqb-true, eqb-false, false≢true}
+use Rattle.std.proofs.lemmas.Option.{slice_get_within}
+use Rattle.abs_cells.proofs.CellLaws.{low_of_cell, first_cell_is}
 use Rattle.abs_cells.specs.declared.cells.Cell.{Cell}
 use Rattle.abs_cells.specs.declared.cells.Cell.TheVariants.{Int, Null, Obj, Nums, Refs, Unk}
 use Rattle.abs_cells.specs.AbstractStates.{AbstractState}
@@ -40,23 +42,14 @@ int_is_variable (Unk bound nullable shape) e = absurd (false≢true e)
 pub int_found : (state : AbstractState) (id : ℕ) → HasCell is_int state id → slice_get (variables state) (place_of (variables state) id) ≡ Some id
 int_found state id has = found_in is_variable state.cells id has.cell has.is (int_is_variable has.cell has.sort_is)
 
-within : (ids : List ℕ) (n id : ℕ) → slice_get ids n ≡ Some id → n < length ids
-within [] n id e = absurd (cc)
-within (x ∷ ids) zero id e = omega arith
-within (x ∷ ids) (suc n) id e = let k = within ids n id e in omega (arith, k)
-
 pub int_within : (state : AbstractState) (id : ℕ) → HasCell is_int state id → place_of (variables state) id < length (variables state)
-int_within state id has = within (variables state) (place_of (variables state) id) id (int_found state id has)
+int_within state id has = slice_get_within (variables state) (place_of (variables state) id) id (int_found state id has)
 
 -- ---- cells of rising ids
 
 low_cases : (low id : ℕ) (c : ℕ × Cell) (cells : List (ℕ × Cell)) (cell : Cell) (here : Bool) → eqb c.0 id ≡ here → low ≤ c.0 → cond here (Some c.1) (cell_in cells id) ≡ Some cell → (cell_in cells id ≡ Some cell → suc c.0 ≤ id) → low ≤ id
 low_cases low id c cells cell true h l k more = let s = eqb-true c.0 id h in omega (arith, s, l)
 low_cases low id c cells cell false h l k more = let m = more k in omega (arith, m, l)
-
-low_apart : (low id : ℕ) (cells : List (ℕ × Cell)) (cell : Cell) → AreIdsRising low cells → cell_in cells id ≡ Some cell → low ≤ id
-low_apart low id [] cell r e = absurd (cc)
-low_apart low id (c ∷ cells) cell r e = low_cases low id c cells cell (eqb c.0 id) refl r.0 e (λ k. low_apart (suc c.0) id cells cell r.1.1 k)
 
 -- what holds of each int with its interval, for a suffix of the cells of a state
 pub record IsSuffix (state : AbstractState) (cells : List (ℕ × Cell)) : Type 0 where
@@ -68,15 +61,8 @@ pub record IsSuffix (state : AbstractState) (cells : List (ℕ × Cell)) : Type 
 pub whole_suffix : (state : AbstractState) → AreIdsRising 0 state.cells → HasIntsAlone state → IsSuffix state state.cells
 whole_suffix state rising ints = record { low = 0; rising = rising; same = λ id cell e. e; ints = ints }
 
-first_here : (c : ℕ × Cell) (cells : List (ℕ × Cell)) → cell_in (c ∷ cells) c.0 ≡ Some c.1
-first_here c cells = at (eqb c.0 c.0) refl
-  where
-    at : (here : Bool) → eqb c.0 c.0 ≡ here → cond here (Some c.1) (cell_in cells c.0) ≡ Some c.1
-    at true h = refl
-    at false h = absurd (eqb-false c.0 c.0 h refl)
-
 pub suffix_first : (state : AbstractState) (c : ℕ × Cell) (cells : List (ℕ × Cell)) → IsSuffix state (c ∷ cells) → cell_at state c.0 ≡ Some c.1
-suffix_first state c cells s = s.same c.0 c.1 (first_here c cells)
+suffix_first state c cells s = s.same c.0 c.1 (first_cell_is c cells)
 
 pub suffix_int : (state : AbstractState) (c : ℕ × Cell) (cells : List (ℕ × Cell)) → IsSuffix state (c ∷ cells) → HasCell is_int state c.0
 suffix_int state c cells s = record { cell = c.1; is = suffix_first state c cells s; sort_is = s.ints 0 c (omega arith) }
@@ -91,7 +77,7 @@ suffix_rest state c cells s = record {
   where
     at : (id : ℕ) (cell : Cell) → cell_in cells id ≡ Some cell → (here : Bool) → eqb c.0 id ≡ here → cond here (Some c.1) (cell_in cells id) ≡ Some cell
     at id cell e true h =
-        let k = low_apart (suc c.0) id cells cell s.rising.1.1 e in
+        let k = low_of_cell (suc c.0) id cells cell s.rising.1.1 e in
         let same = eqb-true c.0 id h in
         absurd (omega (arith, k, same))
     at id cell e false h = e

@@ -8,6 +8,9 @@ use Rattle.std.proofs.lemmas.Int.{ints}
 use Rattle.std.proofs.lemmas.Bool.{false≢true, eqb-true, eqb-false, ltb-true, ltb-false}
 use Rattle.std.proofs.lemmas.Option.{slice_get-map}
 use Rattle.std.proofs.lemmas.List.Elements.{All-from_recursion}
+use Rattle.lin_core.proofs.Coefficients.{rise_lower}
+use Rattle.list_views.proofs.Quantified.{all_joined}
+use Rattle.list_views.proofs.Options.{one_answer}
 use Rattle.lin_core.specs.declared.rows.WRow.{WRow}
 use Rattle.lin_core.specs.Rows.{Rise, RiseFrom}
 use Rattle.lin_core.specs.Weights.{IsRow}
@@ -29,20 +32,16 @@ use Rattle.path_rules.specs.Rules.{unless_zero, with_term, collected, tie, ids_w
 use Rattle.path_rules.specs.Conditions.{IsTermBetween, IsRowBetween, IsLinkBetween, IsMapBetween, IsReady}
 use Rattle.path_rules.specs.Bare.{IsBounded, AreBounded, AllBounded, bare_graph, HasRides}
 use Rattle.path_rules.proofs.Finding.{int_within, IsSuffix, whole_suffix, suffix_int, suffix_rest, no_sizes}
-use Rattle.path_rules.proofs.Walking.{both, IsOfInts, ints_of, of_sort, IsGoodLeg, AreGoodAlong, good_first, last_good}
-use Rattle.path_rules.proofs.Ready.{stop_is, same_some, good_along, last_stop}
+use Rattle.path_rules.proofs.Walking.{IsOfInts, ints_of, of_sort, IsGoodLeg, AreGoodAlong, good_first, last_good}
+use Rattle.path_rules.proofs.Ready.{stop_is, good_along, last_stop}
 
 -- ---- collected terms rise
-
-lower : (low low' end : ℕ) (terms : List (ℕ × ℤ)) → low ≤ low' → RiseFrom low' end terms → RiseFrom low end terms
-lower low low' end [] l rise = tt
-lower low low' end (term ∷ terms) l rise = let k = rise.0 in (omega (arith, l, k), rise.1, rise.2)
 
 unless_rises : (low name end : ℕ) (number : ℤ) (rest : List (ℕ × ℤ)) → low ≤ name → name < end → RiseFrom (suc name) end rest → RiseFrom low end (unless_zero name number rest)
 unless_rises low name end number rest l m rise = at (int_eq number (pos 0))
   where
     at : (b : Bool) → RiseFrom low end (cond b rest ((name, number) ∷ rest))
-    at true = lower low (suc name) end rest (omega (arith, l)) rise
+    at true = rise_lower low (suc name) end rest (omega (arith, l)) rise
     at false = (l, m, rise)
 
 with_rises : (low end : ℕ) (term : ℕ × ℤ) (terms : List (ℕ × ℤ)) → low ≤ term.0 → term.0 < end → RiseFrom low end terms → RiseFrom low end (with_term term terms)
@@ -52,7 +51,7 @@ with_rises low end term (first ∷ rest) l m rise = at (eqb term.0 first.0) (nat
     at : (same before : Bool) → eqb term.0 first.0 ≡ same → nat_lt term.0 first.0 ≡ before → (suc first.0 ≤ term.0 → RiseFrom (suc first.0) end (with_term term rest)) → RiseFrom low end (cond same (unless_zero term.0 (term.1 +ℤ first.1) rest) (cond before (unless_zero term.0 term.1 (first ∷ rest)) (first ∷ with_term term rest)))
     at true before e k more =
         let is = eqb-true term.0 first.0 e in
-        unless_rises low term.0 end (term.1 +ℤ first.1) rest l m (lower (suc term.0) (suc first.0) end rest (omega (arith, is)) rise.2)
+        unless_rises low term.0 end (term.1 +ℤ first.1) rest l m (rise_lower (suc term.0) (suc first.0) end rest (omega (arith, is)) rise.2)
     at false true e k more =
         let below = ltb-true term.0 first.0 k in
         unless_rises low term.0 end term.1 (first ∷ rest) l m (omega (arith, below), rise.1, rise.2)
@@ -93,13 +92,13 @@ bounds_fit end v (Unk bound nullable shape) l bounded = tt
 cells_fit : (first end : ℕ) (state : AbstractState) (cells : List (ℕ × Cell)) → first + length (variables state) ≤ end → IsSuffix state cells → All (λ (c : ℕ × Cell). IsBounded c.1) cells → AreFit end (flat_map (λ (c : ℕ × Cell). bounds_of (variable_of first state c.0) c.1) cells)
 cells_fit first end state [] l s bounded = tt
 cells_fit first end state (c ∷ cells) l s bounded =
-    both (IsRow end) (bounds_of (variable_of first state c.0) c.1) (flat_map (λ (x : ℕ × Cell). bounds_of (variable_of first state x.0) x.1) cells)
+    all_joined (IsRow end) (bounds_of (variable_of first state c.0) c.1) (flat_map (λ (x : ℕ × Cell). bounds_of (variable_of first state x.0) x.1) cells)
     (bounds_fit end (variable_of first state c.0) c.1 (int_below first end state c.0 l (suffix_int state c cells s)) (bounded 0 c (omega arith)))
     (cells_fit first end state cells l (suffix_rest state c cells s) (λ k d m. bounded (suc k) d (omega (arith, m))))
 
 stop_fit : (first end : ℕ) (state : AbstractState) → first + length (variables state) ≤ end → IsOfInts state → AreBounded state → AreFit end (rows_of_stop first state)
 stop_fit first end state l of bounded =
-    rw (no_sizes state of.ints) (both (IsRow end) (flat_map (λ (c : ℕ × Cell). bounds_of (variable_of first state c.0) c.1) state.cells) [] (cells_fit first end state state.cells l (whole_suffix state of.rising of.ints) bounded) tt)
+    rw (no_sizes state of.ints) (all_joined (IsRow end) (flat_map (λ (c : ℕ × Cell). bounds_of (variable_of first state c.0) c.1) state.cells) [] (cells_fit first end state state.cells l (whole_suffix state of.rising of.ints) bounded) tt)
 
 tie_fits : (end v w : ℕ) → v < end → w < end → IsRow end (tie v w)
 tie_fits end v w l m = record { rise = collected_rises end ((v, pos 1) ∷ (w, negsuc 0) ∷ []) (l, (m, tt)); constant = omega arith; weights = omega arith }
@@ -133,9 +132,9 @@ links_fit first next end state other (row ∷ rows) l m all =
 child_fits : (first next end : ℕ) (stop after : Stop) (link : Link) → first + length (variables stop.state) ≤ end → next + length (variables after.state) ≤ end → IsOfInts stop.state → IsLinkBetween stop.state after.state link → AreFit end (rows_of_child first stop link next after)
 child_fits first next end stop after link l m of good =
     rw (no_sizes stop.state of.ints) (
-    both (IsRow end) (map (λ (id : ℕ). tie (variable_of first stop.state id) (variable_of next after.state id)) (filter (has_int after.state) (ids_with is_int stop.state))) (map (link_row (variable_of first stop.state) (variable_of next after.state)) link.rows ++ [])
+    all_joined (IsRow end) (map (λ (id : ℕ). tie (variable_of first stop.state id) (variable_of next after.state id)) (filter (has_int after.state) (ids_with is_int stop.state))) (map (link_row (variable_of first stop.state) (variable_of next after.state)) link.rows ++ [])
     (ties_fit first next end stop.state after.state (ids_with is_int stop.state) l m (ints_of stop.state of))
-    (both (IsRow end) (map (link_row (variable_of first stop.state) (variable_of next after.state)) link.rows) [] (links_fit first next end stop.state after.state link.rows l m good.rows) tt))
+    (all_joined (IsRow end) (map (link_row (variable_of first stop.state) (variable_of next after.state)) link.rows) [] (links_fit first next end stop.state after.state link.rows l m good.rows) tt))
 
 image_fits : (end first v : ℕ) (stop : Stop) (found : Option ℕ) → v < end → ((image : ℕ) → found ≡ Some image → variable_of first stop.state image < end) → AreFit end (image_row first stop v found)
 image_fits end first v stop None l m = tt
@@ -145,14 +144,14 @@ images_fit : (first next end : ℕ) (stop target : Stop) (entries : List (ℕ ×
 images_fit first next end stop target entries [] l m good all = tt
 images_fit first next end stop target entries (id ∷ ids) l m good all =
     let given = good.ints id all.0 in
-    both (IsRow end) (image_row first stop (variable_of next target.state id) (image_in entries id)) (flat_map (λ (x : ℕ). image_row first stop (variable_of next target.state x) (image_in entries x)) ids)
+    all_joined (IsRow end) (image_row first stop (variable_of next target.state id) (image_in entries id)) (flat_map (λ (x : ℕ). image_row first stop (variable_of next target.state x) (image_in entries x)) ids)
     (image_fits end first (variable_of next target.state id) stop (image_in entries id) (int_below next end target.state id m all.0) (λ image e. int_below first end stop.state image l (subst (λ (x : ℕ). HasCell is_int stop.state x) (some_is (sym given.1.0 ∙ e)) given.1.1)))
     (images_fit first next end stop target entries ids l m good all.1)
 
 instance_fits : (first next end : ℕ) (stop target : Stop) (entries : List (ℕ × ℕ)) → first + length (variables stop.state) ≤ end → next + length (variables target.state) ≤ end → IsOfInts target.state → IsMapBetween stop.state target.state entries → AreFit end (rows_of_instance first stop entries next target)
 instance_fits first next end stop target entries l m of good =
     rw (no_sizes target.state of.ints) (
-    both (IsRow end) (flat_map (λ (id : ℕ). image_row first stop (variable_of next target.state id) (image_in entries id)) (ids_with is_int target.state)) []
+    all_joined (IsRow end) (flat_map (λ (id : ℕ). image_row first stop (variable_of next target.state id) (image_in entries id)) (ids_with is_int target.state)) []
     (images_fit first next end stop target entries (ids_with is_int target.state) l m good (ints_of target.state of)) tt)
 
 leg_fits : (first next end : ℕ) (stop after : Stop) (leg : Leg) → first + length (variables stop.state) ≤ end → next + length (variables after.state) ≤ end → IsOfInts stop.state → IsOfInts after.state → IsGoodLeg stop.state leg after.state → AreFit end (rows_of_leg first stop leg next after)
@@ -175,9 +174,9 @@ along_fits first end stop (ride ∷ rides) l good bounded all =
     let up = high next ride.1 rides in
     let here : first + length (variables stop.state) ≤ end = omega (arith, up, l) in
     let there : next + length (variables ride.1.state) ≤ end = omega (arith, up, l) in
-    both (IsRow end) (rows_of_stop first stop.state) (rows_of_leg first stop ride.0 next ride.1 ++ rows_along next ride.1 rides)
+    all_joined (IsRow end) (rows_of_stop first stop.state) (rows_of_leg first stop ride.0 next ride.1 ++ rows_along next ride.1 rides)
     (stop_fit first end stop.state here good.0 bounded)
-    (both (IsRow end) (rows_of_leg first stop ride.0 next ride.1) (rows_along next ride.1 rides)
+    (all_joined (IsRow end) (rows_of_leg first stop ride.0 next ride.1) (rows_along next ride.1 rides)
     (leg_fits first next end stop ride.1 ride.0 here there good.0 (good_first ride.1 rides good.1.1) good.1.0)
     (along_fits next end ride.1 rides l good.1.1 all.0 all.1))
 
@@ -188,7 +187,7 @@ slots_fit first end stop [] l all = tt
 slots_fit first end stop (id ∷ ids) l all = (record { rise = (omega arith, int_below first end stop.state id l all.0, tt); constant = omega arith; weights = omega arith }, slots_fit first end stop ids l all.1)
 
 both_slots : (end : ℕ) (xs ys : List SlotForm) → AllByRecursion (IsSlot end) xs → AllByRecursion (IsSlot end) ys → AllByRecursion (IsSlot end) (xs ++ ys)
-both_slots end xs ys a b = both (IsSlot end) xs ys a b
+both_slots end xs ys a b = all_joined (IsSlot end) xs ys a b
 
 stop_slots : (first end : ℕ) (stop : Stop) → first + length (variables stop.state) ≤ end → stop.sizes ≡ [] → IsOfInts stop.state → AllByRecursion (IsSlot end) (slots_of first stop)
 stop_slots first end stop l none of =
@@ -198,7 +197,7 @@ stop_slots first end stop l none of =
 no_patterns : (graph : List GraphNode) (links : List (List Link)) (node : ℕ) (stop : Stop) → stop_at (bare_graph graph links) node ≡ Some stop → stop.sizes ≡ []
 no_patterns graph links node stop e =
     let s = stop_is (bare_graph graph links) node stop e in
-    sym (same_some (slice_get (map (λ (n : GraphNode). []) graph) node) [] stop.sizes (slice_get-map (λ (n : GraphNode). []) graph node ∙ ap (option_map (λ (n : GraphNode). [])) s.is) s.sizes_are)
+    sym (one_answer (slice_get (map (λ (n : GraphNode). []) graph) node) [] stop.sizes (slice_get-map (λ (n : GraphNode). []) graph node ∙ ap (option_map (λ (n : GraphNode). [])) s.is) s.sizes_are)
 
 -- ---- the rule
 

@@ -4,11 +4,13 @@ use Rattle.std.specs.Prelude.{nat_lt, slice_get}
 use Rattle.std.specs.Option.{option_map, option_and_then}
 use Rattle.std.proofs.lemmas.Bool.{eq-eqb, eqb-true, eqb-false, lt-ltb}
 use Rattle.std.proofs.lemmas.Option.{slice_get-map, slice_get_within}
+use Rattle.list_views.proofs.Orders.{zero_before}
+use Rattle.list_views.proofs.Items.{get_front}
 use Rattle.number_graphs.specs.Lists.{Has, row_at, Fall}
 use Rattle.path_rules.specs.Paths.{is_earlier, only_last}
 use Rattle.path_rules.specs.Ways.{has_mark, inner_row, ways_by, AreWays, end_over}
 use Rattle.path_rules.proofs.Counted.{ways_over, inner_edge}
-use Rattle.path_rules.proofs.Picking.{get_front, get_back, Picked, picked_there}
+use Rattle.path_rules.proofs.Picking.{get_back, Picked, picked_there}
 
 -- ---- ways by places of lists
 
@@ -73,9 +75,6 @@ ends_over lists marks ways are (place ∷ after) node n e =
     (p.more ∙ ap (λ (w : List ℕ). Some w) (sym afters))
     (λ k. ends_over lists marks ways are after p.to p.left k)
 
-none_more : (n : ℕ) → 0 + n ≡ n
-none_more n = omega arith
-
 alone : (w : List ℕ) (next to : ℕ) → only_last w next ≡ Some to → w ≡ []
 alone [] next to g = refl
 alone (x ∷ w) next to g = absurd (cc)
@@ -86,7 +85,7 @@ over_next marks lists ways next to after false m g later = subst (λ (b : Bool).
 
 over_edge : (lists : List (List ℕ)) (marks : List Bool) (ways : ℕ → List (List ℕ)) (node place to : ℕ) (after : List ℕ) (o : Option ℕ) → slice_get (row_at lists node) place ≡ o → option_and_then (λ (t : ℕ). cond (has_mark marks t) (only_last after t) (end_over lists marks t after)) o ≡ Some to → ((next : ℕ) → end_over lists marks next after ≡ Some to → IsIn (ways next) after) → IsIn (ways_by ways marks 0 (row_at lists node)) (place ∷ after)
 over_edge lists marks ways node place to after None there k later = absurd (cc)
-over_edge lists marks ways node place to after (Some next) there k later = subst (λ (n : ℕ). IsIn (ways_by ways marks 0 (row_at lists node)) (n ∷ after)) (none_more place) (in_row ways marks 0 (row_at lists node) place next after there (over_next marks lists ways next to after (has_mark marks next) refl k (later next)))
+over_edge lists marks ways node place to after (Some next) there k later = subst (λ (n : ℕ). IsIn (ways_by ways marks 0 (row_at lists node)) (n ∷ after)) (zero_before place) (in_row ways marks 0 (row_at lists node) place next after there (over_next marks lists ways next to after (has_mark marks next) refl k (later next)))
 
 pub over_ends : (lists : List (List ℕ)) (marks : List Bool) (ways : ℕ → List (List ℕ)) → AreWays lists marks ways → (way : List ℕ) (node to : ℕ) → end_over lists marks node way ≡ Some to → IsIn (ways node) way
 over_ends lists marks ways are [] node to e = absurd (cc)

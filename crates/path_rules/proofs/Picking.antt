@@ -3,8 +3,10 @@ use Rattle.std.proofs.Common.{◌≡◌, ◌⊎◌, inl, inr, ℕ, zero, suc, �
 use Rattle.std.specs.Prelude.{nat_lt, slice_get}
 use Rattle.std.specs.Option.{option_map, option_and_then}
 use Rattle.std.proofs.lemmas.Bool.{ltb-true, ltb-false}
-use Rattle.std.proofs.lemmas.Option.{slice_get-map}
+use Rattle.std.proofs.lemmas.Option.{slice_get-map, same_Some}
 use Rattle.std.proofs.lemmas.List.{length-map}
+use Rattle.list_views.proofs.Items.{get_front}
+use Rattle.list_views.proofs.Options.{map_some}
 use Rattle.number_graphs.specs.Lists.{Has, row_at, Fall}
 use Rattle.path_rules.specs.Paths.{only_last}
 use Rattle.path_rules.specs.Ways.{has_mark, inner_row, ways_by, AreWays, end_over, counted, count_over, picked, AreCounts, IsWayOf}
@@ -12,19 +14,10 @@ use Rattle.path_rules.proofs.Counted.{ways_over, inner_edge, count_alike, over_a
 
 -- ---- places of lists one after another
 
-pub get_front : {A : Type 0} (xs ys : List A) (n : ℕ) → n < length xs → slice_get (xs ++ ys) n ≡ slice_get xs n
-get_front [] ys n l = absurd (omega (arith, l))
-get_front (x ∷ xs) ys zero l = refl
-get_front (x ∷ xs) ys (suc n) l = get_front xs ys n (omega (arith, l))
-
 pub get_back : {A : Type 0} (xs ys : List A) (n left : ℕ) → n ≡ length xs + left → slice_get (xs ++ ys) n ≡ slice_get ys left
 get_back [] ys n left e = ap (slice_get ys) (omega (arith, e))
 get_back (x ∷ xs) ys zero left e = absurd (omega (arith, e))
 get_back (x ∷ xs) ys (suc n) left e = get_back xs ys n left (omega (arith, e))
-
-pub from_map : {A B : Type 0} (f : A → B) (o : Option A) (b : B) → option_map f o ≡ Some b → (a : A) × ((o ≡ Some a) × (f a ≡ b))
-from_map f None b e = absurd (cc)
-from_map f (Some a) b e = (a, (refl, cc))
 
 pub has_at : (row : List ℕ) (k to : ℕ) → slice_get row k ≡ Some to → Has row to
 has_at [] k to e = absurd (cc)
@@ -73,7 +66,7 @@ picked_there size ways marks limit place (to ∷ row) number way near l e = at (
 
     at : (slice_get (ways_by ways marks (suc place) row) (number - size to) ≡ Some way → Picked size ways marks (suc place) row (number - size to) way) → (b : Bool) → nat_lt number (size to) ≡ b → Picked size ways marks place (to ∷ row) number way
     at later true k =
-        let found = from_map (λ (w : List ℕ). place ∷ w) (slice_get (ways_over ways marks to) number) way (sym (slice_get-map (λ (w : List ℕ). place ∷ w) (ways_over ways marks to) number) ∙ (sym (get_front here (ways_by ways marks (suc place) row) number (within (near to) (ltb-true number (size to) k))) ∙ e)) in
+        let found = map_some (λ (w : List ℕ). place ∷ w) (slice_get (ways_over ways marks to) number) way (sym (slice_get-map (λ (w : List ℕ). place ∷ w) (ways_over ways marks to) number) ∙ (sym (get_front here (ways_by ways marks (suc place) row) number (within (near to) (ltb-true number (size to) k))) ∙ e)) in
         record {
           step = 0;
           to = to;
@@ -136,9 +129,6 @@ way_begins lists marks from number l = record { few = l; on = λ ways are way e.
 next_of : (lists : List (List ℕ)) (marks : List Bool) (counts : List ℕ) (ways : ℕ → List (List ℕ)) (node left : ℕ) (rest : List ℕ) → AreCounts lists marks counts → AreWays lists marks ways → left < 4097 → slice_get (ways node) left ≡ Some rest → Picked (count_over marks counts) ways marks 0 (row_at lists node) left rest
 next_of lists marks counts ways node left rest right are l e = picked_there (count_over marks counts) ways marks 4097 0 (row_at lists node) left rest (near_counts lists ways marks counts right are) l (ap (λ (w : List (List ℕ)). slice_get w left) (sym (are node)) ∙ e)
 
-pub one_of : (p q : ℕ × ℕ × ℕ) → Some p ≡ Some q → p ≡ q
-one_of p q e = cc
-
 -- the thing that is picked stands at its place
 pub record IsAt (place : ℕ) (row : List ℕ) (number found to left : ℕ) : Type 0 where
   pub step : ℕ
@@ -152,7 +142,7 @@ picked_at size place (x ∷ row) number found to left e = at (picked_at size (su
   where
     at : (picked size (suc place) row (number - size x) ≡ Some (found, to, left) → IsAt (suc place) row (number - size x) found to left) → (b : Bool) → nat_lt number (size x) ≡ b → cond b (Some (place, x, number)) (picked size (suc place) row (number - size x)) ≡ Some (found, to, left) → IsAt place (x ∷ row) number found to left
     at later true k g =
-        let same = one_of (place, x, number) (found, to, left) g in
+        let same = same_Some (place, x, number) (found, to, left) g in
         let f : place ≡ found = ap (λ (p : ℕ × ℕ × ℕ). p.0) same in
         let t : x ≡ to = ap (λ (p : ℕ × ℕ × ℕ). p.1) same in
         let n : number ≡ left = ap (λ (p : ℕ × ℕ × ℕ). p.2) same in
@@ -177,7 +167,7 @@ record Step (ways : ℕ → List (List ℕ)) (marks : List Bool) (place to left 
 step_of : (lists : List (List ℕ)) (marks : List Bool) (counts : List ℕ) (ways : ℕ → List (List ℕ)) (node number place to left : ℕ) (rest : List ℕ) → AreCounts lists marks counts → AreWays lists marks ways → number < 4097 → picked (count_over marks counts) 0 (row_at lists node) number ≡ Some (place, to, left) → slice_get (ways node) number ≡ Some rest → Step ways marks place to left rest
 step_of lists marks counts ways node number place to left rest right are l is e =
     let p = next_of lists marks counts ways node number rest right are l e in
-    let same = one_of (0 + p.step, p.to, p.left) (place, to, left) (sym p.is ∙ is) in
+    let same = same_Some (0 + p.step, p.to, p.left) (place, to, left) (sym p.is ∙ is) in
     let place_sum : 0 + p.step ≡ place = ap (λ (t : ℕ × ℕ × ℕ). t.0) same in
     let place_same : p.step ≡ place = omega (arith, place_sum) in
     let to_same : p.to ≡ to = ap (λ (t : ℕ × ℕ × ℕ). t.1) same in

@@ -3,6 +3,9 @@ use Rattle.std.proofs.Common.{◌≡◌, ℕ, zero, suc, List, [], ◌∷◌, Op
 use Rattle.std.specs.Prelude.{slice_get, All}
 use Rattle.std.specs.List.{AllZip}
 use Rattle.std.specs.Option.{option_map, option_and_then}
+use Rattle.list_views.proofs.Zipped.{zip_at}
+use Rattle.list_views.proofs.Quantified.{all_at}
+use Rattle.list_views.proofs.Options.{map_some, one_answer, then_some}
 use Rattle.abs_cells.specs.AbstractStates.{AbstractState}
 use Rattle.abs_cells.specs.Patterns.{Pattern}
 use Rattle.abs_cells.specs.Sound.{IsWellFormed}
@@ -18,32 +21,6 @@ use Rattle.path_rules.proofs.Walking.{IsOfInts, IsGoodLeg, AreGoodAlong}
 
 -- ---- options
 
-pub from_then : {A B : Type 0} (f : A → Option B) (o : Option A) (b : B) → option_and_then f o ≡ Some b → (a : A) × ((o ≡ Some a) × (f a ≡ Some b))
-from_then f None b e = absurd (cc)
-from_then f (Some a) b e = (a, (refl, e))
-
-pub from_map : {A B : Type 0} (f : A → B) (o : Option A) (b : B) → option_map f o ≡ Some b → (a : A) × ((o ≡ Some a) × (f a ≡ b))
-from_map f None b e = absurd (cc)
-from_map f (Some a) b e = (a, (refl, cc))
-
-pub all_at : {A : Type 0} (P : A → Type 0) (xs : List A) (n : ℕ) (x : A) → All P xs → slice_get xs n ≡ Some x → P x
-all_at P [] n x all e = absurd (cc)
-all_at P (y ∷ xs) zero x all e = let is : y ≡ x = cc in subst P is (all 0 y (omega arith))
-all_at P (y ∷ xs) (suc n) x all e = all_at P xs n x (λ k d l. all (suc k) d (omega (arith, l))) e
-
-pub zip_at : {A B : Type 0} (R : A → B → Type 0) (xs : List A) (ys : List B) (n : ℕ) (x : A) (y : B) → AllZip R xs ys → slice_get xs n ≡ Some x → slice_get ys n ≡ Some y → R x y
-zip_at R [] [] n x y all e h = absurd (cc)
-zip_at R [] (y' ∷ ys) n x y all e h = absurd all
-zip_at R (x' ∷ xs) [] n x y all e h = absurd all
-zip_at R (x' ∷ xs) (y' ∷ ys) zero x y all e h =
-    let is : x' ≡ x = cc in
-    let is' : y' ≡ y = cc in
-    subst (λ (a : _). R a y) is (subst (λ (b : _). R x' b) is' all.0)
-zip_at R (x' ∷ xs) (y' ∷ ys) (suc n) x y all e h = zip_at R xs ys n x y all.1 e h
-
-pub same_some : {A : Type 0} (o : Option A) (a b : A) → o ≡ Some a → o ≡ Some b → a ≡ b
-same_some o a b e h = let k : Some a ≡ Some b = sym e ∙ h in cc
-
 -- ---- stops
 
 -- a stop is a node's state
@@ -55,8 +32,8 @@ pub record IsStop (linked : LinkedGraph) (node : ℕ) (stop : Stop) : Type 0 whe
 
 pub stop_is : (linked : LinkedGraph) (node : ℕ) (stop : Stop) → stop_at linked node ≡ Some stop → IsStop linked node stop
 stop_is linked node stop e =
-    let n = from_then (λ (n : GraphNode). option_map (λ (s : List (ℕ × Pattern)). record { state = n.state; sizes = s }) (slice_get linked.sizes node)) (slice_get linked.graph node) stop e in
-    let s = from_map (λ (s : List (ℕ × Pattern)). record { state = n.0.state; sizes = s }) (slice_get linked.sizes node) stop n.1.1 in
+    let n = then_some (λ (n : GraphNode). option_map (λ (s : List (ℕ × Pattern)). record { state = n.state; sizes = s }) (slice_get linked.sizes node)) (slice_get linked.graph node) stop e in
+    let s = map_some (λ (s : List (ℕ × Pattern)). record { state = n.0.state; sizes = s }) (slice_get linked.sizes node) stop n.1.1 in
     record {
       there = n.0;
       is = n.1.0;
@@ -75,14 +52,14 @@ stop_of_ints linked cuts node stop ready e =
 
 good_by : (graph : List GraphNode) (state : AbstractState) (after : AbstractState) (by : By) (links : List Link) (place to : ℕ) (m : GraphNode) (leg : Leg) → IsGoodBy graph state by links → slice_get (successors by) place ≡ Some to → leg_by by links place ≡ Some leg → slice_get graph to ≡ Some m → m.state ≡ after → IsGoodLeg state leg after
 good_by graph state after (Expand children) links place to m leg good edge is there same =
-    let link = from_map child (slice_get links place) leg is in
+    let link = map_some child (slice_get links place) leg is in
     let at = zip_at (IsGoodChild graph state) children links place to link.0 good edge link.1.0 in
-    let one = same_some (slice_get graph to) at.0 m at.1.0 there in
+    let one = one_answer (slice_get graph to) at.0 m at.1.0 there in
     subst (λ (l : Leg). IsGoodLeg state l after) link.1.1 (subst (λ (x : AbstractState). IsLinkBetween state x link.0) (ap (λ (n : GraphNode). n.state) one ∙ same) at.1.1)
 good_by graph state after (Instance target entries) links zero to m leg good edge is there same =
     let to_is : target ≡ to = cc in
     let leg_is : instance entries ≡ leg = cc in
-    let one = same_some (slice_get graph to) good.0 m (subst (λ (x : ℕ). slice_get graph x ≡ Some good.0) to_is good.1.0) there in
+    let one = one_answer (slice_get graph to) good.0 m (subst (λ (x : ℕ). slice_get graph x ≡ Some good.0) to_is good.1.0) there in
     subst (λ (l : Leg). IsGoodLeg state l after) leg_is (subst (λ (x : AbstractState). IsMapBetween state x entries) (ap (λ (n : GraphNode). n.state) one ∙ same) good.1.1)
 good_by graph state after (Instance target entries) links (suc place) to m leg good edge is there same = absurd (cc)
 good_by graph state after End links place to m leg good edge is there same = absurd (cc)
@@ -92,11 +69,11 @@ good_leg : (linked : LinkedGraph) (cuts : List ℕ) (node place to : ℕ) (stop 
 good_leg linked cuts node place to stop after leg ready here edge is there =
     let s = stop_is linked node stop here in
     let t = stop_is linked to after there in
-    let n = from_then (λ (n : GraphNode). option_and_then (λ (links : List Link). leg_by n.by links place) (slice_get linked.links node)) (slice_get linked.graph node) leg is in
-    let l = from_then (λ (links : List Link). leg_by n.0.by links place) (slice_get linked.links node) leg n.1.1 in
-    let f = from_then (λ (from : GraphNode). slice_get (successors from.by) place) (slice_get linked.graph node) to edge in
-    let same = same_some (slice_get linked.graph node) n.0 s.there n.1.0 s.is in
-    let from_same = same_some (slice_get linked.graph node) f.0 n.0 f.1.0 n.1.0 in
+    let n = then_some (λ (n : GraphNode). option_and_then (λ (links : List Link). leg_by n.by links place) (slice_get linked.links node)) (slice_get linked.graph node) leg is in
+    let l = then_some (λ (links : List Link). leg_by n.0.by links place) (slice_get linked.links node) leg n.1.1 in
+    let f = then_some (λ (from : GraphNode). slice_get (successors from.by) place) (slice_get linked.graph node) to edge in
+    let same = one_answer (slice_get linked.graph node) n.0 s.there n.1.0 s.is in
+    let from_same = one_answer (slice_get linked.graph node) f.0 n.0 f.1.0 n.1.0 in
     let good = zip_at (λ (x : GraphNode) (links : List Link). IsGoodBy linked.graph x.state x.by links) linked.graph linked.links node n.0 l.0 ready.nodes n.1.0 l.1.0 in
     subst (λ (x : AbstractState). IsGoodLeg x leg after.state) (ap (λ (x : GraphNode). x.state) same ∙ s.state_is)
     (good_by linked.graph n.0.state after.state n.0.by l.0 place to t.there leg good (subst (λ (x : GraphNode). slice_get (successors x.by) place ≡ Some to) from_same f.1.1) l.1.1 t.is t.state_is)
@@ -116,11 +93,11 @@ pub record IsRide (linked : LinkedGraph) (node place : ℕ) (places : List ℕ) 
 
 pub ride_first : (linked : LinkedGraph) (node place : ℕ) (places : List ℕ) (rides : List (Leg × Stop)) → rides_from linked node (place ∷ places) ≡ Some rides → IsRide linked node place places rides
 ride_first linked node place places rides e =
-    let to = from_then (λ (to : ℕ). option_and_then (λ (ride : Leg × Stop). option_map (λ (more : List (Leg × Stop)). ride ∷ more) (rides_from linked to places)) (ride_at linked node place to)) (edges linked.graph node place) rides e in
-    let ride = from_then (λ (ride : Leg × Stop). option_map (λ (more : List (Leg × Stop)). ride ∷ more) (rides_from linked to.0 places)) (ride_at linked node place to.0) rides to.1.1 in
-    let rest = from_map (λ (more : List (Leg × Stop)). ride.0 ∷ more) (rides_from linked to.0 places) rides ride.1.1 in
-    let leg = from_then (λ (leg : Leg). option_map (λ (after : Stop). (leg, after)) (stop_at linked to.0)) (leg_at linked node place) ride.0 ride.1.0 in
-    let after = from_map (λ (after : Stop). (leg.0, after)) (stop_at linked to.0) ride.0 leg.1.1 in
+    let to = then_some (λ (to : ℕ). option_and_then (λ (ride : Leg × Stop). option_map (λ (more : List (Leg × Stop)). ride ∷ more) (rides_from linked to places)) (ride_at linked node place to)) (edges linked.graph node place) rides e in
+    let ride = then_some (λ (ride : Leg × Stop). option_map (λ (more : List (Leg × Stop)). ride ∷ more) (rides_from linked to.0 places)) (ride_at linked node place to.0) rides to.1.1 in
+    let rest = map_some (λ (more : List (Leg × Stop)). ride.0 ∷ more) (rides_from linked to.0 places) rides ride.1.1 in
+    let leg = then_some (λ (leg : Leg). option_map (λ (after : Stop). (leg, after)) (stop_at linked to.0)) (leg_at linked node place) ride.0 ride.1.0 in
+    let after = map_some (λ (after : Stop). (leg.0, after)) (stop_at linked to.0) ride.0 leg.1.1 in
     record {
       to = to.0;
       ride = ride.0;

@@ -6,8 +6,12 @@ use Rattle.std.specs.Option.{option_map, option_and_then, option_map_or}
 use Rattle.std.proofs.Math.ListN.{drop_of_length-le}
 use Rattle.std.proofs.Math.Seq.{drop-cons}
 use Rattle.std.proofs.lemmas.Option.{slice_get-map, slice_get_within}
-use Rattle.std.proofs.lemmas.List.{length-append, length-map, append_assoc, append-nil}
+use Rattle.std.proofs.lemmas.List.{length-append, length-map, append_assoc, append-nil, get_or_default}
 use Rattle.std.proofs.lemmas.List.Elements.{All-from_recursion, recursion_from_All}
+use Rattle.list_views.proofs.Orders.{one_more}
+use Rattle.list_views.proofs.Zipped.{zip_left}
+use Rattle.list_views.proofs.Quantified.{all_at}
+use Rattle.list_views.proofs.Options.{map_some, one_answer, then_some}
 use Rattle.lin_core.specs.declared.rows.WRow.{WRow}
 use Rattle.descent.specs.declared.rules.PathRule.{PathRule}
 use Rattle.descent.specs.declared.rules.SlotForm.{SlotForm}
@@ -32,7 +36,6 @@ use Rattle.path_rules.specs.Rules.{is_variable, variables, variable_of, bounds_o
 use Rattle.path_rules.specs.Conditions.{IsTermBetween, IsRowBetween, IsGoodChild, IsGoodBy}
 use Rattle.path_rules.specs.Bare.{bare, bare_graph, size_of_terms, AreBounded, AllBounded, IsSmall, AreGood, IsBegun, IsGone, IsRuleAlong, HasRides, links_at}
 use Rattle.path_rules.proofs.Finding.{ids_in_cells}
-use Rattle.path_rules.proofs.Ready.{from_then, from_map, all_at, same_some}
 
 -- ---- states are short
 
@@ -54,12 +57,6 @@ short_at graph node n states e = short n.state (all_at (λ (x : GraphNode). IsWe
 
 abbrev IsThere : List GraphNode → ℕ → Type 0
 IsThere graph to = (m : GraphNode) × (slice_get graph to ≡ Some m)
-
-zip_left : {A B : Type 0} (R : A → B → Type 0) (xs : List A) (ys : List B) (n : ℕ) (x : A) → AllZip R xs ys → slice_get xs n ≡ Some x → (y : B) × ((slice_get ys n ≡ Some y) × R x y)
-zip_left R [] ys n x all e = absurd (cc)
-zip_left R (x' ∷ xs) [] n x all e = absurd all
-zip_left R (x' ∷ xs) (y ∷ ys) zero x all e = let is : x' ≡ x = cc in (y, (refl, subst (λ (a : _). R a y) is all.0))
-zip_left R (x' ∷ xs) (y ∷ ys) (suc n) x all e = zip_left R xs ys n x all.1 e
 
 pub good_at : (graph : List GraphNode) (links : List (List Link)) (node : ℕ) (n : GraphNode) → AreGood graph links → slice_get graph node ≡ Some n → (l : List Link) × ((slice_get links node ≡ Some l) × IsGoodBy graph n.state n.by l)
 good_at graph links node n good e = zip_left (λ (x : GraphNode) (l : List Link). IsGoodBy graph x.state x.by l) graph links node n good.nodes e
@@ -106,8 +103,8 @@ all_small state next (row ∷ rows) all = (small_row state next row all.0, all_s
 small_by : (graph : List GraphNode) (state : AbstractState) (by : By) (links : List Link) (place to : ℕ) (link : Link) → IsGoodBy graph state by links → slice_get (successors by) place ≡ Some to → leg_by by links place ≡ Some (child link) → All IsSmall link.rows
 small_by graph state (Expand children) links place to link good e is =
     let l = zip_left (IsGoodChild graph state) children links place to good e in
-    let f = from_map child (slice_get links place) (child link) is in
-    let one = same_some (slice_get links place) l.0 f.0 l.1.0 f.1.0 in
+    let f = map_some child (slice_get links place) (child link) is in
+    let one = one_answer (slice_get links place) l.0 f.0 l.1.0 f.1.0 in
     let same = f.1.1 in
     let is_link : f.0 ≡ link = cc in
     subst (λ (x : Link). All IsSmall x.rows) (one ∙ is_link)
@@ -133,16 +130,16 @@ stop_there graph links node n e =
 
 pub is_over : (graph : List GraphNode) (links : List (List Link)) (at place to : ℕ) (node after : GraphNode) (first next : ℕ) (rows more : List WRow) → slice_get graph at ≡ Some node → slice_get (successors node.by) place ≡ Some to → slice_get graph to ≡ Some after → next ≡ variables_after first (bare node.state) → ((leg : Leg) → leg_by node.by (links_at links at) place ≡ Some leg → more ≡ (rows ++ rows_of_leg first (bare node.state) leg next (bare after.state)) ++ rows_of_stop next after.state) → AreBounded after.state → IsGone (bare_graph graph links) at place node first rows to after next more
 is_over graph links at place to node after first next rows more here e there is made bounded other ride edge goes =
-    let from = from_then (λ (x : GraphNode). slice_get (successors x.by) place) (slice_get graph at) other edge in
-    let from_is = same_some (slice_get graph at) from.0 node from.1.0 here in
-    let to_is = same_some (slice_get (successors node.by) place) to other e (subst (λ (x : GraphNode). slice_get (successors x.by) place ≡ Some other) from_is from.1.1) in
-    let leg = from_then (λ (l : Leg). option_map (λ (s : Stop). (l, s)) (stop_at (bare_graph graph links) other)) (leg_at (bare_graph graph links) at place) ride goes in
-    let stop = from_map (λ (s : Stop). (leg.0, s)) (stop_at (bare_graph graph links) other) ride leg.1.1 in
-    let n = from_then (λ (x : GraphNode). option_and_then (λ (ls : List Link). leg_by x.by ls place) (slice_get links at)) (slice_get graph at) leg.0 leg.1.0 in
-    let l = from_then (λ (ls : List Link). leg_by n.0.by ls place) (slice_get links at) leg.0 n.1.1 in
-    let n_is = same_some (slice_get graph at) n.0 node n.1.0 here in
+    let from = then_some (λ (x : GraphNode). slice_get (successors x.by) place) (slice_get graph at) other edge in
+    let from_is = one_answer (slice_get graph at) from.0 node from.1.0 here in
+    let to_is = one_answer (slice_get (successors node.by) place) to other e (subst (λ (x : GraphNode). slice_get (successors x.by) place ≡ Some other) from_is from.1.1) in
+    let leg = then_some (λ (l : Leg). option_map (λ (s : Stop). (l, s)) (stop_at (bare_graph graph links) other)) (leg_at (bare_graph graph links) at place) ride goes in
+    let stop = map_some (λ (s : Stop). (leg.0, s)) (stop_at (bare_graph graph links) other) ride leg.1.1 in
+    let n = then_some (λ (x : GraphNode). option_and_then (λ (ls : List Link). leg_by x.by ls place) (slice_get links at)) (slice_get graph at) leg.0 leg.1.0 in
+    let l = then_some (λ (ls : List Link). leg_by n.0.by ls place) (slice_get links at) leg.0 n.1.1 in
+    let n_is = one_answer (slice_get graph at) n.0 node n.1.0 here in
     let leg_is : leg_by node.by (links_at links at) place ≡ Some leg.0 = ap (λ (x : List Link). leg_by node.by x place) (links_here links at l.0 l.1.0) ∙ subst (λ (x : GraphNode). leg_by x.by l.0 place ≡ Some leg.0) n_is l.1.1 in
-    let stop_same = same_some (stop_at (bare_graph graph links) other) stop.0 (bare after.state) stop.1.0 (subst (λ (x : ℕ). stop_at (bare_graph graph links) x ≡ Some (bare after.state)) to_is (stop_there graph links to after there)) in
+    let stop_same = one_answer (stop_at (bare_graph graph links) other) stop.0 (bare after.state) stop.1.0 (subst (λ (x : ℕ). stop_at (bare_graph graph links) x ≡ Some (bare after.state)) to_is (stop_there graph links to after there)) in
     let ride_leg : leg.0 ≡ ride.0 = ap (λ (r : Leg × Stop). r.0) stop.1.1 in
     let ride_stop : ride.1 ≡ bare after.state = sym (ap (λ (r : Leg × Stop). r.1) stop.1.1) ∙ stop_same in
     record {
@@ -220,7 +217,7 @@ path_begins graph links from places node first rows begun =
       there = begun.there;
       few = omega (arith, long, zero_is, size);
       on = λ start rides starts goes.
-          let same = same_some (stop_at (bare_graph graph links) from) start (bare node.state) starts (stop_there graph links from node begun.there) in
+          let same = one_answer (stop_at (bare_graph graph links) from) start (bare node.state) starts (stop_there graph links from node begun.there) in
           record {
             rest = rides;
             goes = goes;
@@ -243,9 +240,9 @@ record IsFirst (linked : LinkedGraph) (at place : ℕ) (left : List ℕ) (rides 
 
 first_of : (linked : LinkedGraph) (at place : ℕ) (left : List ℕ) (rides : List (Leg × Stop)) → rides_from linked at (place ∷ left) ≡ Some rides → IsFirst linked at place left rides
 first_of linked at place left rides e =
-    let to = from_then (λ (to : ℕ). option_and_then (λ (ride : Leg × Stop). option_map (λ (more : List (Leg × Stop)). ride ∷ more) (rides_from linked to left)) (ride_at linked at place to)) (edges linked.graph at place) rides e in
-    let ride = from_then (λ (ride : Leg × Stop). option_map (λ (more : List (Leg × Stop)). ride ∷ more) (rides_from linked to.0 left)) (ride_at linked at place to.0) rides to.1.1 in
-    let rest = from_map (λ (more : List (Leg × Stop)). ride.0 ∷ more) (rides_from linked to.0 left) rides ride.1.1 in
+    let to = then_some (λ (to : ℕ). option_and_then (λ (ride : Leg × Stop). option_map (λ (more : List (Leg × Stop)). ride ∷ more) (rides_from linked to left)) (ride_at linked at place to)) (edges linked.graph at place) rides e in
+    let ride = then_some (λ (ride : Leg × Stop). option_map (λ (more : List (Leg × Stop)). ride ∷ more) (rides_from linked to.0 left)) (ride_at linked at place to.0) rides to.1.1 in
+    let rest = map_some (λ (more : List (Leg × Stop)). ride.0 ∷ more) (rides_from linked to.0 left) rides ride.1.1 in
     record { to = to.0; ride = ride.0; rest = rest.0; edge = to.1.0; taken = ride.1.0; goes = rest.1.0; are = rest.1.1 }
 
 rest_over : (graph : List GraphNode) (links : List (List Link)) (place : ℕ) (left : List ℕ) (at after_at : ℕ) (node after : GraphNode) (first next : ℕ) (rows more : List WRow) (start : Stop) (rides : List (Leg × Stop)) → IsGone (bare_graph graph links) at place node first rows after_at after next more → IsRest (bare_graph graph links) (place ∷ left) at node.state first rows start rides → IsRest (bare_graph graph links) left after_at after.state next more start rides
@@ -310,7 +307,7 @@ pub path_ends : (graph : List GraphNode) (links : List (List Link)) (from to : �
 path_ends graph links from to places start_node at node first rows rule begins on l is start rides starts goes =
     let here = on.on start rides starts goes in
     let none : here.rest ≡ [] = sym (nothing here.rest here.goes) in
-    let same = same_some (stop_at (bare_graph graph links) from) start (bare start_node.state) starts (stop_there graph links from start_node begins) in
+    let same = one_answer (stop_at (bare_graph graph links) from) start (bare start_node.state) starts (stop_there graph links from start_node begins) in
     let all : rows_along 0 start rides ≡ rows = here.rows_are ∙ (ap (λ (r : List (Leg × Stop)). rows ++ rows_after first (bare node.state) r) none ∙ append-nil rows) in
     let end : last_along 0 start rides ≡ (first, bare node.state) = here.last_is ∙ ap (last_along first (bare node.state)) none in (
       is
@@ -328,8 +325,8 @@ path_ends graph links from to places start_node at node first rows rule begins o
 rides_over : (graph : List GraphNode) (links : List (List Link)) (node place to : ℕ) (n : GraphNode) → AreGood graph links → slice_get graph node ≡ Some n → edges graph node place ≡ Some to → (ride : Leg × Stop) × ((ride_at (bare_graph graph links) node place to ≡ Some ride) × IsThere graph to)
 rides_over graph links node place to n good here e =
     let l = good_at graph links node n good here in
-    let f = from_then (λ (x : GraphNode). slice_get (successors x.by) place) (slice_get graph node) to e in
-    let f_is = same_some (slice_get graph node) f.0 n f.1.0 here in
+    let f = then_some (λ (x : GraphNode). slice_get (successors x.by) place) (slice_get graph node) to e in
+    let f_is = one_answer (slice_get graph node) f.0 n f.1.0 here in
     let led = led_by graph n.state n.by l.0 place to l.1.1 (subst (λ (x : GraphNode). slice_get (successors x.by) place ≡ Some to) f_is f.1.1) in
     let leg : leg_at (bare_graph graph links) node place ≡ Some led.leg =
     ap (option_and_then (λ (x : GraphNode). option_and_then (λ (ls : List Link). leg_by x.by ls place) (slice_get links node))) here
@@ -374,25 +371,17 @@ has_rides graph links cuts places from end good l e = at (slice_get graph from) 
 
 -- ---- along a list of edges
 
-one_on : (n : ℕ) → suc n ≡ n + 1
-one_on n = omega arith
-
 pub path_steps : (graph : List GraphNode) (links : List (List Link)) (from : ℕ) (places : List ℕ) (i place : ℕ) (at after_at : ℕ) (node after : GraphNode) (first next : ℕ) (rows more : List WRow) → i < length places → place ≡ get_or places i place → HasRides (bare_graph graph links) from places → IsGone (bare_graph graph links) at place node first rows after_at after next more → IsOnPath graph links from places (drop i places) at node first rows → IsOnPath graph links from places (drop (i + 1) places) after_at after next more
 path_steps graph links from places i place at after_at node after first next rows more l is has gone on =
     let here : drop i places ≡ place ∷ drop (suc i) places = drop-cons places i place l ∙ ap (λ (p : ℕ). p ∷ drop (suc i) places) (sym is) in
-    subst (λ (n : ℕ). IsOnPath graph links from places (drop n places) after_at after next more) (one_on i)
+    subst (λ (n : ℕ). IsOnPath graph links from places (drop n places) after_at after next more) (one_more i)
     (path_goes_on graph links from places place (drop (suc i) places) at after_at node after first next rows more has gone (subst (λ (left : List ℕ). IsOnPath graph links from places left at node first rows) here on))
-
-get_same : (xs : List ℕ) (n d e : ℕ) → n < length xs → get_or xs n d ≡ get_or xs n e
-get_same [] n d e l = absurd (omega (arith, l))
-get_same (x ∷ xs) zero d e l = refl
-get_same (x ∷ xs) (suc n) d e l = get_same xs n d e (omega (arith, l))
 
 -- the places are gone through as the items of a list
 pub path_steps_by : (graph : List GraphNode) (links : List (List Link)) (from : ℕ) (items places : List ℕ) (i place d : ℕ) (at after_at : ℕ) (node after : GraphNode) (first next : ℕ) (rows more : List WRow) → items ≡ places → i < length items → place ≡ get_or items i d → HasRides (bare_graph graph links) from places → IsGone (bare_graph graph links) at place node first rows after_at after next more → IsOnPath graph links from places (drop i places) at node first rows → IsOnPath graph links from places (drop (i + 1) places) after_at after next more
 path_steps_by graph links from items places i place d at after_at node after first next rows more same l is has gone on =
     let long = ap (λ (p : List ℕ). length p) same in
-    path_steps graph links from places i place at after_at node after first next rows more (omega (arith, l, long)) (is ∙ (get_same items i d place l ∙ ap (λ (p : List ℕ). get_or p i place) same)) has gone on
+    path_steps graph links from places i place at after_at node after first next rows more (omega (arith, l, long)) (is ∙ (get_or_default items i d place l ∙ ap (λ (p : List ℕ). get_or p i place) same)) has gone on
 
 pub gone_moved : (graph other : List GraphNode) (links : List (List Link)) (at place : ℕ) (node : GraphNode) (first : ℕ) (rows : List WRow) (after_at : ℕ) (after : GraphNode) (next : ℕ) (more : List WRow) → graph ≡ other → IsGone (bare_graph graph links) at place node first rows after_at after next more → IsGone (bare_graph other links) at place node first rows after_at after next more
 gone_moved graph other links at place node first rows after_at after next more same gone = subst (λ (g : List GraphNode). IsGone (bare_graph g links) at place node first rows after_at after next more) same gone

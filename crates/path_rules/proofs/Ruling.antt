@@ -8,7 +8,13 @@ use Rattle.std.proofs.lemmas.Bool.{ltb-true, ltb-false, false≢true}
 use Rattle.std.proofs.lemmas.List.{length-append, length-map}
 use Rattle.std.proofs.lemmas.List.Sums.{sum_by_push}
 use Rattle.std.proofs.lemmas.List.Elements.{All-from_recursion, recursion_from_All}
-use Rattle.std.proofs.lemmas.Option.{slice_get-map}
+use Rattle.std.proofs.lemmas.Option.{slice_get-map, same_Some}
+use Rattle.jvm_values.proofs.Options.{some_is}
+use Rattle.list_views.proofs.Orders.{one_more as one_on}
+use Rattle.list_views.proofs.Zipped.{zip_more as zip_push}
+use Rattle.list_views.proofs.Quantified.{all_at}
+use Rattle.list_views.proofs.Items.{get_front, get_within, take_next}
+use Rattle.list_views.proofs.Options.{map_some}
 use Rattle.number_graphs.specs.Lists.{Fall}
 use Rattle.descent.specs.declared.rules.PathRule.{PathRule}
 use Rattle.descent.specs.Conditions.{IsRule, AreRules}
@@ -25,11 +31,10 @@ use Rattle.path_rules.specs.Ways.{inner_row, AreWays, end_over, paths_by, counte
 use Rattle.path_rules.specs.declared.ways.Ways.{Ways}
 use Rattle.path_rules.specs.Bare.{bare_graph, AreGood, IsRuleAlong, HasRides, IsRuleFor, IsRuleOfNumber}
 use Rattle.path_rules.proofs.Counted.{AreAlike, counted_many, counted_all, count_alike, added_up}
-use Rattle.path_rules.proofs.Picking.{get_front, get_back, from_map, one_of, IsNear}
+use Rattle.path_rules.proofs.Picking.{get_back, IsNear}
 use Rattle.path_rules.proofs.Existing.{ways_are}
 use Rattle.path_rules.proofs.Finding.{all_ints}
 use Rattle.path_rules.proofs.Whole.{path_from, all_paths, end_is}
-use Rattle.path_rules.proofs.Ready.{all_at}
 use Rattle.path_rules.proofs.Riding.{has_rides}
 use Rattle.path_rules.proofs.Fitting.{rule_fits}
 
@@ -115,7 +120,7 @@ cut_picked size ways place (cut ∷ cuts) number path near l e = at (λ k. cut_p
 
     at : (slice_get (paths_by ways cuts) (number - size cut) ≡ Some path → IsPicked size ways (suc place) cuts (number - size cut) path) → (b : Bool) → nat_lt number (size cut) ≡ b → IsPicked size ways place (cut ∷ cuts) number path
     at later true k =
-        let found = from_map (path_from cut) (slice_get (ways cut) number) path (sym (slice_get-map (path_from cut) (ways cut) number) ∙ (sym (get_front here (paths_by ways cuts) number (within (near cut) (ltb-true number (size cut) k))) ∙ e)) in
+        let found = map_some (path_from cut) (slice_get (ways cut) number) path (sym (slice_get-map (path_from cut) (ways cut) number) ∙ (sym (get_front here (paths_by ways cuts) number (within (near cut) (ltb-true number (size cut) k))) ∙ e)) in
         record { step = 0; cut = cut; left = number; way = found.0; is = rw k (ap (λ (n : ℕ). Some (n, cut, number)) (omega arith)); there = refl; path_is = found.1.1; more = found.1.0; few = omega arith }
     at later false k =
         let more = later (sym (get_back here (paths_by ways cuts) number (number - size cut) (behind (near cut) (ltb-false number (size cut) k))) ∙ e) in
@@ -135,11 +140,6 @@ near_cuts graph cuts ways are cut = subst (λ (n : ℕ). IsNear 4097 n (length (
 pub picked_path : (graph : List GraphNode) (cuts : List ℕ) (ways : Ways) (number : ℕ) (path : Path) → AreWaysOf graph cuts ways → number < 4097 → slice_get (paths_of ways cuts) number ≡ Some path → IsPicked (λ (cut : ℕ). get_or ways.counts cut 0) (ways_of ways.lists ways.marks ways.ranks) 0 cuts number path
 picked_path graph cuts ways number path are l e = cut_picked (λ (cut : ℕ). get_or ways.counts cut 0) (ways_of ways.lists ways.marks ways.ranks) 0 cuts number path (near_cuts graph cuts ways are) l e
 
-pub path_there : (paths : List Path) (number : ℕ) → number < length paths → (path : Path) × (slice_get paths number ≡ Some path)
-path_there [] number l = absurd (omega (arith, l))
-path_there (path ∷ paths) zero l = (path, refl)
-path_there (path ∷ paths) (suc number) l = path_there paths number (omega (arith, l))
-
 -- the cut and the way that the code finds are those of the path
 pub record IsFound (graph : List GraphNode) (cuts : List ℕ) (ways : Ways) (number cut left : ℕ) : Type 0 where
   pub step : ℕ
@@ -147,14 +147,11 @@ pub record IsFound (graph : List GraphNode) (cuts : List ℕ) (ways : Ways) (num
   pub few : left < 4097
   pub is : (path : Path) → slice_get (paths_of ways cuts) number ≡ Some path → (way : List ℕ) × ((path_from cut way ≡ path) × (slice_get (ways_of ways.lists ways.marks ways.ranks cut) left ≡ Some way))
 
-path_one : {a b : Path} → Some a ≡ Some b → a ≡ b
-path_one k = cc
-
 pub path_found : (graph : List GraphNode) (cuts : List ℕ) (ways : Ways) (number place cut left : ℕ) → AreWaysOf graph cuts ways → number < 4097 → number < length (paths_of ways cuts) → Some (place, cut, left) ≡ picked (λ (cut : ℕ). get_or ways.counts cut 0) 0 cuts number → IsFound graph cuts ways number cut left
 path_found graph cuts ways number place cut left are l within e =
-    let path = path_there (paths_of ways cuts) number within in
+    let path = get_within (paths_of ways cuts) number within in
     let p = picked_path graph cuts ways number path.0 are l path.1 in
-    let same = one_of (place, cut, left) (0 + p.step, p.cut, p.left) (e ∙ p.is) in
+    let same = same_Some (place, cut, left) (0 + p.step, p.cut, p.left) (e ∙ p.is) in
     let cut_is : p.cut ≡ cut = sym (ap (λ (t : ℕ × ℕ × ℕ). t.1) same) in
     let left_is : p.left ≡ left = sym (ap (λ (t : ℕ × ℕ × ℕ). t.2) same) in
     let few = p.few in
@@ -163,12 +160,12 @@ path_found graph cuts ways number place cut left are l within e =
       there = p.there ∙ ap (λ (n : ℕ). Some n) cut_is;
       few = omega (arith, few, left_is, l);
       is = λ other k.
-          let one : path.0 ≡ other = path_one (sym path.1 ∙ k) in (p.way, (ap (λ (n : ℕ). path_from n p.way) (sym cut_is) ∙ (p.path_is ∙ one), subst (λ (n : ℕ). slice_get (ways_of ways.lists ways.marks ways.ranks n) left ≡ Some p.way) cut_is (subst (λ (n : ℕ). slice_get (ways_of ways.lists ways.marks ways.ranks p.cut) n ≡ Some p.way) left_is p.more)));
+          let one : path.0 ≡ other = some_is (sym path.1 ∙ k) in (p.way, (ap (λ (n : ℕ). path_from n p.way) (sym cut_is) ∙ (p.path_is ∙ one), subst (λ (n : ℕ). slice_get (ways_of ways.lists ways.marks ways.ranks n) left ≡ Some p.way) cut_is (subst (λ (n : ℕ). slice_get (ways_of ways.lists ways.marks ways.ranks p.cut) n ≡ Some p.way) left_is p.more)));
     }
 
 pub path_not_found : (graph : List GraphNode) (cuts : List ℕ) (ways : Ways) (number : ℕ) → AreWaysOf graph cuts ways → number < 4097 → number < length (paths_of ways cuts) → None ≡ picked (λ (cut : ℕ). get_or ways.counts cut 0) 0 cuts number → ⊥
 path_not_found graph cuts ways number are l within e =
-    let path = path_there (paths_of ways cuts) number within in
+    let path = get_within (paths_of ways cuts) number within in
     let p = picked_path graph cuts ways number path.0 are l path.1 in
     let bad = e ∙ p.is in
     cc
@@ -201,23 +198,12 @@ rule_for graph links cuts ways number cut left places to rule ready are found wa
 -- the way that the code finds has its states
 pub way_rides : (graph : List GraphNode) (links : List (List Link)) (cuts : List ℕ) (ways : Ways) (number cut left : ℕ) (places : List ℕ) (to : ℕ) → IsReady graph links cuts → AreWaysOf graph cuts ways → number < length (paths_of ways cuts) → IsFound graph cuts ways number cut left → IsWayOf ways.lists ways.marks cut left places to → HasRides (bare_graph graph links) cut places
 way_rides graph links cuts ways number cut left places to ready are within found way =
-    let path = path_there (paths_of ways cuts) number within in
+    let path = get_within (paths_of ways cuts) number within in
     let f = found.is path.0 path.1 in
     let w = way (ways_of ways.lists ways.marks ways.ranks) (all_are graph cuts ways are) f.0 f.1.1 in
     has_rides graph links cuts places cut to (good graph links cuts ready) (cut_there graph links cuts ways number cut left ready found) (way_end graph cuts ways cut places to are w.1)
 
 -- ---- rules so far
-
-zip_push : {A B : Type 0} (R : A → B → Type 0) (xs : List A) (ys : List B) (x : A) (y : B) → AllZip R xs ys → R x y → AllZip R (xs ++ x ∷ []) (ys ++ y ∷ [])
-zip_push R [] [] x y all r = (r, tt)
-zip_push R [] (y' ∷ ys) x y all r = absurd all
-zip_push R (x' ∷ xs) [] x y all r = absurd all
-zip_push R (x' ∷ xs) (y' ∷ ys) x y all r = (all.0, zip_push R xs ys x y all.1 r)
-
-taken : (paths : List Path) (n : ℕ) (path : Path) → slice_get paths n ≡ Some path → take (suc n) paths ≡ take n paths ++ path ∷ []
-taken [] n path e = absurd (cc)
-taken (x ∷ paths) zero path e = let is : x ≡ path = cc in ap (λ (p : Path). p ∷ []) is
-taken (x ∷ paths) (suc n) path e = ap (λ (p : List Path). x ∷ p) (taken paths n path e)
 
 no_sizes : (state : AbstractState) → HasIntsAlone state → AreSizes state []
 no_sizes state alone = record {
@@ -261,14 +247,11 @@ each_last [] rule all = all.0
 each_last (r ∷ rules) rule all = each_last rules rule all.1
 
 zip_more : (graph : List GraphNode) (links : List (List Link)) (cuts : List ℕ) (paths : List Path) (rules : List PathRule) (number total : ℕ) (path : Path) (rule : PathRule) → AreSoFar graph links cuts paths rules number total → slice_get paths number ≡ Some path → IsRuleOf (bare_graph graph links) cuts path rule → AllZip (IsRuleOf (bare_graph graph links) cuts) (take (suc number) paths) (rules ++ rule ∷ [])
-zip_more graph links cuts paths rules number total path rule so e is = subst (λ (p : List Path). AllZip (IsRuleOf (bare_graph graph links) cuts) p (rules ++ rule ∷ [])) (sym (taken paths number path e)) (zip_push (IsRuleOf (bare_graph graph links) cuts) (take number paths) rules path rule so.are is)
-
-one_on : (n : ℕ) → suc n ≡ n + 1
-one_on n = omega arith
+zip_more graph links cuts paths rules number total path rule so e is = subst (λ (p : List Path). AllZip (IsRuleOf (bare_graph graph links) cuts) p (rules ++ rule ∷ [])) (sym (take_next paths number path e)) (zip_push (IsRuleOf (bare_graph graph links) cuts) (take number paths) rules path rule so.are is)
 
 pub one_more : (graph : List GraphNode) (links : List (List Link)) (cuts : List ℕ) (paths : List Path) (rules more : List PathRule) (number total : ℕ) (rule : PathRule) → AreSoFar graph links cuts paths rules number total → number < length paths → IsRuleOfNumber (bare_graph graph links) cuts paths number (Some rule) → more ≡ rules ++ rule ∷ [] → total + length rule.rows ≤ 16777216 → AreSoFar graph links cuts paths more (number + 1) (total + length rule.rows)
 one_more graph links cuts paths rules more number total rule so within is made l =
-    let path = path_there paths number within in
+    let path = get_within paths number within in
     let r = is path.0 path.1 in
     let long = length-append rules (rule ∷ []) in
     let count = so.count in
@@ -320,7 +303,7 @@ first_long graph links cuts ways rules number total path rule ready are so e l i
 
 pub one_too_long : (graph : List GraphNode) (links : List (List Link)) (cuts : List ℕ) (ways : Ways) (rules : List PathRule) (number total : ℕ) → IsReady graph links cuts → AreWaysOf graph cuts ways → AreSoFar graph links cuts (paths_of ways cuts) rules number total → number < length (paths_of ways cuts) → length (paths_of ways cuts) ≤ 4096 → IsRuleOfNumber (bare_graph graph links) cuts (paths_of ways cuts) number None → IsFirstTooLong graph links cuts number
 one_too_long graph links cuts ways rules number total ready are so within l is =
-    let path = path_there (paths_of ways cuts) number within in
+    let path = get_within (paths_of ways cuts) number within in
     let r = is path.0 path.1 in
     first_long graph links cuts ways rules number total path.0 r.0 ready are so path.1 l r.1.0 (λ few.
     let k = each_last rules r.0 (recursion_from_All (λ (rule : PathRule). length rule.rows ≤ 65536) (rules ++ r.0 ∷ []) few.each) in
@@ -329,7 +312,7 @@ one_too_long graph links cuts ways rules number total ready are so within l is =
 
 pub all_too_long : (graph : List GraphNode) (links : List (List Link)) (cuts : List ℕ) (ways : Ways) (rules : List PathRule) (number total : ℕ) (rule : PathRule) → IsReady graph links cuts → AreWaysOf graph cuts ways → AreSoFar graph links cuts (paths_of ways cuts) rules number total → number < length (paths_of ways cuts) → length (paths_of ways cuts) ≤ 4096 → IsRuleOfNumber (bare_graph graph links) cuts (paths_of ways cuts) number (Some rule) → 16777216 < total + length rule.rows → IsFirstTooLong graph links cuts number
 all_too_long graph links cuts ways rules number total rule ready are so within l is many =
-    let path = path_there (paths_of ways cuts) number within in
+    let path = get_within (paths_of ways cuts) number within in
     let r = is path.0 path.1 in
     first_long graph links cuts ways rules number total path.0 rule ready are so path.1 l r.0 (λ few.
     let sum = sum_by_push (λ (r : PathRule). length r.rows) rules rule in

@@ -5,15 +5,15 @@ use Rattle.std.specs.Ordering.{int_eq}
 use Rattle.std.proofs.lemmas.Int.{ints}
 use Rattle.std.proofs.lemmas.Bool.{eqb-true}
 use Rattle.std.proofs.lemmas.Bool.Decides.{Decides-int_eq}
+use Rattle.list_views.proofs.Orders.{zero_times}
 use Rattle.list_views.proofs.Ring.{plus_times}
-use Rattle.lin_core.proofs.Signs.{zero-mul_ℤ}
 use Rattle.lin_core.specs.Rows.{value_of_terms}
 use Rattle.path_rules.specs.Rules.{unless_zero, with_term, collected}
 
 unless_value : (numbers : ℕ → ℤ) (name : ℕ) (number : ℤ) (rest : List (ℕ × ℤ)) (zero : Bool) → int_eq number (pos 0) ≡ zero → value_of_terms numbers (cond zero rest ((name, number) ∷ rest)) ≡ number *ℤ numbers name +ℤ value_of_terms numbers rest
 unless_value numbers name number rest false e = refl
 unless_value numbers name number rest true e =
-    let none = ap (λ (n : ℤ). n *ℤ numbers name) ((Decides-int_eq number (pos 0)).0 e) ∙ zero-mul_ℤ (numbers name) in
+    let none = ap (λ (n : ℤ). n *ℤ numbers name) ((Decides-int_eq number (pos 0)).0 e) ∙ zero_times (numbers name) in
     omega (arith, ints, none)
 
 unless_is : (numbers : ℕ → ℤ) (name : ℕ) (number : ℤ) (rest : List (ℕ × ℤ)) → value_of_terms numbers (unless_zero name number rest) ≡ number *ℤ numbers name +ℤ value_of_terms numbers rest

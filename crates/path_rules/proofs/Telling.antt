@@ -1,10 +1,12 @@
--- Every walk of fitting states along a path meets all rows of its rule, and has the values of the slots of both ends.
+-- Every walk of fitting states along a path meets all rows of its rule, and has the values of the slots of all_joined ends.
 use Rattle.std.proofs.Common.{◌≡◌, ℕ, List, [], ◌∷◌, ◌++◌, map, ℤ, pos, Some, subst, ap, arith, refl, ◌∙◌, sym}
 use Rattle.std.specs.Prelude.{not}
 use Rattle.std.specs.List.{AllByRecursion}
 use Rattle.std.proofs.lemmas.Int.{ints}
 use Rattle.std.proofs.lemmas.Bool.{false≢true, eq-eqb}
 use Rattle.std.proofs.lemmas.List.Elements.{All-from_recursion}
+use Rattle.list_views.proofs.Quantified.{all_joined}
+use Rattle.list_views.proofs.Options.{one_answer}
 use Rattle.lin_core.specs.declared.rows.WRow.{WRow}
 use Rattle.lin_core.specs.Rows.{Holds, IsOfKind, value_of_terms}
 use Rattle.lin_core.specs.Weights.{row_under, rows_under}
@@ -22,8 +24,8 @@ use Rattle.path_rules.specs.Conditions.{IsReady, HasIntsAlone}
 use Rattle.path_rules.specs.Walks.{Spot, IsWalk, last_of, SlotIs, SlotsAre, Tells, WalksMeetRules}
 use Rattle.path_rules.proofs.Summing.{same_value}
 use Rattle.path_rules.proofs.Finding.{all_ints}
-use Rattle.path_rules.proofs.Walking.{IsTrueBy, AreTrueBy, IsOfInts, Looks, numbers_along, rows_true, looks_along, last_looks, last_good, looks_first, good_first, ints_of, both}
-use Rattle.path_rules.proofs.Ready.{same_some, good_along, last_stop, stop_sized}
+use Rattle.path_rules.proofs.Walking.{IsTrueBy, AreTrueBy, IsOfInts, Looks, numbers_along, rows_true, looks_along, last_looks, last_good, looks_first, good_first, ints_of}
+use Rattle.path_rules.proofs.Ready.{good_along, last_stop, stop_sized}
 
 -- ---- the valuation
 
@@ -67,7 +69,7 @@ slots_are : (numbers : ℕ → ℤ) (first : ℕ) (stop : Stop) (spot : Spot) �
 slots_are numbers first stop spot of sizes looks =
     All-from_recursion (λ (slot : SlotForm). SlotIs (valuation_of numbers) spot slot slot.size) (slots_of first stop)
     (subst (λ (s : List (ℕ × Pattern)). AllByRecursion (λ (slot : SlotForm). SlotIs (valuation_of numbers) spot slot slot.size) (map (int_slot first stop) (ids_with is_int stop.state) ++ map (size_slot first stop) s)) (sym (no_pattern stop.state stop.sizes of.ints sizes))
-    (both (λ (slot : SlotForm). SlotIs (valuation_of numbers) spot slot slot.size) (map (int_slot first stop) (ids_with is_int stop.state)) [] (int_slots numbers first stop spot (ids_with is_int stop.state) (ints_of stop.state of) looks) tt))
+    (all_joined (λ (slot : SlotForm). SlotIs (valuation_of numbers) spot slot slot.size) (map (int_slot first stop) (ids_with is_int stop.state)) [] (int_slots numbers first stop spot (ids_with is_int stop.state) (ints_of stop.state of) looks) tt))
 
 -- ---- the law
 
@@ -87,7 +89,7 @@ tells types linked cuts path to start rides spot spots ready sized here goes wal
 
 pub walks_meet_rules : WalksMeetRules
 walks_meet_rules types linked cuts path rule start spots ready sized is along =
-    let stop_same = same_some (stop_at linked path.from) along.stop is.start along.starts is.starts in
-    let rides_same = same_some (rides_from linked path.from path.places) along.rides is.rides along.goes is.goes in
+    let stop_same = one_answer (stop_at linked path.from) along.stop is.start along.starts is.starts in
+    let rides_same = one_answer (rides_from linked path.from path.places) along.rides is.rides along.goes is.goes in
     let walk = subst (λ (r : List (Leg × Stop)). IsWalk types is.start start r spots) rides_same (subst (λ (s : Stop). IsWalk types s start along.rides spots) stop_same along.walk) in
     subst (λ (r : PathRule). Tells r start (last_of start spots)) (sym is.is) (tells types linked cuts path is.to is.start is.rides start spots ready sized is.starts is.goes walk)

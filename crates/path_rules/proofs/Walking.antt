@@ -5,6 +5,8 @@ use Rattle.std.specs.List.{AllByRecursion, flat_map}
 use Rattle.std.specs.Option.{option_map_or}
 use Rattle.std.proofs.lemmas.Int.{ints}
 use Rattle.std.proofs.lemmas.Bool.{false≢true, eqb-true, ltb-true, ltb-false}
+use Rattle.list_views.proofs.Orders.{nat_lt_from, nat_lt_not}
+use Rattle.list_views.proofs.Quantified.{all_joined}
 use Rattle.lin_core.specs.declared.rows.WRow.{WRow}
 use Rattle.lin_core.specs.Rows.{value_of_terms, IsOfKind}
 use Rattle.jvm_values.specs.declared.heap.Heap.{Heap}
@@ -39,10 +41,6 @@ pub record IsTrueBy (numbers : ℕ → ℤ) (row : WRow) : Type 0 where
 abbrev pub AreTrueBy : (ℕ → ℤ) → List WRow → Type 0
 AreTrueBy numbers rows = AllByRecursion (IsTrueBy numbers) rows
 
-pub both : {X : Type 0} (P : X → Type 0) (xs ys : List X) → AllByRecursion P xs → AllByRecursion P ys → AllByRecursion P (xs ++ ys)
-both P [] ys a b = b
-both P (x ∷ xs) ys a b = (a.0, both P xs ys a.1 b)
-
 -- one number is another
 tie_true : (numbers : ℕ → ℤ) (v w : ℕ) → numbers v ≡ numbers w → IsTrueBy numbers (tie v w)
 tie_true numbers v w e =
@@ -72,7 +70,7 @@ cells_true types numbers first state spot [] s fits looks = tt
 cells_true types numbers first state spot (c ∷ cells) s fits looks =
     let there = suffix_int state c cells s in
     let here = bounds_true types spot.machine.heap spot.meaning numbers (variable_of first state c.0) c.0 c.1 (s.ints 0 c (omega arith)) (fits.cells c.0 c.1 (suffix_first state c cells s)) (looks c.0 there) in
-    both (IsTrueBy numbers) (bounds_of (variable_of first state c.0) c.1) (flat_map (λ (x : ℕ × Cell). bounds_of (variable_of first state x.0) x.1) cells) here (cells_true types numbers first state spot cells (suffix_rest state c cells s) fits looks)
+    all_joined (IsTrueBy numbers) (bounds_of (variable_of first state c.0) c.1) (flat_map (λ (x : ℕ × Cell). bounds_of (variable_of first state x.0) x.1) cells) here (cells_true types numbers first state spot cells (suffix_rest state c cells s) fits looks)
 
 -- a state of ints whose ids rise
 pub record IsOfInts (state : AbstractState) : Type 0 where
@@ -81,7 +79,7 @@ pub record IsOfInts (state : AbstractState) : Type 0 where
 
 stop_true : (types : WorldTypes) (numbers : ℕ → ℤ) (first : ℕ) (state : AbstractState) (spot : Spot) → IsOfInts state → Fits types state spot.machine spot.meaning → Looks numbers first state spot.meaning → AreTrueBy numbers (rows_of_stop first state)
 stop_true types numbers first state spot of fits looks =
-    rw (no_sizes state of.ints) (both (IsTrueBy numbers) (flat_map (λ (c : ℕ × Cell). bounds_of (variable_of first state c.0) c.1) state.cells) [] (cells_true types numbers first state spot state.cells (whole_suffix state of.rising of.ints) fits looks) tt)
+    rw (no_sizes state of.ints) (all_joined (IsTrueBy numbers) (flat_map (λ (c : ℕ × Cell). bounds_of (variable_of first state c.0) c.1) state.cells) [] (cells_true types numbers first state spot state.cells (whole_suffix state of.rising of.ints) fits looks) tt)
 
 -- ---- the rows of an edge
 
@@ -131,9 +129,9 @@ links_true numbers first next state other meaning after (row ∷ rows) here ther
 child_true : (numbers : ℕ → ℤ) (first next : ℕ) (stop after : Stop) (spot then : Spot) (link : Link) → IsOfInts stop.state → IsLinkBetween stop.state after.state link → Looks numbers first stop.state spot.meaning → Looks numbers next after.state then.meaning → Edge stop.state spot.machine spot.meaning link after.state then.machine then.meaning → AreTrueBy numbers (rows_of_child first stop link next after)
 child_true numbers first next stop after spot then link of good here there edge =
     rw (no_sizes stop.state of.ints) (
-    both (IsTrueBy numbers) (map (λ (id : ℕ). tie (variable_of first stop.state id) (variable_of next after.state id)) (filter (has_int after.state) (ids_with is_int stop.state))) (map (link_row (variable_of first stop.state) (variable_of next after.state)) link.rows ++ [])
+    all_joined (IsTrueBy numbers) (map (λ (id : ℕ). tie (variable_of first stop.state id) (variable_of next after.state id)) (filter (has_int after.state) (ids_with is_int stop.state))) (map (link_row (variable_of first stop.state) (variable_of next after.state)) link.rows ++ [])
     (ties_true numbers first next stop.state after.state (ids_with is_int stop.state) (ints_of stop.state of) (λ id a b. here id a ∙ sym (ap number_of (edge.ints id a b)) ∙ sym (there id b)))
-    (both (IsTrueBy numbers) (map (link_row (variable_of first stop.state) (variable_of next after.state)) link.rows) [] (links_true numbers first next stop.state after.state spot.meaning then.meaning link.rows here there good.rows edge.rows) tt))
+    (all_joined (IsTrueBy numbers) (map (link_row (variable_of first stop.state) (variable_of next after.state)) link.rows) [] (links_true numbers first next stop.state after.state spot.meaning then.meaning link.rows here there good.rows edge.rows) tt))
 
 -- ---- the rows of an instance
 
@@ -155,14 +153,14 @@ image_true numbers first stop v (Some image) same = (tie_true numbers v (variabl
 images_true : (numbers : ℕ → ℤ) (first next : ℕ) (stop target : Stop) (entries : List (ℕ × ℕ)) (ids : List ℕ) → AllByRecursion (HasCell is_int target.state) ids → ((id image : ℕ) → HasCell is_int target.state id → image_in entries id ≡ Some image → numbers (variable_of next target.state id) ≡ numbers (variable_of first stop.state image)) → AreTrueBy numbers (flat_map (λ (id : ℕ). image_row first stop (variable_of next target.state id) (image_in entries id)) ids)
 images_true numbers first next stop target entries [] a same = tt
 images_true numbers first next stop target entries (id ∷ ids) a same =
-    both (IsTrueBy numbers) (image_row first stop (variable_of next target.state id) (image_in entries id)) (flat_map (λ (x : ℕ). image_row first stop (variable_of next target.state x) (image_in entries x)) ids)
+    all_joined (IsTrueBy numbers) (image_row first stop (variable_of next target.state id) (image_in entries id)) (flat_map (λ (x : ℕ). image_row first stop (variable_of next target.state x) (image_in entries x)) ids)
     (image_true numbers first stop (variable_of next target.state id) (image_in entries id) (λ image e. same id image a.0 e))
     (images_true numbers first next stop target entries ids a.1 same)
 
 instance_true : (numbers : ℕ → ℤ) (first next : ℕ) (stop target : Stop) (spot then : Spot) (entries : List (ℕ × ℕ)) → IsOfInts target.state → IsMapBetween stop.state target.state entries → Looks numbers first stop.state spot.meaning → Looks numbers next target.state then.meaning → InstanceEdge entries spot.machine spot.meaning then.machine then.meaning → AreTrueBy numbers (rows_of_instance first stop entries next target)
 instance_true numbers first next stop target spot then entries of good here there edge =
     rw (no_sizes target.state of.ints) (
-    both (IsTrueBy numbers) (flat_map (λ (id : ℕ). image_row first stop (variable_of next target.state id) (image_in entries id)) (ids_with is_int target.state)) []
+    all_joined (IsTrueBy numbers) (flat_map (λ (id : ℕ). image_row first stop (variable_of next target.state id) (image_in entries id)) (ids_with is_int target.state)) []
     (images_true numbers first next stop target entries (ids_with is_int target.state) (ints_of target.state of) same) tt)
   where
     same : (id image : ℕ) → HasCell is_int target.state id → image_in entries id ≡ Some image → numbers (variable_of next target.state id) ≡ numbers (variable_of first stop.state image)
@@ -207,9 +205,9 @@ rows_true types numbers first stop spot (ride ∷ rides) (after ∷ spots) good 
     let next = variables_after first stop in
     let of = good_first ride.1 rides good.1.1 in
     let there = looks_first numbers next ride.1 after rides spots looks.1 in
-    both (IsTrueBy numbers) (rows_of_stop first stop.state) (rows_of_leg first stop ride.0 next ride.1 ++ rows_along next ride.1 rides)
+    all_joined (IsTrueBy numbers) (rows_of_stop first stop.state) (rows_of_leg first stop ride.0 next ride.1 ++ rows_along next ride.1 rides)
     (stop_true types numbers first stop.state spot good.0 walk.0.fits looks.0)
-    (both (IsTrueBy numbers) (rows_of_leg first stop ride.0 next ride.1) (rows_along next ride.1 rides)
+    (all_joined (IsTrueBy numbers) (rows_of_leg first stop ride.0 next ride.1) (rows_along next ride.1 rides)
     (leg_true numbers first next stop ride.1 spot after ride.0 good.0 of good.1.0 looks.0 there walk.1.0)
     (rows_true types numbers next ride.1 after rides spots good.1.1 walk.1.1 looks.1))
 
@@ -228,20 +226,6 @@ number_here first state spot id has =
     let place : variable_of first state id - first ≡ place_of (variables state) id = omega arith in
     ap (λ (n : ℕ). number_at state spot n) place ∙ ap (λ (o : Option ℕ). option_map_or (λ (x : ℕ). number_of (spot.meaning x)) o (pos 0)) (int_found state id has)
 
-not_below : (n m : ℕ) → m ≤ n → nat_lt n m ≡ false
-not_below n m l = at (nat_lt n m) refl
-  where
-    at : (b : Bool) → nat_lt n m ≡ b → b ≡ false
-    at false e = refl
-    at true e = let k = ltb-true n m e in absurd (omega (arith, k, l))
-
-is_below : (n m : ℕ) → n < m → nat_lt n m ≡ true
-is_below n m l = at (nat_lt n m) refl
-  where
-    at : (b : Bool) → nat_lt n m ≡ b → b ≡ true
-    at true e = refl
-    at false e = let k = ltb-false n m e in absurd (omega (arith, k, l))
-
 -- numbers that are a walk's from a stop on are those of its ids
 pub looks_along : (types : WorldTypes) (numbers : ℕ → ℤ) (first : ℕ) (stop : Stop) (spot : Spot) (rides : List (Leg × Stop)) (spots : List Spot) → IsWalk types stop spot rides spots → ((n : ℕ) → first ≤ n → numbers n ≡ numbers_along first stop spot rides spots n) → LooksAlong numbers first stop spot rides spots
 looks_along types numbers first stop spot [] spots walk same = λ id has. same (variable_of first stop.state id) (omega arith) ∙ number_here first stop.state spot id has
@@ -251,12 +235,12 @@ looks_along types numbers first stop spot (ride ∷ rides) (after ∷ spots) wal
     here : Looks numbers first stop.state spot.meaning
     here id has =
         let low : variable_of first stop.state id < variables_after first stop = (let w = int_within stop.state id has in omega (arith, w)) in
-        let is = is_below (variable_of first stop.state id) (variables_after first stop) low in
+        let is = nat_lt_from (variable_of first stop.state id) (variables_after first stop) low in
         same (variable_of first stop.state id) (omega arith) ∙ ap (λ (b : Bool). cond b (number_at stop.state spot (variable_of first stop.state id - first)) (numbers_along (variables_after first stop) ride.1 after rides spots (variable_of first stop.state id))) is ∙ number_here first stop.state spot id has
 
     later : (n : ℕ) → variables_after first stop ≤ n → numbers n ≡ numbers_along (variables_after first stop) ride.1 after rides spots n
     later n l =
-        let is = not_below n (variables_after first stop) l in
+        let is = nat_lt_not n (variables_after first stop) l in
         same n (omega (arith, l)) ∙ ap (λ (b : Bool). cond b (number_at stop.state spot (n - first)) (numbers_along (variables_after first stop) ride.1 after rides spots n)) is
 
 -- ---- the last stop

@@ -6,6 +6,7 @@ use Rattle.std.specs.List.{AllByRecursion, flat_map}
 use Rattle.std.proofs.lemmas.Bool.{eq-eqb, eqb-true, eqb-false, lt-ltb}
 use Rattle.std.proofs.lemmas.Option.{slice_get-map}
 use Rattle.std.proofs.lemmas.List.Elements.{All-from_recursion}
+use Rattle.list_views.proofs.Quantified.{all_joined, all_places}
 use Rattle.number_graphs.specs.Lists.{row_at, Fall}
 use Rattle.term_graph.specs.Graphs.{GraphNode, successors}
 use Rattle.path_rules.specs.Paths.{Path, IsPath, AreAllPaths, Rise, is_before, is_earlier, is_cut, end_of, edges, only_last}
@@ -39,14 +40,6 @@ end_is graph cuts marks are (place ∷ places) node =
 abbrev pub path_from : ℕ → List ℕ → Path
 path_from cut way = record { from = cut; places = way }
 
-all_both : {A : Type 0} (P : A → Type 0) (xs ys : List A) → AllByRecursion P xs → AllByRecursion P ys → AllByRecursion P (xs ++ ys)
-all_both P [] ys a b = b
-all_both P (x ∷ xs) ys a b = (a.0, all_both P xs ys a.1 b)
-
-all_in : {A : Type 0} (P : A → Type 0) (xs : List A) → ((n : ℕ) (x : A) → slice_get xs n ≡ Some x → P x) → AllByRecursion P xs
-all_in P [] f = tt
-all_in P (x ∷ xs) f = (f 0 x refl, all_in P xs (λ n y e. f (suc n) y e))
-
 all_map : {A B : Type 0} (P : B → Type 0) (f : A → B) (xs : List A) → AllByRecursion (λ (x : A). P (f x)) xs → AllByRecursion P (map f xs)
 all_map P f [] a = tt
 all_map P f (x ∷ xs) a = (a.0, all_map P f xs a.1)
@@ -64,8 +57,8 @@ more_has cut other cuts e = at (eqb cut other)
 each_path : (graph : List GraphNode) (all cuts : List ℕ) (marks : List Bool) (ways : ℕ → List (List ℕ)) → AreMarks all marks → AreWays (lists_of graph) marks ways → ((cut : ℕ) → is_cut cuts cut ≡ true → is_cut all cut ≡ true) → AllByRecursion (IsPath graph all) (paths_by ways cuts)
 each_path graph all [] marks ways are waysare sub = tt
 each_path graph all (cut ∷ cuts) marks ways are waysare sub =
-    all_both (IsPath graph all) (map (path_from cut) (ways cut)) (paths_by ways cuts)
-    (all_map (IsPath graph all) (path_from cut) (ways cut) (all_in (λ (way : List ℕ). IsPath graph all (path_from cut way)) (ways cut) (λ n way e.
+    all_joined (IsPath graph all) (map (path_from cut) (ways cut)) (paths_by ways cuts)
+    (all_map (IsPath graph all) (path_from cut) (ways cut) (all_places (λ (way : List ℕ). IsPath graph all (path_from cut way)) (ways cut) (λ n way e.
     let end = ends_over (lists_of graph) marks ways waysare way cut n e in
     record { starts = sub cut (one_has cut cuts); to = end.0; ends = sym (end_is graph all marks are way cut) ∙ end.1 })))
     (each_path graph all cuts marks ways are waysare (λ c e. sub c (more_has cut c cuts e)))

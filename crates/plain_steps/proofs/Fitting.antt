@@ -2,9 +2,10 @@
 use Rattle.std.proofs.Common.{◌≡◌, ◌≢◌, ◌∙◌, ℕ, Bool, true, false, cond, eqb, List, [], ◌∷◌, Option, Some, None, ◌⊎◌, inl, inr, refl, sym, ap, subst}
 use Rattle.std.specs.Prelude.{All}
 use Rattle.std.specs.List.{AllZip, AllByRecursion}
-use Rattle.std.proofs.lemmas.Bool.{false≢true, eqb-true}
+use Rattle.std.proofs.lemmas.Bool.{false≢true, eqb-true, cases_Bool}
 use Rattle.std.proofs.lemmas.List.Elements.{All-head}
-use Rattle.jvm_values.proofs.Options.{some_is, none_is_not_some}
+use Rattle.std.proofs.lemmas.Option.{none-some}
+use Rattle.jvm_values.proofs.Options.{some_is}
 use Rattle.jvm_values.specs.declared.heap.Value.{Value}
 use Rattle.jvm_values.specs.declared.heap.Heap.{Heap}
 use Rattle.jvm_values.specs.Heaps.{target}
@@ -15,7 +16,6 @@ use Rattle.abs_cells.specs.declared.cells.Cell.TheVariants.{Int, Null, Obj, Nums
 use Rattle.abs_cells.specs.AbstractStates.{AbstractState}
 use Rattle.abs_cells.specs.Cells.{is_int, is_hazy, shape_of, cell_in, cell_at, HasCell}
 use Rattle.abs_cells.specs.Fits.{Meaning, FitsFrame, FitsMode, with_statics, Describes, Fits}
-use Rattle.abs_cells.proofs.PairLaws.{bool_cases}
 use Rattle.abs_heap.specs.Given.{first_cell, with_cells}
 use Rattle.abs_reach.specs.Reached.{IsRestricted, IsDropped}
 use Rattle.abs_reach.specs.Laws.{RestrictedStatesFit}
@@ -39,7 +39,7 @@ int_describes types heap other meaning more (Refs element len shape) value i d =
 int_describes types heap other meaning more (Unk bound nullable shape) value i d = absurd (false≢true i)
 
 int_no_target : (types : WorldTypes) (heap : Heap) (meaning : Meaning) (cell : Cell) (value : Value) (o : ℕ) → is_int cell ≡ true → Describes types heap meaning cell value → target value ≡ Some o → ⊥
-int_no_target types heap meaning (Int interval) value o i d t = none_is_not_some o (sym (ap target d.1.0) ∙ t)
+int_no_target types heap meaning (Int interval) value o i d t = none-some o (sym (ap target d.1.0) ∙ t)
 int_no_target types heap meaning Null value o i d t = false≢true i
 int_no_target types heap meaning (Obj class ids) value o i d t = false≢true i
 int_no_target types heap meaning (Nums kind len) value o i d t = false≢true i
@@ -59,8 +59,8 @@ hazy_has_shape (Int interval) s h = false≢true h
 hazy_has_shape Null s h = false≢true h
 hazy_has_shape (Obj class ids) s h = false≢true h
 hazy_has_shape (Nums kind len) s h = false≢true h
-hazy_has_shape (Refs element len shape) s h = none_is_not_some shape (sym s)
-hazy_has_shape (Unk bound nullable shape) s h = none_is_not_some shape (sym s)
+hazy_has_shape (Refs element len shape) s h = none-some shape (sym s)
+hazy_has_shape (Unk bound nullable shape) s h = none-some shape (sym s)
 
 int_no_size : (cell : Cell) → is_int cell ≡ true → is_size_variable cell ≡ true → ⊥
 int_no_size (Int interval) i s = false≢true s
@@ -72,8 +72,8 @@ int_no_size (Unk bound nullable shape) i s = false≢true i
 
 -- what holds of each id and cell of a list
 in_list : (P : ℕ → Cell → Type 0) (list : List (ℕ × Cell)) (k : ℕ) (cell : Cell) → AllByRecursion (λ (c : ℕ × Cell). P c.0 c.1) list → cell_in list k ≡ Some cell → P k cell
-in_list P [] k cell all e = absurd (none_is_not_some cell e)
-in_list P (c ∷ list) k cell all e = elim (bool_cases (eqb c.0 k)) [
+in_list P [] k cell all e = absurd (none-some cell e)
+in_list P (c ∷ list) k cell all e = elim (cases_Bool (eqb c.0 k)) [
   | inl t ↦
       let same : c.1 ≡ cell = some_is (ap (λ b. cond b (Some c.1) (cell_in list k)) (sym t) ∙ e) in
       subst (λ d. P k d) same (subst (λ n. P n c.1) (eqb-true c.0 k t) all.0)
@@ -106,7 +106,7 @@ module _ (types : WorldTypes) (machine : MachineState) (meaning : Meaning) (fres
     aliases = λ a b o ha hb differ ta tb. absurd (differ (some_is (sym (fresh_if_object a o ha.cell ha.is ta) ∙ fresh_if_object b o hb.cell hb.is tb)));
     meeting = λ a b o ha hb differ ra rb. absurd (never_hazy a ha);
     inside = λ k b o hk hb tk rb. absurd (never_hazy b hb);
-    shapes = λ id cell shape at s. absurd (none_is_not_some shape (sym (shapeless id cell at) ∙ s));
+    shapes = λ id cell shape at s. absurd (none-some shape (sym (shapeless id cell at) ∙ s));
   }
 
 -- ---- the cells of a child
@@ -130,8 +130,8 @@ module _ (types : WorldTypes) (state : AbstractState) (machine after : MachineSt
   never_fresh changed k cell cells at none = by (cell_in turn.changed k) (ap (first_cell (cell_in turn.changed k)) (sym at) ∙ sym (cells k) ∙ none)
     where
       by : (o : Option Cell) → first_cell o (Some cell) ≡ None → ⊥
-      by None e = none_is_not_some cell (sym e)
-      by (Some d) e = none_is_not_some d (sym e)
+      by None e = none-some cell (sym e)
+      by (Some d) e = none-some d (sym e)
 
   -- an act without an id
   kept_seen : (changed : AbstractState) → Narrowed changed → IsSeen types after.heap meaning None changed
@@ -207,7 +207,7 @@ followed types state machine after meaning turn whole changed acted id value (ma
   fresh = Some id;
   seen = seen_moved types after.heap (after_act (makes cell) meaning id value) (Some id) acted whole (λ k. ap (λ (s : AbstractState). cell_at s k) is ∙ gone_cells goal id cell acted makes_one k)
       (made_seen types state machine after meaning turn ints fits it changed acted id cell value (narrowed_from types state machine after meaning turn ints fits it changed cells narrowed) acts.1.cells made);
-  kept = λ k d at. elim (bool_cases (eqb id k)) [
+  kept = λ k d at. elim (cases_Bool (eqb id k)) [
     | inl t ↦ absurd (never_fresh types state machine after meaning turn ints fits it changed k d cells at (ap (λ n. cell_at changed n) (sym (eqb-true id k t)) ∙ All-head (λ n. cell_at changed n ≡ None) id [] acts.0.free))
     | inr f ↦ ap (λ b. cond b value (meaning k)) f
   ];

@@ -9,7 +9,6 @@ use Rattle.class_program.specs.Methods.{class_name}
 use Rattle.class_program.specs.Programs.{Program}
 use Rattle.abs_cells.specs.AbstractStates.{AbstractFrame}
 use Rattle.term_graph.specs.Graphs.{GraphNode}
-use Rattle.prove_core.specs.declared.found.Reason.{Reason}
 use Rattle.prove_call.specs.Lines.{frame_text, running_text, node_text}
 
 -- ---- classes

@@ -5,7 +5,8 @@ use Rattle.std.specs.List.{AllByRecursion, flat_map}
 use Rattle.std.proofs.lemmas.Bool.{false≢true, eqb-true}
 use Rattle.std.proofs.lemmas.Int.{ints}
 use Rattle.std.proofs.lemmas.List.Elements.{recursion_from_All}
-use Rattle.jvm_values.proofs.Options.{some_is, none_is_not_some}
+use Rattle.std.proofs.lemmas.Option.{none-some}
+use Rattle.jvm_values.proofs.Options.{some_is}
 use Rattle.lin_core.specs.declared.rows.WRow.{WRow}
 use Rattle.abs_cells.specs.declared.cells.Cell.{Cell}
 use Rattle.abs_cells.specs.declared.cells.Cell.TheVariants.{Int, Null, Obj, Nums, Refs, Unk}
@@ -20,7 +21,7 @@ use Rattle.rank_forms.specs.Graphs.{HasClose, IsCloseInt, IsSizeSlot}
 -- ---- rows among others
 
 among_first : (xs ys : List WRow) (row : WRow) → IsAmong xs row → IsAmong (xs ++ ys) row
-among_first [] ys row (n, e) = absurd (none_is_not_some row e)
+among_first [] ys row (n, e) = absurd (none-some row e)
 among_first (x ∷ xs) ys row (zero, e) = (0, e)
 among_first (x ∷ xs) ys row (suc n, e) = let r = among_first xs ys row (n, e) in (suc r.0, r.1)
 
@@ -29,7 +30,7 @@ among_second [] ys row a = a
 among_second (x ∷ xs) ys row a = let r = among_second xs ys row a in (suc r.0, r.1)
 
 among_cells : (f : ℕ → ℕ) (cells : List (ℕ × Cell)) (id : ℕ) (cell : Cell) (row : WRow) → cell_in cells id ≡ Some cell → IsAmong (bounds_of (f id) cell) row → IsAmong (flat_map (λ (c : ℕ × Cell). bounds_of (f c.0) c.1) cells) row
-among_cells f [] id cell row e a = absurd (none_is_not_some cell e)
+among_cells f [] id cell row e a = absurd (none-some cell e)
 among_cells f (c ∷ cells) id cell row e a = at (c.0 == id) refl e (λ k. among_cells f cells id cell row k a)
   where
     at : (b : Bool) → eqb c.0 id ≡ b → cond b (Some c.1) (cell_in cells id) ≡ Some cell → (cell_in cells id ≡ Some cell → IsAmong (flat_map (λ (x : ℕ × Cell). bounds_of (f x.0) x.1) cells) row) → IsAmong (bounds_of (f c.0) c.1 ++ flat_map (λ (x : ℕ × Cell). bounds_of (f x.0) x.1) cells) row
@@ -77,7 +78,7 @@ cell_close rows v (Refs element len shape) int bounded among = absurd (false≢t
 cell_close rows v (Unk bound nullable shape) int bounded among = absurd (false≢true int)
 
 bounded_in : (cells : List (ℕ × Cell)) (id : ℕ) (cell : Cell) → AllByRecursion (λ (c : ℕ × Cell). IsBounded c.1) cells → cell_in cells id ≡ Some cell → IsBounded cell
-bounded_in [] id cell all e = absurd (none_is_not_some cell e)
+bounded_in [] id cell all e = absurd (none-some cell e)
 bounded_in (c ∷ cells) id cell all e = at (c.0 == id) e (λ k. bounded_in cells id cell all.1 k)
   where
     at : (b : Bool) → cond b (Some c.1) (cell_in cells id) ≡ Some cell → (cell_in cells id ≡ Some cell → IsBounded cell) → IsBounded cell

@@ -3,6 +3,7 @@ use Rattle.std.proofs.Common.{◌≡◌, ℕ, suc, ◌+◌, ◌≤◌, Bool, tru
 use Rattle.std.specs.Prelude.{nat_lt, unsigned_abs}
 use Rattle.std.specs.Ordering.{int_eq}
 use Rattle.std.proofs.lemmas.Int.{ints}
+use Rattle.list_views.proofs.Orders.{size_of_sum}
 use Rattle.lin_core.specs.Weights.{total_size}
 use Rattle.path_rules.specs.Rules.{unless_zero, with_term, collected}
 
@@ -18,9 +19,6 @@ unless_within name number rest count size w = at (int_eq number (pos 0))
     at true = let c = w.count_is in let s = w.size_is in record { count_is = omega (arith, c); size_is = omega (arith, s) }
     at false = let c = w.count_is in let s = w.size_is in record { count_is = omega (arith, c); size_is = omega (arith, s) }
 
-sum_size : (a b : ℤ) → unsigned_abs (a +ℤ b) ≤ unsigned_abs a + unsigned_abs b
-sum_size a b = omega (arith, ints)
-
 with_within : (term : ℕ × ℤ) (terms : List (ℕ × ℤ)) → IsWithin (with_term term terms) (suc (length terms)) (unsigned_abs term.1 + total_size terms)
 with_within term [] = unless_within term.0 term.1 [] 0 0 (record { count_is = omega arith; size_is = omega arith })
 with_within term (first ∷ rest) = at (eqb term.0 first.0) (nat_lt term.0 first.0) (with_within term rest)
@@ -30,7 +28,7 @@ with_within term (first ∷ rest) = at (eqb term.0 first.0) (nat_lt term.0 first
         let here = unless_within term.0 (term.1 +ℤ first.1) rest (length rest) (total_size rest) (record { count_is = omega arith; size_is = omega arith }) in
         let c = here.count_is in
         let s = here.size_is in
-        let sum = sum_size term.1 first.1 in
+        let sum = size_of_sum term.1 first.1 in
         record { count_is = omega (arith, c); size_is = omega (arith, s, sum) }
     at false true w =
         unless_within term.0 term.1 (first ∷ rest) (suc (length rest)) (unsigned_abs first.1 + total_size rest) (record { count_is = omega arith; size_is = omega arith })

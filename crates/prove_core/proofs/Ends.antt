@@ -2,6 +2,8 @@
 use Rattle.std.proofs.Common.{◌≡◌, ◌∙◌, ℕ, ℤ, suc, ◌≤◌, Bool, true, false, cond, List, [], ◌∷◌, ◌++◌, map, Some, refl, sym, ap, subst, arith}
 use Rattle.std.specs.Prelude.{filter}
 use Rattle.std.proofs.lemmas.List.{append-nil}
+use Rattle.lin_core.proofs.Coefficients.{rise_lower}
+use Rattle.list_views.proofs.Options.{one_answer, then_some}
 use Rattle.lin_core.specs.Rows.{RiseFrom}
 use Rattle.descent.specs.declared.rules.SlotForm.{SlotForm}
 use Rattle.descent.specs.declared.rules.Place.{Place}
@@ -14,7 +16,7 @@ use Rattle.path_rules.specs.Stops.{Stop, Leg, LinkedGraph, AreSizes, stop_at, ri
 use Rattle.path_rules.specs.Rules.{ids_with, last_along, variables_after, int_slot, size_slot, slots_of}
 use Rattle.path_rules.specs.Conditions.{HasIntsAlone}
 use Rattle.path_rules.proofs.Finding.{ids_in_cells}
-use Rattle.path_rules.proofs.Ready.{from_then, same_some, no_rides, ride_first}
+use Rattle.path_rules.proofs.Ready.{no_rides, ride_first}
 use Rattle.path_rules.proofs.Telling.{no_pattern}
 use Rattle.rank_forms.specs.Graphs.{AreNamed, head_of, heads, ids_of}
 
@@ -27,17 +29,13 @@ slots_are first stop alone sizes =
 
 -- ---- their ids rise
 
-lower : (low low' end : ℕ) (terms : List (ℕ × ℤ)) → low ≤ low' → RiseFrom low' end terms → RiseFrom low end terms
-lower low low' end [] l rise = tt
-lower low low' end (term ∷ terms) l rise = let k = rise.0 in (omega (arith, l, k), rise.1, rise.2)
-
 names_rise : (first : ℕ) (stop : Stop) (low : ℕ) (cells : List (ℕ × Cell)) → AreIdsRising low cells → RiseFrom low 65536 (ids_of false (map (int_slot first stop) (ids_in_cells is_int cells)))
 names_rise first stop low [] rising = tt
 names_rise first stop low (c ∷ cells) rising = at (is_int c.1) (names_rise first stop (suc c.0) cells rising.1.1)
   where
     at : (b : Bool) → RiseFrom (suc c.0) 65536 (ids_of false (map (int_slot first stop) (ids_in_cells is_int cells))) → RiseFrom low 65536 (ids_of false (map (int_slot first stop) (map (λ (x : ℕ × Cell). x.0) (cond b (c ∷ filter (λ (x : ℕ × Cell). is_int x.1) cells) (filter (λ (x : ℕ × Cell). is_int x.1) cells)))))
     at true rest = let few = rising.1.0 in (rising.0, omega (arith, few), rest)
-    at false rest = let l = rising.0 in lower low (suc c.0) 65536 (ids_of false (map (int_slot first stop) (ids_in_cells is_int cells))) (omega (arith, l)) rest
+    at false rest = let l = rising.0 in rise_lower low (suc c.0) 65536 (ids_of false (map (int_slot first stop) (ids_in_cells is_int cells))) (omega (arith, l)) rest
 
 no_names : (first : ℕ) (stop : Stop) (ids : List ℕ) → ids_of true (map (int_slot first stop) ids) ≡ []
 no_names first stop [] = refl
@@ -74,8 +72,8 @@ pub end_stop : (linked : LinkedGraph) (cuts : List ℕ) (first node : ℕ) (plac
 end_stop linked cuts first node [] stop rides to ends goes = absurd (cc)
 end_stop linked cuts first node (place ∷ places) stop rides to ends goes =
     let r = ride_first linked node place places rides goes in
-    let f = from_then (λ (t : ℕ). cond (is_cut cuts t) (only_last places t) (end_of linked.graph cuts t places)) (edges linked.graph node place) to ends in
-    let same : f.0 ≡ r.to = same_some (edges linked.graph node place) f.0 r.to f.1.0 r.edge in
+    let f = then_some (λ (t : ℕ). cond (is_cut cuts t) (only_last places t) (end_of linked.graph cuts t places)) (edges linked.graph node place) to ends in
+    let same : f.0 ≡ r.to = one_answer (edges linked.graph node place) f.0 r.to f.1.0 r.edge in
     let more : cond (is_cut cuts r.to) (only_last places r.to) (end_of linked.graph cuts r.to places) ≡ Some to = subst (λ (t : ℕ). cond (is_cut cuts t) (only_last places t) (end_of linked.graph cuts t places) ≡ Some to) same f.1.1 in
     subst (λ (rs : List (Leg × Stop)). stop_at linked to ≡ Some (last_along first stop rs).1) r.are
     (at r.to r.ride r.rest (is_cut cuts r.to) r.there r.more more (λ e. end_stop linked cuts (variables_after first stop) r.to places r.ride.1 r.rest to e r.more))

@@ -4,7 +4,10 @@ use Rattle.std.specs.Prelude.{All, slice_get}
 use Rattle.std.specs.List.{AllByRecursion, AllZip}
 use Rattle.std.proofs.lemmas.Bool.{false≢true}
 use Rattle.std.proofs.lemmas.List.Elements.{All-from_recursion, recursion_from_All}
-use Rattle.jvm_values.proofs.Options.{some_is, none_is_not_some}
+use Rattle.std.proofs.lemmas.Option.{none-some}
+use Rattle.list_views.proofs.Quantified.{all_at}
+use Rattle.list_views.proofs.Options.{one_answer}
+use Rattle.jvm_values.proofs.Options.{some_is}
 use Rattle.descent.specs.Conditions.{IsRule}
 use Rattle.descent.specs.declared.rules.PathRule.{PathRule}
 use Rattle.descent.specs.declared.rules.SlotForm.{SlotForm}
@@ -16,7 +19,7 @@ use Rattle.path_rules.specs.Rules.{ids_with, int_slot, slots_of, rows_along, las
 use Rattle.path_rules.specs.Bare.{AreBounded}
 use Rattle.path_rules.specs.Conditions.{IsReady}
 use Rattle.path_rules.proofs.Walking.{ints_of, good_first, last_good}
-use Rattle.path_rules.proofs.Ready.{all_at, same_some, stop_is, stop_sized, good_along}
+use Rattle.path_rules.proofs.Ready.{stop_is, stop_sized, good_along}
 use Rattle.rank_forms.specs.Graphs.{IsPathRule, IsEndAt, heads, IsCloseInt, IsShort, IsSizeSlot, IsPlainRule}
 use Rattle.prove_core.specs.ShortLinks.{AreShortLinks}
 use Rattle.prove_core.specs.PlainRules.{PathRulesArePlain, SomeRulesArePlain}
@@ -34,7 +37,7 @@ zip_all R P Q (x ∷ xs) [] zip all h = tt
 zip_all R P Q (x ∷ xs) (y ∷ ys) zip all h = (h x y zip.0 all.0, zip_all R P Q xs ys zip.1 all.1 h)
 
 zip_of : {A B : Type 0} (R : A → B → Type 0) (xs : List A) (ys : List B) (n : ℕ) (y : B) → AllZip R xs ys → slice_get ys n ≡ Some y → (x : A) × R x y
-zip_of R xs [] n y zip e = absurd (none_is_not_some y e)
+zip_of R xs [] n y zip e = absurd (none-some y e)
 zip_of R [] (z ∷ ys) n y zip e = absurd zip
 zip_of R (x ∷ xs) (z ∷ ys) zero y zip e = (x, subst (R x) (some_is e) zip.0)
 zip_of R (x ∷ xs) (z ∷ ys) (suc n) y zip e = zip_of R xs ys n y zip.1 e
@@ -86,7 +89,7 @@ module _ (linked : LinkedGraph) (cuts : List ℕ) (ready : IsReady linked.graph 
 
   same_ends : (cut : ℕ) (one other : List SlotForm) → IsEnd cut one → IsEnd cut other → heads one ≡ heads other
   same_ends cut one other a b =
-      let same = same_some (stop_at linked cut) a.stop b.stop a.there b.there in
+      let same = one_answer (stop_at linked cut) a.stop b.stop a.there b.there in
       ap heads (sym a.are) ∙ (ap (λ (s : Stop). heads (slots_of a.first s)) same ∙ (same_heads a.first b.first b.stop ∙ ap heads b.are))
 
   module _ (bounded : All (λ (n : GraphNode). AreBounded n.state) linked.graph) (short : AreShortLinks linked.links) where

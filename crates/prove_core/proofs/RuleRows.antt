@@ -5,6 +5,8 @@ use Rattle.std.specs.List.{AllByRecursion, flat_map}
 use Rattle.std.specs.Option.{option_and_then}
 use Rattle.std.proofs.lemmas.List.Elements.{recursion_from_All}
 use Rattle.std.proofs.lemmas.List.{length-map}
+use Rattle.list_views.proofs.Quantified.{all_at, all_joined, all_flat}
+use Rattle.list_views.proofs.Options.{map_some, then_some}
 use Rattle.lin_core.specs.declared.rows.WRow.{WRow}
 use Rattle.lin_core.specs.Weights.{total_size}
 use Rattle.abs_cells.specs.declared.cells.Cell.{Cell}
@@ -24,8 +26,8 @@ use Rattle.path_rules.specs.Stops.{Stop, Leg, child, instance, LinkedGraph, leg_
 use Rattle.path_rules.specs.Rules.{at_least_zero, ids_with, variable_of, variable_at, bounds_of, rows_of_stop, tie, has_int, link_row, rows_of_child, image_row, rows_of_instance, rows_of_leg, variables_after, rows_along}
 use Rattle.path_rules.specs.Conditions.{IsRowBetween, IsLinkBetween}
 use Rattle.path_rules.proofs.Finding.{no_sizes}
-use Rattle.path_rules.proofs.Walking.{both, IsOfInts, IsGoodLeg, AreGoodAlong, good_first}
-use Rattle.path_rules.proofs.Ready.{from_then, from_map, all_at, no_rides, ride_first}
+use Rattle.path_rules.proofs.Walking.{IsOfInts, IsGoodLeg, AreGoodAlong, good_first}
+use Rattle.path_rules.proofs.Ready.{no_rides, ride_first}
 use Rattle.rank_forms.specs.Graphs.{IsShort}
 use Rattle.prove_core.specs.ShortLinks.{IsShortRow, IsShortLink, AreShortLinks}
 use Rattle.prove_core.proofs.Collected.{three_collected}
@@ -34,10 +36,6 @@ abbrev AreShort : List WRow → Type 0
 AreShort rows = AllByRecursion IsShort rows
 
 -- ---- lists
-
-each_joined : {X Y : Type 0} (P : Y → Type 0) (f : X → List Y) (xs : List X) → ((x : X) → AllByRecursion P (f x)) → AllByRecursion P (flat_map f xs)
-each_joined P f [] h = tt
-each_joined P f (x ∷ xs) h = both P (f x) (flat_map f xs) (h x) (each_joined P f xs h)
 
 -- ---- rows of a stop
 
@@ -54,8 +52,8 @@ bounds_short v (Unk bound nullable shape) = tt
 
 stop_short : (first : ℕ) (state : AbstractState) → AreShort (rows_of_stop first state)
 stop_short first state =
-    both IsShort (flat_map (λ (c : ℕ × Cell). bounds_of (variable_of first state c.0) c.1) state.cells) (map (λ (id : ℕ). at_least_zero ((variable_of first state id, pos 1) ∷ []) (pos 0)) (ids_with is_size_variable state))
-    (each_joined IsShort (λ (c : ℕ × Cell). bounds_of (variable_of first state c.0) c.1) state.cells (λ c. bounds_short (variable_of first state c.0) c.1))
+    all_joined IsShort (flat_map (λ (c : ℕ × Cell). bounds_of (variable_of first state c.0) c.1) state.cells) (map (λ (id : ℕ). at_least_zero ((variable_of first state id, pos 1) ∷ []) (pos 0)) (ids_with is_size_variable state))
+    (all_flat IsShort (λ (c : ℕ × Cell). bounds_of (variable_of first state c.0) c.1) state.cells (λ c. bounds_short (variable_of first state c.0) c.1))
     (each_any IsShort (λ (id : ℕ). at_least_zero ((variable_of first state id, pos 1) ∷ []) (pos 0)) (ids_with is_size_variable state) (λ id. at_least_short ((variable_of first state id, pos 1) ∷ []) (pos 0)))
 
 -- ---- rows of an edge
@@ -85,9 +83,9 @@ links_short state other before after (row ∷ rows) between small = (link_short 
 child_short : (first next : ℕ) (stop after : Stop) (link : Link) → IsOfInts stop.state → IsLinkBetween stop.state after.state link → IsShortLink link → AreShort (rows_of_child first stop link next after)
 child_short first next stop after link of between small =
     rw (no_sizes stop.state of.ints) (
-    both IsShort (map (λ (id : ℕ). tie (variable_of first stop.state id) (variable_of next after.state id)) (filter (has_int after.state) (ids_with is_int stop.state))) (map (link_row (variable_of first stop.state) (variable_of next after.state)) link.rows ++ [])
+    all_joined IsShort (map (λ (id : ℕ). tie (variable_of first stop.state id) (variable_of next after.state id)) (filter (has_int after.state) (ids_with is_int stop.state))) (map (link_row (variable_of first stop.state) (variable_of next after.state)) link.rows ++ [])
     (each_any IsShort (λ (id : ℕ). tie (variable_of first stop.state id) (variable_of next after.state id)) (filter (has_int after.state) (ids_with is_int stop.state)) (λ id. tie_short (variable_of first stop.state id) (variable_of next after.state id)))
-    (both IsShort (map (link_row (variable_of first stop.state) (variable_of next after.state)) link.rows) []
+    (all_joined IsShort (map (link_row (variable_of first stop.state) (variable_of next after.state)) link.rows) []
     (links_short stop.state after.state (variable_of first stop.state) (variable_of next after.state) link.rows (recursion_from_All (IsRowBetween stop.state after.state) link.rows between.rows) (recursion_from_All IsShortRow link.rows small)) tt))
 
 image_short : (first v : ℕ) (stop : Stop) (found : Option ℕ) → AreShort (image_row first stop v found)
@@ -97,8 +95,8 @@ image_short first v stop (Some image) = (tie_short v (variable_of first stop.sta
 instance_short : (first next : ℕ) (stop target : Stop) (entries : List (ℕ × ℕ)) → IsOfInts target.state → AreShort (rows_of_instance first stop entries next target)
 instance_short first next stop target entries of =
     rw (no_sizes target.state of.ints) (
-    both IsShort (flat_map (λ (id : ℕ). image_row first stop (variable_of next target.state id) (image_in entries id)) (ids_with is_int target.state)) []
-    (each_joined IsShort (λ (id : ℕ). image_row first stop (variable_of next target.state id) (image_in entries id)) (ids_with is_int target.state) (λ id. image_short first (variable_of next target.state id) stop (image_in entries id))) tt)
+    all_joined IsShort (flat_map (λ (id : ℕ). image_row first stop (variable_of next target.state id) (image_in entries id)) (ids_with is_int target.state)) []
+    (all_flat IsShort (λ (id : ℕ). image_row first stop (variable_of next target.state id) (image_in entries id)) (ids_with is_int target.state) (λ id. image_short first (variable_of next target.state id) stop (image_in entries id))) tt)
 
 abbrev IsShortLeg : Leg → Type 0
 IsShortLeg (child link) = IsShortLink link
@@ -117,9 +115,9 @@ along_short : (first : ℕ) (stop : Stop) (rides : List (Leg × Stop)) → AreGo
 along_short first stop [] good small = stop_short first stop.state
 along_short first stop (ride ∷ rides) good small =
     let next = variables_after first stop in
-    both IsShort (rows_of_stop first stop.state) (rows_of_leg first stop ride.0 next ride.1 ++ rows_along next ride.1 rides)
+    all_joined IsShort (rows_of_stop first stop.state) (rows_of_leg first stop ride.0 next ride.1 ++ rows_along next ride.1 rides)
     (stop_short first stop.state)
-    (both IsShort (rows_of_leg first stop ride.0 next ride.1) (rows_along next ride.1 rides)
+    (all_joined IsShort (rows_of_leg first stop ride.0 next ride.1) (rows_along next ride.1 rides)
     (leg_short first next stop ride.1 ride.0 good.0 (good_first ride.1 rides good.1.1) good.1.0 small.0)
     (along_short next ride.1 rides good.1.1 small.1))
 
@@ -127,7 +125,7 @@ along_short first stop (ride ∷ rides) good small =
 
 by_short : (by : By) (links : List Link) (place : ℕ) (leg : Leg) → All IsShortLink links → leg_by by links place ≡ Some leg → IsShortLeg leg
 by_short (Expand children) links place leg small e =
-    let link = from_map child (slice_get links place) leg e in
+    let link = map_some child (slice_get links place) leg e in
     subst IsShortLeg link.1.1 (all_at IsShortLink links place link.0 small link.1.0)
 by_short (Instance target entries) links place leg small e = let is : instance entries ≡ leg = cc in subst IsShortLeg is tt
 by_short End links place leg small e = absurd (cc)
@@ -135,8 +133,8 @@ by_short Todo links place leg small e = absurd (cc)
 
 edge_short : (linked : LinkedGraph) (node place : ℕ) (leg : Leg) → AreShortLinks linked.links → leg_at linked node place ≡ Some leg → IsShortLeg leg
 edge_short linked node place leg small e =
-    let n = from_then (λ (n : GraphNode). option_and_then (λ (links : List Link). leg_by n.by links place) (slice_get linked.links node)) (slice_get linked.graph node) leg e in
-    let l = from_then (λ (links : List Link). leg_by n.0.by links place) (slice_get linked.links node) leg n.1.1 in
+    let n = then_some (λ (n : GraphNode). option_and_then (λ (links : List Link). leg_by n.by links place) (slice_get linked.links node)) (slice_get linked.graph node) leg e in
+    let l = then_some (λ (links : List Link). leg_by n.0.by links place) (slice_get linked.links node) leg n.1.1 in
     by_short n.0.by l.0 place leg (all_at (λ (list : List Link). All IsShortLink list) linked.links node l.0 small l.1.0) l.1.1
 
 rides_short : (linked : LinkedGraph) (node : ℕ) (places : List ℕ) (rides : List (Leg × Stop)) → AreShortLinks linked.links → rides_from linked node places ≡ Some rides → AreShortRides rides

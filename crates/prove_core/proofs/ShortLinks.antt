@@ -4,6 +4,7 @@ use Rattle.std.specs.Prelude.{filter, slice_get}
 use Rattle.std.specs.List.{AllByRecursion, AllZip, find}
 use Rattle.std.specs.Option.{option_map_or}
 use Rattle.std.proofs.lemmas.List.Elements.{All-from_recursion}
+use Rattle.abs_heap.proofs.Written.{either}
 use Rattle.jvm_values.specs.declared.types.Ty.{Ty}
 use Rattle.jvm_values.specs.declared.typing.PlaceType.TheVariants as places
 use Rattle.jvm_values.specs.States.{PlaceTypes}
@@ -32,7 +33,7 @@ use Rattle.abs_expand.specs.Plans.{Turn, Plan, ends, steps, by_null, by_class, b
 use Rattle.abs_expand.specs.Throwing.{takes, handled, is_open, caught_plan, if_passes, throwing_plan}
 use Rattle.prove_core.specs.ShortLinks.{IsShortRow, IsShortLink}
 use Rattle.prove_core.specs.PlainRules.{LinksAreShort}
-use Rattle.prove_core.proofs.ShortTurns.{IsShortTurn, IsShortPlan, either, form_short, split_short}
+use Rattle.prove_core.proofs.ShortTurns.{IsShortTurn, IsShortPlan, form_short, split_short}
 
 -- ---- the plan of a state
 

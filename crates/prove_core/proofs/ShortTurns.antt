@@ -4,6 +4,8 @@ use Rattle.std.specs.Prelude.{◌&&◌, ◌||◌, unsigned_abs, slice_get, slice
 use Rattle.std.specs.List.{AllByRecursion, filter_map, cons_option}
 use Rattle.std.specs.Option.{IfSome, option_map, option_and_then, option_map_or, option_to_list}
 use Rattle.std.specs.Ordering.{int_eq}
+use Rattle.abs_heap.proofs.Written.{either}
+use Rattle.list_views.proofs.Quantified.{all_joined}
 use Rattle.lin_core.specs.Intervals.{Bounds}
 use Rattle.jvm_values.specs.declared.ints.IntOp.{IntOp}
 use Rattle.jvm_values.specs.declared.ints.IntOp.TheVariants.{Add, Sub, Narrow as NarrowOp}
@@ -72,10 +74,6 @@ IsShortPlan (by_equal x y) = Unit {0}
 
 -- ---- lists and choices
 
-both : {X : Type 0} (P : X → Type 0) (xs ys : List X) → AllByRecursion P xs → AllByRecursion P ys → AllByRecursion P (xs ++ ys)
-both P [] ys a b = b
-both P (x ∷ xs) ys a b = (a.0, both P xs ys a.1 b)
-
 put_one : {Y : Type 0} (P : Y → Type 0) (o : Option Y) (rest : List Y) → IfSome o P → AllByRecursion P rest → AllByRecursion P (cons_option o rest)
 put_one P None rest h r = r
 put_one P (Some y) rest h r = (h, r)
@@ -103,10 +101,6 @@ if_both Q P f (Some x) q h = h x q
 listed : {Y : Type 0} (P : Y → Type 0) (o : Option Y) → IfSome o P → AllByRecursion P (option_to_list o)
 listed P None h = tt
 listed P (Some y) h = (h, tt)
-
-pub either : {X : Type 0} (P : X → Type 0) (test : Bool) (x y : X) → P x → P y → P (cond test x y)
-either P true x y h k = h
-either P false x y h k = k
 
 given_or : {X Y : Type 0} (P : Y → Type 0) (f : X → Y) (o : Option X) (d : Y) → ((x : X) → P (f x)) → P d → P (option_map_or f o d)
 given_or P f None d h k = k
@@ -206,7 +200,7 @@ narrowing_short here kind x kept frames goal h =
 switches_short : (here : Here) (x : ℕ) (stack : List ℕ) (parts : List (Option Bounds × ℕ)) → AreShortTurns (filter_map (switch_turn here x stack) parts)
 switches_short here x stack parts =
     filtered_any IsShortTurn (switch_turn here x stack) parts (λ part.
-    if_mapped IsShortTurn (λ (both : Bounds). narrows ((x, cells.Int both) ∷ []) (with_stack here part.1 stack) no_rows) (option_and_then (meet_of (interval_of_id here.state x)) part.0) (λ both fresh. tt))
+    if_mapped IsShortTurn (λ (all_joined : Bounds). narrows ((x, cells.Int all_joined) ∷ []) (with_stack here part.1 stack) no_rows) (option_and_then (meet_of (interval_of_id here.state x)) part.0) (λ all_joined fresh. tt))
 
 -- ---- what comes before a step
 
@@ -336,9 +330,9 @@ module _ (here : Here) where
   array_short : (slot : Slot) (stack : List ℕ) → IsShortPlan (array_plan here slot stack)
   array_short slot [] = tt
   array_short slot (count ∷ stack) =
-      both IsShortTurn (option_to_list (option_map (array_turn here slot count stack) (meet_of (interval_of_id here.state count) natural))) (option_to_list (option_map (λ (both : Bounds). throws_after here ((count, cells.Int both) ∷ []) no_rows negative_array_size_exception) (meet_of (interval_of_id here.state count) negative)))
-      (one_if (array_turn here slot count stack) (meet_of (interval_of_id here.state count) natural) (λ both fresh. tt))
-      (one_if (λ (both : Bounds). throws_after here ((count, cells.Int both) ∷ []) no_rows negative_array_size_exception) (meet_of (interval_of_id here.state count) negative) (λ both fresh. tt))
+      all_joined IsShortTurn (option_to_list (option_map (array_turn here slot count stack) (meet_of (interval_of_id here.state count) natural))) (option_to_list (option_map (λ (all_joined : Bounds). throws_after here ((count, cells.Int all_joined) ∷ []) no_rows negative_array_size_exception) (meet_of (interval_of_id here.state count) negative)))
+      (one_if (array_turn here slot count stack) (meet_of (interval_of_id here.state count) natural) (λ all_joined fresh. tt))
+      (one_if (λ (all_joined : Bounds). throws_after here ((count, cells.Int all_joined) ∷ []) no_rows negative_array_size_exception) (meet_of (interval_of_id here.state count) negative) (λ all_joined fresh. tt))
 
   length_short : (stack : List ℕ) → IsShortPlan (length_plan here stack)
   length_short [] = tt
@@ -363,8 +357,8 @@ module _ (here : Here) where
 
   outside_short : (index len : ℕ) → AreShortTurns (out_of_bounds here index len)
   outside_short index len =
-      both IsShortTurn (option_to_list (option_map (λ (both : Bounds). throws_after here ((index, cells.Int both) ∷ []) no_rows array_index_out_of_bounds_exception) (meet_of (interval_of_id here.state index) negative))) (option_to_list (option_and_then (thrown_by index len) (related AtLeast Taken (interval_of_id here.state index) (interval_of_id here.state len))))
-      (one_if (λ (both : Bounds). throws_after here ((index, cells.Int both) ∷ []) no_rows array_index_out_of_bounds_exception) (meet_of (interval_of_id here.state index) negative) (λ both fresh. tt))
+      all_joined IsShortTurn (option_to_list (option_map (λ (all_joined : Bounds). throws_after here ((index, cells.Int all_joined) ∷ []) no_rows array_index_out_of_bounds_exception) (meet_of (interval_of_id here.state index) negative))) (option_to_list (option_and_then (thrown_by index len) (related AtLeast Taken (interval_of_id here.state index) (interval_of_id here.state len))))
+      (one_if (λ (all_joined : Bounds). throws_after here ((index, cells.Int all_joined) ∷ []) no_rows array_index_out_of_bounds_exception) (meet_of (interval_of_id here.state index) negative) (λ all_joined fresh. tt))
       (listed IsShortTurn (option_and_then (thrown_by index len) (related AtLeast Taken (interval_of_id here.state index) (interval_of_id here.state len))) (if_both HasLow IsShortTurn (thrown_by index len) (related AtLeast Taken (interval_of_id here.state index) (interval_of_id here.state len)) (related_low AtLeast Taken (interval_of_id here.state index) (interval_of_id here.state len)) (λ case low.
       if_mapped IsShortTurn (λ (narrowed : List (ℕ × Cell)). throws_after here narrowed (rows_over (id index) (id len) case.rows) array_index_out_of_bounds_exception) (narrowings (id index) case.left (id len) case.right) (λ narrowed fresh. rows_short (id index) (id len) fresh case.rows low))))
 
@@ -375,7 +369,7 @@ module _ (here : Here) where
   access_short : (depth k index : ℕ) (good : List (ℕ × Cell) → (ℕ → List LinkRow) → List Turn) → ((narrowed : List (ℕ × Cell)) (rows : ℕ → List LinkRow) → AreShortBy rows → AreShortTurns (good narrowed rows)) → IsShortPlan (access_plan here depth k index good)
   access_short depth k index good h =
       accessed_short here depth k _ (given_or IsShortPlan (λ (len : ℕ). access_at here index len good) (length_id (cell_here here k)) no_child (λ len.
-      both IsShortTurn (option_map_or (λ (inside : List (ℕ × Cell) × (ℕ → List LinkRow)). good inside.0 inside.1) (in_bounds here index len) []) (out_of_bounds here index len) (good_short good (in_bounds here index len) h (inside_short index len)) (outside_short index len)) tt)
+      all_joined IsShortTurn (option_map_or (λ (inside : List (ℕ × Cell) × (ℕ → List LinkRow)). good inside.0 inside.1) (in_bounds here index len) []) (out_of_bounds here index len) (good_short good (in_bounds here index len) h (inside_short index len)) (outside_short index len)) tt)
 
   number_load_short : (stack : List ℕ) → IsShortPlan (number_load_plan here stack)
   number_load_short [] = tt
@@ -415,7 +409,7 @@ module _ (here : Here) where
   undecided_short : (t : Ty) (x : ℕ) (cast : Cast) → IsShortCast cast → AreShortTurns (undecided here t x cast)
   undecided_short t x cast h =
       let bound = option_and_then (bounded (types_here here) ((types_here here).erase t)) (cell_here here x) in
-      both IsShortTurn (if may_be_below here t (cell_bound (cell_here here x)) then with_bound x bound cast.passed ∷ [] else []) (cast.failed ∷ [])
+      all_joined IsShortTurn (if may_be_below here t (cell_bound (cell_here here x)) then with_bound x bound cast.passed ∷ [] else []) (cast.failed ∷ [])
       (either AreShortTurns (may_be_below here t (cell_bound (cell_here here x))) (with_bound x bound cast.passed ∷ []) [] (bound_short x bound cast.passed h.passed, tt) tt)
       (h.failed, tt)
 

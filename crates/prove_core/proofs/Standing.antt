@@ -2,7 +2,7 @@
 use Rattle.std.proofs.Common.{◌≡◌, ◌∙◌, inl, inr, ◌==◌, cond, ℕ, zero, suc, Bool, true, false, List, [], ◌∷◌, ◌++◌, reverse, Some, slice_get, refl, sym, ap, subst}
 use Rattle.std.specs.List.{list_any, flat_map}
 use Rattle.std.proofs.lemmas.Bool.{and_parts, or_cases, eqb-true, false≢true}
-use Rattle.jvm_values.proofs.Options.{none_is_not_some}
+use Rattle.std.proofs.lemmas.Option.{none-some}
 use Rattle.abs_cells.specs.declared.cells.Cell.{Cell}
 use Rattle.abs_cells.specs.AbstractStates.{AbstractFrame, AbstractState}
 use Rattle.abs_cells.specs.Cells.{cell_in, HasCell}
@@ -21,7 +21,7 @@ abbrev IsIn : List ℕ → ℕ → Type 0
 IsIn xs n = (place : ℕ) × (slice_get xs place ≡ Some n)
 
 in_left : (xs ys : List ℕ) (n : ℕ) → IsIn xs n → IsIn (xs ++ ys) n
-in_left [] ys n (place, e) = absurd (none_is_not_some n e)
+in_left [] ys n (place, e) = absurd (none-some n e)
 in_left (x ∷ xs) ys n (zero, e) = (zero, e)
 in_left (x ∷ xs) ys n (suc place, e) = let later = in_left xs ys n (place, e) in (suc later.0, later.1)
 
@@ -54,7 +54,7 @@ in_frames (frame ∷ frames) id h = elim (or_cases (stands_in_frame id frame) (l
 -- ---- cells
 
 stands : (cells : List (ℕ × Cell)) (frames : List AbstractFrame) (id : ℕ) (cell : Cell) → all_stand cells frames ≡ true → cell_in cells id ≡ Some cell → list_any (stands_in_frame id) frames ≡ true
-stands [] frames id cell h e = absurd (none_is_not_some cell e)
+stands [] frames id cell h e = absurd (none-some cell e)
 stands (c ∷ cells) frames id cell h e =
     let both = and_parts (list_any (stands_in_frame c.0) frames) (all_stand cells frames) h in
     go (c.0 == id) refl e both.0 (λ f. stands cells frames id cell both.1 f)

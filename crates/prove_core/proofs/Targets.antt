@@ -6,6 +6,7 @@ use Rattle.std.proofs.lemmas.Option.{slice_get_within, get_or_from_slice_get}
 use Rattle.std.proofs.lemmas.List.{length-set, length-replicate, get_or-replicate}
 use Rattle.std.proofs.lemmas.List.Elements.{All-from_recursion}
 use Rattle.std.proofs.lemmas.List.Folds.{list_any_more}
+use Rattle.list_views.proofs.Items.{take_past}
 use Rattle.term_graph.specs.declared.nodes.By.{By}
 use Rattle.term_graph.specs.declared.nodes.By.TheVariants.{Expand, Instance, End, Todo}
 use Rattle.term_graph.specs.Graphs.{GraphNode}
@@ -62,14 +63,8 @@ marked_more nodes n marks after node by at left e h =
 pub marked_first : (nodes : List GraphNode) (marks : List Bool) → marks ≡ replicate (length nodes) false → AreMarked nodes 0 marks
 marked_first nodes marks e = subst (AreMarked nodes 0) (sym e) (record { count = length-replicate (length nodes) false; marked = λ k l. get_or-replicate (length nodes) k false false l })
 
-take_whole : {A : Type 0} (i : ℕ) (xs : List A) → length xs ≤ i → take i xs ≡ xs
-take_whole zero [] l = refl
-take_whole zero (x ∷ xs) l = absurd (omega (arith, l))
-take_whole (suc i) [] l = refl
-take_whole (suc i) (x ∷ xs) l = ap (λ (rest : List _). x ∷ rest) (take_whole i xs (omega (arith, l)))
-
 pub marked_all : (nodes : List GraphNode) (n : ℕ) (marks : List Bool) → length nodes ≤ n → AreMarked nodes n marks → (k : ℕ) → k < length nodes → get_or marks k false ≡ is_target nodes k
-marked_all nodes n marks l h k m = h.marked k m ∙ ap (λ (xs : List GraphNode). is_target xs k) (take_whole n nodes l)
+marked_all nodes n marks l h k m = h.marked k m ∙ ap (λ (xs : List GraphNode). is_target xs k) (take_past n nodes l)
 
 -- ---- cuts
 

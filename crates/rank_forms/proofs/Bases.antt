@@ -4,6 +4,9 @@ use Rattle.std.specs.Prelude.{◌||◌, slice_get, int_lt, unsigned_abs, nat_lt}
 use Rattle.std.specs.List.{All}
 use Rattle.std.proofs.lemmas.Bool.Decides.{nat_tests}
 use Rattle.std.proofs.lemmas.Int.{ints}
+use Rattle.std.proofs.lemmas.Option.{same_Some, none-some}
+use Rattle.std.proofs.lemmas.Bool.{cond-false, or_left, or_right}
+use Rattle.list_views.proofs.Options.{cond_guarded}
 use Rattle.descent.specs.declared.faults.DescentFault.{DescentFault}
 use Rattle.descent.specs.declared.rules.PathRule.{PathRule}
 use Rattle.descent.specs.Conditions.{IsListed}
@@ -15,18 +18,6 @@ use Rattle.rank_forms.specs.declared.following.Followed.{Followed}
 use Rattle.rank_forms.specs.Forms.{base_of_bound, greater_of, list_from, listed_as, listed_by, needed, or_zero, strict_bound}
 use Rattle.rank_forms.specs.RankSteps.{has_strict, is_strict}
 use Rattle.rule_links.proofs.Rests.{IsRest, rest_first, rest_more}
-
-one_followed : (a b : Followed) → ◌≡◌ {A = Option Followed} (Some a) (Some b) → a ≡ b
-one_followed a b e = cc
-
-no_followed : (a : Followed) → ◌≡◌ {A = Option Followed} None (Some a) → ⊥
-no_followed a e = absurd (cc)
-
-one_bound : (a b : Bound) → ◌≡◌ {A = Option Bound} (Some a) (Some b) → a ≡ b
-one_bound a b e = cc
-
-no_bound : (a : Bound) → ◌≡◌ {A = Option Bound} None (Some a) → ⊥
-no_bound a e = absurd (cc)
 
 -- a number that may be there is at least another one
 abbrev IsHigh : Option ℤ → ℤ → Type 0
@@ -61,8 +52,8 @@ needed_old best [] b h = h
 needed_old best (followed ∷ rest) b h = needed_old (greater_of best (base_of_bound (strict_bound followed))) rest b (greater_old best (base_of_bound (strict_bound followed)) b h)
 
 needed_at : (best : Option ℤ) (all : List Followed) (n : ℕ) (followed : Followed) (bound : Bound) → slice_get all n ≡ Some followed → strict_bound followed ≡ Some bound → IsHigh (needed best all) bound.base
-needed_at best [] n followed bound at e = absurd (no_followed followed at)
-needed_at best (first ∷ rest) zero followed bound at e = needed_old (greater_of best (base_of_bound (strict_bound first))) rest bound.base (subst (λ (o : Option Bound). IsHigh (greater_of best (base_of_bound o)) bound.base) (sym (ap strict_bound (one_followed first followed at) ∙ e)) (greater_new best bound.base))
+needed_at best [] n followed bound at e = absurd (none-some followed at)
+needed_at best (first ∷ rest) zero followed bound at e = needed_old (greater_of best (base_of_bound (strict_bound first))) rest bound.base (subst (λ (o : Option Bound). IsHigh (greater_of best (base_of_bound o)) bound.base) (sym (ap strict_bound (same_Some first followed at) ∙ e)) (greater_new best bound.base))
 needed_at best (first ∷ rest) (suc n) followed bound at e = needed_at (greater_of best (base_of_bound (strict_bound first))) rest n followed bound at e
 
 high_is : (found : Option ℤ) (b : ℤ) → IsHigh found b → b ≤ℤ or_zero found
@@ -86,10 +77,6 @@ greater_small best None h k = h
 greater_small None (Some base) h k = k
 greater_small (Some most) (Some base) h k = small_cases (int_lt most base) most base h k
 
-strict_is : (test : Bool) (bound : Option Bound) (one : Bound) → cond test bound None ≡ Some one → (test ≡ true) × (bound ≡ Some one)
-strict_is true bound one e = (refl, e)
-strict_is false bound one e = absurd (no_bound one e)
-
 base_small : (found : Option Bound) → ((bound : Bound) → found ≡ Some bound → unsigned_abs bound.base ≤ 2 ^ 40) → IsSmall (base_of_bound found)
 base_small None h = tt
 base_small (Some bound) h = h bound refl
@@ -100,7 +87,7 @@ AreSmall all = (n : ℕ) (followed : Followed) (bound : Bound) → slice_get all
 
 needed_small : (best : Option ℤ) (all : List Followed) → AreSmall all → IsSmall best → IsSmall (needed best all)
 needed_small best [] h k = k
-needed_small best (followed ∷ rest) h k = needed_small (greater_of best (base_of_bound (strict_bound followed))) rest (λ n other bound at e. h (suc n) other bound at e) (greater_small best (base_of_bound (strict_bound followed)) k (base_small (strict_bound followed) (λ bound e. h 0 followed bound refl (strict_is (int_lt (pos 0) followed.falls) followed.bound bound e).1)))
+needed_small best (followed ∷ rest) h k = needed_small (greater_of best (base_of_bound (strict_bound followed))) rest (λ n other bound at e. h (suc n) other bound at e) (greater_small best (base_of_bound (strict_bound followed)) k (base_small (strict_bound followed) (λ bound e. h 0 followed bound refl (cond_guarded (int_lt (pos 0) followed.falls) followed.bound bound e).1)))
 
 zero_small : (found : Option ℤ) → IsSmall found → unsigned_abs (or_zero found) ≤ 2 ^ 40
 zero_small None h = omega arith
@@ -132,10 +119,6 @@ number_cases number fall (Some bound) = refl
 not_less : (a b : ℕ) → a ≡ b → nat_lt a b ≡ false
 not_less a b e = grind (arith, nat_tests)
 
-passed : {A : Type 0} (test : Bool) (a b : A) → test ≡ false → cond test a b ≡ b
-passed true a b e = absurd (cc)
-passed false a b e = refl
-
 ranked_from : (weak strict bounded : Says) (all rules : List PathRule) (n count : ℕ) (follows : List Followed) → IsRest all n rules → count ≡ length rules → length follows ≡ length rules → ((k : ℕ) (rule : PathRule) (followed : Followed) → slice_get rules k ≡ Some rule → slice_get follows k ≡ Some followed → IsFine weak strict bounded (n + k) rule followed) → rank_fault weak strict bounded all (numbers_from n count) (list_from n follows) ≡ None
 ranked_from weak strict bounded all [] n zero [] r e c each = refl
 ranked_from weak strict bounded all [] n (suc count) follows r e c each = absurd (omega (arith, e))
@@ -147,7 +130,7 @@ ranked_from weak strict bounded all (rule ∷ rules) n (suc count) (followed ∷
     let same : rule_of listed ≡ n = number_cases n followed.fall (strict_bound followed) in
     let fine = subst (λ (m : ℕ). IsFine weak strict bounded m rule followed) (plus_zero n) (each 0 rule followed refl refl) in
     let rest = ranked_from weak strict bounded all rules (suc n) count follows (rest_more all n rule rules r) (omega (arith, e)) (omega (arith, c)) (λ k other one at is. subst (λ (m : ℕ). IsFine weak strict bounded m other one) (moved n k) (each (suc k) other one at is)) in
-    passed (nat_lt n (rule_of listed)) _ _ (not_less n (rule_of listed) (sym same)) ∙ passed (nat_lt (rule_of listed) n) _ _ (not_less (rule_of listed) n same) ∙ no_edge (listed_fault weak strict bounded listed (slice_get all n)) (rank_fault weak strict bounded all (numbers_from (suc n) count) (list_from (suc n) follows)) (ap (listed_fault weak strict bounded listed) (rest_first all n rule rules r) ∙ listed_cases weak strict bounded n rule followed.fall (strict_bound followed) fine.weak_none fine.strict_none) rest
+    cond-false (nat_lt n (rule_of listed)) _ _ (not_less n (rule_of listed) (sym same)) ∙ cond-false (nat_lt (rule_of listed) n) _ _ (not_less (rule_of listed) n same) ∙ no_edge (listed_fault weak strict bounded listed (slice_get all n)) (rank_fault weak strict bounded all (numbers_from (suc n) count) (list_from (suc n) follows)) (ap (listed_fault weak strict bounded listed) (rest_first all n rule rules r) ∙ listed_cases weak strict bounded n rule followed.fall (strict_bound followed) fine.weak_none fine.strict_none) rest
   where
     plus_zero : (n : ℕ) → n + 0 ≡ n
     plus_zero n = omega arith
@@ -163,21 +146,13 @@ ranked weak strict bounded rules follows c each = ranked_from weak strict bounde
 
 -- one of them is strict
 is_strict_by : (number : ℕ) (fall : List (ℕ × ℤ)) (found : Option Bound) (bound : Bound) → found ≡ Some bound → is_strict (listed_by number fall found) ≡ true
-is_strict_by number fall None bound e = absurd (no_bound bound e)
+is_strict_by number fall None bound e = absurd (none-some bound e)
 is_strict_by number fall (Some other) bound e = refl
 
-first_holds : (a b : Bool) → a ≡ true → (a || b) ≡ true
-first_holds true b e = refl
-first_holds false b e = absurd (cc)
-
-later_holds : (a b : Bool) → b ≡ true → (a || b) ≡ true
-later_holds true b e = refl
-later_holds false b e = e
-
 strict_from : (n k : ℕ) (follows : List Followed) (followed : Followed) (bound : Bound) → slice_get follows k ≡ Some followed → strict_bound followed ≡ Some bound → has_strict (list_from n follows) ≡ true
-strict_from n k [] followed bound at e = absurd (no_followed followed at)
-strict_from n zero (first ∷ rest) followed bound at e = first_holds (is_strict (listed_as n first)) (has_strict (list_from (suc n) rest)) (is_strict_by n first.fall (strict_bound first) bound (ap strict_bound (one_followed first followed at) ∙ e))
-strict_from n (suc k) (first ∷ rest) followed bound at e = later_holds (is_strict (listed_as n first)) (has_strict (list_from (suc n) rest)) (strict_from (suc n) k rest followed bound at e)
+strict_from n k [] followed bound at e = absurd (none-some followed at)
+strict_from n zero (first ∷ rest) followed bound at e = or_left (is_strict (listed_as n first)) (has_strict (list_from (suc n) rest)) (is_strict_by n first.fall (strict_bound first) bound (ap strict_bound (same_Some first followed at) ∙ e))
+strict_from n (suc k) (first ∷ rest) followed bound at e = or_right (is_strict (listed_as n first)) (has_strict (list_from (suc n) rest)) (strict_from (suc n) k rest followed bound at e)
 
 pub one_strict : (k : ℕ) (follows : List Followed) (followed : Followed) (bound : Bound) → slice_get follows k ≡ Some followed → strict_bound followed ≡ Some bound → has_strict (list_from 0 follows) ≡ true
 one_strict k follows followed bound at e = strict_from 0 k follows followed bound at e
@@ -189,5 +164,5 @@ few_by number fall (Some bound) h k = (h, k bound refl)
 
 pub all_few : (n : ℕ) (follows : List Followed) → ((k : ℕ) (followed : Followed) → slice_get follows k ≡ Some followed → (length followed.fall ≤ 65536) × ((bound : Bound) → followed.bound ≡ Some bound → length bound.rows ≤ 65536)) → All IsListed (list_from n follows)
 all_few n [] h i d low = absurd (omega (arith, low))
-all_few n (followed ∷ rest) h zero d low = let few = h 0 followed refl in few_by n followed.fall (strict_bound followed) few.0 (λ bound e. few.1 bound (strict_is (int_lt (pos 0) followed.falls) followed.bound bound e).1)
+all_few n (followed ∷ rest) h zero d low = let few = h 0 followed refl in few_by n followed.fall (strict_bound followed) few.0 (λ bound e. few.1 bound (cond_guarded (int_lt (pos 0) followed.falls) followed.bound bound e).1)
 all_few n (followed ∷ rest) h (suc i) d low = all_few (suc n) rest (λ k other at. h (suc k) other at) i d (omega (arith, low))

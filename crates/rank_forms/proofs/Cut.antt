@@ -1,10 +1,18 @@
 -- The cuts that are found are all cuts of the rules.
 use Rattle.std.proofs.Common.{◌≡◌, inl, inr, ℕ, zero, suc, ◌-◌, ◌<◌, ◌≤◌, Bool, true, false, cond, List, [], ◌∷◌, ◌++◌, Option, Some, None, subst, arith, refl, sym}
-use Rattle.std.specs.Prelude.{nat_lt, slice_get}
+use Rattle.std.specs.Prelude.{◌⊎◌, nat_lt, slice_get}
 use Rattle.std.proofs.lemmas.Bool.{cases_lt, ltb-true}
 use Rattle.std.proofs.lemmas.Bool.Decides.{nat_tests}
+use Rattle.std.proofs.lemmas.Option.{same_Some, none-some}
 use Rattle.descent.specs.declared.rules.PathRule.{PathRule}
-use Rattle.rank_forms.specs.Forms.{AreCuts, AreCutsTo, IsIn, RiseTo, less_of, lesser, next_from}
+use Rattle.rank_forms.specs.Forms.{AreCuts, IsCutOf, IsIn, RiseTo, less_of, lesser, next_from}
+
+-- the cuts of the rules that are below a number, rising
+pub record AreCutsTo (rules : List PathRule) (cuts : List ℕ) (end : ℕ) : Type 0 where
+  pub rise : RiseTo 0 cuts end
+  pub from : (n : ℕ) (rule : PathRule) → slice_get rules n ≡ Some rule → rule.from < end → IsIn cuts rule.from
+  pub to : (n : ℕ) (rule : PathRule) → slice_get rules n ≡ Some rule → rule.to < end → IsIn cuts rule.to
+  pub only : (k cut : ℕ) → slice_get cuts k ≡ Some cut → IsCutOf rules cut
 
 -- a number that is there, and is at most another one
 abbrev IsUnder : Option ℕ → ℕ → Type 0
@@ -75,21 +83,59 @@ next_over : (low : ℕ) (best : Option ℕ) (rules : List PathRule) → IsOver l
 next_over low best [] h = h
 next_over low best (rule ∷ rest) h = next_over low (lesser (lesser best rule.from low) rule.to low) rest (lesser_over (lesser best rule.from low) rule.to low (lesser_over best rule.from low h))
 
-one_rule : (a b : PathRule) → ◌≡◌ {A = Option PathRule} (Some a) (Some b) → a ≡ b
-one_rule a b e = cc
-
-no_rule : (a : PathRule) → ◌≡◌ {A = Option PathRule} None (Some a) → ⊥
-no_rule a e = absurd (cc)
-
 next_at_from : (low : ℕ) (best : Option ℕ) (rules : List PathRule) (n : ℕ) (rule : PathRule) → slice_get rules n ≡ Some rule → low ≤ rule.from → IsUnder (next_from low best rules) rule.from
-next_at_from low best [] n rule e h = absurd (no_rule rule e)
-next_at_from low best (first ∷ rest) zero rule e h = next_old low rule.from (lesser (lesser best first.from low) first.to low) rest (lesser_old (lesser best first.from low) first.to low rule.from (subst (λ (r : PathRule). IsUnder (lesser best r.from low) rule.from) (sym (one_rule first rule e)) (lesser_new best rule.from low h)))
+next_at_from low best [] n rule e h = absurd (none-some rule e)
+next_at_from low best (first ∷ rest) zero rule e h = next_old low rule.from (lesser (lesser best first.from low) first.to low) rest (lesser_old (lesser best first.from low) first.to low rule.from (subst (λ (r : PathRule). IsUnder (lesser best r.from low) rule.from) (sym (same_Some first rule e)) (lesser_new best rule.from low h)))
 next_at_from low best (first ∷ rest) (suc n) rule e h = next_at_from low (lesser (lesser best first.from low) first.to low) rest n rule e h
 
 next_at_to : (low : ℕ) (best : Option ℕ) (rules : List PathRule) (n : ℕ) (rule : PathRule) → slice_get rules n ≡ Some rule → low ≤ rule.to → IsUnder (next_from low best rules) rule.to
-next_at_to low best [] n rule e h = absurd (no_rule rule e)
-next_at_to low best (first ∷ rest) zero rule e h = next_old low rule.to (lesser (lesser best first.from low) first.to low) rest (subst (λ (r : PathRule). IsUnder (lesser (lesser best r.from low) r.to low) rule.to) (sym (one_rule first rule e)) (lesser_new (lesser best rule.from low) rule.to low h))
+next_at_to low best [] n rule e h = absurd (none-some rule e)
+next_at_to low best (first ∷ rest) zero rule e h = next_old low rule.to (lesser (lesser best first.from low) first.to low) rest (subst (λ (r : PathRule). IsUnder (lesser (lesser best r.from low) r.to low) rule.to) (sym (same_Some first rule e)) (lesser_new (lesser best rule.from low) rule.to low h))
 next_at_to low best (first ∷ rest) (suc n) rule e h = next_at_to low (lesser (lesser best first.from low) first.to low) rest n rule e h
+
+less_is_cases : (test : Bool) (best c x : ℕ) → cond test (Some c) (Some best) ≡ Some x → (Some best ≡ Some x) ⊎ (c ≡ x)
+less_is_cases true best c x e = inr (same_Some c x e)
+less_is_cases false best c x e = inl e
+
+less_is : (best : Option ℕ) (c x : ℕ) → less_of best c ≡ Some x → (best ≡ Some x) ⊎ (c ≡ x)
+less_is None c x e = inr (same_Some c x e)
+less_is (Some best) c x e = less_is_cases (nat_lt c best) best c x e
+
+lesser_is_cases : (test : Bool) (best : Option ℕ) (c x : ℕ) → cond test best (less_of best c) ≡ Some x → (best ≡ Some x) ⊎ (c ≡ x)
+lesser_is_cases true best c x e = inl e
+lesser_is_cases false best c x e = less_is best c x e
+
+lesser_is : (best : Option ℕ) (c low x : ℕ) → lesser best c low ≡ Some x → (best ≡ Some x) ⊎ (c ≡ x)
+lesser_is best c low x e = lesser_is_cases (nat_lt c low) best c x e
+
+either_is : (best : Option ℕ) (rule : PathRule) (rest : List PathRule) (low x : ℕ) → lesser (lesser best rule.from low) rule.to low ≡ Some x → (best ≡ Some x) ⊎ IsCutOf (rule ∷ rest) x
+either_is best rule rest low x e = elim (lesser_is (lesser best rule.from low) rule.to low x e) as (λ o. (best ≡ Some x) ⊎ IsCutOf (rule ∷ rest) x) [
+  | inl before ↦ from_is (lesser_is best rule.from low x before)
+  | inr to ↦ inr (0, rule, refl, inr to)
+]
+  where
+    from_is : (best ≡ Some x) ⊎ (rule.from ≡ x) → (best ≡ Some x) ⊎ IsCutOf (rule ∷ rest) x
+    from_is (inl first) = inl first
+    from_is (inr from) = inr (0, rule, refl, inl from)
+
+next_is : (low x : ℕ) (best : Option ℕ) (rules : List PathRule) → next_from low best rules ≡ Some x → (best ≡ Some x) ⊎ IsCutOf rules x
+next_is low x best [] e = inl e
+next_is low x best (rule ∷ rest) e = elim (next_is low x (lesser (lesser best rule.from low) rule.to low) rest e) as (λ o. (best ≡ Some x) ⊎ IsCutOf (rule ∷ rest) x) [
+  | inl was ↦ either_is best rule rest low x was
+  | inr later ↦ inr (suc later.0, later.1, later.2, later.3)
+]
+
+found_cut : (low x : ℕ) (rules : List PathRule) → next_from low None rules ≡ Some x → IsCutOf rules x
+found_cut low x rules e = elim (next_is low x None rules e) as (λ o. IsCutOf rules x) [
+  | inl none ↦ absurd (none-some x none)
+  | inr is ↦ is
+]
+
+only_more : (rules : List PathRule) (cuts : List ℕ) (cut : ℕ) → IsCutOf rules cut → ((k x : ℕ) → slice_get cuts k ≡ Some x → IsCutOf rules x) → (k x : ℕ) → slice_get (cuts ++ cut ∷ []) k ≡ Some x → IsCutOf rules x
+only_more rules [] cut here each zero x e = subst (IsCutOf rules) (same_Some cut x e) here
+only_more rules [] cut here each (suc k) x e = absurd (none-some x e)
+only_more rules (first ∷ rest) cut here each zero x e = each 0 x e
+only_more rules (first ∷ rest) cut here each (suc k) x e = only_more rules rest cut here (λ j y f. each (suc j) y f) k x e
 
 -- one cut more
 rise_more : (from : ℕ) (cuts : List ℕ) (low cut : ℕ) → RiseTo from cuts low → low ≤ cut → RiseTo from (cuts ++ cut ∷ []) (suc cut)
@@ -134,6 +180,7 @@ cuts_more rules cuts new low cut next e n f h = subst (λ (l : List ℕ). AreCut
   rise = rise_more 0 cuts low cut h.rise (next_low rules low cut e);
   from = λ k rule at less. at_cut cuts cut low rule.from (h.from k rule at) (λ past. under_some (next_from low None rules) cut rule.from e (next_at_from low None rules k rule at past)) less;
   to = λ k rule at less. at_cut cuts cut low rule.to (h.to k rule at) (λ past. under_some (next_from low None rules) cut rule.to e (next_at_to low None rules k rule at past)) less;
+  only = only_more rules cuts cut (found_cut low cut rules e) h.only;
 }))
 
 pub cuts_first : (rules : List PathRule) (cuts : List ℕ) → cuts ≡ [] → AreCutsTo rules cuts 0
@@ -141,6 +188,7 @@ cuts_first rules cuts e = subst (λ (l : List ℕ). AreCutsTo rules l 0) (sym e)
   rise = omega arith;
   from = λ k rule at less. absurd (omega (arith, less));
   to = λ k rule at less. absurd (omega (arith, less));
+  only = λ k x at. absurd (none-some x at);
 })
 
 pub cuts_last : (rules : List PathRule) (cuts : List ℕ) (low : ℕ) → next_from low None rules ≡ None → AreCutsTo rules cuts low → AreCuts rules cuts
@@ -155,6 +203,7 @@ cuts_last rules cuts low e h = record {
     | inl less ↦ h.to k rule at less
     | inr past ↦ absurd (under_none (next_from low None rules) rule.to e (next_at_to low None rules k rule at past))
   ];
+  only = h.only;
 }
 
 pub smaller_cut : (low cut next : ℕ) → low ≤ cut → next ≡ suc cut → next ≤ 4294967296 → 4294967297 - next < 4294967297 - low

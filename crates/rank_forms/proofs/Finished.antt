@@ -6,10 +6,10 @@ use Rattle.std.proofs.lemmas.Bool.{cases_eq, cases_lt}
 use Rattle.std.proofs.lemmas.Bool.Decides.{nat_tests}
 use Rattle.std.proofs.lemmas.List.{get_or-set_same, get_or-set_other, length-replicate}
 use Rattle.std.proofs.lemmas.List.Sums.{sum_by-cons, sum_by-set}
+use Rattle.std.proofs.lemmas.Option.{same_Some}
 use Rattle.rule_links.specs.declared.links.Come.{Come}
 use Rattle.rule_links.specs.declared.links.Tie.{Tie}
-use Rattle.rank_forms.specs.Following.{last_of, trail_by, trail_from}
-use Rattle.rule_links.specs.Searching.{IsFinished, Known, any_moves, begun, by_of, moves, passed, relaxed, span_from, step, unknown}
+use Rattle.rule_links.specs.Searching.{IsFinished, Known, any_moves, begun, by_of, moves, passed, relaxed, span_from, step, unknown, last_of, trail_by, trail_from}
 use Rattle.rule_links.proofs.FallRows.{Each}
 use Rattle.rule_links.proofs.Reached.{gone, kept_cases, move_is, none_before, relaxed_length, relaxed_still, step_unknown}
 use Rattle.rank_forms.proofs.Trailed.{IsTrail}
@@ -55,9 +55,6 @@ kept_trail : (P : Tie → Type 0) (first : ℕ) (known : Known) (moved : Tie) (v
 kept_trail P first known moved v by [] e h = (h.0, kept_cases true moved known v h.0 e h.1, h.2, h.3, h.4)
 kept_trail P first known moved v by (tie ∷ rest) e h = (h.0, kept_cases true moved known v h.0 e h.1, h.2, h.3, h.4, h.5, h.6, kept_trail P first known moved tie.link.from h.5 rest e h.7)
 
-one_come : (a b : Come) → ◌≡◌ {A = Option Come} (Some a) (Some b) → a ≡ b
-one_come a b e = cc
-
 fewer : (known : Known) (moved : Tie) (n : ℕ) → moves moved known ≡ true → n + unknown known < length known → suc n + unknown (gone moved known) < length (gone moved known)
 fewer known moved n e h =
     let u = step_unknown true moved known e in
@@ -74,7 +71,7 @@ gone_trailed P first tie known is e h v come at =
     elim (cases_eq v tie.link.to) as (λ o. HasTrail P first (gone tie known) v come.by) [
       | inl s ↦
           let there : get_or (gone tie known) tie.link.to None ≡ Some new = get_or-set_same known tie.link.to (Some new) None m.low in
-          let same = one_come new come (sym there ∙ ap (λ (x : ℕ). get_or (gone tie known) x None) (sym s) ∙ at) in
+          let same = same_Some new come (sym there ∙ ap (λ (x : ℕ). get_or (gone tie known) x None) (sym s) ∙ at) in
           let old = h tie.link.from m.come m.from in
           subst (λ (x : ℕ). HasTrail P first (gone tie known) x come.by) (sym s) (subst (λ (c : Come). HasTrail P first (gone tie known) tie.link.to c.by) same (record {
             ties = tie ∷ old.ties;
@@ -124,7 +121,7 @@ begun_trailed P first span low v come at =
     elim (cases_eq v first) as (λ o. HasTrail P first (set before first (Some begun)) v come.by) [
       | inl s ↦
           let there : get_or (set before first (Some begun)) first None ≡ Some begun = get_or-set_same before first (Some begun) None in' in
-          let same = one_come begun come (sym there ∙ ap (λ (x : ℕ). get_or (set before first (Some begun)) x None) (sym s) ∙ at) in
+          let same = same_Some begun come (sym there ∙ ap (λ (x : ℕ). get_or (set before first (Some begun)) x None) (sym s) ∙ at) in
           let adds = sum_by-set (λ (come : Option Come). cond (is_none come) 1 0) before first (Some begun) None in' in
           let none = none_at span first in
           let more = rw none at adds in

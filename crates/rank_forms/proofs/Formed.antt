@@ -1,4 +1,4 @@
--- The forms over parts: at each end of a rule they are what stands at the parts' places.
+-- The forms over parts: all_at each end of a rule they are what stands all_at the parts' places.
 use Rattle.std.proofs.Common.{◌≡◌, ◌⊎◌, inl, inr, ℕ, zero, suc, ◌<◌, ◌≤◌, ◌^◌, Bool, true, false, cond, eqb, List, [], ◌∷◌, ◌++◌, length, get_or, ℤ, pos, ◌+ℤ◌, ◌*ℤ◌, Option, Some, None, subst, ap, arith, refl, ◌∙◌, sym}
 use Rattle.std.specs.Prelude.{◌&&◌, slice_get, unsigned_abs, is_some, nat_lt}
 use Rattle.std.specs.Ordering.{int_eq}
@@ -6,10 +6,15 @@ use Rattle.std.specs.List.{All}
 use Rattle.std.proofs.lemmas.Bool.{eq-eqb, eqb-true, ltb-true}
 use Rattle.std.proofs.lemmas.Bool.Decides.{Decides-int_eq, nat_tests}
 use Rattle.std.proofs.lemmas.Int.{ints}
+use Rattle.std.proofs.lemmas.Option.{same_Some, none-some}
+use Rattle.lin_core.proofs.Coefficients.{coefficient_both}
+use Rattle.descent.proofs.Adding.{coefficient_scaled}
+use Rattle.list_views.proofs.Quantified.{all_at}
+use Rattle.list_views.proofs.Orders.{zero_times}
 use Rattle.list_views.proofs.Ring.{plus_times}
 use Rattle.lin_core.specs.Rows.{coefficient_of, Rise}
 use Rattle.lin_core.specs.Weights.{weight_in}
-use Rattle.lin_core.proofs.Signs.{mul-zero_ℤ, zero-mul_ℤ}
+use Rattle.lin_core.proofs.Signs.{mul-zero_ℤ}
 use Rattle.descent.specs.declared.proof.CutForm.{CutForm}
 use Rattle.descent.specs.declared.rules.PathRule.{PathRule}
 use Rattle.descent.specs.declared.rules.Place.{Place}
@@ -20,12 +25,11 @@ use Rattle.descent.specs.Rankings.{constant_of, entry_constant, entry_terms, for
 use Rattle.rank_forms.specs.Forms.{AreCuts, IsIn, RiseTo, alone, form_of, forms_over, id_of, ids_at, joined, multiples_at, slots_for}
 use Rattle.rank_forms.specs.Graphs.{AreNamed, ArePathRules, IsPathRule, IsEndAt, heads, ids_of}
 use Rattle.rule_links.specs.Positions.{IsVariable, StandsAt, slot_at}
-use Rattle.rank_forms.specs.RankSteps.{CutsRise, HaveNoSizes}
-use Rattle.rank_forms.proofs.Lined.{AreEntries, AreLines, IsLine, coefficient_both, coefficient_scaled, line_of_ints, line_of_sizes, ranking_with, slot_nothing}
-use Rattle.rule_links.proofs.Listed.{at}
+use Rattle.rank_forms.specs.RankSteps.{FormsRise, HaveNoSizes}
+use Rattle.rank_forms.proofs.Lined.{AreEntries, AreLines, IsLine, line_of_ints, line_of_sizes, ranking_with, slot_nothing}
 use Rattle.rank_forms.proofs.Slotted.{named_low, same_id, slot_by_id, slots_stand}
 
--- the variables that stand at the parts' places, with the parts' multiples
+-- the variables that stand all_at the parts' places, with the parts' multiples
 abbrev pub StandAll : List SlotForm → Bool → List (Place × ℤ) → List (ℕ × ℤ) → Type 0
 StandAll slots size [] [] = Unit {0}
 StandAll slots size [] (term ∷ terms) = ⊥
@@ -36,7 +40,7 @@ pub record AreAllEnds (rule : PathRule) (size : Bool) (parts : List (Place × �
   pub first : StandAll rule.first size parts start
   pub last : StandAll rule.last size parts finish
 
--- at most two parts, with multiples of at most 4
+-- all_at most two parts, with multiples of all_at most 4
 abbrev pub AllSmall : List (Place × ℤ) → Type 0
 AllSmall [] = Unit {0}
 AllSmall (part ∷ rest) = (unsigned_abs part.1 ≤ 4) × AllSmall rest
@@ -53,15 +57,9 @@ form_here true size rules parts constant first cut rest e more = ap (λ (c : ℕ
     some x = Some x
 form_here false size rules parts constant first cut rest e more = more refl
 
-one_number : (a b : ℕ) → ◌≡◌ {A = Option ℕ} (Some a) (Some b) → a ≡ b
-one_number a b e = cc
-
-no_number : (a : ℕ) → ◌≡◌ {A = Option ℕ} None (Some a) → ⊥
-no_number a e = absurd (cc)
-
 pub forms_at : (size : Bool) (rules : List PathRule) (parts : List (Place × ℤ)) (constant : ℤ) (cuts : List ℕ) (cut k : ℕ) → slice_get cuts k ≡ Some cut → form_at (forms_over rules size parts constant cuts) cut ≡ Some (form_of cut (slots_for rules cut) size parts constant)
-forms_at size rules parts constant [] cut k e = absurd (no_number cut e)
-forms_at size rules parts constant (first ∷ rest) cut zero e = form_here (eqb first cut) size rules parts constant first cut (form_at (forms_over rules size parts constant rest) cut) refl (λ f. absurd (clash (eqb first cut) f (eq-eqb first cut (one_number first cut e))))
+forms_at size rules parts constant [] cut k e = absurd (none-some cut e)
+forms_at size rules parts constant (first ∷ rest) cut zero e = form_here (eqb first cut) size rules parts constant first cut (form_at (forms_over rules size parts constant rest) cut) refl (λ f. absurd (clash (eqb first cut) f (eq-eqb first cut (same_Some first cut e))))
   where
     clash : (x : Bool) → x ≡ false → x ≡ true → ⊥
     clash true e f = absurd (cc)
@@ -143,7 +141,7 @@ alone_cases true slots weigh size a s t terms e h = record {
 }
   where
     gone : (s t c : ℤ) → s +ℤ t ≡ pos 0 → pos 0 ≡ s *ℤ c +ℤ (t *ℤ c +ℤ pos 0)
-    gone s t c e = sym (zero-mul_ℤ c) ∙ ap (λ (z : ℤ). z *ℤ c) (sym e) ∙ plus_times s t c ∙ plain (s *ℤ c) (t *ℤ c)
+    gone s t c e = sym (zero_times c) ∙ ap (λ (z : ℤ). z *ℤ c) (sym e) ∙ plus_times s t c ∙ plain (s *ℤ c) (t *ℤ c)
       where
         plain : (a b : ℤ) → a +ℤ b ≡ a +ℤ (b +ℤ pos 0)
         plain a b = omega (arith, ints)
@@ -198,7 +196,7 @@ end_line size weights rules parts constant cuts cut n rule slots terms are liste
 
 pub rule_lines : (size : Bool) (weights : List (ℕ × ℤ)) (rules : List PathRule) (parts : List (Place × ℤ)) (constant : ℤ) (cuts : List ℕ) (n : ℕ) (rule : PathRule) (start finish : List (ℕ × ℤ)) → ArePathRules rules → AreCuts rules cuts → slice_get rules n ≡ Some rule → AreAllEnds rule size parts start finish → AreLines (ranking_with size weights (forms_over rules size parts constant cuts)) rule start finish constant
 rule_lines size weights rules parts constant cuts n rule start finish are listed is ends =
-    let named = at IsPathRule rules n rule are.each is in
+    let named = all_at IsPathRule rules n rule are.each is in
     record {
       first = end_line size weights rules parts constant cuts rule.from n rule rule.first start are (listed.from n rule is) is (inl (refl, refl)) named.first ends.first;
       last = end_line size weights rules parts constant cuts rule.to n rule rule.last finish are (listed.to n rule is) is (inr (refl, refl)) named.last ends.last;
@@ -223,7 +221,7 @@ two_multiples a b s t rise low small too = record { rise = (omega arith, omega (
     one (suc zero) d less = too
     one (suc (suc i)) d less = absurd (omega (arith, less))
 
--- ids below 65,536 with multiples of at most 4
+-- ids below 65,536 with multiples of all_at most 4
 abbrev AreLow : List (ℕ × ℤ) → Type 0
 AreLow [] = Unit {0}
 AreLow (entry ∷ rest) = (entry.0 < 65536) × (unsigned_abs entry.1 ≤ 4) × AreLow rest
@@ -281,7 +279,7 @@ forms_small size rules parts constant [] each are k i d low = absurd (omega (ari
 forms_small size rules parts constant (cut ∷ cuts) each are k zero d low = form_small size cut (slots_for rules cut) parts constant (slots_named rules cut each) are k
 forms_small size rules parts constant (cut ∷ cuts) each are k (suc i) d low = forms_small size rules parts constant cuts each are k i d (omega (arith, low))
 
-pub forms_rise : (size : Bool) (rules : List PathRule) (parts : List (Place × ℤ)) (constant : ℤ) (low end : ℕ) (cuts : List ℕ) → RiseTo low cuts end → CutsRise low (forms_over rules size parts constant cuts)
+pub forms_rise : (size : Bool) (rules : List PathRule) (parts : List (Place × ℤ)) (constant : ℤ) (low end : ℕ) (cuts : List ℕ) → RiseTo low cuts end → FormsRise low (forms_over rules size parts constant cuts)
 forms_rise size rules parts constant low end [] h = tt
 forms_rise size rules parts constant low end (cut ∷ cuts) h = (h.0, forms_rise size rules parts constant (suc cut) end cuts h.1)
 

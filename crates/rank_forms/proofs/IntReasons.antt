@@ -2,9 +2,11 @@
 use Rattle.std.proofs.Common.{◌≡◌, ℕ, zero, suc, ◌+◌, ◌*◌, ◌<◌, ◌≤◌, ◌^◌, Bool, true, false, cond, not, eqb, List, [], ◌∷◌, length, get_or, ℤ, pos, negsuc, ◌+ℤ◌, ◌-ℤ◌, ◌*ℤ◌, ◌≤ℤ◌, Option, Some, None, subst, ap, arith, refl, ◌∙◌, sym}
 use Rattle.std.specs.Prelude.{◌&&◌, slice_get, unsigned_abs, int_lt, nat_lt}
 use Rattle.std.specs.List.{All}
-use Rattle.std.proofs.lemmas.Bool.{and_parts, eqb-true, false≢true}
+use Rattle.std.proofs.lemmas.Bool.{and_parts, eqb-true, false≢true, and_from}
 use Rattle.std.proofs.lemmas.Bool.Decides.{nat_tests}
 use Rattle.std.proofs.lemmas.Int.{ints, unsigned_abs-mul}
+use Rattle.std.proofs.lemmas.Option.{same_Some, none-some}
+use Rattle.list_views.proofs.Orders.{zero_times, plus_zero}
 use Rattle.list_views.proofs.Ring.{times_plus, times_minus, times_assoc, plus_times}
 use Rattle.lin_core.specs.declared.rows.RowKind.{RowKind}
 use Rattle.lin_core.specs.declared.rows.RowKind.TheVariants.{AtLeastZero, IsZero}
@@ -12,16 +14,16 @@ use Rattle.lin_core.specs.declared.rows.WRow.{WRow}
 use Rattle.lin_core.specs.Combination.{sum_of, AllAllowed}
 use Rattle.lin_core.specs.Rows.{coefficient_of}
 use Rattle.lin_core.specs.Weights.{AreRows, row_under, rows_under, unweighed}
-use Rattle.lin_core.proofs.Signs.{mul-zero_ℤ, zero-mul_ℤ}
+use Rattle.lin_core.proofs.Signs.{mul-zero_ℤ}
 use Rattle.rank_forms.specs.declared.following.BoundRow.{BoundRow}
 use Rattle.rule_links.specs.declared.links.Beside.{Beside}
 use Rattle.rule_links.specs.declared.links.Come.{Come}
 use Rattle.rule_links.specs.declared.links.Link.{Link}
 use Rattle.rule_links.specs.declared.links.Tie.{Tie}
-use Rattle.rank_forms.specs.Following.{trail_from, unit}
+use Rattle.rank_forms.specs.Following.{unit}
 use Rattle.rank_forms.specs.Graphs.{HasClose, IsShort}
 use Rattle.rank_forms.specs.Reasons.{beside_entries, close_from, int_entries, int_made, int_tie_entries, is_close, often, side, signed, taken_out}
-use Rattle.rule_links.specs.Searching.{IsFinished, Known, is_bound, ties_from}
+use Rattle.rule_links.specs.Searching.{IsFinished, Known, is_bound, ties_from, trail_from}
 use Rattle.rule_links.proofs.FallRows.{Each}
 use Rattle.rule_links.proofs.Rests.{IsRest, rest_all, rest_first, rest_more}
 use Rattle.rank_forms.proofs.Finished.{AreLow, gone_back}
@@ -41,7 +43,7 @@ signed_times t d true = less t d
     less t d = moved ((pos 0 -ℤ t) *ℤ d) (t *ℤ d) (sum_zero t d) ∙ sym (times_minus t (pos 0) d ∙ ap (λ (z : ℤ). z -ℤ t *ℤ d) (mul-zero_ℤ t))
       where
         sum_zero : (t d : ℤ) → (pos 0 -ℤ t) *ℤ d +ℤ t *ℤ d ≡ pos 0
-        sum_zero t d = sym (plus_times (pos 0 -ℤ t) t d) ∙ ap (λ (z : ℤ). z *ℤ d) (back_zero t) ∙ zero-mul_ℤ d
+        sum_zero t d = sym (plus_times (pos 0 -ℤ t) t d) ∙ ap (λ (z : ℤ). z *ℤ d) (back_zero t) ∙ zero_times d
           where
             back_zero : (t : ℤ) → (pos 0 -ℤ t) +ℤ t ≡ pos 0
             back_zero t = omega (arith, ints)
@@ -114,9 +116,6 @@ out_cases false rows least most variable number product e h = record {
 abbrev most_of_tie : ℕ
 most_of_tie = 16384
 
-plain_sum : (a : ℤ) → a +ℤ pos 0 ≡ a
-plain_sum a = omega (arith, ints)
-
 one_small : (here : Bool) (t : ℤ) (n : ℕ) → unsigned_abs t ≤ n → unsigned_abs (cond here t (pos 0) +ℤ pos 0) ≤ n
 one_small true t n h = omega (arith, ints, h)
 one_small false t n h = omega (arith, ints)
@@ -127,22 +126,19 @@ apart_small true false a b n d h k = omega (arith, ints, h)
 apart_small false true a b n d h k = omega (arith, ints, k)
 apart_small false false a b n d h k = omega (arith, ints)
 
-one_row : (a b : WRow) → ◌≡◌ {A = Option WRow} (Some a) (Some b) → a ≡ b
-one_row a b e = cc
-
 not_both : (kind : RowKind) → kind ≡ IsZero → kind ≡ AtLeastZero → ⊥
 not_both kind e f = absurd (cc)
 
 other_row : (rows : List WRow) (m n x : ℕ) (a b : WRow) → slice_get rows m ≡ Some a → slice_get rows n ≡ Some b → a.kind ≡ IsZero → b.kind ≡ AtLeastZero → eqb m x ≡ true → eqb n x ≡ true → ⊥
 other_row rows m n x a b e f z l p q =
     let same : m ≡ n = eqb-true m x p ∙ sym (eqb-true n x q) in
-    let one = one_row a b (sym e ∙ ap (slice_get rows) same ∙ f) in
+    let one = same_Some a b (sym e ∙ ap (slice_get rows) same ∙ f) in
     not_both a.kind z (ap (λ (r : WRow). r.kind) one ∙ l)
 
 two_shift : (end : ℕ) (rows : List WRow) (times : ℤ) (tie : Tie) (row : WRow) → unsigned_abs times ≤ 4 → slice_get rows tie.row ≡ Some row → row.kind ≡ IsZero → row.weights ≡ [] → IsTwo row tie.back tie.link → IsShift (rows_under unweighed rows) times times most_of_tie tie ((tie.row, signed times tie.back) ∷ [])
 two_shift end rows times tie row small is kind weights h = record {
-  coefficients = λ x. under_terms unweighed rows tie.row (signed times tie.back) row x [] is ∙ plain_sum (signed times tie.back *ℤ coefficient_of x row.terms) ∙ ap (λ (z : ℤ). signed times tie.back *ℤ z) (h.coefficients x) ∙ signed_times times (unit x h.plus -ℤ unit x h.minus) tie.back ∙ ap (λ (z : ℤ). times *ℤ z) (leads_value tie.back h.plus h.minus tie.link x h.leads);
-  constant = under_constant unweighed rows tie.row (signed times tie.back) row [] is weights ∙ plain_sum (signed times tie.back *ℤ row.constant) ∙ signed_times times row.constant tie.back ∙ ap (λ (z : ℤ). times *ℤ z) (sym h.adds);
+  coefficients = λ x. under_terms unweighed rows tie.row (signed times tie.back) row x [] is ∙ plus_zero (signed times tie.back *ℤ coefficient_of x row.terms) ∙ ap (λ (z : ℤ). signed times tie.back *ℤ z) (h.coefficients x) ∙ signed_times times (unit x h.plus -ℤ unit x h.minus) tie.back ∙ ap (λ (z : ℤ). times *ℤ z) (leads_value tie.back h.plus h.minus tie.link x h.leads);
+  constant = under_constant unweighed rows tie.row (signed times tie.back) row [] is weights ∙ plus_zero (signed times tie.back *ℤ row.constant) ∙ signed_times times row.constant tie.back ∙ ap (λ (z : ℤ). times *ℤ z) (sym h.adds);
   allowed = ((row_under unweighed row, under_at unweighed rows tie.row row is, zero_allowed row.kind (signed times tie.back) kind), tt);
   small = λ n. one_small (eqb tie.row n) (signed times tie.back) most_of_tie (let s = signed_small times tie.back 4 small in omega (arith, s));
 }
@@ -203,12 +199,6 @@ pub record IsCloseAt (rows : List WRow) (variable : ℕ) (times : ℤ) (bound : 
   pub row : IsRowOf rows bound.row variable times bound.base
   pub small : unsigned_abs bound.base ≤ 2 ^ 31
 
-one_bound : (a b : BoundRow) → ◌≡◌ {A = Option BoundRow} (Some a) (Some b) → a ≡ b
-one_bound a b e = cc
-
-no_bound : (a : BoundRow) → ◌≡◌ {A = Option BoundRow} None (Some a) → ⊥
-no_bound a e = absurd (cc)
-
 not_more : (test : Bool) (n : ℕ) → nat_lt 2147483648 n ≡ test → not test ≡ true → n ≤ 2 ^ 31
 not_more true n e h = absurd (cc)
 not_more false n e h = less n e
@@ -219,16 +209,12 @@ not_more false n e h = less n e
 close_cases : (test : Bool) (variable : ℕ) (times : ℤ) (n : ℕ) (all : List WRow) (row : WRow) (later : Option BoundRow) (bound : BoundRow) → is_close variable times row ≡ test → slice_get all n ≡ Some row → (later ≡ Some bound → IsCloseAt all variable times bound) → cond test (Some (record { row = n; base = row.constant })) later ≡ Some bound → IsCloseAt all variable times bound
 close_cases true variable times n all row later bound t is more e =
     let parts = and_parts (is_bound variable times row) (not (nat_lt 2147483648 (unsigned_abs row.constant))) t in
-    subst (IsCloseAt all variable times) (one_bound (record { row = n; base = row.constant }) bound e) (record { row = row_of all n variable times row is parts.0; small = not_more (nat_lt 2147483648 (unsigned_abs row.constant)) (unsigned_abs row.constant) refl parts.1 })
+    subst (IsCloseAt all variable times) (same_Some (record { row = n; base = row.constant }) bound e) (record { row = row_of all n variable times row is parts.0; small = not_more (nat_lt 2147483648 (unsigned_abs row.constant)) (unsigned_abs row.constant) refl parts.1 })
 close_cases false variable times n all row later bound t is more e = more e
 
 pub close_is : (variable : ℕ) (times : ℤ) (n : ℕ) (all rows : List WRow) (bound : BoundRow) → IsRest all n rows → close_from variable times n rows ≡ Some bound → IsCloseAt all variable times bound
-close_is variable times n all [] bound h e = absurd (no_bound bound e)
+close_is variable times n all [] bound h e = absurd (none-some bound e)
 close_is variable times n all (row ∷ rest) bound h e = close_cases (is_close variable times row) variable times n all row (close_from variable times (suc n) rest) bound refl (rest_first all n row rest h) (λ f. close_is variable times (suc n) all rest bound (rest_more all n row rest h) f) e
-
-both_hold : (a b : Bool) → a ≡ true → b ≡ true → (a && b) ≡ true
-both_hold true b e f = f
-both_hold false b e f = absurd (cc)
 
 is_less : (n : ℕ) → n ≤ 2 ^ 31 → not (nat_lt 2147483648 n) ≡ true
 is_less n h = ap not (less n h)
@@ -242,13 +228,13 @@ found_cases false bound later more = more refl
 
 close_found_from : (variable : ℕ) (times : ℤ) (n k : ℕ) (rows : List WRow) (row : WRow) → slice_get rows k ≡ Some row → is_close variable times row ≡ true → (bound : BoundRow) × (close_from variable times n rows ≡ Some bound)
 close_found_from variable times n k [] row is e = absurd (cc)
-close_found_from variable times n zero (first ∷ rest) row is e = found_cases (is_close variable times first) (record { row = n; base = first.constant }) (close_from variable times (suc n) rest) (λ f. absurd (false≢true (sym f ∙ ap (is_close variable times) (one_row first row is) ∙ e)))
+close_found_from variable times n zero (first ∷ rest) row is e = found_cases (is_close variable times first) (record { row = n; base = first.constant }) (close_from variable times (suc n) rest) (λ f. absurd (false≢true (sym f ∙ ap (is_close variable times) (same_Some first row is) ∙ e)))
 close_found_from variable times n (suc k) (first ∷ rest) row is e = found_cases (is_close variable times first) (record { row = n; base = first.constant }) (close_from variable times (suc n) rest) (λ f. close_found_from variable times (suc n) k rest row is e)
 
 pub close_found : (rows : List WRow) (variable : ℕ) (times : ℤ) → HasClose rows variable times → (bound : BoundRow) × (close_from variable times 0 rows ≡ Some bound)
 close_found rows variable times h =
     let b = h.bound in
-    close_found_from variable times 0 b.among.0 rows b.row b.among.1 (both_hold (is_bound variable times b.row) (not (nat_lt 2147483648 (unsigned_abs b.row.constant))) (bound_told rows variable times h.constant b) (is_less (unsigned_abs b.row.constant) (subst (λ (z : ℤ). unsigned_abs z ≤ 2 ^ 31) (sym b.number) h.small)))
+    close_found_from variable times 0 b.among.0 rows b.row b.among.1 (and_from (is_bound variable times b.row) (not (nat_lt 2147483648 (unsigned_abs b.row.constant))) (bound_told rows variable times h.constant b) (is_less (unsigned_abs b.row.constant) (subst (λ (z : ℤ). unsigned_abs z ≤ 2 ^ 31) (sym b.number) h.small)))
 
 often_side : (here test : Bool) (t : ℤ) → cond test (pos 0 -ℤ t) t *ℤ (cond here (cond test (negsuc 0) (pos 1)) (pos 0) +ℤ pos 0) ≡ cond here t (pos 0) +ℤ pos 0
 often_side true true t = omega (arith, ints)

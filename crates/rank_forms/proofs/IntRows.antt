@@ -6,6 +6,10 @@ use Rattle.std.specs.List.{All}
 use Rattle.std.proofs.lemmas.Bool.{and_parts}
 use Rattle.std.proofs.lemmas.Bool.Decides.{Decides-int_eq}
 use Rattle.std.proofs.lemmas.Int.{ints}
+use Rattle.std.proofs.lemmas.Option.{same_Some, none-some}
+use Rattle.rule_links.proofs.Fallen.{none_is, kind_is as equation_is}
+use Rattle.list_views.proofs.Quantified.{all_at as at}
+use Rattle.list_views.proofs.Orders.{int_eq_true}
 use Rattle.lin_core.specs.declared.rows.RowKind.TheVariants.{AtLeastZero, IsZero}
 use Rattle.lin_core.specs.declared.rows.WRow.{WRow}
 use Rattle.lin_core.specs.Rows.{coefficient_of, Rise}
@@ -20,8 +24,7 @@ use Rattle.rank_forms.specs.Reasons.{signed}
 use Rattle.rule_links.specs.Searching.{beside_ties, constant_at, fixed_from, has_none, is_alone, is_bound, is_inequality, order_of, row_ties, terms_ties, ties_at, ties_beside, ties_from, ties_of}
 use Rattle.rule_links.proofs.FallRows.{Each, each_both, each_chosen}
 use Rattle.rule_links.proofs.Rests.{IsRest, rest_all, rest_first, rest_more}
-use Rattle.rule_links.proofs.Listed.{at}
-use Rattle.rule_links.proofs.Tied.{alone_is, equation_is, found_is, kind_is, most_is, none_is}
+use Rattle.rule_links.proofs.Tied.{alone_is, found_is, kind_is, most_is}
 
 -- a row by its number that says of a variable alone that so many times it, and a constant, is at least 0
 pub record IsRowOf (rows : List WRow) (n variable : ℕ) (times constant : ℤ) : Type 0 where
@@ -45,9 +48,6 @@ pub record AreBeside (rows : List WRow) (least most variable : ℕ) (number : �
   pub opposite : low +ℤ number ≡ pos 0
   pub above : IsRowOf rows most variable (negsuc 0) number
 
-some_int : (a b : ℤ) → ◌≡◌ {A = Option ℤ} (Some a) (Some b) → a ≡ b
-some_int a b e = cc
-
 same_number : (a b : ℕ) → a ≡ 0 + b → a ≡ b
 same_number a b e = omega (arith, e)
 
@@ -57,7 +57,7 @@ fixed_rows rows variable fixed number e c =
     let m = most_is variable f.row.constant 0 fixed.1 rows f.most in
     let least : slice_get rows fixed.0 ≡ Some f.row = ap (slice_get rows) (same_number fixed.0 f.index f.first) ∙ f.is in
     let most : slice_get rows fixed.1 ≡ Some m.row = ap (slice_get rows) (same_number fixed.1 m.index m.at) ∙ m.is in
-    let same : m.row.constant ≡ number = some_int m.row.constant number (sym (ap constant_at most) ∙ c) in
+    let same : m.row.constant ≡ number = same_Some m.row.constant number (sym (ap constant_at most) ∙ c) in
     record {
       low = f.row.constant;
       below = row_of rows fixed.0 variable (pos 1) f.row least f.bound;
@@ -110,15 +110,6 @@ record AreOrdered (end : ℕ) (one other : ℕ × ℤ) (order : ℕ × ℕ) : Ty
   pub plus : order.0 < end
   pub minus : order.1 < end
 
-some_pair : (a b : ℕ × ℕ) → ◌≡◌ {A = Option (ℕ × ℕ)} (Some a) (Some b) → a ≡ b
-some_pair a b e = cc
-
-no_pair : (a : ℕ × ℕ) → ◌≡◌ {A = Option (ℕ × ℕ)} None (Some a) → ⊥
-no_pair a e = absurd (cc)
-
-int_true : (x y : ℤ) → int_eq x y ≡ true → x ≡ y
-int_true x y e = (Decides-int_eq x y).0 e
-
 up_down : (p q : Bool) (a b : ℤ) → a ≡ pos 1 → b ≡ negsuc 0 → cond p a (pos 0) +ℤ cond q b (pos 0) ≡ (cond p (pos 1) (pos 0) +ℤ pos 0) -ℤ (cond q (pos 1) (pos 0) +ℤ pos 0)
 up_down true true a b e f = omega (arith, ints)
 up_down true false a b e f = omega (arith, ints)
@@ -134,11 +125,11 @@ down_up false false a b e f = omega (arith, ints)
 order_cases : (first second : Bool) (end : ℕ) (one other : ℕ × ℤ) (order : ℕ × ℕ) → (int_eq one.1 (pos 1) && int_eq other.1 (negsuc 0)) ≡ first → (int_eq one.1 (negsuc 0) && int_eq other.1 (pos 1)) ≡ second → one.0 < end → other.0 < end → cond first (Some (one.0, other.0)) (cond second (Some (other.0, one.0)) None) ≡ Some order → AreOrdered end one other order
 order_cases true second end one other order e f l m o =
     let parts = and_parts (int_eq one.1 (pos 1)) (int_eq other.1 (negsuc 0)) e in
-    subst (AreOrdered end one other) (some_pair (one.0, other.0) order o) (record { values = λ x. up_down (eqb one.0 x) (eqb other.0 x) one.1 other.1 (int_true one.1 (pos 1) parts.0) (int_true other.1 (negsuc 0) parts.1); plus = l; minus = m })
+    subst (AreOrdered end one other) (same_Some (one.0, other.0) order o) (record { values = λ x. up_down (eqb one.0 x) (eqb other.0 x) one.1 other.1 (int_eq_true one.1 (pos 1) parts.0) (int_eq_true other.1 (negsuc 0) parts.1); plus = l; minus = m })
 order_cases false true end one other order e f l m o =
     let parts = and_parts (int_eq one.1 (negsuc 0)) (int_eq other.1 (pos 1)) f in
-    subst (AreOrdered end one other) (some_pair (other.0, one.0) order o) (record { values = λ x. down_up (eqb one.0 x) (eqb other.0 x) one.1 other.1 (int_true one.1 (negsuc 0) parts.0) (int_true other.1 (pos 1) parts.1); plus = m; minus = l })
-order_cases false false end one other order e f l m o = absurd (no_pair order o)
+    subst (AreOrdered end one other) (same_Some (other.0, one.0) order o) (record { values = λ x. down_up (eqb one.0 x) (eqb other.0 x) one.1 other.1 (int_eq_true one.1 (negsuc 0) parts.0) (int_eq_true other.1 (pos 1) parts.1); plus = m; minus = l })
+order_cases false false end one other order e f l m o = absurd (none-some order o)
 
 ordered : (end : ℕ) (one other : ℕ × ℤ) (order : ℕ × ℕ) → one.0 < end → other.0 < end → order_of one other ≡ Some order → AreOrdered end one other order
 ordered end one other order l m o = order_cases (int_eq one.1 (pos 1) && int_eq other.1 (negsuc 0)) (int_eq one.1 (negsuc 0) && int_eq other.1 (pos 1)) end one other order refl refl l m o

@@ -1,6 +1,7 @@
 pub mod Along
 pub mod Bases
 pub mod Cut
+pub mod Ended
 pub mod Finished
 pub mod Formed
 pub mod IntReasons

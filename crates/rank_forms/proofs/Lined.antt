@@ -2,13 +2,14 @@
 use Rattle.std.proofs.Common.{◌≡◌, ℕ, zero, suc, Bool, true, false, cond, List, [], ◌∷◌, ◌++◌, ℤ, pos, negsuc, ◌+ℤ◌, ◌-ℤ◌, ◌*ℤ◌, ◌≤ℤ◌, Option, Some, None, ap, arith, refl, ◌∙◌, sym}
 use Rattle.std.specs.Prelude.{◌&&◌, int_le}
 use Rattle.std.proofs.lemmas.Int.{ints}
-use Rattle.list_views.proofs.Ring.{times_plus}
+use Rattle.std.proofs.lemmas.Bool.{and_from as both_true}
+use Rattle.lin_core.proofs.Coefficients.{coefficient_both}
+use Rattle.descent.proofs.Adding.{coefficient_scaled}
 use Rattle.lin_core.specs.declared.faults.LinFault.{LinFault}
 use Rattle.lin_core.specs.declared.rows.Target.{Target}
 use Rattle.lin_core.specs.Combination.{first_fault, summed_coefficient, summed_constant}
 use Rattle.lin_core.specs.Rows.{coefficient_of, value_of_terms}
 use Rattle.lin_core.specs.Weights.{rows_under, weight_in}
-use Rattle.lin_core.proofs.Signs.{mul-zero_ℤ}
 use Rattle.descent.specs.declared.faults.DescentFault.{DescentFault}
 use Rattle.descent.specs.declared.faults.DescentFault.TheVariants.{NotWeak, NotStrict, NotBounded}
 use Rattle.descent.specs.declared.proof.CutForm.{CutForm}
@@ -19,19 +20,6 @@ use Rattle.rank_forms.specs.declared.following.Bound.{Bound}
 use Rattle.rank_forms.specs.declared.following.Followed.{Followed}
 use Rattle.rank_forms.specs.Following.{IsBoundAt, IsFollowed}
 use Rattle.rule_links.specs.Positions.{IsVariable}
-
--- coefficients of lists that are joined, and of scaled ones
-pub coefficient_both : (x : ℕ) (a b : List (ℕ × ℤ)) → coefficient_of x (a ++ b) ≡ coefficient_of x a +ℤ coefficient_of x b
-coefficient_both x [] b = omega (arith, ints)
-coefficient_both x (term ∷ rest) b = let h = coefficient_both x rest b in omega (arith, ints)
-
-scaled_if : (here : Bool) (by k rest whole : ℤ) → whole ≡ by *ℤ rest → cond here (by *ℤ k) (pos 0) +ℤ whole ≡ by *ℤ (cond here k (pos 0) +ℤ rest)
-scaled_if true by k rest whole h = rw h (sym (times_plus by k rest))
-scaled_if false by k rest whole h = let e : pos 0 +ℤ rest ≡ rest = omega (arith, ints) in rw e (omega (arith, ints))
-
-pub coefficient_scaled : (x : ℕ) (by : ℤ) (terms : List (ℕ × ℤ)) → coefficient_of x (scaled by terms) ≡ by *ℤ coefficient_of x terms
-coefficient_scaled x by [] = sym (mul-zero_ℤ by)
-coefficient_scaled x by (term ∷ rest) = scaled_if _ by term.1 (coefficient_of x rest) _ (coefficient_scaled x by rest)
 
 -- the ranking by these forms
 abbrev pub ranking_with : Bool → List (ℕ × ℤ) → List CutForm → Ranking
@@ -98,10 +86,6 @@ same_int a b e = both_true (int_le a b) (int_le b a) (at_most a b e) (at_most b 
     both_true : (a b : Bool) → a ≡ true → b ≡ true → (a && b) ≡ true
     both_true true b e f = f
     both_true false b e f = absurd (cc)
-
-both_true : (a b : Bool) → a ≡ true → b ≡ true → (a && b) ≡ true
-both_true true b e f = f
-both_true false b e f = absurd (cc)
 
 agree_all : (n : ℕ) (f g : ℕ → ℤ) → ((x : ℕ) → f x ≡ g x) → agree_below n f g ≡ true
 agree_all zero f g h = refl

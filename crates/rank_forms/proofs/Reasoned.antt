@@ -2,15 +2,15 @@
 use Rattle.std.proofs.Common.{◌≡◌, ℕ, ◌+◌, ◌≤◌, ◌^◌, List, ◌++◌, length, ℤ, pos, ◌+ℤ◌, ◌-ℤ◌, Option, Some, subst, ap, arith, ◌∙◌, sym}
 use Rattle.std.specs.Prelude.{unsigned_abs}
 use Rattle.std.proofs.lemmas.Int.{ints}
+use Rattle.std.proofs.lemmas.Option.{same_Some}
+use Rattle.lin_core.proofs.Coefficients.{coefficient_both}
 use Rattle.lin_core.specs.Combination.{sum_of, AllAllowed}
 use Rattle.lin_core.specs.Rows.{Row, coefficient_of}
-use Rattle.rank_forms.specs.declared.following.Bound.{Bound}
 use Rattle.rank_forms.specs.declared.reasons.Reasons.{Reasons}
 use Rattle.rule_links.specs.Counting.{multipliers_of}
 use Rattle.rank_forms.specs.Following.{IsBoundAt, IsFollowed}
 use Rattle.rank_forms.specs.Reasons.{both_reasons, followed_by}
-use Rattle.rule_links.proofs.Counted.{multipliers_are}
-use Rattle.rank_forms.proofs.Lined.{coefficient_both}
+use Rattle.rule_links.proofs.Counted.{multipliers_are, both_small}
 use Rattle.rank_forms.proofs.Trailed.{allowed_both, size_both, sum_both}
 
 -- the rows show what falls from the start to the end, and what is to be added at the start; no row counts more than `most` times
@@ -25,9 +25,6 @@ pub record IsReasoned (rows : List Row) (start finish : List (ℕ × ℤ)) (most
   pub bound_small : (n : ℕ) → unsigned_abs (coefficient_of n reasons.bound) ≤ most
   pub base : unsigned_abs reasons.base ≤ wide
 
-both_abs : (a b : ℤ) (m n : ℕ) → unsigned_abs a ≤ m → unsigned_abs b ≤ n → unsigned_abs (a +ℤ b) ≤ m + n
-both_abs a b m n h k = omega (arith, ints, h, k)
-
 pub both_reasoned : (rows : List Row) (s f t g : List (ℕ × ℤ)) (m w n v : ℕ) (a b : Reasons) → IsReasoned rows s f m w a → IsReasoned rows t g n v b → IsReasoned rows (s ++ t) (f ++ g) (m + n) (w + v) (both_reasons a b)
 both_reasoned rows s f t g m w n v a b h k = record {
   coefficients = λ x. sum_both (λ row. coefficient_of x row.terms) rows a.fall b.fall ∙ ap (λ (z : ℤ). z +ℤ sum_of (λ row. coefficient_of x row.terms) rows b.fall) (h.coefficients x) ∙ ap (λ (z : ℤ). (coefficient_of x s -ℤ coefficient_of x f) +ℤ z) (k.coefficients x) ∙ over (coefficient_of x s) (coefficient_of x f) (coefficient_of x t) (coefficient_of x g) ∙ ap (λ (z : ℤ). z -ℤ (coefficient_of x f +ℤ coefficient_of x g)) (sym (coefficient_both x s t)) ∙ ap (λ (z : ℤ). coefficient_of x (s ++ t) -ℤ z) (sym (coefficient_both x f g));
@@ -38,7 +35,7 @@ both_reasoned rows s f t g m w n v a b h k = record {
   bound_constant = sum_both (λ row. row.constant) rows a.bound b.bound ∙ ap (λ (z : ℤ). z +ℤ sum_of (λ row. row.constant) rows b.bound) h.bound_constant ∙ ap (λ (z : ℤ). a.base +ℤ z) k.bound_constant;
   bound_allowed = allowed_both rows a.bound b.bound h.bound_allowed k.bound_allowed;
   bound_small = size_both a.bound b.bound m n h.bound_small k.bound_small;
-  base = both_abs a.base b.base w v h.base k.base;
+  base = both_small a.base b.base w v h.base k.base;
 }
   where
     over : (a b c d : ℤ) → (a -ℤ b) +ℤ (c -ℤ d) ≡ (a +ℤ c) -ℤ (b +ℤ d)
@@ -46,9 +43,6 @@ both_reasoned rows s f t g m w n v a b h k = record {
 
     nothing : (a b c d : ℤ) → a +ℤ c ≡ pos 0 → b +ℤ d ≡ pos 0 → (a +ℤ b) +ℤ (c +ℤ d) ≡ pos 0
     nothing a b c d e f = omega (arith, ints)
-
-one_bound : (a b : Bound) → ◌≡◌ {A = Option Bound} (Some a) (Some b) → a ≡ b
-one_bound a b e = cc
 
 -- as multipliers
 pub reasoned_followed : (rows : List Row) (start finish : List (ℕ × ℤ)) (most wide count : ℕ) (reasons : Reasons) → IsReasoned rows start finish most wide reasons → count ≡ length rows → most ≤ 2 ^ 31 → wide ≤ 2 ^ 40 → IsFollowed rows start finish (followed_by count reasons)
@@ -60,7 +54,7 @@ reasoned_followed rows start finish most wide count reasons h e low less =
       few = fall.few;
       coefficients = λ x. fall.sums (λ row. coefficient_of x row.terms) ∙ h.coefficients x;
       constant = ap (λ (z : ℤ). z +ℤ reasons.falls) (fall.sums (λ row. row.constant)) ∙ h.constant;
-      bound = λ one g. subst (IsBoundAt rows start) (one_bound (record { rows = multipliers_of count reasons.bound; base = reasons.base }) one g) (record {
+      bound = λ one g. subst (IsBoundAt rows start) (same_Some (record { rows = multipliers_of count reasons.bound; base = reasons.base }) one g) (record {
         fault = bound.fault;
         few = bound.few;
         coefficients = λ x. bound.sums (λ row. coefficient_of x row.terms) ∙ h.bound_coefficients x;

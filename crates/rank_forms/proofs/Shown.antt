@@ -4,6 +4,7 @@ use Rattle.std.specs.Prelude.{slice_get, int_lt, unsigned_abs, IsTrue}
 use Rattle.std.proofs.lemmas.Int.{ints}
 use Rattle.std.proofs.lemmas.List.{length-map}
 use Rattle.std.proofs.lemmas.Option.{slice_get_within, slice_get-get_or}
+use Rattle.list_views.proofs.Quantified.{all_at}
 use Rattle.lin_core.specs.Rows.{Rise}
 use Rattle.lin_core.specs.Weights.{AreWeights, row_under, rows_under}
 use Rattle.lin_core.specs.declared.rows.WRow.{WRow}
@@ -20,7 +21,6 @@ use Rattle.rank_forms.specs.RankSteps.{IsLinear, IsRankStep, has_strict}
 use Rattle.rank_forms.proofs.Bases.{AreSmall, all_few, base_most, constant_small, one_strict, ranked}
 use Rattle.rank_forms.proofs.Formed.{AreParts, forms_plain, forms_rise, forms_small}
 use Rattle.rank_forms.proofs.Lined.{AreLines, bounded_none, ranking_with, strict_none, weak_none}
-use Rattle.rule_links.proofs.Listed.{at}
 
 -- along a rule the form of the ranking never rises
 pub record IsShown (ranking : Ranking) (constant : ℤ) (rule : PathRule) (followed : Followed) : Type 0 where
@@ -77,7 +77,7 @@ all_hold ranking constant rules all k h = ranked (weak_fault ranking) (strict_fa
 few_rows : (weigh : ℕ → ℤ) (rows : List WRow) (n : ℕ) → n ≤ length (rows_under weigh rows) → length rows ≤ 65536 → n ≤ 65536
 few_rows weigh rows n h k = let e = length-map rows (row_under weigh) in omega (arith, h, k, e)
 
-is_true : (x : Bool) → x ≡ true → IsTrue x
+pub is_true : (x : Bool) → x ≡ true → IsTrue x
 is_true x e = search rules
 
 made_step : (size : Bool) (weights other : List (ℕ × ℤ)) (rules : List PathRule) (parts : List (Place × ℤ)) (all : List Followed) (constant : ℤ) (cuts : List ℕ) → ArePathRules rules → AreParts parts → AreCuts rules cuts → AreWeights weights → Rise 4294967296 weights → IsLinear (record { size = size; weights = weights; forms = forms_over rules size parts constant cuts; rules = list_from 0 all }) → ranking_of (record { size = size; weights = weights; forms = forms_over rules size parts constant cuts; rules = list_from 0 all }) ≡ ranking_with size other (forms_over rules size parts constant cuts) → constant ≡ or_zero (needed None all) → AreShown (ranking_with size other (forms_over rules size parts constant cuts)) constant rules all → HasFallen all → IsRankStep rules (record { size = size; weights = weights; forms = forms_over rules size parts constant cuts; rules = list_from 0 all })
@@ -91,7 +91,7 @@ made_step size weights other rules parts all constant cuts are small c weigh ris
         rules = all_few 0 all (λ n followed e.
             let rule = rule_there rules all n followed shown.count e in
             let some = (shown.each n rule.0 followed rule.1 e).shown in
-            let rows = (at IsPathRule rules n rule.0 are.each rule.1).rows in
+            let rows = (all_at IsPathRule rules n rule.0 are.each rule.1).rows in
             (few_rows (weigh_of (ranking_with size other forms)) rule.0.rows (length followed.fall) some.few rows, λ bound b. few_rows (weigh_of (ranking_with size other forms)) rule.0.rows (length bound.rows) (some.bound bound b).few rows));
       };
       rise = forms_rise size rules parts constant 0 c.end cuts c.rise;

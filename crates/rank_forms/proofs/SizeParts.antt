@@ -2,65 +2,52 @@
 use Rattle.std.proofs.Common.{◌≡◌, ◌⊎◌, inl, inr, ℕ, zero, suc, ◌<◌, ◌≤◌, Bool, true, false, cond, eqb, List, [], ◌∷◌, ◌++◌, ℤ, pos, negsuc, ◌+ℤ◌, ◌-ℤ◌, ◌*ℤ◌, ◌≤ℤ◌, Option, Some, None, subst, ap, arith, refl, ◌∙◌, sym}
 use Rattle.std.specs.Prelude.{◌&&◌, slice_get, unsigned_abs}
 use Rattle.std.specs.Ordering.{int_eq}
-use Rattle.std.proofs.lemmas.Bool.{and_parts, eqb-true, eq-eqb, false≢true}
+use Rattle.std.proofs.lemmas.Bool.{and_parts, eqb-true, eq-eqb, false≢true, and_from, false_from_ne_true}
 use Rattle.std.proofs.lemmas.Bool.Decides.{Decides-int_eq}
 use Rattle.std.proofs.lemmas.Int.{ints}
+use Rattle.std.proofs.lemmas.Option.{same_Some, none-some}
+use Rattle.lin_core.proofs.Coefficients.{coefficient_both}
+use Rattle.list_views.proofs.Orders.{zero_times}
 use Rattle.list_views.proofs.Ring.{plus_times}
 use Rattle.lin_core.specs.declared.rows.WRow.{WRow}
 use Rattle.lin_core.specs.Combination.{sum_of, AllAllowed}
 use Rattle.lin_core.specs.Rows.{RiseFrom, coefficient_of}
 use Rattle.lin_core.specs.Weights.{rows_under}
-use Rattle.lin_core.proofs.Signs.{mul-zero_ℤ, zero-mul_ℤ}
+use Rattle.lin_core.proofs.Signs.{mul-zero_ℤ}
 use Rattle.rule_links.specs.declared.links.Link.{Link}
 use Rattle.rank_forms.specs.Following.{unit}
 use Rattle.rule_links.specs.Links.{HasBound}
-use Rattle.rank_forms.specs.Reasons.{part_entries, part_entry, part_times, row_times, zero_from}
-use Rattle.rule_links.specs.Rising.{is_zero}
+use Rattle.rank_forms.specs.Reasons.{part_entries, part_entry, part_times, row_times}
+use Rattle.rule_links.specs.Rising.{is_zero, zero_from}
 use Rattle.rule_links.specs.Searching.{is_bound}
 use Rattle.rule_links.proofs.Rests.{IsRest, rest_all, rest_first, rest_more}
 use Rattle.rank_forms.proofs.IntRows.{IsRowOf, row_of}
 use Rattle.rank_forms.proofs.RowValues.{row_allowed, row_constant, row_value}
-use Rattle.rule_links.proofs.Tied.{bound_told}
+use Rattle.rule_links.proofs.Tied.{bound_told, found_cases}
 use Rattle.rank_forms.proofs.Trailed.{allowed_both, sum_both}
 
 -- ---- the row that a variable is at least 0
-one_number : (a b : ℕ) → ◌≡◌ {A = Option ℕ} (Some a) (Some b) → a ≡ b
-one_number a b e = cc
-
-no_number : (a : ℕ) → ◌≡◌ {A = Option ℕ} None (Some a) → ⊥
-no_number a e = absurd (cc)
 
 zero_cases : (test : Bool) (variable n k : ℕ) (all : List WRow) (row : WRow) (later : Option ℕ) → is_zero variable row ≡ test → slice_get all n ≡ Some row → (later ≡ Some k → IsRowOf all k variable (pos 1) (pos 0)) → cond test (Some n) later ≡ Some k → IsRowOf all k variable (pos 1) (pos 0)
 zero_cases true variable n k all row later t is more e =
     let parts = and_parts (is_bound variable (pos 1) row) (int_eq row.constant (pos 0)) t in
-    subst (λ (m : ℕ). IsRowOf all m variable (pos 1) (pos 0)) (one_number n k e) (subst (IsRowOf all n variable (pos 1)) ((Decides-int_eq row.constant (pos 0)).0 parts.1) (row_of all n variable (pos 1) row is parts.0))
+    subst (λ (m : ℕ). IsRowOf all m variable (pos 1) (pos 0)) (same_Some n k e) (subst (IsRowOf all n variable (pos 1)) ((Decides-int_eq row.constant (pos 0)).0 parts.1) (row_of all n variable (pos 1) row is parts.0))
 zero_cases false variable n k all row later t is more e = more e
 
 zero_from_is : (variable n k : ℕ) (all rows : List WRow) → IsRest all n rows → zero_from variable n rows ≡ Some k → IsRowOf all k variable (pos 1) (pos 0)
-zero_from_is variable n k all [] h e = absurd (no_number k e)
+zero_from_is variable n k all [] h e = absurd (none-some k e)
 zero_from_is variable n k all (row ∷ rest) h e = zero_cases (is_zero variable row) variable n k all row (zero_from variable (suc n) rest) refl (rest_first all n row rest h) (λ f. zero_from_is variable (suc n) k all rest (rest_more all n row rest h) f) e
 
 pub zero_row_is : (rows : List WRow) (variable k : ℕ) → zero_from variable 0 rows ≡ Some k → IsRowOf rows k variable (pos 1) (pos 0)
 zero_row_is rows variable k e = zero_from_is variable 0 k rows rows (rest_all rows) e
 
-found_cases : (test : Bool) (n : ℕ) (later : Option ℕ) → (test ≡ false → (k : ℕ) × (later ≡ Some k)) → (k : ℕ) × (cond test (Some n) later ≡ Some k)
-found_cases true n later more = (n, refl)
-found_cases false n later more = more refl
-
-one_row : (a b : WRow) → ◌≡◌ {A = Option WRow} (Some a) (Some b) → a ≡ b
-one_row a b e = cc
-
 zero_found_from : (variable n k : ℕ) (rows : List WRow) (row : WRow) → slice_get rows k ≡ Some row → is_zero variable row ≡ true → (m : ℕ) × (zero_from variable n rows ≡ Some m)
 zero_found_from variable n k [] row is e = absurd (cc)
-zero_found_from variable n zero (first ∷ rest) row is e = found_cases (is_zero variable first) n (zero_from variable (suc n) rest) (λ f. absurd (false≢true (sym f ∙ ap (is_zero variable) (one_row first row is) ∙ e)))
+zero_found_from variable n zero (first ∷ rest) row is e = found_cases (is_zero variable first) n (zero_from variable (suc n) rest) (λ f. absurd (false≢true (sym f ∙ ap (is_zero variable) (same_Some first row is) ∙ e)))
 zero_found_from variable n (suc k) (first ∷ rest) row is e = found_cases (is_zero variable first) n (zero_from variable (suc n) rest) (λ f. zero_found_from variable (suc n) k rest row is e)
 
-both_hold : (a b : Bool) → a ≡ true → b ≡ true → (a && b) ≡ true
-both_hold true b e f = f
-both_hold false b e f = absurd (cc)
-
 pub zero_row_found : (rows : List WRow) (variable : ℕ) → HasBound rows variable (pos 1) (pos 0) → (k : ℕ) × (zero_from variable 0 rows ≡ Some k)
-zero_row_found rows variable h = zero_found_from variable 0 h.among.0 rows h.row h.among.1 (both_hold (is_bound variable (pos 1) h.row) (int_eq h.row.constant (pos 0)) (bound_told rows variable (pos 1) (pos 0) h) ((Decides-int_eq h.row.constant (pos 0)).1 h.number))
+zero_row_found rows variable h = zero_found_from variable 0 h.among.0 rows h.row h.among.1 (and_from (is_bound variable (pos 1) h.row) (int_eq h.row.constant (pos 0)) (bound_told rows variable (pos 1) (pos 0) h) ((Decides-int_eq h.row.constant (pos 0)).1 h.number))
 
 -- ---- a part
 abbrev pub IsPart : List WRow → Link → ℕ × ℤ → Type 0
@@ -121,7 +108,7 @@ entry_is : (here there : Bool) (weigh : ℕ → ℤ) (rows : List WRow) (link : 
 entry_is true there weigh rows link term e f h =
     let none : part_entry rows link term ≡ [] = entry_none (eqb term.0 link.from) (row_times (zero_from term.0 0 rows) (part_times link.to term)) e in
     record {
-      coefficients = λ x. ap (sum_of (λ row. coefficient_of x row.terms) (rows_under weigh rows)) none ∙ sym (zero-mul_ℤ (unit x term.0));
+      coefficients = λ x. ap (sum_of (λ row. coefficient_of x row.terms) (rows_under weigh rows)) none ∙ sym (zero_times (unit x term.0));
       constant = ap (sum_of (λ row. row.constant) (rows_under weigh rows)) none;
       allowed = subst (AllAllowed (rows_under weigh rows)) (sym none) tt;
     }
@@ -149,13 +136,13 @@ step_value false false false c s r p q d e = let z = mul-zero_ℤ (pos 0 -ℤ c)
 -- where the term is the one variable, its unit is that variable's
 same_unit : (test : Bool) (a b x : ℕ) (c : ℤ) → eqb a b ≡ test → cond test c (pos 0) *ℤ unit x a ≡ cond test c (pos 0) *ℤ unit x b
 same_unit true a b x c e = ap (λ (v : ℕ). c *ℤ unit x v) (eqb-true a b e)
-same_unit false a b x c e = zero-mul_ℤ (unit x a) ∙ sym (zero-mul_ℤ (unit x b))
+same_unit false a b x c e = zero_times (unit x a) ∙ sym (zero_times (unit x b))
 
 parts_value : (weigh : ℕ → ℤ) (rows : List WRow) (link : Link) (terms : List (ℕ × ℤ)) (x : ℕ) → link.from < link.to → AreParts rows link terms → sum_of (λ row. coefficient_of x row.terms) (rows_under weigh rows) (part_entries rows link terms) +ℤ coefficient_of x terms ≡ coefficient_of link.from terms *ℤ unit x link.from -ℤ times_in link.to terms *ℤ unit x link.to
 parts_value weigh rows link [] x less h = nothing (unit x link.from) (unit x link.to)
   where
     nothing : (a b : ℤ) → pos 0 +ℤ pos 0 ≡ pos 0 *ℤ a -ℤ pos 0 *ℤ b
-    nothing a b = let y = zero-mul_ℤ a in let z = zero-mul_ℤ b in omega (arith, ints, y, z)
+    nothing a b = let y = zero_times a in let z = zero_times b in omega (arith, ints, y, z)
 parts_value weigh rows link (term ∷ rest) x less h =
     let here = eqb term.0 link.from in
     let there = eqb term.0 link.to in
@@ -189,7 +176,7 @@ one_term a b c d e = ap first e
     first (term ∷ rest) = term.0
 
 same_variable : (rows : List WRow) (n v w : ℕ) → IsRowOf rows n v (pos 1) (pos 0) → IsRowOf rows n w (pos 1) (pos 0) → v ≡ w
-same_variable rows n v w h k = one_term v w (pos 1) (pos 1) (sym h.terms ∙ ap (λ (r : WRow). r.terms) (one_row h.row k.row (sym h.at ∙ k.at)) ∙ k.terms)
+same_variable rows n v w h k = one_term v w (pos 1) (pos 1) (sym h.terms ∙ ap (λ (r : WRow). r.terms) (same_Some h.row k.row (sym h.at ∙ k.at)) ∙ k.terms)
 
 -- an entry counts a row, or none
 data_none : (here : Bool) (found : Option ℕ) (t : ℤ) (n : ℕ) → (here ≡ false → (k : ℕ) → found ≡ Some k → eqb k n ≡ false) → coefficient_of n (cond here [] (row_times found t)) ≡ pos 0
@@ -206,19 +193,11 @@ data_small false (Some k) t n most h = one_small (eqb k n) t most h
     one_small true t most h = omega (arith, ints, h)
     one_small false t most h = omega (arith, ints)
 
-coefficient_both : (x : ℕ) (a b : List (ℕ × ℤ)) → coefficient_of x (a ++ b) ≡ coefficient_of x a +ℤ coefficient_of x b
-coefficient_both x [] b = omega (arith, ints)
-coefficient_both x (term ∷ rest) b = let h = coefficient_both x rest b in omega (arith, ints)
-
-not_equal : (test : Bool) → (test ≡ true → ⊥) → test ≡ false
-not_equal true h = absurd (h refl)
-not_equal false h = refl
-
 -- rows of variables that come later
 parts_none : (rows : List WRow) (link : Link) (n v low end : ℕ) (terms : List (ℕ × ℤ)) → IsRowOf rows n v (pos 1) (pos 0) → v < low → RiseFrom low end terms → coefficient_of n (part_entries rows link terms) ≡ pos 0
 parts_none rows link n v low end [] row less rise = refl
 parts_none rows link n v low end (term ∷ rest) row less rise =
-    coefficient_both n (part_entry rows link term) (part_entries rows link rest) ∙ both (coefficient_of n (part_entry rows link term)) (coefficient_of n (part_entries rows link rest)) (data_none (eqb term.0 link.from) (zero_from term.0 0 rows) (part_times link.to term) n (λ e k f. not_equal (eqb k n) (λ t. above v low term.0 less rise.0 (same_variable rows n v term.0 row (subst (λ (m : ℕ). IsRowOf rows m term.0 (pos 1) (pos 0)) (eqb-true k n t) (zero_row_is rows term.0 k f)))))) (parts_none rows link n v (suc term.0) end rest row (under v low term.0 less rise.0) rise.2)
+    coefficient_both n (part_entry rows link term) (part_entries rows link rest) ∙ both (coefficient_of n (part_entry rows link term)) (coefficient_of n (part_entries rows link rest)) (data_none (eqb term.0 link.from) (zero_from term.0 0 rows) (part_times link.to term) n (λ e k f. false_from_ne_true (eqb k n) (λ t. above v low term.0 less rise.0 (same_variable rows n v term.0 row (subst (λ (m : ℕ). IsRowOf rows m term.0 (pos 1) (pos 0)) (eqb-true k n t) (zero_row_is rows term.0 k f)))))) (parts_none rows link n v (suc term.0) end rest row (under v low term.0 less rise.0) rise.2)
   where
     both : (a b : ℤ) → a ≡ pos 0 → b ≡ pos 0 → a +ℤ b ≡ pos 0
     both a b e f = omega (arith, ints)
@@ -241,7 +220,7 @@ alone a b e h = omega (arith, ints, e, h)
 
 row_small : (test : Bool) (rows : List WRow) (link : Link) (n k end : ℕ) (term : ℕ × ℤ) (rest : List (ℕ × ℤ)) → eqb k n ≡ test → zero_from term.0 0 rows ≡ Some k → RiseFrom (suc term.0) end rest → term.1 ≤ℤ negsuc 0 → unsigned_abs term.1 ≤ 4096 → unsigned_abs (coefficient_of n (part_entries rows link rest)) ≤ 4096 → unsigned_abs (coefficient_of n (part_entry rows link term) +ℤ coefficient_of n (part_entries rows link rest)) ≤ 4096
 row_small true rows link n k end term rest t f rise part short more = alone (coefficient_of n (part_entry rows link term)) (coefficient_of n (part_entries rows link rest)) (parts_none rows link n term.0 (suc term.0) end rest (subst (λ (m : ℕ). IsRowOf rows m term.0 (pos 1) (pos 0)) (eqb-true k n t) (zero_row_is rows term.0 k f)) (omega arith) rise) (data_small (eqb term.0 link.from) (zero_from term.0 0 rows) (part_times link.to term) n 4096 (times_short (eqb term.0 link.to) term.1 part short))
-row_small false rows link n k end term rest t f rise part short more = only (coefficient_of n (part_entry rows link term)) (coefficient_of n (part_entries rows link rest)) (data_none (eqb term.0 link.from) (zero_from term.0 0 rows) (part_times link.to term) n (λ d m g. ap (λ (y : ℕ). eqb y n) (one_number m k (sym g ∙ f)) ∙ t)) more
+row_small false rows link n k end term rest t f rise part short more = only (coefficient_of n (part_entry rows link term)) (coefficient_of n (part_entries rows link rest)) (data_none (eqb term.0 link.from) (zero_from term.0 0 rows) (part_times link.to term) n (λ d m g. ap (λ (y : ℕ). eqb y n) (same_Some m k (sym g ∙ f)) ∙ t)) more
 
 part_small : (here : Bool) (rows : List WRow) (link : Link) (n end : ℕ) (term : ℕ × ℤ) (rest : List (ℕ × ℤ)) → eqb term.0 link.from ≡ here → RiseFrom (suc term.0) end rest → IsPart rows link term → unsigned_abs term.1 ≤ 4096 → unsigned_abs (coefficient_of n (part_entries rows link rest)) ≤ 4096 → unsigned_abs (coefficient_of n (part_entry rows link term) +ℤ coefficient_of n (part_entries rows link rest)) ≤ 4096
 part_small true rows link n end term rest e rise part short more = only (coefficient_of n (part_entry rows link term)) (coefficient_of n (part_entries rows link rest)) (data_none (eqb term.0 link.from) (zero_from term.0 0 rows) (part_times link.to term) n (λ d m g. absurd (false≢true (sym d ∙ e)))) more

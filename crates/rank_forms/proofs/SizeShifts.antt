@@ -4,6 +4,7 @@ use Rattle.std.specs.Prelude.{slice_get, unsigned_abs}
 use Rattle.std.specs.List.{All}
 use Rattle.std.proofs.lemmas.Bool.{eqb-true}
 use Rattle.std.proofs.lemmas.Int.{ints}
+use Rattle.list_views.proofs.Quantified.{all_at as at}
 use Rattle.lin_core.specs.declared.rows.RowKind.TheVariants.{IsZero}
 use Rattle.lin_core.specs.declared.rows.WRow.{WRow}
 use Rattle.lin_core.specs.Combination.{sum_of}
@@ -13,15 +14,14 @@ use Rattle.lin_core.proofs.Signs.{mul-zero_ℤ}
 use Rattle.rule_links.specs.declared.links.Come.{Come}
 use Rattle.rule_links.specs.declared.links.Link.{Link}
 use Rattle.rule_links.specs.declared.links.Tie.{Tie}
-use Rattle.rank_forms.specs.Following.{trail_from, unit}
+use Rattle.rank_forms.specs.Following.{unit}
 use Rattle.rank_forms.specs.Graphs.{AreSizeTerms, IsOneKind}
 use Rattle.rule_links.specs.SizeLinks.{weighed_once}
-use Rattle.rank_forms.specs.Reasons.{part_entries, size_entries, size_tie_entries, terms_at, zero_from}
-use Rattle.rule_links.specs.Rising.{AreRising, IsLongest, size_constant, IsSizeTie, SaysSize}
-use Rattle.rule_links.specs.Searching.{Known}
+use Rattle.rank_forms.specs.Reasons.{part_entries, size_entries, size_tie_entries, terms_at}
+use Rattle.rule_links.specs.Rising.{AreRising, IsLongest, size_constant, IsSizeTie, SaysSize, zero_from}
+use Rattle.rule_links.specs.Searching.{Known, trail_from}
 use Rattle.rank_forms.specs.SizeReasons.{AreSizeTies, size_made}
 use Rattle.rank_forms.proofs.Along.{known_within}
-use Rattle.rule_links.proofs.Listed.{at}
 use Rattle.rank_forms.proofs.Reasoned.{IsReasoned}
 use Rattle.rank_forms.proofs.RowValues.{row_allowed, row_constant, row_value, under_number, under_terms, zero_allowed}
 use Rattle.rule_links.proofs.Sized.{HasTerm, has_term}

@@ -8,7 +8,10 @@ use Rattle.std.proofs.lemmas.Bool.{and_parts, eqb-true, false≢true, true≢fal
 use Rattle.std.proofs.lemmas.Bool.Decides.{Decides-int_eq}
 use Rattle.std.proofs.lemmas.Int.{ints}
 use Rattle.std.proofs.lemmas.List.{length-map}
-use Rattle.std.proofs.lemmas.Option.{slice_get-map, slice_get_within}
+use Rattle.std.proofs.lemmas.Option.{slice_get-map, slice_get_within, same_Some, none-some}
+use Rattle.rule_links.proofs.Tied.{alone_is}
+use Rattle.rule_links.proofs.Fallen.{swapped}
+use Rattle.list_views.proofs.Quantified.{all_at as at}
 use Rattle.list_views.proofs.Ring.{times_minus}
 use Rattle.lin_core.specs.declared.rows.RowKind.{RowKind}
 use Rattle.lin_core.specs.declared.rows.RowKind.TheVariants.{AtLeastZero, IsZero}
@@ -24,15 +27,14 @@ use Rattle.rule_links.specs.declared.links.Come.{Come}
 use Rattle.rule_links.specs.declared.links.Link.{Link}
 use Rattle.rule_links.specs.declared.links.Tie.{Tie}
 use Rattle.rule_links.specs.Counting.{multipliers_of}
-use Rattle.rank_forms.specs.Following.{AreSteps, IsBoundAt, SmallConstants, bound_from, bounded_by, made, step_entries, step_times, trail_from, unit}
+use Rattle.rank_forms.specs.Following.{AreSteps, IsBoundAt, SmallConstants, bound_from, bounded_by, made, step_entries, step_times, unit}
 use Rattle.rule_links.specs.Rising.{IsFallTie, SaysAt, AreRising, IsAtLeast, IsLongest, bounds, has_bound}
 use Rattle.rule_links.specs.Links.{IsWay, total}
-use Rattle.rule_links.specs.Searching.{InTies, Known, by_of, is_alone, is_inequality}
+use Rattle.rule_links.specs.Searching.{InTies, Known, by_of, is_alone, is_inequality, trail_from}
 use Rattle.rule_links.specs.FallLinks.{IsFallLink, sign}
 use Rattle.rank_forms.proofs.Along.{known_within}
 use Rattle.rule_links.proofs.Counted.{fine, multipliers_are}
 use Rattle.rule_links.proofs.Rests.{IsRest, rest_all, rest_first, rest_more}
-use Rattle.rule_links.proofs.Listed.{at}
 use Rattle.rank_forms.proofs.Trailed.{AreShifts, IsShift, IsTrail, no_shift, shift_more, trail_is, trail_short}
 
 -- a row of the list, under a weighing
@@ -63,12 +65,6 @@ pub two_coefficients : (terms : List (ℕ × ℤ)) (plus minus x : ℕ) → (ter
 two_coefficients terms plus minus x h = elim h as (λ o. coefficient_of x terms ≡ unit x plus -ℤ unit x minus) [
   | inl e ↦ ap (coefficient_of x) e ∙ two_there (eqb plus x) (eqb minus x)
   | inr f ↦ ap (coefficient_of x) f ∙ two_turned (eqb plus x) (eqb minus x)
-]
-
-turned : (terms : List (ℕ × ℤ)) (a b : ℕ) → (terms ≡ (a, negsuc 0) ∷ (b, pos 1) ∷ []) ⊎ (terms ≡ (b, pos 1) ∷ (a, negsuc 0) ∷ []) → (terms ≡ (b, pos 1) ∷ (a, negsuc 0) ∷ []) ⊎ (terms ≡ (a, negsuc 0) ∷ (b, pos 1) ∷ [])
-turned terms a b h = elim h as (λ o. (terms ≡ (b, pos 1) ∷ (a, negsuc 0) ∷ []) ⊎ (terms ≡ (a, negsuc 0) ∷ (b, pos 1) ∷ [])) [
-  | inl e ↦ inr e
-  | inr f ↦ inl f
 ]
 
 -- a tie's row, so many times
@@ -123,13 +119,13 @@ says_shift true false row link h = record {
   small = omega (arith, ints);
 }
 says_shift false true row link h = record {
-  coefficients = λ x. again (coefficient_of x row.terms) (unit x link.from) (unit x link.to) (two_coefficients row.terms link.to link.from x (turned row.terms link.from link.to h.terms));
+  coefficients = λ x. again (coefficient_of x row.terms) (unit x link.from) (unit x link.to) (two_coefficients row.terms link.to link.from x (swapped row.terms link.from link.to h.terms));
   constant = again_constant row.constant link.by (value_of_terms unweighed row.weights) h.constant (weightless row.weights h.weights);
   allowed = zero_kind row.kind h.equation;
   small = omega (arith, ints);
 }
 says_shift true true row link h = record {
-  coefficients = λ x. again_less (coefficient_of x row.terms) (unit x link.from) (unit x link.to) (two_coefficients row.terms link.from link.to x (turned row.terms link.to link.from h.terms));
+  coefficients = λ x. again_less (coefficient_of x row.terms) (unit x link.from) (unit x link.to) (two_coefficients row.terms link.from link.to x (swapped row.terms link.to link.from h.terms));
   constant = again_constant row.constant link.by (value_of_terms unweighed row.weights) h.constant (weightless row.weights h.weights);
   allowed = zero_kind row.kind h.equation;
   small = omega (arith, ints);
@@ -159,13 +155,6 @@ steps_shift negative rows first v by (tie ∷ rest) h =
     one_more : (rest : List Tie) → 1 + length rest ≡ suc (length rest)
     one_more rest = omega arith
 
--- the bound
-one_bound : (a b : BoundRow) → ◌≡◌ {A = Option BoundRow} (Some a) (Some b) → a ≡ b
-one_bound a b e = cc
-
-no_bound : (a : BoundRow) → ◌≡◌ {A = Option BoundRow} None (Some a) → ⊥
-no_bound a e = absurd (cc)
-
 pub record IsBoundRow (negative : Bool) (start : ℕ) (rows : List WRow) (bound : BoundRow) : Type 0 where
   pub row : WRow
   pub at : slice_get rows bound.row ≡ Some row
@@ -173,11 +162,11 @@ pub record IsBoundRow (negative : Bool) (start : ℕ) (rows : List WRow) (bound 
   pub constant : row.constant ≡ bound.base
 
 bound_cases : (test : Bool) (negative : Bool) (start n : ℕ) (all : List WRow) (row : WRow) (later : Option BoundRow) (bound : BoundRow) → bounds negative start row ≡ test → slice_get all n ≡ Some row → (later ≡ Some bound → IsBoundRow negative start all bound) → cond test (Some (record { row = n; base = row.constant })) later ≡ Some bound → IsBoundRow negative start all bound
-bound_cases true negative start n all row later bound t is more e = subst (IsBoundRow negative start all) (one_bound (record { row = n; base = row.constant }) bound e) (record { row = row; at = is; holds = t; constant = refl })
+bound_cases true negative start n all row later bound t is more e = subst (IsBoundRow negative start all) (same_Some (record { row = n; base = row.constant }) bound e) (record { row = row; at = is; holds = t; constant = refl })
 bound_cases false negative start n all row later bound t is more e = more e
 
 pub bound_is : (negative : Bool) (start n : ℕ) (all rows : List WRow) (bound : BoundRow) → IsRest all n rows → bound_from negative start n rows ≡ Some bound → IsBoundRow negative start all bound
-bound_is negative start n all [] bound h e = absurd (no_bound bound e)
+bound_is negative start n all [] bound h e = absurd (none-some bound e)
 bound_is negative start n all (row ∷ rest) bound h e = bound_cases (bounds negative start row) negative start n all row (bound_from negative start (suc n) rest) bound refl (rest_first all n row rest h) (λ f. bound_is negative start (suc n) all rest bound (rest_more all n row rest h) f) e
 
 unbounded_cases : (test rest : Bool) (n : ℕ) (k : ℤ) (later : Option BoundRow) → cond test (Some (record { row = n; base = k })) later ≡ None → (later ≡ None → rest ≡ false) → (test || rest) ≡ false
@@ -190,20 +179,6 @@ unbounded_cases false rest n k later e more = more e
 pub unbounded_is : (negative : Bool) (start n : ℕ) (rows : List WRow) → bound_from negative start n rows ≡ None → has_bound negative start rows ≡ false
 unbounded_is negative start n [] e = refl
 unbounded_is negative start n (row ∷ rest) e = unbounded_cases (bounds negative start row) (has_bound negative start rest) n row.constant (bound_from negative start (suc n) rest) e (λ f. unbounded_is negative start (suc n) rest f)
-
-alone_is : (variable : ℕ) (times : ℤ) (terms : List (ℕ × ℤ)) → is_alone variable times terms ≡ true → terms ≡ (variable, times) ∷ []
-alone_is variable times [] e = absurd (cc)
-alone_is variable times (term ∷ []) e =
-    let parts = and_parts (eqb term.0 variable) (int_eq term.1 times) e in
-    ap (λ (v : ℕ). made v term.1) (eqb-true term.0 variable parts.0) ∙ ap (λ (t : ℤ). made variable t) ((Decides-int_eq term.1 times).0 parts.1)
-  where
-    made : ℕ → ℤ → List (ℕ × ℤ)
-    made v t = (v, t) ∷ []
-alone_is variable times (term ∷ more ∷ rest) e = absurd (cc)
-
-kind_at : (kind : RowKind) → is_inequality kind ≡ true → kind ≡ AtLeastZero
-kind_at AtLeastZero e = refl
-kind_at IsZero e = absurd (cc)
 
 unit_times : (negative : Bool) (variable start : ℕ) → coefficient_of variable ((start, sign negative) ∷ []) ≡ sign negative *ℤ unit variable start
 unit_times true variable start = less (eqb start variable)
@@ -248,15 +223,9 @@ bound_at negative start rows bound small h =
     plus_nothing : (a b : ℤ) → b ≡ pos 0 → a +ℤ b ≡ a
     plus_nothing a b e = omega (arith, ints)
 
-whole_bound : (a b : Bound) → ◌≡◌ {A = Option Bound} (Some a) (Some b) → a ≡ b
-whole_bound a b e = cc
-
-none_bound : (a : Bound) → ◌≡◌ {A = Option Bound} None (Some a) → ⊥
-none_bound a e = absurd (cc)
-
 bounded_is : (rows : List Row) (start : List (ℕ × ℤ)) (found : Option BoundRow) (one : Bound) → ((row : BoundRow) → found ≡ Some row → IsBoundAt rows start (record { rows = (row.row, pos 1) ∷ []; base = row.base })) → bounded_by found ≡ Some one → IsBoundAt rows start one
-bounded_is rows start None one h e = absurd (none_bound one e)
-bounded_is rows start (Some row) one h e = subst (IsBoundAt rows start) (whole_bound (record { rows = (row.row, pos 1) ∷ []; base = row.base }) one e) (h row refl)
+bounded_is rows start None one h e = absurd (none-some one e)
+bounded_is rows start (Some row) one h e = subst (IsBoundAt rows start) (same_Some (record { rows = (row.row, pos 1) ∷ []; base = row.base }) one e) (h row refl)
 
 bounded_none : (found : Option BoundRow) → bounded_by found ≡ None → found ≡ None
 bounded_none None e = refl

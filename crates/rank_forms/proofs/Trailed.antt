@@ -1,18 +1,20 @@
 -- What the ties of a trail say together.
-use Rattle.std.proofs.Common.{◌≡◌, ℕ, zero, suc, ◌+◌, ◌-◌, ◌<◌, ◌≤◌, List, [], ◌∷◌, ◌++◌, length, get_or, ℤ, pos, ◌+ℤ◌, ◌-ℤ◌, ◌*ℤ◌, Option, Some, None, subst, ap, arith, ◌∙◌, sym, append_assoc}
+use Rattle.std.proofs.Common.{◌≡◌, ℕ, zero, suc, ◌+◌, ◌<◌, ◌≤◌, List, [], ◌∷◌, ◌++◌, length, get_or, ℤ, pos, ◌+ℤ◌, ◌-ℤ◌, ◌*ℤ◌, Option, Some, None, subst, ap, arith, ◌∙◌, sym}
 use Rattle.std.specs.Prelude.{slice_get, unsigned_abs}
 use Rattle.std.specs.List.{All}
 use Rattle.std.proofs.lemmas.Int.{ints}
+use Rattle.rule_links.proofs.Counted.{both_small}
+use Rattle.lin_core.proofs.Coefficients.{coefficient_both}
+use Rattle.list_views.proofs.Quantified.{all_at}
 use Rattle.list_views.proofs.Ring.{times_plus}
 use Rattle.lin_core.specs.Combination.{number_of, sum_of, AllAllowed}
 use Rattle.lin_core.specs.Rows.{Row, coefficient_of}
 use Rattle.lin_core.proofs.Signs.{mul-zero_ℤ}
 use Rattle.rule_links.specs.declared.links.Come.{Come}
 use Rattle.rule_links.specs.declared.links.Tie.{Tie}
-use Rattle.rank_forms.specs.Following.{last_of, trail_by, trail_from, unit}
+use Rattle.rank_forms.specs.Following.{unit}
 use Rattle.rule_links.specs.Rising.{AreLinked, AreRising, ComesBy}
-use Rattle.rule_links.specs.Searching.{Known}
-use Rattle.rule_links.proofs.Listed.{at}
+use Rattle.rule_links.specs.Searching.{Known, last_of, trail_by, trail_from}
 
 -- ties of a kind from a first variable to v, the last of them first, and what they add up to
 abbrev pub IsTrail : (Tie → Type 0) → ℕ → ℕ → ℤ → List Tie → Type 0
@@ -22,8 +24,8 @@ IsTrail P first v by (tie ∷ rest) = P tie × (tie.link.to ≡ v) × (b : ℤ) 
 trail_last : (P : Tie → Type 0) (ties : List Tie) (first : ℕ) (known : Known) (n v : ℕ) (by : ℤ) (last : Option Tie) → All P ties → AreRising ties → v < suc n → ((u : ℕ) (come : Come) → u < n → get_or known u None ≡ Some come → IsTrail P first u come.by (trail_from n known u)) → ComesBy ties first known v by last → IsTrail P first v by (trail_by last (trail_from n known))
 trail_last P ties first known n v by None all rising low more h = h
 trail_last P ties first known n v by (Some tie) all rising low more h =
-    let rise = at (λ (tie : Tie). tie.link.from < tie.link.to) ties h.0 tie rising h.1 in
-    (at P ties h.0 tie all h.1, h.2, h.3.by, h.5, more tie.link.from h.3 (lower tie.link.from tie.link.to v n rise h.2 low) h.4)
+    let rise = all_at (λ (tie : Tie). tie.link.from < tie.link.to) ties h.0 tie rising h.1 in
+    (all_at P ties h.0 tie all h.1, h.2, h.3.by, h.5, more tie.link.from h.3 (lower tie.link.from tie.link.to v n rise h.2 low) h.4)
   where
     lower : (u w v n : ℕ) → u < w → w ≡ v → v < suc n → u < n
     lower u w v n a b c = omega (arith, a, b, c)
@@ -70,13 +72,6 @@ pub allowed_both : (rows : List Row) (a b : List (ℕ × ℤ)) → AllAllowed ro
 allowed_both rows [] b h k = k
 allowed_both rows (entry ∷ rest) b h k = (h.0, allowed_both rows rest b h.1 k)
 
-both_small : (a b : ℤ) (m n : ℕ) → unsigned_abs a ≤ m → unsigned_abs b ≤ n → unsigned_abs (a +ℤ b) ≤ m + n
-both_small a b m n h k = omega (arith, ints, h, k)
-
-coefficient_both : (x : ℕ) (a b : List (ℕ × ℤ)) → coefficient_of x (a ++ b) ≡ coefficient_of x a +ℤ coefficient_of x b
-coefficient_both x [] b = omega (arith, ints)
-coefficient_both x (term ∷ rest) b = let h = coefficient_both x rest b in omega (arith, ints)
-
 pub size_both : (a b : List (ℕ × ℤ)) (m n : ℕ) → ((x : ℕ) → unsigned_abs (coefficient_of x a) ≤ m) → ((x : ℕ) → unsigned_abs (coefficient_of x b) ≤ n) → (x : ℕ) → unsigned_abs (coefficient_of x (a ++ b)) ≤ m + n
 size_both a b m n h k x = subst (λ (z : ℤ). unsigned_abs z ≤ m + n) (sym (coefficient_both x a b)) (both_small (coefficient_of x a) (coefficient_of x b) m n (h x) (k x))
 
@@ -113,13 +108,3 @@ shift_more rows times counts m n first v b by tie a rest to adds one others = re
       where
         through : (f w s : ℤ) → (f -ℤ w) +ℤ (s -ℤ f) ≡ s -ℤ w
         through f w s = omega (arith, ints)
-
--- one tie of a trail more
-pub trail_next : (known : Known) (from n count : ℕ) (tie : Tie) → n < count → last_of (get_or known from None) ≡ Some tie → trail_from (count - n) known from ≡ tie ∷ trail_from (count - (n + 1)) known tie.link.from
-trail_next known from n count tie low e =
-    let s : count - n ≡ suc (count - (n + 1)) = omega arith in
-    ap (λ (k : ℕ). trail_from k known from) s ∙ ap (λ (o : Option Tie). trail_by o (trail_from (count - (n + 1)) known)) e
-
-pub more_trail : (known : Known) (from n count : ℕ) (tie : Tie) (old new all : List Tie) → n < count → last_of (get_or known from None) ≡ Some tie → new ≡ old ++ tie ∷ [] → old ++ trail_from (count - n) known from ≡ all → new ++ trail_from (count - (n + 1)) known tie.link.from ≡ all
-more_trail known from n count tie old new all low e pushed h =
-    ap (λ (l : List Tie). l ++ trail_from (count - (n + 1)) known tie.link.from) pushed ∙ append_assoc old (tie ∷ []) (trail_from (count - (n + 1)) known tie.link.from) ∙ ap (λ (l : List Tie). old ++ l) (sym (trail_next known from n count tie low e)) ∙ h

@@ -8,28 +8,24 @@ use Rattle.std.proofs.lemmas.Bool.Decides.{nat_tests}
 use Rattle.std.proofs.lemmas.Int.{ints}
 use Rattle.std.proofs.lemmas.List.{at_drop_more}
 use Rattle.std.proofs.lemmas.List.Sorted.{All-permutation, IsPermutation-sym}
-use Rattle.std.proofs.lemmas.Option.{slice_get-get_or}
+use Rattle.std.proofs.lemmas.Option.{slice_get-get_or, same_Some, none-some}
+use Rattle.list_views.proofs.Quantified.{all_at}
+use Rattle.list_views.proofs.Orders.{nat_lt_false}
 use Rattle.lin_core.specs.Rows.{Rise, RiseFrom, value_of_terms}
 use Rattle.lin_core.specs.Weights.{AreWeights, weight_in}
 use Rattle.lin_core.specs.declared.rows.WRow.{WRow}
 use Rattle.descent.specs.declared.rules.PathRule.{PathRule}
 use Rattle.rule_links.specs.SizeLinks.{weighed_once}
+use Rattle.rank_forms.specs.Forms.{IsIn}
 use Rattle.rank_forms.specs.Weighing.{AreOnes, all_classes, classes_of, next_low, one_at, ones_from, row_classes}
-use Rattle.rule_links.proofs.Listed.{at}
 use Rattle.rank_forms.proofs.SizeShifts.{IsWeighed}
 
 -- ---- each class once
-not_less : (a b : ℕ) → nat_lt a b ≡ false → b ≤ a
-not_less a b e = grind (arith, nat_tests)
 
 -- a list that rises below a number, and one more
 pub rise_push : (first low class : ℕ) (weights : List (ℕ × ℤ)) → RiseFrom first low weights → first ≤ class → low ≤ class → RiseFrom first (suc class) (weights ++ (class, pos 1) ∷ [])
 rise_push first low class [] h f l = (f, omega arith, tt)
 rise_push first low class (weight ∷ rest) h f l = (h.0, (let b = h.1 in omega (arith, b, l)), rise_push (suc weight.0) low class rest h.2 (let b = h.1 in omega (arith, b, l)) l)
-
-pub rise_wider : (first low end : ℕ) (weights : List (ℕ × ℤ)) → low ≤ end → RiseFrom first low weights → RiseFrom first end weights
-rise_wider first low end [] l h = tt
-rise_wider first low end (weight ∷ rest) l h = (h.0, (let b = h.1 in omega (arith, b, l)), rise_wider (suc weight.0) low end rest l h.2)
 
 rise_cases : (test : Bool) (class low : ℕ) (old : List (ℕ × ℤ)) → nat_lt class low ≡ test → RiseFrom 0 low old → RiseFrom 0 (cond test low (suc class)) (old ++ cond test [] ((class, pos 1) ∷ []))
 rise_cases true class low old t h = subst (RiseFrom 0 low) (sym (append_nil old)) h
@@ -37,7 +33,7 @@ rise_cases true class low old t h = subst (RiseFrom 0 low) (sym (append_nil old)
     append_nil : (l : List (ℕ × ℤ)) → l ++ [] ≡ l
     append_nil [] = refl
     append_nil (x ∷ rest) = ap (λ (l : List (ℕ × ℤ)). x ∷ l) (append_nil rest)
-rise_cases false class low old t h = rise_push 0 low class old h (omega arith) (not_less class low t)
+rise_cases false class low old t h = rise_push 0 low class old h (omega arith) (nat_lt_false class low t)
 
 pub rise_more : (class low next : ℕ) (old new : List (ℕ × ℤ)) → next ≡ next_low class low → new ≡ old ++ one_at class low → RiseFrom 0 low old → RiseFrom 0 next new
 rise_more class low next old new e f h = subst (λ (n : ℕ). RiseFrom 0 n new) (sym e) (subst (RiseFrom 0 (next_low class low)) (sym f) (rise_cases (nat_lt class low) class low old refl h))
@@ -61,12 +57,6 @@ ordered_from : (classes : List ℕ) → IsNonDecreasingBy (λ (class : ℕ). cla
 ordered_from [] h = tt
 ordered_from (class ∷ rest) h = ((λ i d low. h 0 (suc i) d (omega arith) (omega (arith, low))), ordered_from rest (λ i j d less low. h (suc i) (suc j) d (omega (arith, less)) (omega (arith, low))))
 
-one_class : (a b : ℕ) → ◌≡◌ {A = Option ℕ} (Some a) (Some b) → a ≡ b
-one_class a b e = cc
-
-no_class : (a : ℕ) → ◌≡◌ {A = Option ℕ} None (Some a) → ⊥
-no_class a e = absurd (cc)
-
 one_cases : (test here : Bool) (low class x : ℕ) (rest : List ℕ) → nat_lt class low ≡ test → eqb class x ≡ here → low ≤ x → (class < low → weight_in (ones_from low rest) x ≡ pos 1) → (here ≡ false → weight_in (ones_from (suc class) rest) x ≡ pos 1) → weight_in (cond test [] ((class, pos 1) ∷ []) ++ ones_from (cond test low (suc class)) rest) x ≡ pos 1
 one_cases true here low class x rest t h l before after = before (ltb-true class low t)
 one_cases false true low class x rest t h l before after = ap (λ (b : Bool). cond b (pos 1) (weight_in (ones_from (suc class) rest) x)) h
@@ -83,16 +73,16 @@ not_same a b e h = elim (cases_lt a b) as (λ o. suc a ≤ b) [
     clash false e f = absurd (cc)
 
 weight_one : (low : ℕ) (classes : List ℕ) (k x : ℕ) → IsOrdered classes → slice_get classes k ≡ Some x → low ≤ x → weight_in (ones_from low classes) x ≡ pos 1
-weight_one low [] k x h is less = absurd (no_class x is)
+weight_one low [] k x h is less = absurd (none-some x is)
 weight_one low (class ∷ rest) zero x h is less =
-    let same = one_class class x is in
+    let same = same_Some class x is in
     one_cases (nat_lt class low) (eqb class x) low class x rest refl refl less (λ b. absurd (omega (arith, b, same, less))) (λ n. absurd (clash (eqb class x) n (eq-eqb class x same)))
   where
     clash : (b : Bool) → b ≡ false → b ≡ true → ⊥
     clash true e f = absurd (cc)
     clash false e f = absurd (cc)
 weight_one low (class ∷ rest) (suc k) x h is less =
-    let least = at (λ (other : ℕ). class ≤ other) rest k x h.0 is in
+    let least = all_at (λ (other : ℕ). class ≤ other) rest k x h.0 is in
     one_cases (nat_lt class low) (eqb class x) low class x rest refl refl less (λ b. weight_one low rest k x h.1 is less) (λ n. weight_one (suc class) rest k x h.1 is (not_same class x n least))
 
 all_one : (whole classes : List ℕ) → IsOrdered classes → whole ≡ classes → All (λ (class : ℕ). weight_in (ones_from 0 classes) class ≡ pos 1) classes
@@ -108,11 +98,30 @@ ones_limits : (low : ℕ) (classes : List ℕ) → AreWeights (ones_from low cla
 ones_limits low [] i d less = absurd (omega (arith, less))
 ones_limits low (class ∷ rest) i d less = ones_limits_cases (nat_lt class low) low class rest (ones_limits low rest) (ones_limits (suc class) rest) i d less
 
+-- ---- and of these classes alone
+abbrev OneOf : (ℕ → Type 0) → ℕ × ℤ → Type 0
+OneOf P weight = (weight.1 ≡ pos 1) × P weight.0
+
+only_cases : (P : ℕ → Type 0) (test : Bool) (low class : ℕ) (rest : List ℕ) → P class → All (OneOf P) (ones_from low rest) → All (OneOf P) (ones_from (suc class) rest) → All (OneOf P) (cond test [] ((class, pos 1) ∷ []) ++ ones_from (cond test low (suc class)) rest)
+only_cases P true low class rest p h k i d less = h i d less
+only_cases P false low class rest p h k zero d less = (refl, p)
+only_cases P false low class rest p h k (suc i) d less = k i d (omega (arith, less))
+
+ones_only : (P : ℕ → Type 0) (low : ℕ) (classes : List ℕ) → All P classes → All (OneOf P) (ones_from low classes)
+ones_only P low [] h i d less = absurd (omega (arith, less))
+ones_only P low (class ∷ rest) h i d less =
+    let more : All P rest = λ j e l. h (suc j) e (omega (arith, l)) in
+    only_cases P (nat_lt class low) low class rest (h 0 class (omega arith)) (ones_only P low rest more) (ones_only P (suc class) rest more) i d less
+
+all_in : (classes : List ℕ) → All (IsIn classes) classes
+all_in classes i d low = (i, slice_get-get_or classes i d low)
+
 pub are_ones : (rules : List PathRule) (classes sorted : List ℕ) (weights : List (ℕ × ℤ)) → classes ≡ all_classes rules → IsPermutation classes sorted → IsNonDecreasingBy (λ (class : ℕ). class) sorted → weights ≡ ones_from 0 sorted → Rise 4294967296 weights → AreOnes rules weights
 are_ones rules classes sorted weights c moves order w rise = record {
   rise = rise;
   limits = subst AreWeights (sym w) (ones_limits 0 sorted);
   named = subst (λ (l : List (ℕ × ℤ)). All (λ (class : ℕ). weight_in l class ≡ pos 1) (all_classes rules)) (sym w) (subst (All (λ (class : ℕ). weight_in (ones_from 0 sorted) class ≡ pos 1)) c (All-permutation (λ (class : ℕ). weight_in (ones_from 0 sorted) class ≡ pos 1) sorted classes (IsPermutation-sym classes sorted moves) (all_one sorted sorted (ordered_from sorted order) refl)));
+  only = subst (All (OneOf (IsIn (all_classes rules)))) (sym w) (ones_only (IsIn (all_classes rules)) 0 sorted (subst (λ (l : List ℕ). All (IsIn l) sorted) c (All-permutation (IsIn classes) classes sorted moves (all_in classes))));
 }
 
 -- ---- so a row weighs what its multiples add up to
@@ -144,15 +153,9 @@ rows_weighed weigh [] h i d low = absurd (omega (arith, low))
 rows_weighed weigh (row ∷ rest) h zero d low = weighed_row weigh row.weights (each_left (λ class. weigh class ≡ pos 1) (classes_of row.weights) (row_classes rest) h)
 rows_weighed weigh (row ∷ rest) h (suc i) d low = rows_weighed weigh rest (each_right (λ class. weigh class ≡ pos 1) (classes_of row.weights) (row_classes rest) h) i d (omega (arith, low))
 
-one_rule : (a b : PathRule) → ◌≡◌ {A = Option PathRule} (Some a) (Some b) → a ≡ b
-one_rule a b e = cc
-
-no_rule : (a : PathRule) → ◌≡◌ {A = Option PathRule} None (Some a) → ⊥
-no_rule a e = absurd (cc)
-
 rule_classes : (P : ℕ → Type 0) (rules : List PathRule) (n : ℕ) (rule : PathRule) → slice_get rules n ≡ Some rule → Each P (all_classes rules) → Each P (row_classes rule.rows)
-rule_classes P [] n rule is h = absurd (no_rule rule is)
-rule_classes P (first ∷ rest) zero rule is h = subst (λ (r : PathRule). Each P (row_classes r.rows)) (one_rule first rule is) (each_left P (row_classes first.rows) (all_classes rest) h)
+rule_classes P [] n rule is h = absurd (none-some rule is)
+rule_classes P (first ∷ rest) zero rule is h = subst (λ (r : PathRule). Each P (row_classes r.rows)) (same_Some first rule is) (each_left P (row_classes first.rows) (all_classes rest) h)
 rule_classes P (first ∷ rest) (suc n) rule is h = rule_classes P rest n rule is (each_right P (row_classes first.rows) (all_classes rest) h)
 
 pub rule_weighed : (rules : List PathRule) (weights : List (ℕ × ℤ)) (n : ℕ) (rule : PathRule) → AreOnes rules weights → slice_get rules n ≡ Some rule → All (IsWeighed (weight_in weights)) rule.rows

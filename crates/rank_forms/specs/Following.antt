@@ -1,5 +1,5 @@
--- Words for this crate's own functions: how what stands at a place is followed along a rule, and what shows that it falls.
-use Rattle.std.specs.Prelude.{ℕ, zero, suc, ℤ, pos, negsuc, ◌≡◌, ◌≤◌, ◌^◌, ◌+ℤ◌, ◌-ℤ◌, ◌≤ℤ◌, Bool, false, List, [], ◌∷◌, Option, Some, None, if◌then◌else◌, get_or, length, unsigned_abs}
+-- Words for the functions of this crate and of `rank_search`: how what stands at a place is followed along a rule, and what shows that it falls.
+use Rattle.std.specs.Prelude.{ℕ, suc, ℤ, pos, negsuc, ◌≡◌, ◌≤◌, ◌^◌, ◌+ℤ◌, ◌-ℤ◌, ◌≤ℤ◌, Bool, false, List, [], ◌∷◌, Option, Some, None, if◌then◌else◌, length, unsigned_abs}
 use Rattle.std.specs.List.{All}
 use Rattle.lin_core.specs.declared.rows.WRow.{WRow}
 use Rattle.lin_core.specs.Combination.{summed_coefficient, summed_constant, first_fault}
@@ -7,7 +7,6 @@ use Rattle.lin_core.specs.Rows.{Row, coefficient_of}
 use Rattle.lin_core.specs.Weights.{rows_under, unweighed}
 use Rattle.descent.specs.declared.rules.PathRule.{PathRule}
 use Rattle.descent.specs.declared.rules.Place.{Place}
-use Rattle.rule_links.specs.declared.links.Come.{Come}
 use Rattle.rule_links.specs.declared.links.Link.{Link}
 use Rattle.rule_links.specs.declared.links.Tie.{Tie}
 use Rattle.rank_forms.specs.declared.following.Bound.{Bound}
@@ -16,21 +15,7 @@ use Rattle.rank_forms.specs.declared.following.Followed.{Followed}
 use Rattle.rule_links.specs.Links.{IsWay, total}
 use Rattle.rule_links.specs.Positions.{AreEnds}
 use Rattle.rule_links.specs.Rising.{bounds, has_bound}
-use Rattle.rule_links.specs.Searching.{Known}
 use Rattle.rule_links.specs.FallLinks.{IsFallLink, StepsDown, sign}
-
--- the ties by which a variable was come to, the last first
-abbrev pub last_of : Option Come → Option Tie
-last_of None = None
-last_of (Some come) = come.last
-
-abbrev pub trail_by : Option Tie → (ℕ → List Tie) → List Tie
-trail_by None more = []
-trail_by (Some tie) more = tie ∷ more tie.link.from
-
-abbrev pub trail_from : ℕ → Known → ℕ → List Tie
-trail_from zero known variable = []
-trail_from (suc n) known variable = trail_by (last_of (get_or known variable None)) (trail_from n known)
 
 -- how often the row of a fall link counts
 abbrev pub step_times : Tie → ℤ

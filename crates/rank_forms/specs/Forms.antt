@@ -1,5 +1,5 @@
--- Words for this crate's own functions: the form of each cut that is made of multiples of what stands at places, and the listed rules.
-use Rattle.std.specs.Prelude.{ℕ, suc, ℤ, pos, ◌+ℤ◌, ◌≡◌, ◌≤◌, ◌<◌, ◌==◌, Bool, List, [], ◌∷◌, ◌++◌, Option, Some, None, if◌then◌else◌, nat_lt, int_lt, slice_get, length}
+-- Words for the functions of this crate and of `rank_search`: the form of each cut that is made of multiples of what stands at places, and the listed rules.
+use Rattle.std.specs.Prelude.{ℕ, suc, ℤ, pos, ◌+ℤ◌, ◌≡◌, ◌⊎◌, ◌≤◌, ◌==◌, Bool, List, [], ◌∷◌, ◌++◌, Option, Some, None, if◌then◌else◌, nat_lt, int_lt, slice_get, length}
 use Rattle.std.specs.Ordering.{int_eq}
 use Rattle.descent.specs.declared.proof.CutForm.{CutForm}
 use Rattle.descent.specs.declared.proof.RankRule.{RankRule}
@@ -34,18 +34,17 @@ RiseTo low (cut ∷ rest) end = (low ≤ cut) × RiseTo (suc cut) rest end
 abbrev pub IsIn : List ℕ → ℕ → Type 0
 IsIn cuts cut = (k : ℕ) × (slice_get cuts k ≡ Some cut)
 
--- the cuts of the rules that are below a number, rising
-pub record AreCutsTo (rules : List PathRule) (cuts : List ℕ) (end : ℕ) : Type 0 where
-  pub rise : RiseTo 0 cuts end
-  pub from : (n : ℕ) (rule : PathRule) → slice_get rules n ≡ Some rule → rule.from < end → IsIn cuts rule.from
-  pub to : (n : ℕ) (rule : PathRule) → slice_get rules n ≡ Some rule → rule.to < end → IsIn cuts rule.to
+-- some rule starts or ends at the cut
+abbrev pub IsCutOf : List PathRule → ℕ → Type 0
+IsCutOf rules cut = (n : ℕ) × (rule : PathRule) × (slice_get rules n ≡ Some rule) × ((rule.from ≡ cut) ⊎ (rule.to ≡ cut))
 
--- all of them
+-- the cuts of the rules, rising
 pub record AreCuts (rules : List PathRule) (cuts : List ℕ) : Type 0 where
   pub end : ℕ
   pub rise : RiseTo 0 cuts end
   pub from : (n : ℕ) (rule : PathRule) → slice_get rules n ≡ Some rule → IsIn cuts rule.from
   pub to : (n : ℕ) (rule : PathRule) → slice_get rules n ≡ Some rule → IsIn cuts rule.to
+  pub only : (k cut : ℕ) → slice_get cuts k ≡ Some cut → IsCutOf rules cut
 
 -- the slots of the first end of a rule at a cut
 abbrev pub slots_for : List PathRule → ℕ → List SlotForm

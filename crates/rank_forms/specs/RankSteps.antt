@@ -19,9 +19,9 @@ abbrev pub has_strict : List RankRule → Bool
 has_strict listed = list_any (λ (one : RankRule). is_strict one) listed
 
 -- the cuts rise: the first isn't below `low`, and each is above the one before
-abbrev pub CutsRise : ℕ → List CutForm → Type 0
-CutsRise low [] = Unit {0}
-CutsRise low (form ∷ rest) = (low ≤ form.cut) × CutsRise (suc form.cut) rest
+abbrev pub FormsRise : ℕ → List CutForm → Type 0
+FormsRise low [] = Unit {0}
+FormsRise low (form ∷ rest) = (low ≤ form.cut) × FormsRise (suc form.cut) rest
 
 -- where sizes don't count, no form has any
 abbrev pub HaveNoSizes : List CutForm → Type 0
@@ -36,7 +36,7 @@ IsLinear step = step.size ≡ false → (step.weights ≡ []) × HaveNoSizes ste
 -- and the classes of its weights rise, and it removes at least one rule
 pub record IsRankStep (rules : List PathRule) (step : RankStep) : Type 0 where
   pub limits : IsRanked step
-  pub rise : CutsRise 0 step.forms
+  pub rise : FormsRise 0 step.forms
   pub classes : Rise 4294967296 step.weights
   pub linear : IsLinear step
   pub strict : IsTrue (has_strict step.rules)

@@ -1,4 +1,4 @@
--- Words for this crate's own functions: why a form falls along a rule, and why it is bounded where the rule starts.
+-- Words for the functions of this crate and of `rank_search`: why a form falls along a rule, and why it is bounded where the rule starts.
 use Rattle.std.specs.Prelude.{ℕ, suc, ℤ, pos, negsuc, ◌≡◌, ◌+ℤ◌, ◌-ℤ◌, ◌*ℤ◌, ◌==◌, ◌&&◌, ◌++◌, not, Bool, false, List, [], ◌∷◌, Option, Some, None, if◌then◌else◌, nat_lt, int_lt, slice_get, get_or, length, unsigned_abs}
 use Rattle.lin_core.specs.declared.rows.WRow.{WRow}
 use Rattle.descent.specs.declared.rules.PathRule.{PathRule}
@@ -11,10 +11,10 @@ use Rattle.rule_links.specs.declared.links.Link.{Link}
 use Rattle.rule_links.specs.declared.links.Tie.{Tie}
 use Rattle.rank_forms.specs.declared.reasons.Reasons.{Reasons}
 use Rattle.rule_links.specs.Counting.{multipliers_of}
-use Rattle.rank_forms.specs.Following.{made, step_times, trail_from}
+use Rattle.rank_forms.specs.Following.{made, step_times}
 use Rattle.rule_links.specs.Positions.{AreEnds}
-use Rattle.rule_links.specs.Rising.{is_zero}
-use Rattle.rule_links.specs.Searching.{IsFinished, Known, is_bound, ties_from}
+use Rattle.rule_links.specs.Rising.{zero_from}
+use Rattle.rule_links.specs.Searching.{IsFinished, Known, is_bound, ties_from, trail_from}
 
 -- ---- reasons
 abbrev pub both_reasons : Reasons → Reasons → Reasons
@@ -77,15 +77,16 @@ int_reasons_by (Some come) (Some row) times known finish = Some (int_made come r
 abbrev pub TellsInt : List WRow → List Tie → ℕ → ℕ → ℤ → Option Reasons → Type 0
 TellsInt rows ties start finish times found = (known : Known) × IsFinished ties start known × (found ≡ int_reasons_by (get_or known finish None) (close_from start (side times) 0 rows) times known finish)
 
--- the same at the ends of a rule, and of a form of one or two ints
+-- the same at the ends of a rule, where one variable stands alone at each; nothing where none does at one of them
 abbrev pub TellsIntAt : PathRule → List Tie → Place × ℤ → Option Reasons → Type 0
-TellsIntAt rule ties term found = (start finish : ℕ) → AreEnds rule false term.0 start finish → TellsInt rule.rows ties start finish term.1 found
+TellsIntAt rule ties term found = ((start finish : ℕ) → AreEnds rule false term.0 start finish → TellsInt rule.rows ties start finish term.1 found) × (((start finish : ℕ) → AreEnds rule false term.0 start finish → ⊥) → found ≡ None)
 
+-- and of a form of one or two ints; nothing of other forms
 abbrev pub TellsForm : PathRule → List Tie → List (Place × ℤ) → Option Reasons → Type 0
-TellsForm rule ties [] found = Unit {0}
+TellsForm rule ties [] found = found ≡ None
 TellsForm rule ties (one ∷ []) found = TellsIntAt rule ties one found
 TellsForm rule ties (one ∷ other ∷ []) found = (a : Option Reasons) × (b : Option Reasons) × TellsIntAt rule ties one a × TellsIntAt rule ties other b × (found ≡ both_of a b)
-TellsForm rule ties (one ∷ other ∷ more ∷ rest) found = Unit {0}
+TellsForm rule ties (one ∷ other ∷ more ∷ rest) found = found ≡ None
 
 abbrev pub TellsInts : List (Place × ℤ) → PathRule → Option Followed → Type 0
 TellsInts form rule found = (reasons : Option Reasons) × TellsForm rule (ties_from rule.rows 0 rule.rows) form reasons × (found ≡ followed_of (length rule.rows) reasons)
@@ -96,11 +97,6 @@ TellsEach tells rules None = (n : ℕ) × (rule : PathRule) × (slice_get rules 
 TellsEach tells rules (Some all) = (length all ≡ length rules) × ((n : ℕ) (rule : PathRule) (followed : Followed) → slice_get rules n ≡ Some rule → slice_get all n ≡ Some followed → tells rule (Some followed))
 
 -- ---- sizes
--- the first row that says that a variable is at least 0
-abbrev pub zero_from : ℕ → ℕ → List WRow → Option ℕ
-zero_from variable n [] = None
-zero_from variable n (row ∷ rest) = if is_zero variable row then Some n else zero_from variable (suc n) rest
-
 abbrev pub row_times : Option ℕ → ℤ → List (ℕ × ℤ)
 row_times None times = []
 row_times (Some row) times = (row, times) ∷ []

@@ -1,4 +1,4 @@
--- Words for this crate's own functions: why a size falls along a rule, and the weights of classes.
+-- Words for the functions of this crate and of `rank_search`: why a size falls along a rule.
 use Rattle.std.specs.Prelude.{ℕ, pos, ◌≡◌, true, List, [], ◌∷◌, Option, Some, None, get_or, length}
 use Rattle.std.specs.List.{All}
 use Rattle.lin_core.specs.declared.rows.WRow.{WRow}
@@ -9,12 +9,11 @@ use Rattle.rule_links.specs.declared.links.Come.{Come}
 use Rattle.rule_links.specs.declared.links.Link.{Link}
 use Rattle.rule_links.specs.declared.links.Tie.{Tie}
 use Rattle.rank_forms.specs.declared.reasons.Reasons.{Reasons}
-use Rattle.rank_forms.specs.Following.{trail_from}
 use Rattle.rule_links.specs.SizeLinks.{IsSizeLink}
 use Rattle.rule_links.specs.Positions.{AreEnds}
-use Rattle.rank_forms.specs.Reasons.{followed_of, size_entries, zero_from}
-use Rattle.rule_links.specs.Rising.{AreRising, IsLongest, IsSizeTie}
-use Rattle.rule_links.specs.Searching.{InTies, Known}
+use Rattle.rank_forms.specs.Reasons.{followed_of, size_entries}
+use Rattle.rule_links.specs.Rising.{AreRising, IsLongest, IsSizeTie, zero_from}
+use Rattle.rule_links.specs.Searching.{InTies, Known, trail_from}
 
 abbrev pub size_made : List WRow → Come → ℕ → Known → ℕ → Reasons
 size_made rows come row known finish = record { falls = come.by; fall = size_entries rows (trail_from (length known) known finish); base = pos 0; bound = (row, pos 1) ∷ [] }
@@ -30,8 +29,9 @@ pub record AreSizeTies (rows : List WRow) (ties : List Tie) : Type 0 where
   pub complete : (link : Link) → IsSizeLink rows link → InTies ties link
   pub in_rows : All (IsSizeTie rows) ties
 
-abbrev pub TellsSize : List WRow → ℕ → ℕ → Option Reasons → Type 0
-TellsSize rows start finish found = (ties : List Tie) × (known : Known) × AreSizeTies rows ties × IsLongest ties start known × (found ≡ size_reasons_by rows (get_or known finish None) (zero_from start 0 rows) known finish)
+abbrev pub TellsSizeReasons : List WRow → ℕ → ℕ → Option Reasons → Type 0
+TellsSizeReasons rows start finish found = (ties : List Tie) × (known : Known) × AreSizeTies rows ties × IsLongest ties start known × (found ≡ size_reasons_by rows (get_or known finish None) (zero_from start 0 rows) known finish)
 
+-- at the ends of a rule, where one variable stands alone at each; nothing where none does at one of them
 abbrev pub TellsSizeAt : Place → PathRule → Option Followed → Type 0
-TellsSizeAt place rule found = (start finish : ℕ) → AreEnds rule true place start finish → (reasons : Option Reasons) × TellsSize rule.rows start finish reasons × (found ≡ followed_of (length rule.rows) reasons)
+TellsSizeAt place rule found = ((start finish : ℕ) → AreEnds rule true place start finish → (reasons : Option Reasons) × TellsSizeReasons rule.rows start finish reasons × (found ≡ followed_of (length rule.rows) reasons)) × (((start finish : ℕ) → AreEnds rule true place start finish → ⊥) → found ≡ None)

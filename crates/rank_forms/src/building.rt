@@ -1,18 +1,18 @@
 //! The rank step that parts make.
 ghost use Rattle.descent.specs.Conditions.{AreRules};
 
-use crate::cut_forms::forms_of;
+use crate::cut_forms::forms_by_parts;
 use crate::gathering::{Gathered, gather};
 use crate::weights::ones;
 use descent::{PathRule, RankRule, RankStep};
 use list_views::Seq;
-use rule_links::{Part, is_size};
+use rule_links::{Part, counts_size};
 use std::alloc::{AllocError, Global};
 
 /// Whether some part is a size.
 fn has_size(parts: &[Part]) -> bool {
     for part in parts {
-        if is_size(part.course) {
+        if counts_size(part.course) {
             return true;
         }
     }
@@ -61,7 +61,7 @@ fn constant_for(all: &[Gathered]) -> i64 {
 }
 
 /// The rules as they are listed; None where a multiplier was lost.
-fn list_all(alloc: Global, all: &[Gathered]) -> Result<Option<Seq<RankRule>>, AllocError> {
+fn list_gathered(alloc: Global, all: &[Gathered]) -> Result<Option<Seq<RankRule>>, AllocError> {
     let mut listed = Seq::new(alloc);
     for (n, gathered) in all.iter().enumerate() {
         let Ok(rule) = u32::try_from(n) else {
@@ -84,7 +84,7 @@ fn step_of(
     constant: i64,
     listed: Seq<RankRule>,
 ) -> Result<Option<RankStep>, AllocError> {
-    let Some(forms) = forms_of(alloc, rules, parts, constant)? else {
+    let Some(forms) = forms_by_parts(alloc, rules, parts, constant)? else {
         return Ok(None);
     };
     let weights = if size {
@@ -100,12 +100,12 @@ fn step_of(
     }))
 }
 
-/// The rank step whose form is the sum of these parts at every cut; None where a part isn't followed along a rule, or a
-/// number is too large.
+/// The rank step whose form is the sum of these parts at every cut; None where a part isn't followed along a rule, a cut has no slot
+/// at its place, or a number of the step would be past 64 bits.
 ///
 /// # Errors
 ///
-/// Want of memory, which also answers a number of more than 64 bits.
+/// Want of memory, which also answers a number of more than 64 bits that comes up while a part is followed.
 pub fn build(
     alloc: Global,
     rules: &[PathRule],
@@ -118,7 +118,7 @@ pub fn build(
         return Ok(None);
     };
     let constant = constant_for(all.as_slice());
-    let Some(listed) = list_all(alloc, all.as_slice())? else {
+    let Some(listed) = list_gathered(alloc, all.as_slice())? else {
         return Ok(None);
     };
     step_of(alloc, rules, size, parts, constant, listed)

@@ -3,7 +3,7 @@ ghost use Rattle.std.specs.Prelude.{◌<◌, IfSome, length};
 
 use descent::{CutForm, PathRule, SlotForm};
 use list_views::Seq;
-use rule_links::{Part, is_size, slot_at};
+use rule_links::{Part, counts_size, slot_at};
 use std::alloc::{AllocError, Global};
 
 /// An end of a rule at a cut.
@@ -62,7 +62,7 @@ fn entries_of(
 ) -> Result<Option<Seq<(u16, i64)>>, AllocError> {
     let mut entries = Vec::new(alloc);
     for part in parts {
-        if is_size(part.course) == size {
+        if counts_size(part.course) == size {
             let Some(slot) = slot_at(slots, size, &part.place) else {
                 return Ok(None);
             };
@@ -108,7 +108,7 @@ fn slots_at<'a>(rules: &'a [PathRule], end: &End) -> &'a [SlotForm] {
 }
 
 /// The form of a cut that has these slots.
-fn form_of(
+fn form_by_parts(
     alloc: Global,
     cut: u32,
     slots: &[SlotForm],
@@ -134,7 +134,7 @@ fn form_of(
 /// # Errors
 ///
 /// Want of memory.
-pub(crate) fn forms_of(
+pub(crate) fn forms_by_parts(
     alloc: Global,
     rules: &[PathRule],
     parts: &[Part],
@@ -146,7 +146,7 @@ pub(crate) fn forms_of(
     for end in &ends {
         if before != Some(end.cut) {
             let slots = slots_at(rules, end);
-            match form_of(alloc, end.cut, slots, parts, constant)? {
+            match form_by_parts(alloc, end.cut, slots, parts, constant)? {
                 Some(form) => forms.push(form)?,
                 None => return Ok(None),
             }

@@ -1,13 +1,13 @@
 //! How what stands at a place is followed along a rule, and what shows that it falls.
-ghost use Rattle.std.specs.Prelude.{◌≡◌, ◌<◌, ◌∷◌, [], pos, IfOk, length};
+ghost use Rattle.std.specs.Prelude.{◌≡◌, ◌<◌, ◌∷◌, [], pos, IfOk};
 ghost use Rattle.descent.specs.Conditions.{IsRule};
-ghost use Rattle.rank_forms.specs.Following.{IsFew, SmallConstants, TellsBetween, TellsFollowed, bound_from, bounded_by, last_of, made, step_entries, step_times, trail_from};
+ghost use Rattle.rank_forms.specs.Following.{IsFew, SmallConstants, TellsBetween, TellsFollowed, bound_from, bounded_by, made, step_entries, step_times};
 
 use descent::{PathRule, Place};
 use lin_core::WRow;
 use list_views::Seq;
 use rule_links::{
-    Come, Tie, bounds, by_of, fall_ties, known_of, longest, multipliers_of, variable_at,
+    Tie, bounds, by_of, fall_ties, known_of, longest, multipliers_of, trail, variable_at,
 };
 use std::alloc::{AllocError, Global};
 
@@ -38,36 +38,6 @@ pub struct Followed {
     pub fall: Seq<(u32, i64)>,
     /// What bounds it where the rule starts, if something does.
     pub bound: Option<Bound>,
-}
-
-/// The last tie by which a variable was come to.
-fn last_of(come: Option<Come>) -> Option<Tie>
-    ensures { result ≡ last_of come }
-{
-    match come {
-        Some(come) => come.last,
-        None => None,
-    }
-}
-
-/// The ties that lead to a variable from the one that all are known from, the last first.
-pub(crate) fn trail(
-    alloc: Global,
-    known: &[Option<Come>],
-    finish: u32,
-) -> Result<Seq<Tie>, AllocError>
-    ensures { IfOk result (λ ties. ties ≡ trail_from (length known.now) known.now finish) }
-{
-    let mut ties = Seq::new(alloc);
-    let mut at = finish;
-    for _n in 0..known.len() {
-        let Some(tie) = last_of(known_of(known, at)) else {
-            return Ok(ties);
-        };
-        ties.push(tie)?;
-        at = tie.link.from;
-    }
-    Ok(ties)
 }
 
 /// How often the row of a fall link counts.
@@ -110,9 +80,7 @@ fn one_row(alloc: Global, row: usize) -> Result<Seq<(u32, i64)>, AllocError>
     let Ok(row) = u32::try_from(row) else {
         return Err(AllocError);
     };
-    let mut list = Seq::new(alloc);
-    list.push((row, 1))?;
-    Ok(list)
+    Seq::from_slice(alloc, &[(row, 1)])
 }
 
 /// What a row that counts once bounds.

@@ -122,10 +122,7 @@ fn alone(alloc: Global, id: u16, times: &i64) -> Result<Seq<(u16, i64)>, AllocEr
 fn two(alloc: Global, one: &(u16, i64), other: &(u16, i64)) -> Result<Seq<(u16, i64)>, AllocError>
     ensures { IfOk result (λ ids. ids ≡ one.now ∷ other.now ∷ []) }
 {
-    let mut ids = Seq::new(alloc);
-    ids.push(*one)?;
-    ids.push(*other)?;
-    Ok(ids)
+    Seq::from_slice(alloc, &[*one, *other])
 }
 
 /// Two ids in their order; the multiples of one id add up.
@@ -148,22 +145,13 @@ fn pair_of(
     }
 }
 
-/// The same ids.
-fn copied(alloc: Global, ids: &[(u16, i64)]) -> Result<Seq<(u16, i64)>, AllocError>
-    ensures { IfOk result (λ list. list ≡ ids.now) }
-{
-    let mut list = Seq::new(alloc);
-    list.extend_from_slice(ids)?;
-    Ok(list)
-}
-
 /// At most two ids in their order.
 fn joined(alloc: Global, ids: &[(u16, i64)]) -> Result<Seq<(u16, i64)>, AllocError>
     ensures { IfOk result (λ list. list ≡ joined ids.now) }
 {
     match ids {
         [one, other] => pair_of(alloc, one, other),
-        _ => copied(alloc, ids),
+        _ => Seq::from_slice(alloc, ids),
     }
 }
 
@@ -216,7 +204,8 @@ fn forms_over(
     Ok(forms)
 }
 
-/// The form of each cut of the rules: multiples of what stands at most two places, and a constant.
+/// The form of each cut of the rules: multiples of what stands at at most two places, and a constant. A place without a slot of the
+/// kind at a cut is left out there; more than two multiples stand in the order of the parts, each id as often as it comes.
 ///
 /// # Errors
 ///

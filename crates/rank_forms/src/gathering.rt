@@ -3,8 +3,9 @@ ghost use Rattle.descent.specs.Conditions.{IsRule};
 
 use descent::{PathRule, RankRule, WRow};
 use rule_links::{
-    Come, Course, Multipliers, Part, bounds, count_trail, fall_ties, int_ties, is_size, known_of,
-    longest, more_of, reach, size_constant, size_of, size_ties, trail, variable_at,
+    Come, Course, Multipliers, Part, bounds, count_trail, counts_size, fall_ties, int_ties,
+    known_of, longest, more_of, reach, size_constant, size_of, size_ties, trail, variable_at,
+    with_times,
 };
 use std::alloc::{AllocError, Global};
 
@@ -19,11 +20,6 @@ pub(crate) struct Gathered {
     base: i64,
     bound: Multipliers,
     lost: bool,
-}
-
-/// A number and so many times another one, where that is a number of 64 bits.
-fn with_times(number: i64, times: i64, other: i64) -> Option<i64> {
-    number.checked_add(times.checked_mul(other)?)
 }
 
 impl Gathered {
@@ -65,7 +61,7 @@ impl Gathered {
             Some((row, constant)) => {
                 let often = size_of(part.times);
                 self.bound.add(row, often);
-                match with_times(self.base, often, constant) {
+                match with_times(&self.base, &often, &constant) {
                     Some(base) => self.base = base,
                     None => self.lost = true,
                 }
@@ -204,7 +200,7 @@ fn gather_course(
     requires { IsRule rule.now }
 {
     let rows = rule.rows.as_slice();
-    let size = is_size(part.course);
+    let size = counts_size(part.course);
     let Some(start) = variable_at(rule.first.as_slice(), size, &part.place) else {
         return Ok(false);
     };

@@ -2,12 +2,14 @@
 ghost use Rattle.std.specs.Prelude.{◌≡◌, ◌++◌, ◌∷◌, ◌*ℤ◌, ◌-ℤ◌, [], pos, IfOk, IfSome, OnOk};
 ghost use Rattle.rank_forms.specs.Reasons.{TellsForm, TellsInt, TellsIntAt, TellsInts, beside_entries, both_of, close_from, followed_of, int_entries, int_made, int_tie_entries, is_close, often, side, signed, taken_out};
 
-use crate::following::{BoundRow, Followed, trail};
+use crate::following::{BoundRow, Followed};
 use crate::reasons::{Reasons, both, followed_by, reasons_of};
 use descent::{PathRule, Place};
 use lin_core::WRow;
 use list_views::Seq;
-use rule_links::{Beside, Come, Tie, int_ties, is_bound, known_of, negated, reach, variable_at};
+use rule_links::{
+    Beside, Come, Tie, int_ties, is_bound, known_of, negated, reach, trail, variable_at,
+};
 use std::alloc::{AllocError, Global};
 
 /// On which side so many times an int is bounded.
@@ -42,7 +44,7 @@ fn is_close(row: &WRow, variable: u32, times: &i64) -> bool
     is_bound(row, variable, times) && !(row.constant.unsigned_abs() > 2147483648)
 }
 
-/// The first such row.
+/// The first row that says of the variable alone that so many times it and a constant of at most 2^31 in size is at least 0.
 pub fn close_row(rows: &[WRow], variable: u32, times: &i64) -> Option<BoundRow>
     ensures { result ≡ close_from variable times.now 0 rows.now }
 {
@@ -274,7 +276,8 @@ pub(crate) fn followed_of(
     }
 }
 
-/// What a form of ints falls by along a rule; None where no links lead along it, or nothing bounds it.
+/// What a form of one or two ints falls by along a rule; None where no variable stands alone at one of its places at one of the
+/// rule's ends, no links lead along it, or nothing bounds it, and of a form of none or of three or more.
 ///
 /// # Errors
 ///

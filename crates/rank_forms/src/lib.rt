@@ -19,6 +19,5 @@ pub use forms::{forms_of, slots_for};
 pub use int_reasons::{close_row, follow_ints};
 pub use limits::{are_few, are_forms, is_rank_step, is_ranked};
 pub use listing::{list_all, needed, or_zero};
-pub use reasons::Reasons;
 pub use size_reasons::follow_size;
 pub use weights::ones;

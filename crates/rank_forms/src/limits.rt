@@ -4,7 +4,7 @@ ghost use Rattle.lin_core.specs.Rows.{RiseFrom};
 ghost use Rattle.lin_core.specs.Weights.{AreWeights, IsWeight};
 ghost use Rattle.descent.specs.Conditions.{AreFew, AreForms, AreMultiples, AreRules, IsForm, IsListed, IsRanked};
 ghost use Rattle.descent.specs.Steps.{numbers_from, ranking_fault, ranking_of};
-ghost use Rattle.rank_forms.specs.RankSteps.{CutsRise, HaveNoSizes, IsLinear, IsRankStep, has_strict, is_strict};
+ghost use Rattle.rank_forms.specs.RankSteps.{FormsRise, HaveNoSizes, IsLinear, IsRankStep, has_strict, is_strict};
 
 use descent::{
     CutForm, PathRule, RankRule, RankStep, Scratch, all_rules, check_rank_step, most_variables,
@@ -51,7 +51,8 @@ fn is_form(form: &CutForm) -> bool
         && are_multiples(form.sizes.as_slice())
 }
 
-/// Whether the numbers of the forms are within their limits.
+/// Whether the numbers of the forms are within their limits: constants of at most 2^40 in size, rising ids with multiples of at most
+/// 2^31 in size.
 pub fn are_forms(forms: &[CutForm]) -> bool
     ensures { IsTrue result → AreForms forms.now }
 {
@@ -70,9 +71,10 @@ fn are_weights(weights: &[(u32, i64)]) -> bool
     weights.iter().all(|weight| is_weight(weight))
 }
 
-/// Whether there are few enough multipliers.
+/// Whether there are few enough multipliers: at most 65,536.
 pub fn are_few(multipliers: &[(u32, i64)]) -> bool
-    ensures { IsTrue result → AreFew multipliers.now }
+    ensures few { IsTrue result → AreFew multipliers.now }
+    ensures only { AreFew multipliers.now → IsTrue result }
 {
     multipliers.len() <= 65536
 }
@@ -96,7 +98,8 @@ fn are_listed(listed: &[RankRule]) -> bool
     listed.iter().all(|one| is_listed(one))
 }
 
-/// Whether the numbers of a step are within their limits.
+/// Whether the numbers of a step are within their limits: those of forms, weights from 0 to 65,535, and at most 65,536 multipliers a
+/// rule and list.
 pub fn is_ranked(step: &RankStep) -> bool
     ensures { IsTrue result → IsRanked step.now }
 {
@@ -107,7 +110,7 @@ pub fn is_ranked(step: &RankStep) -> bool
 
 /// Whether the cuts rise.
 fn cuts_rise(forms: &[CutForm]) -> bool
-    ensures { IsTrue result → CutsRise 0 forms.now }
+    ensures { IsTrue result → FormsRise 0 forms.now }
 {
     let mut low: u64 = 0;
     for form in forms {
@@ -211,7 +214,7 @@ fn is_taken(alloc: Global, rules: &[PathRule], step: &RankStep) -> Result<bool, 
     }
 }
 
-/// Whether a step is within its limits, has a strict rule, and is taken.
+/// Whether a step is within its limits, has a strict rule, and is taken by `check_rank_step` for all of the rules.
 ///
 /// # Errors
 ///

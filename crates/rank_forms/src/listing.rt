@@ -39,7 +39,7 @@ fn greater_of(best: Option<i64>, base: Option<i64>) -> Option<i64>
     }
 }
 
-/// The constant that the bounds need.
+/// The greatest constant that a rule needs on which there is a fall with a bound; None where there is none.
 pub fn needed(all: &[Followed]) -> Option<i64>
     ensures { result ≡ needed None all.now }
 {
@@ -60,25 +60,16 @@ pub fn or_zero(number: Option<i64>) -> i64
     }
 }
 
-/// The same multipliers.
-fn copied(alloc: Global, multipliers: &[(u32, i64)]) -> Result<Seq<(u32, i64)>, AllocError>
-    ensures { IfOk result (λ list. list ≡ multipliers.now) }
-{
-    let mut list = Seq::new(alloc);
-    list.extend_from_slice(multipliers)?;
-    Ok(list)
-}
-
 /// How a rule is listed.
 fn listed_as(alloc: Global, number: u32, followed: &Followed) -> Result<RankRule, AllocError>
     ensures { IfOk result (λ listed. listed ≡ listed_as number followed.now) }
 {
-    let fall = copied(alloc, followed.fall.as_slice())?;
+    let fall = Seq::from_slice(alloc, followed.fall.as_slice())?;
     match strict_bound(followed) {
         Some(bound) => Ok(RankRule::Strict {
             rule: number,
             fall,
-            bound: copied(alloc, bound.rows.as_slice())?,
+            bound: Seq::from_slice(alloc, bound.rows.as_slice())?,
         }),
         None => Ok(RankRule::Weak { rule: number, fall }),
     }

@@ -22,7 +22,7 @@ pub struct Reasons {
 }
 
 /// One list after another one.
-fn joined(
+fn appended(
     alloc: Global,
     one: &[(usize, i64)],
     other: &[(usize, i64)],
@@ -66,8 +66,8 @@ pub(crate) fn both(alloc: Global, one: &Reasons, other: &Reasons) -> Result<Reas
     let Some(base) = sum(&one.base, &other.base) else {
         return Err(AllocError);
     };
-    let fall = joined(alloc, one.fall.as_slice(), other.fall.as_slice())?;
-    let bound = joined(alloc, one.bound.as_slice(), other.bound.as_slice())?;
+    let fall = appended(alloc, one.fall.as_slice(), other.fall.as_slice())?;
+    let bound = appended(alloc, one.bound.as_slice(), other.bound.as_slice())?;
     Ok(reasons_of(&falls, fall, &base, bound))
 }
 

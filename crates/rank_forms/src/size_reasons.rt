@@ -3,31 +3,19 @@ ghost use Rattle.std.specs.Prelude.{◌≡◌, ◌++◌, ◌∷◌, [], pos, IfO
 ghost use Rattle.lin_core.specs.Weights.{AreRows};
 ghost use Rattle.descent.specs.Conditions.{IsRule};
 ghost use Rattle.rank_forms.specs.Following.{step_times};
-ghost use Rattle.rank_forms.specs.Reasons.{part_entries, part_entry, part_times, row_times, size_entries, size_tie_entries, terms_at, zero_from};
-ghost use Rattle.rank_forms.specs.SizeReasons.{TellsSize, TellsSizeAt, size_made};
+ghost use Rattle.rank_forms.specs.Reasons.{part_entries, part_entry, part_times, row_times, size_entries, size_tie_entries, terms_at};
+ghost use Rattle.rank_forms.specs.SizeReasons.{TellsSizeAt, TellsSizeReasons, size_made};
 
-use crate::following::{Followed, step_times, trail};
+use crate::following::{Followed, step_times};
 use crate::int_reasons::followed_of;
 use crate::reasons::{Reasons, reasons_of};
 use descent::{PathRule, Place};
 use lin_core::WRow;
 use list_views::Seq;
 use rule_links::{
-    Come, Link, Tie, is_zero, known_of, longest, negated, size_ties, sum, variable_at,
+    Come, Link, Tie, known_of, longest, negated, size_ties, sum, trail, variable_at, zero_row,
 };
 use std::alloc::{AllocError, Global};
-
-/// The first row that says that a variable is at least 0.
-fn zero_row(rows: &[WRow], variable: u32) -> Option<usize>
-    ensures { result ≡ zero_from variable 0 rows.now }
-{
-    for (n, row) in rows.iter().enumerate() {
-        if is_zero(variable, row) {
-            return Some(n);
-        }
-    }
-    None
-}
 
 /// How often a part of a size drops out: once less where the link leads to it.
 fn part_times(to: u32, term: &(u32, i64)) -> Option<i64>
@@ -134,9 +122,7 @@ fn size_entries(alloc: Global, rows: &[WRow], ties: &[Tie]) -> Result<Seq<(usize
 fn one_row(alloc: Global, row: usize) -> Result<Seq<(usize, i64)>, AllocError>
     ensures { IfOk result (λ list. list ≡ (row, pos 1) ∷ []) }
 {
-    let mut list = Seq::new(alloc);
-    list.push((row, 1))?;
-    Ok(list)
+    Seq::from_slice(alloc, &[(row, 1)])
 }
 
 /// Why a size falls, by what is known and the row that it is at least 0.
@@ -165,7 +151,7 @@ fn size_between(
     finish: u32,
 ) -> Result<Option<Reasons>, AllocError>
     requires { AreRows vars rows.now }
-    ensures { IfOk result (λ found. TellsSize rows.now start finish found) }
+    ensures { IfOk result (λ found. TellsSizeReasons rows.now start finish found) }
 {
     let ties = size_ties(alloc, rows, vars)?;
     let known = longest(alloc, ties.as_slice(), start)?;
@@ -178,7 +164,8 @@ fn size_between(
     Ok(Some(size_made(alloc, rows, &come, row, known.as_slice(), finish)?))
 }
 
-/// What the size at a place falls by along a rule; None where no links lead along it.
+/// What the size at a place falls by along a rule; None where no variable stands alone there at one of its ends, no links lead along
+/// it, or no row says that it is at least 0.
 ///
 /// # Errors
 ///

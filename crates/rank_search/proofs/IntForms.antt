@@ -5,6 +5,7 @@ use Rattle.std.specs.List.{All, list_any}
 use Rattle.std.proofs.lemmas.Bool.{and_parts}
 use Rattle.std.proofs.lemmas.Int.{ints}
 use Rattle.std.proofs.lemmas.List.{length-map}
+use Rattle.std.proofs.lemmas.Option.{same_Some, none-some}
 use Rattle.lin_core.specs.declared.rows.WRow.{WRow}
 use Rattle.lin_core.specs.Weights.{row_under, rows_under, unweighed}
 use Rattle.descent.specs.Conditions.{IsRule}
@@ -29,21 +30,16 @@ use Rattle.rank_forms.proofs.IntReasons.{close_found, int_reasoned}
 use Rattle.rank_forms.proofs.Reasoned.{IsReasoned, both_reasoned, reasoned_followed}
 
 -- ---- what holds of all slots holds of the one at a place
-one_slot : (a b : SlotForm) → ◌≡◌ {A = Option SlotForm} (Some a) (Some b) → a ≡ b
-one_slot a b e = cc
-
-no_slot : (a : SlotForm) → ◌≡◌ {A = Option SlotForm} None (Some a) → ⊥
-no_slot a e = absurd (cc)
 
 abbrev HasKind : (SlotForm → Type 0) → Bool → SlotForm → Type 0
 HasKind P size slot = P slot × (same slot.size size ≡ true)
 
 has_cases : (P : SlotForm → Type 0) (here size : Bool) (place : Place) (first slot : SlotForm) (later : Option SlotForm) → is_at size place first ≡ here → P first → (later ≡ Some slot → HasKind P size slot) → cond here (Some first) later ≡ Some slot → HasKind P size slot
-has_cases P true size place first slot later t h more e = subst (HasKind P size) (one_slot first slot e) (h, (and_parts (same first.size size) (list_any (λ (other : Place). is_place other place) first.places) t).0)
+has_cases P true size place first slot later t h more e = subst (HasKind P size) (same_Some first slot e) (h, (and_parts (same first.size size) (list_any (λ (other : Place). is_place other place) first.places) t).0)
 has_cases P false size place first slot later t h more e = more e
 
 pub slot_has : (P : SlotForm → Type 0) (size : Bool) (place : Place) (slots : List SlotForm) (slot : SlotForm) → All P slots → slot_at slots size place ≡ Some slot → HasKind P size slot
-slot_has P size place [] slot all e = absurd (no_slot slot e)
+slot_has P size place [] slot all e = absurd (none-some slot e)
 slot_has P size place (first ∷ rest) slot all e = has_cases P (is_at size place first) size place first slot (slot_at rest size place) refl (all 0 first (omega arith)) (λ f. slot_has P size place rest slot (λ i d low. all (suc i) d (omega (arith, low))) f) e
 
 pub not_size : (size : Bool) → same size false ≡ true → size ≡ false
@@ -72,7 +68,7 @@ int_told : (rule : PathRule) (term : Place × ℤ) (c : ℤ) (found : Option Rea
 int_told rule term c found is path plain small moved tells =
     let start = moved.start in
     let finish = moved.finish in
-    let told = tells start finish moved.ends in
+    let told = tells.0 start finish moved.ends in
     let by = moved.by in
     let known : told.0 ≡ by.known = one_finished (ties_from rule.rows 0 rule.rows) start told.0 by.known told.1 by.finished in
     let come : get_or told.0 finish None ≡ Some by.come = ap (λ (l : Known). get_or l finish None) known ∙ by.at in

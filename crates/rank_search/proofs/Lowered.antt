@@ -4,17 +4,19 @@ use Rattle.std.specs.Prelude.{◌&&◌, ◌||◌, slice_get, int_le, int_lt, IfS
 use Rattle.std.proofs.lemmas.Bool.{and_parts}
 use Rattle.std.proofs.lemmas.Int.{ints}
 use Rattle.std.proofs.lemmas.Option.{slice_get_within, slice_get-get_or}
+use Rattle.list_views.proofs.Orders.{zero_times}
+use Rattle.list_views.proofs.Truths.{or_second}
 use Rattle.descent.specs.declared.rules.PathRule.{PathRule}
 use Rattle.descent.specs.declared.rules.Place.{Place}
 use Rattle.rank_search.specs.declared.candidates.Candidate.{Candidate}
 use Rattle.rank_search.specs.Plain.{FormMoves, LowersBy, LowersInts, RanksSize}
 use Rattle.rule_links.specs.Changes.{MovesBy}
 use Rattle.rule_links.specs.Rising.{IsTableOf, TellAll, TellsSize, TellsSteps}
-use Rattle.rank_search.specs.Candidates.{falling_form, IsOneFound, IsSumFound, falls, form_value, is_strict, is_weak, never_rises, value_of}
+use Rattle.rank_search.specs.Candidates.{falling_form, IsOneFound, IsSumFound, falls, form_value, is_fall, is_weak, never_rises, value_of, IsTold}
 use Rattle.rule_links.specs.Searching.{IsMoved, IsTable, TellsChange}
 use Rattle.rank_search.specs.declared.searching.PlainForm.{PlainForm}
 use Rattle.rank_search.specs.declared.searching.PlainForm.TheVariants.{Ints, Size}
-use Rattle.rank_search.specs.Found.{IsFound, IsTold}
+use Rattle.rank_search.specs.Found.{IsFound}
 use Rattle.rank_search.specs.Stepwise.{StepwiseRanks}
 
 abbrev Lists : Type 0
@@ -33,7 +35,7 @@ weak_is (Some c) e = record { number = c; is = refl; low = low_is c e }
     low_is : (c : ℤ) → int_le c (pos 0) ≡ true → c ≤ℤ pos 0
     low_is c e = omega (arith, ints)
 
-strict_is : (value : Option ℤ) → is_strict value ≡ true → IsValue value (negsuc 0)
+strict_is : (value : Option ℤ) → is_fall value ≡ true → IsValue value (negsuc 0)
 strict_is None e = absurd (cc)
 strict_is (Some c) e = record { number = c; is = refl; low = low_is c e }
   where
@@ -51,19 +53,15 @@ record IsFallAt (form : Candidate) (table : Lists) : Type 0 where
   pub low : number < length table
   pub value : IsValue (form_value form (get_or table number [])) (negsuc 0)
 
-later : (a b : Bool) → a ≡ false → (a || b) ≡ true → b ≡ true
-later true b e h = absurd (cc)
-later false b e h = h
-
-falls_cases : (here : Bool) (form : Candidate) (told : List (Option ℤ)) (rest : Lists) → is_strict (form_value form told) ≡ here → falls form (told ∷ rest) ≡ true → (falls form rest ≡ true → IsFallAt form rest) → IsFallAt form (told ∷ rest)
+falls_cases : (here : Bool) (form : Candidate) (told : List (Option ℤ)) (rest : Lists) → is_fall (form_value form told) ≡ here → falls form (told ∷ rest) ≡ true → (falls form rest ≡ true → IsFallAt form rest) → IsFallAt form (told ∷ rest)
 falls_cases true form told rest t e more = record { number = 0; low = omega arith; value = strict_is (form_value form told) t }
 falls_cases false form told rest t e more =
-    let m = more (later (is_strict (form_value form told)) (falls form rest) t e) in
+    let m = more (or_second (is_fall (form_value form told)) (falls form rest) t e) in
     record { number = suc m.number; low = let l = m.low in omega (arith, l); value = m.value }
 
 falls_at : (form : Candidate) (table : Lists) → falls form table ≡ true → IsFallAt form table
 falls_at form [] e = absurd (cc)
-falls_at form (told ∷ rest) e = falls_cases (is_strict (form_value form told)) form told rest refl e (λ h. falls_at form rest h)
+falls_at form (told ∷ rest) e = falls_cases (is_fall (form_value form told)) form told rest refl e (λ h. falls_at form rest h)
 
 -- the parts of a value
 record HasParts (one other : Option ℤ) (times more c : ℤ) : Type 0 where
@@ -81,12 +79,13 @@ parts_of (Some d) (Some f) times more c e = record { first = d; second = f; is =
     one_int : (a b : ℤ) → ◌≡◌ {A = Option ℤ} (Some a) (Some b) → a ≡ b
     one_int a b e = cc
 
-zero_mul : (d : ℤ) → pos 0 *ℤ d ≡ pos 0
-zero_mul d = omega (arith, ints)
-
-rule_at : (rules : List PathRule) (n count : ℕ) → count ≡ length rules → n < count → (rule : PathRule) × (slice_get rules n ≡ Some rule)
+pub rule_at : (rules : List PathRule) (n count : ℕ) → count ≡ length rules → n < count → (rule : PathRule) × (slice_get rules n ≡ Some rule)
 rule_at [] n count e less = absurd (omega (arith, e, less))
 rule_at (rule ∷ rest) n count e less = (get_or (rule ∷ rest) n rule, slice_get-get_or (rule ∷ rest) n rule (subst (λ (k : ℕ). n < k) e less))
+
+-- a table of places that are seen through other views
+pub table_at : (tells : PathRule → Place → Option ℤ → Type 0) (rules : List PathRule) (a b places : List Place) (table seen : Lists) → a ≡ places → b ≡ places → seen ≡ table → IsTableOf tells rules a table → IsTableOf tells rules b seen
+table_at tells rules a b places table seen e f s h = subst (λ (l : List Place). IsTableOf tells rules l seen) (e ∙ sym f) (subst (IsTableOf tells rules a) (sym s) h)
 
 -- one int
 abbrev Moves : PathRule → List (Place × ℤ) → ℤ → Type 0
@@ -95,7 +94,7 @@ Moves rule form most = (c : ℤ) × FormMoves IsMoved rule form c × (c ≤ℤ m
 one_moves : (rule : PathRule) (told : List (Option ℤ)) (places : List Place) (form : Candidate) (place : Place) (most : ℤ) → TellAll (TellsChange rule) places told → slice_get places form.one ≡ Some place → form.more ≡ pos 0 → IsValue (form_value form told) most → Moves rule ((place, form.times) ∷ []) most
 one_moves rule told places form place most tells is more value =
     let p = parts_of (get_or told form.one None) (get_or told form.other None) form.times form.more value.number value.is in
-    (value.number, (p.first, pos 0, (tells form.one place is).says p.first p.is, refl, adds value.number (form.times *ℤ p.first) (form.more *ℤ p.second) p.adds (ap (λ (x : ℤ). x *ℤ p.second) more ∙ zero_mul p.second)), value.low)
+    (value.number, (p.first, pos 0, (tells.1 form.one place is).says p.first p.is, refl, adds value.number (form.times *ℤ p.first) (form.more *ℤ p.second) p.adds (ap (λ (x : ℤ). x *ℤ p.second) more ∙ zero_times p.second)), value.low)
   where
     adds : (c a b : ℤ) → c ≡ a +ℤ b → b ≡ pos 0 → c ≡ a +ℤ pos 0
     adds c a b e h = omega (arith, ints)
@@ -118,7 +117,7 @@ one_lowers rules places table form place is found at =
 two_moves : (rule : PathRule) (told : List (Option ℤ)) (places : List Place) (form : Candidate) (place other : Place) (most : ℤ) → TellAll (TellsChange rule) places told → slice_get places form.one ≡ Some place → slice_get places form.other ≡ Some other → IsValue (form_value form told) most → Moves rule ((place, form.times) ∷ (other, form.more) ∷ []) most
 two_moves rule told places form place other most tells is at value =
     let p = parts_of (get_or told form.one None) (get_or told form.other None) form.times form.more value.number value.is in
-    (value.number, (p.first, form.more *ℤ p.second +ℤ pos 0, (tells form.one place is).says p.first p.is, (p.second, pos 0, (tells form.other other at).says p.second p.too, refl, refl), adds value.number (form.times *ℤ p.first) (form.more *ℤ p.second) p.adds), value.low)
+    (value.number, (p.first, form.more *ℤ p.second +ℤ pos 0, (tells.1 form.one place is).says p.first p.is, (p.second, pos 0, (tells.1 form.other other at).says p.second p.too, refl, refl), adds value.number (form.times *ℤ p.first) (form.more *ℤ p.second) p.adds), value.low)
   where
     adds : (c a b : ℤ) → c ≡ a +ℤ b → c ≡ a +ℤ (b +ℤ pos 0)
     adds c a b e = omega (arith, ints)
@@ -146,7 +145,7 @@ record FallsBy (told : List (Option ℤ)) (k : ℕ) (least : ℤ) : Type 0 where
 falls_by : (told : List (Option ℤ)) (k : ℕ) (most least : ℤ) → most +ℤ least ≡ pos 0 → IsValue (form_value (falling_form k) told) most → FallsBy told k least
 falls_by told k most least e value =
     let p = parts_of (get_or told k None) (get_or told k None) (negsuc 0) (pos 0) value.number value.is in
-    record { by = p.first; is = p.is; low = low_is value.number p.first (pos 0 *ℤ p.second) most least p.adds (zero_mul p.second) value.low e }
+    record { by = p.first; is = p.is; low = low_is value.number p.first (pos 0 *ℤ p.second) most least p.adds (zero_times p.second) value.low e }
   where
     low_is : (c d z most least : ℤ) → c ≡ negsuc 0 *ℤ d +ℤ z → z ≡ pos 0 → c ≤ℤ most → most +ℤ least ≡ pos 0 → least ≤ℤ d
     low_is c d z most least e f h g = omega (arith, ints)
@@ -163,11 +162,11 @@ size_ranks rules places table k place is found at =
     record {
       each = λ n rule there.
           let v = falls_by (get_or table n []) k (pos 0) (pos 0) refl (never_at (falling_form k) table n parts.0 (let low = slice_get_within rules n rule there in subst (λ (x : ℕ). n < x) (sym is.0) low)) in
-          (v.by, (is.1 n rule there k place at).says v.by v.is, v.low);
+          (v.by, ((is.1 n rule there).1 k place at).says v.by v.is, v.low);
       falling = fall.number;
       fallen = fallen.0;
       there = fallen.1;
-      falls = (most.by, (is.1 fall.number fallen.0 fallen.1 k place at).says most.by most.is, most.low);
+      falls = (most.by, ((is.1 fall.number fallen.0 fallen.1).1 k place at).says most.by most.is, most.low);
     }
 
 pub steps_rank : (negative : Bool) (rules : List PathRule) (places : List Place) (weak strict : Lists) (k : ℕ) (place : Place) → IsTableOf (TellsSteps false negative) rules places weak → IsTableOf (TellsSteps true negative) rules places strict → IsFalling weak strict k → slice_get places k ≡ Some place → StepwiseRanks rules negative place
@@ -176,11 +175,11 @@ steps_rank negative rules places weak strict k place is counts found at =
     let fall = falls_at (falling_form k) strict parts.1 in
     let fallen = rule_at rules fall.number (length strict) counts.0 fall.low in
     let most = falls_by (get_or strict fall.number []) k (negsuc 0) (pos 1) refl fall.value in
-    let steps = (counts.1 fall.number fallen.0 fallen.1 k place at).says most.by most.is in
+    let steps = ((counts.1 fall.number fallen.0 fallen.1).1 k place at).says most.by most.is in
     record {
       each = λ n rule there.
           let v = falls_by (get_or weak n []) k (pos 0) (pos 0) refl (never_at (falling_form k) weak n parts.0 (let low = slice_get_within rules n rule there in subst (λ (x : ℕ). n < x) (sym is.0) low)) in
-          (v.by, ((is.1 n rule there k place at).says v.by v.is).0, v.low);
+          (v.by, (((is.1 n rule there).1 k place at).says v.by v.is).0, v.low);
       falling = fall.number;
       fallen = fallen.0;
       there = fallen.1;

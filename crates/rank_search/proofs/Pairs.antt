@@ -4,10 +4,7 @@ use Rattle.std.specs.Prelude.{is_some}
 use Rattle.rank_search.specs.declared.candidates.Candidate.{Candidate}
 use Rattle.rank_search.specs.Candidates.{ranks_by, multiple_of}
 use Rattle.std.proofs.lemmas.Bool.{true≢false, cases_eq}
-
-none_of : {A : Type 0} (o : Option A) → is_some o ≡ false → o ≡ None
-none_of None e = refl
-none_of (Some form) e = absurd (true≢false e)
+use Rattle.list_views.proofs.Options.{none_from_is_some}
 
 below : (a b : ℕ) → a < b + 1 → (a ≡ b → ⊥) → a < b
 below a b h d = omega (arith, h, d)
@@ -15,7 +12,7 @@ below a b h d = omega (arith, h, d)
 -- what holds of the numbers below one, and of the next where nothing is found, holds of one number more
 pub one_more : {A : Type 0} (P : ℕ → Type 0) (n : ℕ) (found : Option A) (test : Bool) → test ≡ is_some found → test ≡ false → (found ≡ None → P n) → ((m : ℕ) → m < n → P m) → (m : ℕ) → m < n + 1 → P m
 one_more P n found test s t now before m low = elim (cases_eq m n) as (λ o. P m) [
-  | inl e ↦ subst P (sym e) (now (none_of found (sym s ∙ t)))
+  | inl e ↦ subst P (sym e) (now (none_from_is_some found (sym s ∙ t)))
   | inr d ↦ before m (below m n low d)
 ]
 

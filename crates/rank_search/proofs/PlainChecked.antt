@@ -2,6 +2,7 @@
 use Rattle.std.proofs.Common.{◌≡◌, ℕ, zero, suc, Bool, true, false, List, [], ◌∷◌, ℤ, pos, negsuc, Option, Some, None, subst, ap, refl, ◌∙◌, sym, rules}
 use Rattle.std.specs.Prelude.{◌||◌, slice_get, is_some, IsTrue}
 use Rattle.std.specs.List.{All, list_any}
+use Rattle.std.proofs.lemmas.Option.{same_Some, none-some}
 use Rattle.lin_core.specs.declared.rows.WRow.{WRow}
 use Rattle.descent.specs.declared.rules.PathRule.{PathRule}
 use Rattle.descent.specs.declared.rules.SlotForm.{SlotForm}
@@ -25,12 +26,6 @@ close_has rows variable times (Some bound) e t =
     let r = c.row in
     record { constant = bound.base; bound = record { row = r.row; among = (bound.row, r.at); inequality = r.inequality; terms = r.terms; number = r.number; weights = r.weights }; small = c.small }
 
-one_number : (a b : ℕ) → ◌≡◌ {A = Option ℕ} (Some a) (Some b) → a ≡ b
-one_number a b e = cc
-
-no_number : (a : ℕ) → ◌≡◌ {A = Option ℕ} None (Some a) → ⊥
-no_number a e = absurd (cc)
-
 true_not : (b : Bool) → b ≡ true → b ≡ false → ⊥
 true_not true e f = absurd (cc)
 true_not false e f = absurd (cc)
@@ -38,20 +33,20 @@ true_not false e f = absurd (cc)
 -- an int slot
 pub close_int : (rows : List WRow) (slot : SlotForm) (variable : ℕ) → variable_of (Some slot) ≡ Some variable → HasClose rows variable (pos 1) → HasClose rows variable (negsuc 0) → IsCloseInt rows slot
 close_int rows slot variable e low high size v is =
-    let same : variable ≡ v = one_number variable v (sym e ∙ variable_is slot v is) in
+    let same : variable ≡ v = same_Some variable v (sym e ∙ variable_is slot v is) in
     (subst (λ (x : ℕ). HasClose rows x (pos 1)) same low, subst (λ (x : ℕ). HasClose rows x (negsuc 0)) same high)
 
 pub no_int : (rows : List WRow) (slot : SlotForm) → variable_of (Some slot) ≡ None → IsCloseInt rows slot
-no_int rows slot e size v is = absurd (no_number v (sym e ∙ variable_is slot v is))
+no_int rows slot e size v is = absurd (none-some v (sym e ∙ variable_is slot v is))
 
 -- a size slot
 pub size_slot : (rows : List WRow) (slot : SlotForm) (variable : ℕ) → variable_of (Some slot) ≡ Some variable → is_size rows variable ≡ true → has_zero variable rows ≡ true → IsSizeSlot rows (is_size rows) slot
 size_slot rows slot variable e h zero_row size v is =
-    let same : variable ≡ v = one_number variable v (sym e ∙ variable_is slot v is) in
+    let same : variable ≡ v = same_Some variable v (sym e ∙ variable_is slot v is) in
     (ap (is_size rows) (sym same) ∙ h, subst (λ (x : ℕ). HasBound rows x (pos 1) (pos 0)) same (zero_is rows variable zero_row))
 
 pub no_size_slot : (rows : List WRow) (slot : SlotForm) → variable_of (Some slot) ≡ None → IsSizeSlot rows (is_size rows) slot
-no_size_slot rows slot e size v is = absurd (no_number v (sym e ∙ variable_is slot v is))
+no_size_slot rows slot e size v is = absurd (none-some v (sym e ∙ variable_is slot v is))
 
 -- three terms
 pub short_three : (row : WRow) → AreShort row.terms → IsShort row
@@ -88,9 +83,6 @@ one_kind rows row terms = record { alike = λ kind n term is size. terms }
 
 pub plain_rule : (rule : PathRule) → All (IsCloseInt rule.rows) rule.first → All IsShort rule.rows → All (IsSizeSlot rule.rows (is_size rule.rows)) rule.first → All (IsOneKind (is_size rule.rows)) rule.rows → IsPlainRule rule
 plain_rule rule ints short slots kinds = record { ints = ints; short = short; sizes = record { sizes = is_size rule.rows; slots = slots; kinds = kinds } }
-
-pub is_true : (a : Bool) → a ≡ true → IsTrue a
-is_true a e = search rules
 
 pub plain_rule_by : (rule : PathRule) (rows : List WRow) (slots : List SlotForm) → rows ≡ rule.rows → slots ≡ rule.first → All (IsCloseInt rows) slots → All IsShort rows → All (IsSizeSlot rows (is_size rows)) slots → All (IsOneKind (is_size rows)) rows → IsPlainRule rule
 plain_rule_by rule rows slots e f ints short sizes kinds = plain_rule rule (subst (λ (r : List WRow). All (IsCloseInt r) rule.first) e (subst (All (IsCloseInt rows)) f ints)) (subst (All IsShort) e short) (subst (λ (r : List WRow). All (IsSizeSlot r (is_size r)) rule.first) e (subst (All (IsSizeSlot rows (is_size rows))) f sizes)) (subst (λ (r : List WRow). All (IsOneKind (is_size r)) r) e kinds)

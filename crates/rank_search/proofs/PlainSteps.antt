@@ -2,7 +2,8 @@
 use Rattle.std.proofs.Common.{◌≡◌, ℕ, ◌≤◌, false, List, [], length, ℤ, pos, negsuc, ◌-ℤ◌, ◌≤ℤ◌, Option, Some, None, subst, arith, refl, sym}
 use Rattle.std.specs.Prelude.{slice_get}
 use Rattle.std.proofs.lemmas.Int.{ints}
-use Rattle.std.proofs.lemmas.Option.{get_or_from_slice_get}
+use Rattle.std.proofs.lemmas.Option.{get_or_from_slice_get, same_Some, none-some}
+use Rattle.list_views.proofs.Quantified.{all_at}
 use Rattle.descent.specs.Conditions.{IsRule}
 use Rattle.descent.specs.declared.proof.CutForm.{CutForm}
 use Rattle.descent.specs.declared.proof.RankRule.{RankRule}
@@ -21,7 +22,6 @@ use Rattle.rank_forms.specs.Reasons.{TellsEach, TellsInts, followed_by, followed
 use Rattle.rule_links.specs.Searching.{IsMoved}
 use Rattle.rank_forms.proofs.Formed.{rule_lines}
 use Rattle.rank_search.proofs.IntForms.{IsIntsTold, form_parts, ints_told}
-use Rattle.rule_links.proofs.Listed.{at}
 use Rattle.rank_forms.proofs.Lined.{ranking_with}
 use Rattle.rank_forms.proofs.Shown.{IsShown, follow_there, int_step}
 use Rattle.rule_links.proofs.Told.{AreTold, told_all}
@@ -42,27 +42,22 @@ pub some_followed : (tells : PathRule → Option Followed → Type 0) (rule : Pa
 some_followed tells rule found followed e h = subst (tells rule) e h
 
 -- ---- ints
-one_followed : (a b : Followed) → ◌≡◌ {A = Option Followed} (Some a) (Some b) → a ≡ b
-one_followed a b e = cc
-
-not_none : (a : Followed) → ◌≡◌ {A = Option Followed} None (Some a) → ⊥
-not_none a e = absurd (cc)
 
 told_at : (rules : List PathRule) (form : List (Place × ℤ)) (n : ℕ) (rule : PathRule) (c : ℤ) (found : Option Followed) → ArePlainRules rules → LowersBy IsMoved rules form → slice_get rules n ≡ Some rule → FormMoves IsMoved rule form c → TellsInts form rule found → IsIntsTold rule form c found
-told_at rules form n rule c found are lowers is moves tells = ints_told rule form c found (at IsRule rules n rule are.paths.limits is) (at IsPathRule rules n rule are.paths.each is) (at IsPlainRule rules n rule are.plain is) lowers.shape moves tells
+told_at rules form n rule c found are lowers is moves tells = ints_told rule form c found (all_at IsRule rules n rule are.paths.limits is) (all_at IsPathRule rules n rule are.paths.each is) (all_at IsPlainRule rules n rule are.plain is) lowers.shape moves tells
 
 pub no_ints_step : (rules : List PathRule) (form : List (Place × ℤ)) → ArePlainRules rules → LowersBy IsMoved rules form → TellsEach (TellsInts form) rules None → NoPlainForm rules
 no_ints_step rules form are lowers tells =
     let some = lowers.each tells.0 tells.1 tells.2 in
     let told = told_at rules form tells.0 tells.1 some.0 None are lowers tells.2 some.1 tells.3 in
-    absurd (not_none told.followed told.is)
+    absurd (none-some told.followed told.is)
 
 has_bound : (rule : PathRule) (form : List (Place × ℤ)) (followed : Followed) → TellsInts form rule (Some followed) → (bound : Bound) × (followed.bound ≡ Some bound)
 has_bound rule form followed tells = by_reasons tells.0 tells.2
   where
     by_reasons : (reasons : Option Reasons) → Some followed ≡ followed_of (length rule.rows) reasons → (bound : Bound) × (followed.bound ≡ Some bound)
-    by_reasons None e = absurd (not_none followed (sym e))
-    by_reasons (Some reasons) e = subst (λ (f : Followed). (bound : Bound) × (f.bound ≡ Some bound)) (sym (one_followed followed (followed_by (length rule.rows) reasons) e)) (record { rows = multipliers_of (length rule.rows) reasons.bound; base = reasons.base }, refl)
+    by_reasons None e = absurd (none-some followed (sym e))
+    by_reasons (Some reasons) e = subst (λ (f : Followed). (bound : Bound) × (f.bound ≡ Some bound)) (sym (same_Some followed (followed_by (length rule.rows) reasons) e)) (record { rows = multipliers_of (length rule.rows) reasons.bound; base = reasons.base }, refl)
 
 falls_low : (f c : ℤ) → f ≡ pos 0 -ℤ c → c ≤ℤ pos 0 → pos 0 ≤ℤ f
 falls_low f c e h = omega (arith, ints, e, h)
@@ -81,7 +76,7 @@ ints_made rules form all constant cuts are lowers tells k c =
       each = λ n rule followed is e.
           let some = lowers.each n rule is in
           let t = told_at rules form n rule some.0 (Some followed) are lowers is some.1 (tells.1 n rule followed is e) in
-          let same = one_followed followed t.followed t.is in
+          let same = same_Some followed t.followed t.is in
           subst (λ (f : Followed). IsShown (ranking_with false [] (forms_over rules false form constant cuts)) constant rule f) (sym same) (record {
             start = t.start;
             finish = t.finish;
@@ -93,7 +88,7 @@ ints_made rules form all constant cuts are lowers tells k c =
       number = lowers.falling;
       followed = fallen.0;
       there = fallen.1;
-      falls = subst (λ (f : Followed). pos 1 ≤ℤ f.falls) (sym (one_followed fallen.0 told.followed told.is)) (falls_strictly told.followed.falls lowers.falls.0 told.falls lowers.falls.2);
+      falls = subst (λ (f : Followed). pos 1 ≤ℤ f.falls) (sym (same_Some fallen.0 told.followed told.is)) (falls_strictly told.followed.falls lowers.falls.0 told.falls lowers.falls.2);
       bound = bound.0;
       bounded = bound.1;
     })

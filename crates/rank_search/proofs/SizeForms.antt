@@ -4,6 +4,9 @@ use Rattle.std.specs.Prelude.{slice_get}
 use Rattle.std.specs.List.{All}
 use Rattle.std.proofs.lemmas.Int.{ints}
 use Rattle.std.proofs.lemmas.List.{length-map}
+use Rattle.std.proofs.lemmas.Option.{same_Some, none-some}
+use Rattle.list_views.proofs.Quantified.{all_at}
+use Rattle.list_views.proofs.Orders.{int_through}
 use Rattle.lin_core.specs.declared.rows.WRow.{WRow}
 use Rattle.lin_core.specs.Weights.{row_under, rows_under, weight_in}
 use Rattle.descent.specs.Conditions.{IsRule}
@@ -25,8 +28,8 @@ use Rattle.rule_links.specs.SizeLinks.{IsSizeLink, SizeFalls}
 use Rattle.rank_search.specs.Plain.{NoPlainForm, RanksSize}
 use Rattle.rule_links.specs.Positions.{AreEnds}
 use Rattle.rank_forms.specs.RankSteps.{IsRankStep}
-use Rattle.rank_forms.specs.Reasons.{TellsEach, followed_by, followed_of, zero_from}
-use Rattle.rule_links.specs.Rising.{IsAtLeast}
+use Rattle.rank_forms.specs.Reasons.{TellsEach, followed_by, followed_of}
+use Rattle.rule_links.specs.Rising.{IsAtLeast, zero_from}
 use Rattle.rule_links.specs.Searching.{InTies}
 use Rattle.rank_forms.specs.SizeReasons.{TellsSizeAt, size_made, size_reasons_by}
 use Rattle.rank_forms.specs.Weighing.{AreOnes}
@@ -35,7 +38,6 @@ use Rattle.rule_links.proofs.Changed.{stands_is}
 use Rattle.rank_forms.proofs.Formed.{rule_lines}
 use Rattle.rank_search.proofs.IntForms.{is_size, slot_has}
 use Rattle.rank_forms.proofs.Lined.{ranking_with}
-use Rattle.rule_links.proofs.Listed.{at}
 use Rattle.rank_forms.proofs.Reasoned.{reasoned_followed}
 use Rattle.rank_forms.proofs.Shown.{IsShown, follow_there, size_step}
 use Rattle.rank_forms.proofs.SizeParts.{zero_row_found}
@@ -67,7 +69,7 @@ pub size_told : (weigh : ℕ → ℤ) (rule : PathRule) (place : Place) (c : ℤ
 size_told weigh rule place c found is path plain weighed falls tells =
     let start = falls.start in
     let finish = falls.finish in
-    let told = tells start finish falls.ends in
+    let told = tells.0 start finish falls.ends in
     let size = told.1 in
     let ties = size.0 in
     let known = size.1 in
@@ -94,41 +96,33 @@ size_told weigh rule place c found is path plain weighed falls tells =
     }
 
 -- ---- the rules
-one_followed : (a b : Followed) → ◌≡◌ {A = Option Followed} (Some a) (Some b) → a ≡ b
-one_followed a b e = cc
-
-not_none : (a : Followed) → ◌≡◌ {A = Option Followed} None (Some a) → ⊥
-not_none a e = absurd (cc)
 
 told_at : (rules : List PathRule) (weights : List (ℕ × ℤ)) (place : Place) (n : ℕ) (rule : PathRule) (c : ℤ) (found : Option Followed) → ArePlainRules rules → AreOnes rules weights → slice_get rules n ≡ Some rule → SizeFalls rule place c → TellsSizeAt place rule found → IsSizeTold (weight_in weights) rule place c found
-told_at rules weights place n rule c found are ones is falls tells = size_told (weight_in weights) rule place c found (at IsRule rules n rule are.paths.limits is) (at IsPathRule rules n rule are.paths.each is) (at IsPlainRule rules n rule are.plain is) (rule_weighed rules weights n rule ones is) falls tells
-
-through : (a b c : ℤ) → a ≤ℤ b → b ≤ℤ c → a ≤ℤ c
-through a b c h k = omega (arith, ints, h, k)
+told_at rules weights place n rule c found are ones is falls tells = size_told (weight_in weights) rule place c found (all_at IsRule rules n rule are.paths.limits is) (all_at IsPathRule rules n rule are.paths.each is) (all_at IsPlainRule rules n rule are.plain is) (rule_weighed rules weights n rule ones is) falls tells
 
 size_made_step : (rules : List PathRule) (place : Place) (all : List Followed) (constant : ℤ) (weights : List (ℕ × ℤ)) (cuts : List ℕ) → ArePlainRules rules → RanksSize rules place → TellsEach (TellsSizeAt place) rules (Some all) → AreOnes rules weights → constant ≡ or_zero (needed None all) → AreCuts rules cuts → IsRankStep rules (record { size = true; weights = weights; forms = forms_over rules true ((place, pos 1) ∷ []) constant cuts; rules = list_from 0 all })
 size_made_step rules place all constant weights cuts are ranks tells ones k c =
     let parts : List (Place × ℤ) = (place, pos 1) ∷ [] in
     let fallen = follow_there all rules ranks.falling ranks.fallen tells.0 ranks.there in
     let told = told_at rules weights place ranks.falling ranks.fallen ranks.falls.0 (Some fallen.0) are ones ranks.there ranks.falls.1 (tells.1 ranks.falling ranks.fallen fallen.0 ranks.there fallen.1) in
-    let same = one_followed fallen.0 told.followed told.is in
+    let same = same_Some fallen.0 told.followed told.is in
     size_step weights rules parts all constant cuts are.paths (record { few = omega arith; small = (omega (arith, ints), tt) }) c ones.limits ones.rise k (record {
       count = tells.0;
       each = λ n rule followed is e.
           let some = ranks.each n rule is in
           let t = told_at rules weights place n rule some.0 (Some followed) are ones is some.1 (tells.1 n rule followed is e) in
-          subst (λ (f : Followed). IsShown (ranking_with true weights (forms_over rules true parts constant cuts)) constant rule f) (sym (one_followed followed t.followed t.is)) (record {
+          subst (λ (f : Followed). IsShown (ranking_with true weights (forms_over rules true parts constant cuts)) constant rule f) (sym (same_Some followed t.followed t.is)) (record {
             start = (t.start, pos 1) ∷ [];
             finish = (t.finish, pos 1) ∷ [];
             lines = rule_lines true weights rules parts constant cuts n rule ((t.start, pos 1) ∷ []) ((t.finish, pos 1) ∷ []) are.paths c is (record { first = (t.ends.first, refl, tt); last = (t.ends.last, refl, tt) });
             shown = t.shown;
-            falls = through (pos 0) some.0 t.followed.falls some.2 t.falls;
+            falls = int_through (pos 0) some.0 t.followed.falls some.2 t.falls;
           });
     }) (record {
       number = ranks.falling;
       followed = fallen.0;
       there = fallen.1;
-      falls = subst (λ (f : Followed). pos 1 ≤ℤ f.falls) (sym same) (through (pos 1) ranks.falls.0 told.followed.falls ranks.falls.2 told.falls);
+      falls = subst (λ (f : Followed). pos 1 ≤ℤ f.falls) (sym same) (int_through (pos 1) ranks.falls.0 told.followed.falls ranks.falls.2 told.falls);
       bound = told.bound;
       bounded = ap (λ (f : Followed). f.bound) same ∙ told.bounded;
     })
@@ -142,7 +136,7 @@ by_come : (rule : PathRule) (place : Place) (c : ℤ) (found : Option Followed) 
 by_come rule place c found is plain falls tells =
     let start = falls.start in
     let finish = falls.finish in
-    let told = tells start finish falls.ends in
+    let told = tells.0 start finish falls.ends in
     let size = told.1 in
     let come = known_of (get_or size.1 finish None) (total falls.links) (size.3.greatest falls.links finish (way_in rule.rows size.0 size.2.complete start finish falls.links falls.way)) in
     let slot = falls.ends.first in
@@ -153,5 +147,5 @@ by_come rule place c found is plain falls tells =
 pub no_size_step : (rules : List PathRule) (place : Place) → ArePlainRules rules → RanksSize rules place → TellsEach (TellsSizeAt place) rules None → NoPlainForm rules
 no_size_step rules place are ranks tells =
     let some = ranks.each tells.0 tells.1 tells.2 in
-    let told = by_come tells.1 place some.0 None (at IsRule rules tells.0 tells.1 are.paths.limits tells.2) (at IsPlainRule rules tells.0 tells.1 are.plain tells.2) some.1 tells.3 in
-    absurd (not_none told.0 told.1)
+    let told = by_come tells.1 place some.0 None (all_at IsRule rules tells.0 tells.1 are.paths.limits tells.2) (all_at IsPlainRule rules tells.0 tells.1 are.plain tells.2) some.1 tells.3 in
+    absurd (none-some told.0 told.1)

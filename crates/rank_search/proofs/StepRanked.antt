@@ -2,7 +2,8 @@
 use Rattle.std.proofs.Common.{◌≡◌, ℕ, ◌<◌, ◌≤◌, Bool, true, false, List, [], ◌∷◌, length, get_or, ℤ, pos, ◌≤ℤ◌, Option, Some, None, subst, ap, arith, refl, ◌∙◌, sym}
 use Rattle.std.specs.Prelude.{slice_get, unsigned_abs}
 use Rattle.std.proofs.lemmas.Int.{ints}
-use Rattle.std.proofs.lemmas.Option.{get_or_from_slice_get, slice_get-get_or}
+use Rattle.std.proofs.lemmas.Option.{get_or_from_slice_get, slice_get-get_or, same_Some}
+use Rattle.list_views.proofs.Orders.{int_through}
 use Rattle.descent.specs.declared.proof.CutForm.{CutForm}
 use Rattle.descent.specs.declared.proof.RankRule.{RankRule}
 use Rattle.descent.specs.declared.rules.PathRule.{PathRule}
@@ -52,18 +53,13 @@ item_at rules n rule low e = slice_get-get_or rules n rule low ∙ ap some (sym 
     some x = Some x
 
 -- ---- the whole
-one_number : (a b : ℕ) → ◌≡◌ {A = Option ℕ} (Some a) (Some b) → a ≡ b
-one_number a b e = cc
 
 -- the steps of the definition are between the ends that were found
 falls_most : (negative : Bool) (rule : PathRule) (place : Place) (followed : Followed) (c : ℤ) → IsAlong negative rule place followed → StepsDown negative rule place c → c ≤ℤ followed.falls
 falls_most negative rule place followed c along steps =
-    let first : steps.start ≡ along.start = one_number steps.start along.start (sym (stands_is rule.first false place steps.start steps.ends.first) ∙ stands_is rule.first false place along.start along.ends.first) in
-    let last : steps.finish ≡ along.finish = one_number steps.finish along.finish (sym (stands_is rule.last false place steps.finish steps.ends.last) ∙ stands_is rule.last false place along.finish along.ends.last) in
+    let first : steps.start ≡ along.start = same_Some steps.start along.start (sym (stands_is rule.first false place steps.start steps.ends.first) ∙ stands_is rule.first false place along.start along.ends.first) in
+    let last : steps.finish ≡ along.finish = same_Some steps.finish along.finish (sym (stands_is rule.last false place steps.finish steps.ends.last) ∙ stands_is rule.last false place along.finish along.ends.last) in
     subst (λ (x : ℤ). x ≤ℤ followed.falls) steps.adds (along.steps.most steps.links (subst (λ (x : ℕ). IsWay (IsFallLink negative rule.rows) along.start steps.links x) last (subst (λ (x : ℕ). IsWay (IsFallLink negative rule.rows) x steps.links steps.finish) first steps.way)))
-
-through : (a b c : ℤ) → a ≤ℤ b → b ≤ℤ c → a ≤ℤ c
-through a b c h k = omega (arith, ints, h, k)
 
 bound_there : (found : Option Bound) (test : Bool) → test ≡ true → (found ≡ None → test ≡ false) → (bound : Bound) × (found ≡ Some bound)
 bound_there None test t h = absurd (clash test t (h refl))
@@ -82,7 +78,7 @@ step_made negative rules place all constant cuts are ranks follows k c =
     let parts : List (Place × ℤ) = (place, sign negative) ∷ [] in
     let fallen = follow_there all rules ranks.falling ranks.fallen follows.count ranks.there in
     let along = follows.each ranks.falling ranks.fallen fallen.0 ranks.there fallen.1 in
-    let start : ranks.falls.start ≡ along.start = one_number ranks.falls.start along.start (sym (stands_is ranks.fallen.first false place ranks.falls.start ranks.falls.ends.first) ∙ stands_is ranks.fallen.first false place along.start along.ends.first) in
+    let start : ranks.falls.start ≡ along.start = same_Some ranks.falls.start along.start (sym (stands_is ranks.fallen.first false place ranks.falls.start ranks.falls.ends.first) ∙ stands_is ranks.fallen.first false place along.start along.ends.first) in
     let bounded : has_bound negative along.start ranks.fallen.rows ≡ true = ap (λ (x : ℕ). has_bound negative x ranks.fallen.rows) (sym start) ∙ bound_found negative ranks.fallen ranks.falls.start ranks.bounded in
     let bound = bound_there fallen.0.bound (has_bound negative along.start ranks.fallen.rows) bounded along.steps.unbounded in
     int_step rules parts all constant cuts are (record { few = omega arith; small = (sign_small negative, tt) }) c k (record {
@@ -95,13 +91,13 @@ step_made negative rules place all constant cuts are ranks follows k c =
             finish = (a.finish, sign negative) ∷ [];
             lines = rule_lines false [] rules parts constant cuts n rule ((a.start, sign negative) ∷ []) ((a.finish, sign negative) ∷ []) are c is (record { first = (a.ends.first, refl, tt); last = (a.ends.last, refl, tt) });
             shown = a.steps.shown;
-            falls = through (pos 0) some.0 followed.falls some.2 (falls_most negative rule place followed some.0 a some.1);
+            falls = int_through (pos 0) some.0 followed.falls some.2 (falls_most negative rule place followed some.0 a some.1);
           };
     }) (record {
       number = ranks.falling;
       followed = fallen.0;
       there = fallen.1;
-      falls = through (pos 1) ranks.amount fallen.0.falls ranks.strictly (falls_most negative ranks.fallen place fallen.0 ranks.amount along ranks.falls);
+      falls = int_through (pos 1) ranks.amount fallen.0.falls ranks.strictly (falls_most negative ranks.fallen place fallen.0 ranks.amount along ranks.falls);
       bound = bound.0;
       bounded = bound.1;
     })

@@ -1,7 +1,13 @@
 -- Words for this crate's own functions: the forms of one place and of two that come into question, by the numbers of a table.
 use Rattle.std.specs.Prelude.{ℕ, ℤ, pos, negsuc, ◌≡◌, ◌<◌, ◌+ℤ◌, ◌*ℤ◌, ◌==◌, ◌&&◌, Bool, true, false, List, [], ◌∷◌, Option, Some, None, if◌then◌else◌, get_or, ◌||◌, int_le, int_lt, unsigned_abs}
+use Rattle.descent.specs.declared.rules.PathRule.{PathRule}
+use Rattle.descent.specs.declared.rules.Place.{Place}
 use Rattle.rank_search.specs.declared.candidates.Candidate.{Candidate}
-use Rattle.rank_search.specs.Plain.{IsMultiple}
+use Rattle.rank_search.specs.declared.searching.PlainForm.{PlainForm}
+use Rattle.rank_search.specs.declared.searching.PlainForm.TheVariants.{Ints, Size}
+use Rattle.rank_search.specs.Plain.{IsMultiple, LowersBy, RanksInts, RanksSize}
+use Rattle.rank_search.specs.Stepwise.{StepwiseRanks}
+use Rattle.rule_links.specs.Searching.{IsMoved}
 
 -- a form of the ints at two places, by their numbers in the list of places
 abbrev pub value_of : Option ℤ → Option ℤ → ℤ → ℤ → Option ℤ
@@ -16,9 +22,9 @@ abbrev pub is_weak : Option ℤ → Bool
 is_weak None = false
 is_weak (Some c) = int_le c (pos 0)
 
-abbrev pub is_strict : Option ℤ → Bool
-is_strict None = false
-is_strict (Some c) = int_lt c (pos 0)
+abbrev pub is_fall : Option ℤ → Bool
+is_fall None = false
+is_fall (Some c) = int_lt c (pos 0)
 
 abbrev pub never_rises : Candidate → List (List (Option ℤ)) → Bool
 never_rises form [] = true
@@ -26,7 +32,7 @@ never_rises form (changes ∷ rest) = is_weak (form_value form changes) && never
 
 abbrev pub falls : Candidate → List (List (Option ℤ)) → Bool
 falls form [] = false
-falls form (changes ∷ rest) = is_strict (form_value form changes) || falls form rest
+falls form (changes ∷ rest) = is_fall (form_value form changes) || falls form rest
 
 abbrev pub ranks_by : Candidate → List (List (Option ℤ)) → Bool
 ranks_by form table = never_rises form table && falls form table
@@ -70,3 +76,18 @@ falling_form one = record { one = one; times = negsuc 0; other = one; more = pos
 
 abbrev pub NoFall : List (List (Option ℤ)) → List (List (Option ℤ)) → ℕ → Type 0
 NoFall weak strict count = (one : ℕ) → one < count → (never_rises (falling_form one) weak && falls (falling_form one) strict) ≡ false
+
+-- no form of a kind ranks the rules
+abbrev pub NoInts : List PathRule → Type 0
+NoInts rules = (form : List (Place × ℤ)) → RanksInts rules form → ⊥
+
+abbrev pub NoSize : List PathRule → Type 0
+NoSize rules = (place : Place) → RanksSize rules place → ⊥
+
+abbrev pub NoSteps : List PathRule → Bool → Type 0
+NoSteps rules negative = (place : Place) → StepwiseRanks rules negative place → ⊥
+
+-- a plain form that ranks the rules, with how its ints are found to move
+abbrev pub IsTold : List PathRule → PlainForm → Type 0
+IsTold rules (Ints form) = LowersBy IsMoved rules form
+IsTold rules (Size place) = RanksSize rules place

@@ -1,6 +1,6 @@
 //! Forms of ints that may rank rules.
 ghost use Rattle.std.specs.Prelude.{◌≡◌, ◌<◌, ◌+ℤ◌, ◌*ℤ◌, ℕ, false, pos, None, Some, IfOk, IfSome, get_or, ◌&&◌, true, unsigned_abs};
-ghost use Rattle.rank_search.specs.Candidates.{value_of, form_value, is_weak, is_strict, never_rises, falls, ranks_by, multiple_of, IsOneFound, IsSumFound, NoneOfPair, NoneWithOne, NoOne, NoSum, falling_form, NoFall};
+ghost use Rattle.rank_search.specs.Candidates.{value_of, form_value, is_weak, is_fall, never_rises, falls, ranks_by, multiple_of, IsOneFound, IsSumFound, NoneOfPair, NoneWithOne, NoOne, NoSum, falling_form, NoFall};
 ghost use Rattle.rank_search.specs.Plain.{IsMultiple};
 
 use list_views::Seq;
@@ -79,8 +79,8 @@ fn is_weak(value: Option<i64>) -> bool
 }
 
 /// Whether a change is there and is a fall.
-fn is_strict(value: Option<i64>) -> bool
-    ensures { result ≡ is_strict value }
+fn is_fall(value: Option<i64>) -> bool
+    ensures { result ≡ is_fall value }
 {
     match value {
         Some(value) => value < 0,
@@ -105,7 +105,7 @@ fn falls(form: &Candidate, table: &[Seq<Option<i64>>]) -> Result<bool, AllocErro
     ensures { IfOk result (λ fell. fell ≡ falls form.now table.now) }
 {
     for changes in table {
-        if is_strict(form_value(form, changes.as_slice())?) {
+        if is_fall(form_value(form, changes.as_slice())?) {
             return Ok(true);
         }
     }

@@ -103,7 +103,7 @@ fn all_have_heads(rules: &[PathRule]) -> bool
 /// Whether rules are as a graph's paths have them: at most 4,096, each with at most 65,536 rows and variables; the ids of a kind rise
 /// at each end, and ends at one cut have the same ids, kinds and places.
 #[tactic(auto, using(crate::proofs::Headed::path_rules))]
-pub fn are_path_rules(rules: &[PathRule]) -> bool
+fn are_path_rules(rules: &[PathRule]) -> bool
     requires { AreRules rules.now }
     ensures { IsTrue result → ArePathRules rules.now }
 {
@@ -272,9 +272,10 @@ fn all_plain_rules(rules: &[PathRule]) -> bool
     rules.iter().all(|rule| is_plain_rule(rule))
 }
 
-/// Whether rules are as plain forms ask: as a graph's paths have them; an int is bounded on both sides by numbers of 32 bits; a variable
-/// that no row bounds from above is a size, at least 0 by a row, and stands with sizes alone in equations, with coefficients of at most
-/// 4,096 in size, as an equation of three variables without weights has.
+/// Whether rules are as plain forms ask: as a graph's paths have them; an int slot of a rule's start that is one variable is bounded on
+/// both sides with constants of at most 2^31 in size; a size slot of a rule's start that is one variable has one that no row bounds from
+/// above and that is at least 0 by a row; in equations, variables that no row bounds from above stand with such alone, with coefficients
+/// of at most 4,096 in size, as an equation of three variables without weights has.
 #[tactic(auto, using(crate::proofs::PlainChecked::plain_rules))]
 pub fn are_plain_rules(rules: &[PathRule]) -> bool
     requires { AreRules rules.now }

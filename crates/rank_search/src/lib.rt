@@ -12,5 +12,5 @@ mod stepping;
 mod tableau;
 
 pub use asking::{linear, plain};
-pub use graph_rules::{are_path_rules, are_plain_rules};
+pub use graph_rules::are_plain_rules;
 pub use searching::{PlainForm, StepwiseForm, plain_form, stepwise_form};

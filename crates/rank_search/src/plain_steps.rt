@@ -4,7 +4,7 @@ ghost use Rattle.descent.specs.Conditions.{AreRules};
 ghost use Rattle.rank_forms.specs.Graphs.{ArePlainRules};
 ghost use Rattle.rank_search.specs.Plain.{LowersBy, NoPlainForm, RanksSize};
 ghost use Rattle.rank_forms.specs.RankSteps.{IsRankStep};
-ghost use Rattle.rank_search.specs.Found.{IsTold};
+ghost use Rattle.rank_search.specs.Candidates.{IsTold};
 ghost use Rattle.rank_forms.specs.Reasons.{TellsEach, TellsInts};
 ghost use Rattle.rule_links.specs.Searching.{IsMoved};
 ghost use Rattle.rank_forms.specs.SizeReasons.{TellsSizeAt};
@@ -96,9 +96,7 @@ fn ints_step(
 fn one_part(alloc: Global, place: &Place) -> Result<Seq<(Place, i64)>, AllocError>
     ensures { IfOk result (λ part. part ≡ (place.now, pos 1) ∷ []) }
 {
-    let mut part = Seq::new(alloc);
-    part.push((*place, 1))?;
-    Ok(part)
+    Seq::from_slice(alloc, &[(*place, 1)])
 }
 
 /// The step of what a size falls by.

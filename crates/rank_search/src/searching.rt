@@ -4,9 +4,9 @@ ghost use Rattle.descent.specs.Conditions.{AreRules};
 ghost use Rattle.descent.specs.declared.rules.Place.{Place};
 ghost use Rattle.rank_search.specs.Plain.{LowersBy, NoPlainForm, RanksSize};
 ghost use Rattle.rank_search.specs.Stepwise.{NoStepwiseForm, StepwiseRanks};
-ghost use Rattle.rank_search.specs.Found.{IsTold, IsFound, NoInts, NoSize, NoSteps};
+ghost use Rattle.rank_search.specs.Found.{IsFound};
 ghost use Rattle.rule_links.specs.Searching.{IsMoved, IsTable};
-ghost use Rattle.rank_search.specs.Candidates.{IsOneFound, IsSumFound, NoOne};
+ghost use Rattle.rank_search.specs.Candidates.{IsOneFound, IsSumFound, NoOne, IsTold, NoInts, NoSize, NoSteps};
 ghost use Rattle.rule_links.specs.Rising.{ArePlacesOf, IsTableOf, TellsSize, TellsSteps};
 
 use crate::candidates::{Candidate, first_falling, one_int, sum_of_two};
@@ -233,8 +233,8 @@ pub(crate) fn told_form(alloc: Global, rules: &[PathRule]) -> Result<Option<Plai
 }
 
 /// A plain form that ranks the rules: by the links of each rule it never rises, and on some rule it falls. None only where no
-/// plain form does. Ints come first, single ones before sums. The changes of each place on each rule are found once; then it
-/// costs some 64 steps for each two places and each rule.
+/// plain form does. Where several rank the rules, one of them is told. The changes of each place on each rule are found once; then
+/// it costs some 64 steps for each two places and each rule.
 ///
 /// # Errors
 ///

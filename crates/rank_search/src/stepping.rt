@@ -43,9 +43,7 @@ fn sign(negative: bool) -> i64
 fn one_part(alloc: Global, place: &Place, negative: bool) -> Result<Seq<(Place, i64)>, AllocError>
     ensures { IfOk result (λ part. part ≡ (place.now, sign negative) ∷ []) }
 {
-    let mut part = Seq::new(alloc);
-    part.push((*place, sign(negative)))?;
-    Ok(part)
+    Seq::from_slice(alloc, &[(*place, sign(negative))])
 }
 
 /// The step of what is followed along each rule.

@@ -7,7 +7,9 @@ use Rattle.std.proofs.lemmas.Bool.Decides.{Decides-int_eq, nat_tests}
 use Rattle.std.proofs.lemmas.Int.{ints}
 use Rattle.std.proofs.lemmas.Bool.{eq-eqb, eqb-true}
 use Rattle.std.proofs.lemmas.List.{get_or-set_same, get_or-set_other, length-replicate}
-use Rattle.std.proofs.lemmas.Option.{slice_get_within}
+use Rattle.std.proofs.lemmas.Option.{slice_get_within, same_Some, none-some}
+use Rattle.list_views.proofs.Marks.{zero_at}
+use Rattle.list_views.proofs.Orders.{zero_times, int_eq_true}
 use Rattle.list_views.proofs.Ring.{plus_times}
 use Rattle.lin_core.specs.declared.faults.LinFault.{LinFault}
 use Rattle.lin_core.specs.declared.faults.LinFault.TheVariants.{NegativeMultiplier, Limit}
@@ -16,9 +18,17 @@ use Rattle.lin_core.specs.declared.rows.RowKind.TheVariants.{AtLeastZero, IsZero
 use Rattle.lin_core.specs.Combination.{number_of, sum_of, may_multiply, fault_at_row, fault_of_entry, first_of_two, first_fault, first_fault_from, IsAllowedAt, AllAllowed}
 use Rattle.lin_core.specs.Rows.{Row, coefficient_of}
 use Rattle.lin_core.specs.Weights.{total_size}
-use Rattle.lin_core.proofs.Signs.{zero-mul_ℤ, mul-zero_ℤ}
+use Rattle.lin_core.proofs.Signs.{mul-zero_ℤ}
 use Rattle.rule_links.specs.Counting.{added, counted, kept, multipliers_of}
 use Rattle.rule_links.proofs.Rests.{IsRest, rest_first, rest_more}
+
+may_at : (kind : RowKind) (c : ℤ) → IsAllowedAt kind c → may_multiply c kind ≡ true
+may_at AtLeastZero c h = not_below (int_lt c (pos 0)) c refl h
+  where
+    not_below : (test : Bool) (c : ℤ) → int_lt c (pos 0) ≡ test → pos 0 ≤ℤ c → cond test false true ≡ true
+    not_below true c e h = absurd (omega (arith, ints, e, h))
+    not_below false c e h = refl
+may_at IsZero c h = refl
 
 -- the sum of a number of rows, each as often as it counts
 abbrev pub dense : (Row → ℤ) → List Row → List ℤ → ℤ
@@ -32,7 +42,7 @@ dense_zeros number (row ∷ rows) zero = refl
 dense_zeros number (row ∷ rows) (suc n) = zero_first (number row) (dense number rows (replicate n (pos 0))) (dense_zeros number rows n)
   where
     zero_first : (a b : ℤ) → b ≡ pos 0 → pos 0 *ℤ a +ℤ b ≡ pos 0
-    zero_first a b e = let z = zero-mul_ℤ a in omega (arith, ints)
+    zero_first a b e = let z = zero_times a in omega (arith, ints)
 
 dense_added : (number : Row → ℤ) (rows : List Row) (counts : List ℤ) (n : ℕ) (times : ℤ) → n < length counts → dense number rows (added n times counts) ≡ times *ℤ number_of number (slice_get rows n) +ℤ dense number rows counts
 dense_added number [] counts n times low = nothing times
@@ -66,14 +76,11 @@ dense_counted number rows (entry ∷ rest) counts h =
     moved : (a b d : ℤ) → a +ℤ (b +ℤ d) ≡ (b +ℤ a) +ℤ d
     moved a b d = omega (arith, ints)
 
-int_is : (x y : ℤ) → int_eq x y ≡ true → x ≡ y
-int_is x y e = (Decides-int_eq x y).0 e
-
 kept_sum_cases : (test : Bool) (number : Row → ℤ) (all : List Row) (row : Row) (n : ℕ) (c d : ℤ) (rest : List (ℕ × ℤ)) → int_eq c (pos 0) ≡ test → slice_get all n ≡ Some row → sum_of number all rest ≡ d → sum_of number all (cond test [] ((n, c) ∷ []) ++ rest) ≡ c *ℤ number row +ℤ d
-kept_sum_cases true number all row n c d rest e at same = same ∙ none c (number row) d (int_is c (pos 0) e)
+kept_sum_cases true number all row n c d rest e at same = same ∙ none c (number row) d (int_eq_true c (pos 0) e)
   where
     none : (c a d : ℤ) → c ≡ pos 0 → d ≡ c *ℤ a +ℤ d
-    none c a d e = rw e (let z = zero-mul_ℤ a in omega (arith, ints))
+    none c a d e = rw e (let z = zero_times a in omega (arith, ints))
 kept_sum_cases false number all row n c d rest e at same = ap (λ (o : Option Row). c *ℤ number_of number o +ℤ sum_of number all rest) at ∙ ap (λ (z : ℤ). c *ℤ number row +ℤ z) same
 
 kept_sum : (number : Row → ℤ) (all rows : List Row) (n : ℕ) (counts : List ℤ) → IsRest all n rows → length counts ≤ length rows → sum_of number all (kept n counts) ≡ dense number rows counts
@@ -82,7 +89,7 @@ kept_sum number all (row ∷ rows) n [] h less = refl
 kept_sum number all [] n (c ∷ counts) h less = absurd (omega (arith, less))
 kept_sum number all (row ∷ rows) n (c ∷ counts) h less = kept_sum_cases (int_eq c (pos 0)) number all row n c (dense number rows counts) (kept (suc n) counts) refl (rest_first all n row rows h) (kept_sum number all rows (suc n) counts (rest_more all n row rows h) (omega (arith, less)))
 
--- each count may stand at its row, and is at most so much in size
+-- each count may_at stand at its row, and is at most so much in size
 abbrev pub Fits : ℕ → List Row → List ℤ → Type 0
 Fits most [] [] = Unit {0}
 Fits most [] (c ∷ counts) = ⊥
@@ -109,20 +116,14 @@ both_allowed : (kind : RowKind) (a b : ℤ) → IsAllowedAt kind a → IsAllowed
 both_allowed AtLeastZero a b h k = omega (arith, ints, h, k)
 both_allowed IsZero a b h k = tt
 
-both_small : (a b : ℤ) (most size : ℕ) → unsigned_abs a ≤ most → unsigned_abs b ≤ size → unsigned_abs (a +ℤ b) ≤ most + size
+pub both_small : (a b : ℤ) (most size : ℕ) → unsigned_abs a ≤ most → unsigned_abs b ≤ size → unsigned_abs (a +ℤ b) ≤ most + size
 both_small a b most size h k = omega (arith, ints, h, k)
 
-one_row : (a b : Row) → ◌≡◌ {A = Option Row} (Some a) (Some b) → a ≡ b
-one_row a b e = cc
-
-no_row : (a : Row) → ◌≡◌ {A = Option Row} None (Some a) → ⊥
-no_row a e = absurd (cc)
-
 fits_added : (most size : ℕ) (rows : List Row) (counts : List ℤ) (n : ℕ) (times : ℤ) (row : Row) → Fits most rows counts → slice_get rows n ≡ Some row → IsAllowedAt row.kind times → unsigned_abs times ≤ size → Fits (most + size) rows (added n times counts)
-fits_added most size [] [] n times row f at h s = absurd (no_row row at)
+fits_added most size [] [] n times row f at h s = absurd (none-some row at)
 fits_added most size [] (c ∷ counts) n times row f at h s = absurd f
 fits_added most size (first ∷ rows) [] n times row f at h s = absurd f
-fits_added most size (first ∷ rows) (c ∷ counts) zero times row f at h s = (both_allowed first.kind c times f.0 (subst (λ (r : Row). IsAllowedAt r.kind times) (sym (one_row first row at)) h), both_small c times most size f.1 s, fits_more most (most + size) rows counts (omega arith) f.2)
+fits_added most size (first ∷ rows) (c ∷ counts) zero times row f at h s = (both_allowed first.kind c times f.0 (subst (λ (r : Row). IsAllowedAt r.kind times) (sym (same_Some first row at)) h), both_small c times most size f.1 s, fits_more most (most + size) rows counts (omega arith) f.2)
 fits_added most size (first ∷ rows) (c ∷ counts) (suc n) times row f at h s = (f.0, (let g = f.1 in omega (arith, g)), fits_added most size rows counts n times row f.2 at h s)
 
 fits_counted : (most : ℕ) (rows : List Row) (entries : List (ℕ × ℤ)) (counts : List ℤ) → AllAllowed rows entries → Fits most rows counts → Fits (most + total_size entries) rows (counted entries counts)
@@ -131,22 +132,13 @@ fits_counted most rows (entry ∷ rest) counts h f =
     let next = fits_added most (unsigned_abs entry.1) rows counts entry.0 entry.1 h.0.0 f h.0.1 h.0.2 (omega arith) in
     fits_more ((most + unsigned_abs entry.1) + total_size rest) (most + (unsigned_abs entry.1 + total_size rest)) rows (counted rest (added entry.0 entry.1 counts)) (omega arith) (fits_counted (most + unsigned_abs entry.1) rows rest (added entry.0 entry.1 counts) h.1 next)
 
--- no fault
-may : (kind : RowKind) (c : ℤ) → IsAllowedAt kind c → may_multiply c kind ≡ true
-may AtLeastZero c h = not_below (int_lt c (pos 0)) c refl h
-  where
-    not_below : (test : Bool) (c : ℤ) → int_lt c (pos 0) ≡ test → pos 0 ≤ℤ c → cond test false true ≡ true
-    not_below true c e h = absurd (omega (arith, ints, e, h))
-    not_below false c e h = refl
-may IsZero c h = refl
-
 fine_cases : (n : ℕ) (large allowed : Bool) → large ≡ false → allowed ≡ true → cond large (Some (Limit n)) (cond allowed None (Some (NegativeMultiplier n))) ≡ None
 fine_cases n true allowed e f = absurd (cc)
 fine_cases n false true e f = refl
 fine_cases n false false e f = absurd (cc)
 
 pub fine : (n : ℕ) (c : ℤ) (row : Row) → IsAllowedAt row.kind c → unsigned_abs c ≤ 2 ^ 31 → fault_at_row n c (Some row) ≡ None
-fine n c row h s = fine_cases n (nat_lt (2 ^ 31) (unsigned_abs c)) (may_multiply c row.kind) (small (2 ^ 31) (unsigned_abs c) s) (may row.kind c h)
+fine n c row h s = fine_cases n (nat_lt (2 ^ 31) (unsigned_abs c)) (may_multiply c row.kind) (small (2 ^ 31) (unsigned_abs c) s) (may_at row.kind c h)
   where
     small : (a b : ℕ) → b ≤ a → nat_lt a b ≡ false
     small a b h = grind (arith, nat_tests)
@@ -218,11 +210,6 @@ fits_least most least [] [] h f = tt
 fits_least most least [] (c ∷ counts) h f = f
 fits_least most least (row ∷ rows) [] h f = f
 fits_least most least (row ∷ rows) (c ∷ counts) h f = (f.0, h 0, fits_least most least rows counts (λ n. h (suc n)) f.2)
-
-zero_at : (count n : ℕ) → get_or (replicate count (pos 0)) n (pos 0) ≡ pos 0
-zero_at zero n = refl
-zero_at (suc count) zero = refl
-zero_at (suc count) (suc n) = zero_at count n
 
 -- the multipliers say what the entries say
 pub record AreMultipliers (rows : List Row) (entries list : List (ℕ × ℤ)) : Type 0 where

@@ -40,8 +40,8 @@ links_in negative rows n row (Some order) at e weights =
     let there : Link = record { from = leading negative order; to = led negative order; by = pos 0 -ℤ row.constant } in
     let again : Link = record { from = led negative order; to = leading negative order; by = row.constant } in
     each_both (IsFallTie negative rows) (rising_tie (leading negative order) (led negative order) (pos 0 -ℤ row.constant) n false) (cond (is_inequality row.kind) [] (rising_tie (led negative order) (leading negative order) row.constant n true))
-    (each_rising (IsFallTie negative rows) (leading negative order) (led negative order) (pos 0 -ℤ row.constant) n false (record { row = row; at = at; says = there_says negative row there order terms refl refl (opposite row.constant) weights }))
-    (each_chosen (IsFallTie negative rows) (is_inequality row.kind) [] (rising_tie (led negative order) (leading negative order) row.constant n true) (λ t. tt) (λ t. each_rising (IsFallTie negative rows) (led negative order) (leading negative order) row.constant n true (record { row = row; at = at; says = again_says negative row again order (kind_is row.kind t) terms refl refl refl weights })))
+    (each_rising (IsFallTie negative rows) (leading negative order) (led negative order) (pos 0 -ℤ row.constant) n false (record { row = row; at = at; says = there_says negative row there order terms refl refl (opposite row.constant) weights; alone = refl }))
+    (each_chosen (IsFallTie negative rows) (is_inequality row.kind) [] (rising_tie (led negative order) (leading negative order) row.constant n true) (λ t. tt) (λ t. each_rising (IsFallTie negative rows) (led negative order) (leading negative order) row.constant n true (record { row = row; at = at; says = again_says negative row again order (kind_is row.kind t) terms refl refl refl weights; alone = refl })))
   where
     opposite : (a : ℤ) → a +ℤ (pos 0 -ℤ a) ≡ pos 0
     opposite a = omega (arith, ints)

@@ -2,12 +2,14 @@
 use Rattle.std.proofs.Common.{◌≡◌, ◌⊎◌, inl, inr, ℕ, zero, suc, ◌<◌, Bool, true, false, cond, List, [], ◌∷◌, ℤ, pos, negsuc, ◌+ℤ◌, ◌-ℤ◌, Option, Some, None, subst, ap, arith, refl, ◌∙◌, sym, IsPermutation}
 use Rattle.std.specs.Prelude.{◌&&◌, ◌||◌, slice_get}
 use Rattle.std.specs.List.{list_any}
-use Rattle.std.proofs.lemmas.Bool.{and_parts}
+use Rattle.std.proofs.lemmas.Bool.{and_parts, cond-true, cond-false}
 use Rattle.std.proofs.lemmas.Bool.Decides.{Decides-int_eq}
 use Rattle.std.proofs.lemmas.List.Sorted.{IsPermutation-sym}
 use Rattle.rule_links.specs.Links.{IsAmong}
 use Rattle.std.specs.Ordering.{int_eq}
 use Rattle.std.proofs.lemmas.Int.{ints}
+use Rattle.std.proofs.lemmas.Option.{same_Some, none-some}
+use Rattle.list_views.proofs.Orders.{int_eq_true}
 use Rattle.lin_core.specs.declared.rows.RowKind.{RowKind}
 use Rattle.lin_core.specs.declared.rows.RowKind.TheVariants.{AtLeastZero, IsZero}
 use Rattle.lin_core.specs.declared.rows.WRow.{WRow}
@@ -16,7 +18,7 @@ use Rattle.rule_links.specs.declared.links.Tie.{Tie}
 use Rattle.rule_links.specs.Rising.{AreRising, fall_links, fall_row_ties, fall_ties_from, leading, led, order_in, rising_tie}
 use Rattle.rule_links.specs.Searching.{InTies, has_none, is_inequality}
 use Rattle.rule_links.specs.FallLinks.{IsFallLink, SaysBack, SaysFall, lower, upper}
-use Rattle.rule_links.proofs.Listed.{in_left, in_right, Rises, rise_both, one_rises, chosen_rise, rising_in, rising_is, in_cases, chosen_is, other_is, chosen_true, chosen_false, moved_in, moved_rise}
+use Rattle.rule_links.proofs.Listed.{in_left, in_right, Rises, rise_both, one_rises, chosen_rise, rising_in, rising_is, in_cases, chosen_is, other_is, moved_in, moved_rise}
 
 links_rise : (negative inequality : Bool) (order : Option (ℕ × ℕ)) (k : ℤ) (row : ℕ) → Rises (fall_links negative inequality order k row)
 links_rise negative inequality None k row = tt
@@ -32,26 +34,6 @@ from_rise negative n (row ∷ rest) = rise_both (fall_row_ties negative n row) (
 pub falls_rise : (negative : Bool) (rows : List WRow) (ties sorted : List Tie) → IsPermutation ties sorted → ties ≡ fall_ties_from negative 0 rows → AreRising sorted
 falls_rise negative rows ties sorted moves e = moved_rise ties sorted moves (subst Rises (sym e) (from_rise negative 0 rows))
 
-one_row : (a b : WRow) → ◌≡◌ {A = Option WRow} (Some a) (Some b) → a ≡ b
-one_row a b e = cc
-
-no_row : (a : WRow) → ◌≡◌ {A = Option WRow} None (Some a) → ⊥
-no_row a e = absurd (cc)
-
--- a row for which a test holds
-pub any_row : (P : WRow → Bool) (rows : List WRow) (n : ℕ) (row : WRow) → slice_get rows n ≡ Some row → P row ≡ true → list_any P rows ≡ true
-any_row P [] n row is e = absurd (no_row row is)
-any_row P (first ∷ rest) zero row is e = first_holds (P first) (list_any P rest) (ap P (one_row first row is) ∙ e)
-  where
-    first_holds : (a b : Bool) → a ≡ true → (a || b) ≡ true
-    first_holds true b e = refl
-    first_holds false b e = absurd (cc)
-any_row P (first ∷ rest) (suc n) row is e = later_holds (P first) (list_any P rest) (any_row P rest n row is e)
-  where
-    later_holds : (a b : Bool) → b ≡ true → (a || b) ≡ true
-    later_holds true b e = refl
-    later_holds false b e = e
-
 -- the two variables of a row
 abbrev AreOrdered : List (ℕ × ℤ) → ℕ → ℕ → Type 0
 AreOrdered terms plus minus = (terms ≡ (plus, pos 1) ∷ (minus, negsuc 0) ∷ []) ⊎ (terms ≡ (minus, negsuc 0) ∷ (plus, pos 1) ∷ [])
@@ -61,9 +43,6 @@ two_terms one other a b c d e f g h = ap (λ (x : ℕ). made x one.1 other.0 oth
   where
     made : ℕ → ℤ → ℕ → ℤ → List (ℕ × ℤ)
     made a c b d = (a, c) ∷ (b, d) ∷ []
-
-int_true : (x y : ℤ) → int_eq x y ≡ true → x ≡ y
-int_true x y e = (Decides-int_eq x y).0 e
 
 pair_parts : (a b plus minus : ℕ) → ◌≡◌ {A = Option (ℕ × ℕ)} (Some (a, b)) (Some (plus, minus)) → (a ≡ plus) × (b ≡ minus)
 pair_parts a b plus minus e = (ap first e, ap second e)
@@ -80,11 +59,11 @@ order_of_cases : (first second : Bool) (one other : ℕ × ℤ) (plus minus : �
 order_of_cases true second one other plus minus f s e =
     let parts = and_parts (int_eq one.1 (pos 1)) (int_eq other.1 (negsuc 0)) f in
     let ends = pair_parts one.0 other.0 plus minus e in
-    inl (two_terms one other plus minus (pos 1) (negsuc 0) ends.0 (int_true one.1 (pos 1) parts.0) ends.1 (int_true other.1 (negsuc 0) parts.1))
+    inl (two_terms one other plus minus (pos 1) (negsuc 0) ends.0 (int_eq_true one.1 (pos 1) parts.0) ends.1 (int_eq_true other.1 (negsuc 0) parts.1))
 order_of_cases false true one other plus minus f s e =
     let parts = and_parts (int_eq one.1 (negsuc 0)) (int_eq other.1 (pos 1)) s in
     let ends = pair_parts other.0 one.0 plus minus e in
-    inr (two_terms one other minus plus (negsuc 0) (pos 1) ends.1 (int_true one.1 (negsuc 0) parts.0) ends.0 (int_true other.1 (pos 1) parts.1))
+    inr (two_terms one other minus plus (negsuc 0) (pos 1) ends.1 (int_eq_true one.1 (negsuc 0) parts.0) ends.0 (int_eq_true other.1 (pos 1) parts.1))
 order_of_cases false false one other plus minus f s e = absurd (cc)
 
 pub order_terms : (terms : List (ℕ × ℤ)) (plus minus : ℕ) → order_in terms ≡ Some (plus, minus) → AreOrdered terms plus minus
@@ -123,7 +102,7 @@ fall_in negative inequality row n link less says =
     less_is : (a b : ℤ) → a +ℤ b ≡ pos 0 → pos 0 -ℤ a ≡ b
     less_is a b e = omega (arith, ints)
 
-swapped : (terms : List (ℕ × ℤ)) (a b : ℕ) → (terms ≡ (a, negsuc 0) ∷ (b, pos 1) ∷ []) ⊎ (terms ≡ (b, pos 1) ∷ (a, negsuc 0) ∷ []) → (terms ≡ (b, pos 1) ∷ (a, negsuc 0) ∷ []) ⊎ (terms ≡ (a, negsuc 0) ∷ (b, pos 1) ∷ [])
+pub swapped : (terms : List (ℕ × ℤ)) (a b : ℕ) → (terms ≡ (a, negsuc 0) ∷ (b, pos 1) ∷ []) ⊎ (terms ≡ (b, pos 1) ∷ (a, negsuc 0) ∷ []) → (terms ≡ (b, pos 1) ∷ (a, negsuc 0) ∷ []) ⊎ (terms ≡ (a, negsuc 0) ∷ (b, pos 1) ∷ [])
 swapped terms a b h = elim h as (λ o. (terms ≡ (b, pos 1) ∷ (a, negsuc 0) ∷ []) ⊎ (terms ≡ (a, negsuc 0) ∷ (b, pos 1) ∷ [])) [
   | inl e ↦ inr e
   | inr f ↦ inl f
@@ -132,7 +111,7 @@ swapped terms a b h = elim h as (λ o. (terms ≡ (b, pos 1) ∷ (a, negsuc 0) �
 back_in : (negative inequality : Bool) (row : WRow) (n : ℕ) (link : Link) → inequality ≡ false → link.from < link.to → SaysBack negative row link link.by → InTies (fall_links negative inequality (order_in row.terms) row.constant n) link
 back_in negative inequality row n link kind less says =
     let order : ℕ × ℕ = (lower negative link, upper negative link) in
-    subst (λ (o : Option (ℕ × ℕ)). InTies (fall_links negative inequality o row.constant n) link) (sym (ordered row.terms (lower negative link) (upper negative link) (swapped row.terms (upper negative link) (lower negative link) says.terms))) (in_right (rising_tie (leading negative order) (led negative order) (pos 0 -ℤ row.constant) n false) (cond inequality [] (rising_tie (led negative order) (leading negative order) row.constant n true)) link (subst (λ (l : List Tie). InTies l link) (sym (chosen_false inequality [] (rising_tie (led negative order) (leading negative order) row.constant n true) kind)) (rising_in (led negative order) (leading negative order) row.constant n true link less (again_from negative link) (again_to negative link) says.constant)))
+    subst (λ (o : Option (ℕ × ℕ)). InTies (fall_links negative inequality o row.constant n) link) (sym (ordered row.terms (lower negative link) (upper negative link) (swapped row.terms (upper negative link) (lower negative link) says.terms))) (in_right (rising_tie (leading negative order) (led negative order) (pos 0 -ℤ row.constant) n false) (cond inequality [] (rising_tie (led negative order) (leading negative order) row.constant n true)) link (subst (λ (l : List Tie). InTies l link) (sym (cond-false inequality [] (rising_tie (led negative order) (leading negative order) row.constant n true) kind)) (rising_in (led negative order) (leading negative order) row.constant n true link less (again_from negative link) (again_to negative link) says.constant)))
 
 weights_of : (negative : Bool) (row : WRow) (link : Link) → SaysFall negative row link link.by ⊎ SaysBack negative row link link.by → row.weights ≡ []
 weights_of negative row link h = elim h as (λ o. row.weights ≡ []) [
@@ -143,14 +122,14 @@ weights_of negative row link h = elim h as (λ o. row.weights ≡ []) [
 row_in : (negative : Bool) (row : WRow) (n : ℕ) (link : Link) → link.from < link.to → SaysFall negative row link link.by ⊎ SaysBack negative row link link.by → InTies (fall_row_ties negative n row) link
 row_in negative row n link less says =
     let links = fall_links negative (is_inequality row.kind) (order_in row.terms) row.constant n in
-    subst (λ (l : List Tie). InTies l link) (sym (chosen_true (has_none row.weights) links [] (ap has_none (weights_of negative row link says)))) (elim says as (λ o. InTies links link) [
+    subst (λ (l : List Tie). InTies l link) (sym (cond-true (has_none row.weights) links [] (ap has_none (weights_of negative row link says)))) (elim says as (λ o. InTies links link) [
       | inl f ↦ fall_in negative (is_inequality row.kind) row n link less f
       | inr b ↦ back_in negative (is_inequality row.kind) row n link (ap is_inequality b.equation) less b
     ])
 
 from_in : (negative : Bool) (n k : ℕ) (rows : List WRow) (row : WRow) (link : Link) → slice_get rows k ≡ Some row → ((m : ℕ) → InTies (fall_row_ties negative m row) link) → InTies (fall_ties_from negative n rows) link
-from_in negative n k [] row link is h = absurd (no_row row is)
-from_in negative n zero (r ∷ rest) row link is h = in_left (fall_row_ties negative n r) (fall_ties_from negative (suc n) rest) link (subst (λ (x : WRow). InTies (fall_row_ties negative n x) link) (sym (one_row r row is)) (h n))
+from_in negative n k [] row link is h = absurd (none-some row is)
+from_in negative n zero (r ∷ rest) row link is h = in_left (fall_row_ties negative n r) (fall_ties_from negative (suc n) rest) link (subst (λ (x : WRow). InTies (fall_row_ties negative n x) link) (sym (same_Some r row is)) (h n))
 from_in negative n (suc k) (r ∷ rest) row link is h = in_right (fall_row_ties negative n r) (fall_ties_from negative (suc n) rest) link (from_in negative (suc n) k rest row link is h)
 
 pub falls_complete : (negative : Bool) (rows : List WRow) (ties sorted : List Tie) → IsPermutation ties sorted → ties ≡ fall_ties_from negative 0 rows → (link : Link) → IsFallLink negative rows link → InTies sorted link

@@ -12,3 +12,4 @@ pub mod SizeRows
 pub mod Sized
 pub mod Tied
 pub mod Told
+pub mod Traced

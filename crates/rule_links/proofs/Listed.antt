@@ -10,10 +10,6 @@ use Rattle.rule_links.specs.declared.links.Tie.{Tie}
 use Rattle.rule_links.specs.Rising.{AreRising, rising_tie}
 use Rattle.rule_links.specs.Searching.{InTies}
 
--- what holds of all items holds of the one at a number
-pub at : {X : Type 0} (P : X → Type 0) (xs : List X) (k : ℕ) (x : X) → All P xs → slice_get xs k ≡ Some x → P x
-at P xs k x all e = subst P (get_or_from_slice_get xs k x x e) (all k x (slice_get_within xs k x e))
-
 pub in_left : (a b : List Tie) (link : Link) → InTies a link → InTies (a ++ b) link
 in_left [] b link h = absurd h
 in_left (tie ∷ rest) b link h = elim h as (λ o. InTies ((tie ∷ rest) ++ b) link) [
@@ -64,14 +60,6 @@ rising_in from to by row back link less e f g =
     (subst (λ (x : ℕ). InTies (rising_tie link.from x by row back) link) (sym f)
     (subst (λ (x : ℤ). InTies (rising_tie link.from link.to x row back) link) (sym g)
     (in_rising (nat_lt link.from link.to) (record { link = record { from = link.from; to = link.to; by = link.by }; row = row; back = back; beside = None }) link (lt-ltb link.from link.to less) (link_is link))))
-
-pub chosen_true : {A : Type 0} (test : Bool) (a b : A) → test ≡ true → cond test a b ≡ a
-chosen_true true a b e = refl
-chosen_true false a b e = absurd (cc)
-
-pub chosen_false : {A : Type 0} (test : Bool) (a b : A) → test ≡ false → cond test a b ≡ b
-chosen_false true a b e = absurd (cc)
-chosen_false false a b e = refl
 
 -- in another order the links are the same
 each_in : (ties all : List Tie) → ((link : Link) → InTies ties link → InTies all link) → All (λ (tie : Tie). InTies all tie.link) ties

@@ -3,11 +3,13 @@ use Rattle.std.proofs.Common.{◌≡◌, ℕ, zero, suc, Bool, true, false, cond
 use Rattle.std.specs.Prelude.{◌&&◌, ◌||◌, slice_get, IfOk}
 use Rattle.std.specs.List.{list_any}
 use Rattle.std.proofs.lemmas.Bool.{eqb-true, and_parts}
+use Rattle.std.proofs.lemmas.Option.{same_Some}
+use Rattle.list_views.proofs.Truths.{or_second}
 use Rattle.descent.specs.declared.rules.PathRule.{PathRule}
 use Rattle.descent.specs.declared.rules.Place.{Place}
 use Rattle.descent.specs.declared.rules.SlotForm.{SlotForm}
 use Rattle.rule_links.specs.Positions.{same, is_place, is_at, slot_at}
-use Rattle.rule_links.specs.Rising.{ArePlaces, ArePlacesOf, places_of, places_in}
+use Rattle.rule_links.specs.Rising.{ArePlaces, ArePlacesOf, places_at_start, places_of, places_in}
 
 abbrev IsIn : List Place → Place → Type 0
 IsIn places place = (k : ℕ) × (slice_get places k ≡ Some place)
@@ -39,16 +41,12 @@ place_is a b e =
     let two = and_parts (same a.stack b.stack) (eqb a.index b.index) one.1 in
     fields_same a b (eqb-true a.frame b.frame one.0) (same_is a.stack b.stack two.0) (eqb-true a.index b.index two.1)
 
-later : (a b : Bool) → a ≡ false → (a || b) ≡ true → b ≡ true
-later true b e h = absurd (cc)
-later false b e h = h
-
 any_cases : (here : Bool) (other : Place) (rest : List Place) (place : Place) → is_place other place ≡ here → list_any (λ (other : Place). is_place other place) (other ∷ rest) ≡ true → (list_any (λ (other : Place). is_place other place) rest ≡ true → IsIn rest place) → IsIn (other ∷ rest) place
 any_cases true other rest place e h more = (0, ap some (place_is other place e))
   where
     some : Place → Option Place
     some x = Some x
-any_cases false other rest place e h more = let w = more (later (is_place other place) (list_any (λ (other : Place). is_place other place) rest) e h) in (suc w.0, w.1)
+any_cases false other rest place e h more = let w = more (or_second (is_place other place) (list_any (λ (other : Place). is_place other place) rest) e h) in (suc w.0, w.1)
 
 any_in : (places : List Place) (place : Place) → list_any (λ (other : Place). is_place other place) places ≡ true → IsIn places place
 any_in [] place e = absurd (cc)
@@ -73,12 +71,9 @@ slot_in (first ∷ rest) size place slot e = found_cases (is_at size place first
 are_places : (slots : List SlotForm) (size : Bool) → ArePlaces slots size (places_in size slots)
 are_places slots size place variable stands = slot_in slots size place stands.0 stands.1
 
-one_rule : (a b : PathRule) → ◌≡◌ {A = Option PathRule} (Some a) (Some b) → a ≡ b
-one_rule a b e = cc
-
 pub first_places : (rules : List PathRule) (size : Bool) (first : PathRule) (places : List Place) → slice_get rules 0 ≡ Some first → places ≡ places_in size first.first → ArePlacesOf rules size places
-first_places rules size first places at e rule is = subst (λ (l : List Place). ArePlaces rule.first size l) (sym (e ∙ ap (λ (r : PathRule). places_in size r.first) (one_rule first rule (sym at ∙ is)))) (are_places rule.first size)
+first_places rules size first places at e rule is = subst (λ (l : List Place). ArePlaces rule.first size l) (sym (e ∙ ap (λ (r : PathRule). places_in size r.first) (same_Some first rule (sym at ∙ is)))) (are_places rule.first size)
 
-pub if_ok_then : (A E : Type 0) (r : Result A E) (P Q : A → Type 0) → IfOk r P → ((x : A) → P x → Q x) → IfOk r Q
-if_ok_then A E (Ok x) P Q h f = f x h
-if_ok_then A E (Err e) P Q h f = tt
+pub starts_there : (size : Bool) (rules : List PathRule) (rule : PathRule) → slice_get rules 0 ≡ Some rule → places_at_start size rules ≡ places_in size rule.first
+starts_there size [] rule e = absurd (cc)
+starts_there size (first ∷ rest) rule e = ap (λ (r : PathRule). places_in size r.first) (same_Some first rule e)

@@ -7,7 +7,9 @@ use Rattle.std.proofs.Math.ListN.{length-set}
 use Rattle.std.proofs.lemmas.Bool.{true≢false, cases_eq, lt-ltb, and_parts}
 use Rattle.std.proofs.lemmas.Int.{ints}
 use Rattle.std.proofs.lemmas.List.{get_or-set_same, get_or-set_other, length-replicate}
-use Rattle.std.proofs.lemmas.Option.{get_or_from_slice_get, slice_get_within}
+use Rattle.std.proofs.lemmas.Option.{get_or_from_slice_get, slice_get_within, same_Some, none-some}
+use Rattle.list_views.proofs.Quantified.{all_at}
+use Rattle.list_views.proofs.Orders.{int_self, int_through}
 use Rattle.rule_links.specs.declared.links.Come.{Come}
 use Rattle.rule_links.specs.declared.links.Link.{Link}
 use Rattle.rule_links.specs.declared.links.Tie.{Tie}
@@ -15,18 +17,6 @@ use Rattle.rule_links.specs.Links.{IsWay, total}
 use Rattle.rule_links.specs.Rising.{is_more, raised_by, raised, AreRising, ComesBy, IsAtLeast, IsGreatest, IsLongest}
 use Rattle.rule_links.specs.Searching.{InTies, IsReached, Known, AreBelow}
 use Rattle.rule_links.proofs.Reached.{AreReached, reached_more, none_before}
-
-int_self : (x : ℤ) → x ≤ℤ x
-int_self x = omega (arith, ints)
-
-int_through : (x y z : ℤ) → x ≤ℤ y → y ≤ℤ z → x ≤ℤ z
-int_through x y z h k = omega (arith, ints, h, k)
-
-one_come : (a b : Come) → ◌≡◌ {A = Option Come} (Some a) (Some b) → a ≡ b
-one_come a b e = cc
-
-not_some : (come : Come) → ◌≡◌ {A = Option Come} None (Some come) → ⊥
-not_some come e = absurd (cc)
 
 at_least_less : (known : Option Come) (a b : ℤ) → b ≤ℤ a → IsAtLeast known a → IsAtLeast known b
 at_least_less None a b h k = k
@@ -102,7 +92,7 @@ raise_cases true come tie known rise low at e =
       ];
       other = λ v d. get_or-set_other known tie.link.to v (Some (new_of come tie)) None d;
       closes = λ again f.
-          let same = one_come come again (sym at ∙ sym (get_or-set_other known tie.link.to tie.link.from (Some (new_of come tie)) None (apart tie.link.from tie.link.to rise)) ∙ f) in
+          let same = same_Some come again (sym at ∙ sym (get_or-set_other known tie.link.to tie.link.from (Some (new_of come tie)) None (apart tie.link.from tie.link.to rise)) ∙ f) in
           subst (λ (o : Option Come). IsAtLeast o (again.by +ℤ tie.link.by)) (sym (get_or-set_same known tie.link.to (Some (new_of come tie)) None low)) (subst (λ (c : Come). (c.by +ℤ tie.link.by) ≤ℤ (come.by +ℤ tie.link.by)) same (int_self (come.by +ℤ tie.link.by)));
     }
   where
@@ -112,24 +102,21 @@ raise_cases false come tie known rise low at e = record {
   count = refl;
   grown = λ v by h. h;
   other = λ v d. refl;
-  closes = λ again f. subst (λ (c : Come). IsAtLeast (get_or known tie.link.to None) (c.by +ℤ tie.link.by)) (one_come come again (sym at ∙ f)) (no_more (get_or known tie.link.to None) (come.by +ℤ tie.link.by) (nat_lt tie.link.to (length known)) (lt-ltb tie.link.to (length known) low) e);
+  closes = λ again f. subst (λ (c : Come). IsAtLeast (get_or known tie.link.to None) (c.by +ℤ tie.link.by)) (same_Some come again (sym at ∙ f)) (no_more (get_or known tie.link.to None) (come.by +ℤ tie.link.by) (nat_lt tie.link.to (length known)) (lt-ltb tie.link.to (length known) low) e);
 }
 
 from_cases : (found : Option Come) (tie : Tie) (known : Known) → tie.link.from < tie.link.to → tie.link.to < length known → get_or known tie.link.from None ≡ found → IsRaised tie known (raised_by found tie known)
-from_cases None tie known rise low at = record { count = refl; grown = λ v by h. h; other = λ v d. refl; closes = λ come f. absurd (not_some come (sym at ∙ f)) }
+from_cases None tie known rise low at = record { count = refl; grown = λ v by h. h; other = λ v d. refl; closes = λ come f. absurd (none-some come (sym at ∙ f)) }
 from_cases (Some come) tie known rise low at = raise_cases (is_more (get_or known tie.link.to None) (come.by +ℤ tie.link.by) (nat_lt tie.link.to (length known))) come tie known rise low at refl
 
 raised_is : (tie : Tie) (known : Known) → tie.link.from < tie.link.to → tie.link.to < length known → IsRaised tie known (raised tie known)
 raised_is tie known rise low = from_cases (get_or known tie.link.from None) tie known rise low refl
 
-one_tie : (a b : Tie) → ◌≡◌ {A = Option Tie} (Some a) (Some b) → a ≡ b
-one_tie a b e = cc
-
 -- what is known is reached
 gone_reached : (ties : List Tie) (first : ℕ) (come : Come) (tie : Tie) (known : Known) → InTies ties tie.link → tie.link.to < length known → get_or known tie.link.from None ≡ Some come → AreReached ties first known → AreReached ties first (gone come tie known)
 gone_reached ties first come tie known is low from h v found e = elim (cases_eq v tie.link.to) as (λ o. IsReached ties first v found.by) [
   | inl s ↦
-      let same = one_come (new_of come tie) found (sym (get_or-set_same known tie.link.to (Some (new_of come tie)) None low) ∙ ap (λ (x : ℕ). get_or (gone come tie known) x None) (sym s) ∙ e) in
+      let same = same_Some (new_of come tie) found (sym (get_or-set_same known tie.link.to (Some (new_of come tie)) None low) ∙ ap (λ (x : ℕ). get_or (gone come tie known) x None) (sym s) ∙ e) in
       subst (λ (x : ℕ). IsReached ties first x found.by) (sym s) (subst (λ (c : Come). IsReached ties first tie.link.to c.by) same (reached_more ties first tie.link.from come.by (come.by +ℤ tie.link.by) tie.link (h tie.link.from come from) refl is refl))
   | inr d ↦ h v found (sym (get_or-set_other known tie.link.to v (Some (new_of come tie)) None d) ∙ e)
 ]
@@ -144,17 +131,8 @@ found_reached (Some come) ties first tie known is low from h = more_reached (is_
 
 in_list : (ties : List Tie) (n : ℕ) (tie : Tie) → slice_get ties n ≡ Some tie → InTies ties tie.link
 in_list [] n tie e = absurd (cc)
-in_list (first ∷ rest) zero tie e = inl (ap (λ (t : Tie). t.link) (one_tie first tie e))
+in_list (first ∷ rest) zero tie e = inl (ap (λ (t : Tie). t.link) (same_Some first tie e))
 in_list (first ∷ rest) (suc n) tie e = inr (in_list rest n tie e)
-
--- the k-th tie, by its lookup
-kth : (P : Tie → Type 0) (ties : List Tie) (k : ℕ) (tie : Tie) → All P ties → slice_get ties k ≡ Some tie → P tie
-kth P [] k tie all e = absurd (not_tie tie e)
-  where
-    not_tie : (tie : Tie) → ◌≡◌ {A = Option Tie} None (Some tie) → ⊥
-    not_tie tie e = absurd (cc)
-kth P (first ∷ rest) zero tie all e = subst P (one_tie first tie e) (all 0 tie (omega arith))
-kth P (first ∷ rest) (suc k) tie all e = kth P rest k tie (λ i d low. all (suc i) d (omega (arith, low))) e
 
 in_order : (ties : List Tie) (k n : ℕ) (one other : Tie) → IsNonDecreasingBy (λ (tie : Tie). tie.link.from) ties → k ≤ n → slice_get ties k ≡ Some one → slice_get ties n ≡ Some other → one.link.from ≤ other.link.from
 in_order ties k n one other sorted low e f =
@@ -174,7 +152,7 @@ comes_still ties first n known new v by (Some tie) same h = (h.0, longer h.0 n h
 linked_gone : (ties : List Tie) (first n : ℕ) (come : Come) (tie : Tie) (known : Known) → slice_get ties n ≡ Some tie → tie.link.from < tie.link.to → tie.link.to < length known → get_or known tie.link.from None ≡ Some come → ((k : ℕ) (other : Tie) → k < n → slice_get ties k ≡ Some other → other.link.from ≤ tie.link.from) → AreLinkedIn ties first n known → AreLinkedIn ties first (n + 1) (gone come tie known)
 linked_gone ties first n come tie known at rise low from before h v found e = elim (cases_eq v tie.link.to) as (λ o. ComesIn ties first (n + 1) (gone come tie known) v found.by found.last) [
   | inl s ↦
-      let same = one_come (new_of come tie) found (sym (get_or-set_same known tie.link.to (Some (new_of come tie)) None low) ∙ ap (λ (x : ℕ). get_or (gone come tie known) x None) (sym s) ∙ e) in
+      let same = same_Some (new_of come tie) found (sym (get_or-set_same known tie.link.to (Some (new_of come tie)) None low) ∙ ap (λ (x : ℕ). get_or (gone come tie known) x None) (sym s) ∙ e) in
       subst (λ (c : Come). ComesIn ties first (n + 1) (gone come tie known) v c.by c.last) same (n, one_longer n, at, sym s, come, other_than tie.link.from (apart tie.link.from tie.link.to rise) ∙ from, refl)
   | inr d ↦ comes_still ties first n known (gone come tie known) v found.by found.last (λ k other less is. other_than other.link.from (under other.link.from tie.link.from tie.link.to (before k other less is) rise)) (h v found (sym (other_than v d) ∙ e))
 ]
@@ -204,14 +182,14 @@ linked_more (Some come) ties first n tie known at rise low from before h = linke
 
 pub raising_more : (ties : List Tie) (first n : ℕ) (known new : Known) (tie : Tie) → IsNonDecreasingBy (λ (tie : Tie). tie.link.from) ties → AreRising ties → slice_get ties n ≡ Some tie → new ≡ raised tie known → IsRaising ties first n known → IsRaising ties first (n + 1) new
 raising_more ties first n known new tie sorted rising at e h =
-    let rise = kth (λ (tie : Tie). tie.link.from < tie.link.to) ties n tie rising at in
-    let low = kth (λ (tie : Tie). tie.link.to < length known) ties n tie h.below at in
+    let rise = all_at (λ (tie : Tie). tie.link.from < tie.link.to) ties n tie rising at in
+    let low = all_at (λ (tie : Tie). tie.link.to < length known) ties n tie h.below at in
     let r = raised_is tie known rise low in
     subst (λ (l : Known). IsRaising ties first (n + 1) l) (sym e) (record {
       below = subst (λ (c : ℕ). AreBelow ties c) (sym r.count) h.below;
       start = r.grown first (pos 0) h.start;
       closed = λ k other less is. elim (cases_eq k n) as (λ o. Closes other (raised tie known)) [
-        | inl s ↦ subst (λ (t : Tie). Closes t (raised tie known)) (one_tie tie other (sym at ∙ ap (slice_get ties) (sym s) ∙ is)) r.closes
+        | inl s ↦ subst (λ (t : Tie). Closes t (raised tie known)) (same_Some tie other (sym at ∙ ap (slice_get ties) (sym s) ∙ is)) r.closes
         | inr d ↦ λ come f.
             let before : k < n = under k n less d in
             let order = in_order ties k n other tie sorted (under_too k n before) is at in
@@ -241,13 +219,13 @@ raising_first ties first span before b low below =
       closed = λ k tie less is. absurd (omega (arith, less));
       reached = λ v come e. elim (cases_eq v first) as (λ o. IsReached ties first v come.by) [
         | inl s ↦
-            let same = one_come begun come (sym (get_or-set_same before first (Some begun) None (subst (λ (k : ℕ). first < k) (sym n) low)) ∙ ap (λ (x : ℕ). get_or (set before first (Some begun)) x None) (sym s) ∙ e) in
+            let same = same_Some begun come (sym (get_or-set_same before first (Some begun) None (subst (λ (k : ℕ). first < k) (sym n) low)) ∙ ap (λ (x : ℕ). get_or (set before first (Some begun)) x None) (sym s) ∙ e) in
             ([], sym s, ap (λ (c : Come). c.by) same)
         | inr d ↦ absurd (none_before span v come (ap (λ (l : Known). get_or l v None) (sym b) ∙ sym (get_or-set_other before first v (Some begun) None d) ∙ e))
       ];
       linked = λ v come e. elim (cases_eq v first) as (λ o. ComesIn ties first 0 (set before first (Some begun)) v come.by come.last) [
         | inl s ↦
-            let same = one_come begun come (sym (get_or-set_same before first (Some begun) None (subst (λ (k : ℕ). first < k) (sym n) low)) ∙ ap (λ (x : ℕ). get_or (set before first (Some begun)) x None) (sym s) ∙ e) in
+            let same = same_Some begun come (sym (get_or-set_same before first (Some begun) None (subst (λ (k : ℕ). first < k) (sym n) low)) ∙ ap (λ (x : ℕ). get_or (set before first (Some begun)) x None) (sym s) ∙ e) in
             subst (λ (c : Come). ComesIn ties first 0 (set before first (Some begun)) v c.by c.last) same (s, refl)
         | inr d ↦ absurd (none_before span v come (ap (λ (l : Known). get_or l v None) (sym b) ∙ sym (get_or-set_other before first v (Some begun) None d) ∙ e))
       ];

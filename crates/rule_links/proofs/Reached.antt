@@ -6,6 +6,7 @@ use Rattle.std.proofs.lemmas.Bool.{false≢true, true≢false, cases_eq, lt-ltb,
 use Rattle.std.proofs.lemmas.Int.{ints}
 use Rattle.std.proofs.lemmas.List.{get_or-set_same, get_or-set_other, length-replicate}
 use Rattle.std.proofs.lemmas.List.Sums.{sum_by-set}
+use Rattle.std.proofs.lemmas.Option.{same_Some, none-some}
 use Rattle.rule_links.specs.declared.links.Come.{Come}
 use Rattle.rule_links.specs.declared.links.Link.{Link}
 use Rattle.rule_links.specs.declared.links.Tie.{Tie}
@@ -34,12 +35,6 @@ reached_more ties first u by sum link r e is s = (r.0 ++ link ∷ [], way_more (
 abbrev pub AreReached : List Tie → ℕ → Known → Type 0
 AreReached ties first known = (v : ℕ) (come : Come) → get_or known v None ≡ Some come → IsReached ties first v come.by
 
-one_come : (a b : Come) → ◌≡◌ {A = Option Come} (Some a) (Some b) → a ≡ b
-one_come a b e = cc
-
-not_some : (come : Come) → ◌≡◌ {A = Option Come} None (Some come) → ⊥
-not_some come e = absurd (cc)
-
 -- what a move says
 pub record IsMove (tie : Tie) (known : Known) : Type 0 where
   pub come : Come
@@ -63,7 +58,7 @@ gone_reached : (ties : List Tie) (first : ℕ) (tie : Tie) (known : Known) → I
 gone_reached ties first tie known is m h v come e = elim (cases_eq v tie.link.to) as (λ o. IsReached ties first v come.by) [
   | inl s ↦
       let new : Come = record { by = by_of (get_or known tie.link.from None) +ℤ tie.link.by; last = Some tie } in
-      let same = one_come new come (sym (get_or-set_same known tie.link.to (Some new) None m.low) ∙ ap (λ (x : ℕ). get_or (gone tie known) x None) (sym s) ∙ e) in
+      let same = same_Some new come (sym (get_or-set_same known tie.link.to (Some new) None m.low) ∙ ap (λ (x : ℕ). get_or (gone tie known) x None) (sym s) ∙ e) in
       subst (λ (x : ℕ). IsReached ties first x come.by) (sym s) (subst (λ (c : Come). IsReached ties first tie.link.to c.by) same (reached_more ties first tie.link.from m.come.by new.by tie.link (h tie.link.from m.come m.from) refl is (ap (λ (o : Option Come). by_of o +ℤ tie.link.by) m.from)))
   | inr d ↦ h v come (sym (get_or-set_other known tie.link.to v (Some (record { by = by_of (get_or known tie.link.from None) +ℤ tie.link.by; last = Some tie })) None d) ∙ e)
 ]
@@ -136,7 +131,7 @@ relaxed_still (tie ∷ rest) known e =
 
 -- a tie from a known variable leads to a known one
 next_cases : (one other : Option Come) (low : Bool) (come : Come) → one ≡ Some come → low ≡ true → moves_at one other low ≡ false → (next : Come) × (other ≡ Some next)
-next_cases None other low come e l m = absurd (not_some come e)
+next_cases None other low come e l m = absurd (none-some come e)
 next_cases (Some a) (Some b) low come e l m = (b, refl)
 next_cases (Some a) None low come e l m = absurd (true≢false (sym l ∙ m))
 
@@ -177,7 +172,7 @@ kept_cases false tie known v come e at = at
 kept_cases true tie known v come e at =
     let m = move_is tie known e in
     elim (cases_eq v tie.link.to) as (λ o. get_or (gone tie known) v None ≡ Some come) [
-      | inl s ↦ absurd (not_some come (sym m.to ∙ ap (λ (x : ℕ). get_or known x None) (sym s) ∙ at))
+      | inl s ↦ absurd (none-some come (sym m.to ∙ ap (λ (x : ℕ). get_or known x None) (sym s) ∙ at))
       | inr d ↦ get_or-set_other known tie.link.to v (Some (record { by = by_of (get_or known tie.link.from None) +ℤ tie.link.by; last = Some tie })) None d ∙ at
     ]
 
@@ -186,8 +181,8 @@ kept [] known v come at = at
 kept (tie ∷ rest) known v come at = kept rest (step tie known) v come (kept_cases (moves tie known) tie known v come refl at)
 
 pub none_before : (n v : ℕ) (come : Come) → get_or (replicate n None) v None ≡ Some come → ⊥
-none_before zero v come e = not_some come e
-none_before (suc n) zero come e = not_some come e
+none_before zero v come e = none-some come e
+none_before (suc n) zero come e = none-some come e
 none_before (suc n) (suc v) come e = none_before n v come e
 
 pub relaxing_first : (ties : List Tie) (first span : ℕ) (before : Known) → before ≡ replicate span None → span ≡ span_from (suc first) ties → first < span → AreBelow ties span → IsRelaxing ties first true (set before first (Some (record { by = pos 0; last = None })))
@@ -198,7 +193,7 @@ relaxing_first ties first span before b value low below =
     record {
       reached = λ v come e. elim (cases_eq v first) as (λ o. IsReached ties first v come.by) [
         | inl s ↦
-            let same = one_come begun come (sym (get_or-set_same before first (Some begun) None in') ∙ ap (λ (x : ℕ). get_or (set before first (Some begun)) x None) (sym s) ∙ e) in
+            let same = same_Some begun come (sym (get_or-set_same before first (Some begun) None in') ∙ ap (λ (x : ℕ). get_or (set before first (Some begun)) x None) (sym s) ∙ e) in
             ([], sym s, ap (λ (c : Come). c.by) same)
         | inr d ↦ absurd (none_before span v come (ap (λ (l : Known). get_or l v None) (sym b) ∙ sym (get_or-set_other before first v (Some begun) None d) ∙ e))
       ];

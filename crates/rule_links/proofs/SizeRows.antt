@@ -4,6 +4,8 @@ use Rattle.std.specs.Prelude.{◌&&◌, slice_get}
 use Rattle.std.specs.Ordering.{int_eq}
 use Rattle.std.specs.List.{All}
 use Rattle.std.proofs.lemmas.List.Sorted.{All-permutation}
+use Rattle.rule_links.proofs.Fallen.{kind_is}
+use Rattle.list_views.proofs.Quantified.{all_at as at}
 use Rattle.lin_core.specs.declared.rows.RowKind.TheVariants.{IsZero}
 use Rattle.lin_core.specs.declared.rows.WRow.{WRow}
 use Rattle.lin_core.specs.Weights.{AreRows, IsRow}
@@ -13,9 +15,7 @@ use Rattle.rule_links.specs.Rising.{back_ties, gives, given_by, given_ties, is_p
 use Rattle.rule_links.specs.Searching.{InTies, is_inequality}
 use Rattle.rule_links.proofs.FallRows.{Each, each_all, each_both, each_chosen, each_rising}
 use Rattle.rule_links.proofs.Rests.{IsRest, rest_all, rest_first, rest_more}
-use Rattle.rule_links.proofs.Listed.{at}
 use Rattle.rule_links.proofs.Sized.{SaysOther, SaysPart, back_says, given_says}
-use Rattle.rule_links.proofs.Tied.{equation_is}
 
 -- what holds of each link holds of each tie
 each_in : (P : Link → Type 0) (ties : List Tie) → ((link : Link) → InTies ties link → P link) → Each (λ (tie : Tie). P tie.link) ties
@@ -32,11 +32,11 @@ each_with P Q (tie ∷ rest) h k = ((h.0, k.0), each_with P Q rest h.1 k.1)
 
 -- a tie is of a row, taken as it stands or back
 abbrev IsOf : ℕ → Bool → Tie → Type 0
-IsOf n back tie = (tie.row ≡ n) × (tie.back ≡ back)
+IsOf n back tie = (tie.row ≡ n) × (tie.back ≡ back) × (tie.beside ≡ None)
 
 part_of : (u : ℕ) (k : ℤ) (n : ℕ) (terms : List (ℕ × ℤ)) → Each (IsOf n false) (part_ties u k n terms)
 part_of u k n [] = tt
-part_of u k n (term ∷ rest) = each_both (IsOf n false) (cond (is_part term.1) (rising_tie u term.0 k n false) []) (part_ties u k n rest) (each_chosen (IsOf n false) (is_part term.1) (rising_tie u term.0 k n false) [] (λ e. each_rising (IsOf n false) u term.0 k n false (refl, refl)) (λ e. tt)) (part_of u k n rest)
+part_of u k n (term ∷ rest) = each_both (IsOf n false) (cond (is_part term.1) (rising_tie u term.0 k n false) []) (part_ties u k n rest) (each_chosen (IsOf n false) (is_part term.1) (rising_tie u term.0 k n false) [] (λ e. each_rising (IsOf n false) u term.0 k n false (refl, refl, refl)) (λ e. tt)) (part_of u k n rest)
 
 given_of : (rows : List WRow) (k : ℤ) (n : ℕ) (all terms : List (ℕ × ℤ)) → Each (IsOf n false) (given_ties rows k n all terms)
 given_of rows k n all [] = tt
@@ -44,7 +44,7 @@ given_of rows k n all (term ∷ rest) = each_both (IsOf n false) (given_by rows 
 
 back_of : (order : Option (ℕ × ℕ)) (k : ℤ) (n : ℕ) → Each (IsOf n true) (back_ties order k n)
 back_of None k n = tt
-back_of (Some order) k n = each_rising (IsOf n true) order.1 order.0 k n true (refl, refl)
+back_of (Some order) k n = each_rising (IsOf n true) order.1 order.0 k n true (refl, refl, refl)
 
 -- with its row
 size_tie : (rows : List WRow) (n : ℕ) (row : WRow) (back : Bool) (tie : Tie) → slice_get rows n ≡ Some row → row.kind ≡ IsZero → IsOf n back tie → SaysSize rows row back tie.link → IsSizeTie rows tie
@@ -53,6 +53,7 @@ size_tie rows n row back tie is kind of says = record {
   at = ap (slice_get rows) of.0 ∙ is;
   equation = kind;
   says = subst (λ (b : Bool). SaysSize rows row b tie.link) (sym of.1) says;
+  alone = of.2;
 }
 
 row_in : (end : ℕ) (rows : List WRow) (n : ℕ) (row : WRow) → slice_get rows n ≡ Some row → IsRow end row → Each (IsSizeTie rows) (size_row_ties rows n row)
@@ -61,7 +62,7 @@ row_in end rows n row is fit =
     let given = given_ties rows k n row.terms row.terms in
     let back = back_ties (order_in row.terms) (size_constant row) n in
     each_chosen (IsSizeTie rows) (is_inequality row.kind) [] (given ++ back) (λ e. tt) (λ e.
-    let kind = equation_is row.kind e in
+    let kind = kind_is row.kind e in
     each_both (IsSizeTie rows) given back (each_map (λ (tie : Tie). IsOf n false tie × SaysPart rows row tie.link) (IsSizeTie rows) given (λ tie h. size_tie rows n row false tie is kind h.0 h.1) (each_with (IsOf n false) (λ (tie : Tie). SaysPart rows row tie.link) given (given_of rows k n row.terms row.terms) (each_in (SaysPart rows row) given (λ link i. given_says rows row n end link fit.rise i)))) (each_map (λ (tie : Tie). IsOf n true tie × SaysOther row tie.link) (IsSizeTie rows) back (λ tie h. size_tie rows n row true tie is kind h.0 h.1) (each_with (IsOf n true) (λ (tie : Tie). SaysOther row tie.link) back (back_of (order_in row.terms) (size_constant row) n) (each_in (SaysOther row) back (λ link i. back_says row n link i)))))
 
 from_in : (end : ℕ) (all : List WRow) (n : ℕ) (rows : List WRow) → AreRows end all → IsRest all n rows → Each (IsSizeTie all) (size_ties_from all n rows)

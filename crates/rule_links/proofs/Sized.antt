@@ -2,12 +2,15 @@
 use Rattle.std.proofs.Common.{◌≡◌, ◌⊎◌, inl, inr, ℕ, zero, suc, ◌+◌, ◌<◌, ◌≤◌, Bool, true, false, cond, eqb, List, [], ◌∷◌, ◌++◌, length, get_or, drop, ℤ, pos, negsuc, ◌+ℤ◌, ◌-ℤ◌, ◌≤ℤ◌, Option, Some, None, subst, ap, arith, refl, ◌∙◌, sym, IsPermutation}
 use Rattle.std.specs.Prelude.{◌&&◌, ◌||◌, slice_get, int_lt}
 use Rattle.std.specs.Ordering.{int_eq}
-use Rattle.std.proofs.lemmas.Bool.{eqb-true, eq-eqb, and_parts}
+use Rattle.std.proofs.lemmas.Bool.{eqb-true, eq-eqb, and_parts, cond-true, cond-false, and_from}
 use Rattle.std.proofs.lemmas.Bool.Decides.{Decides-int_eq}
 use Rattle.std.proofs.lemmas.Int.{ints}
 use Rattle.std.proofs.lemmas.List.{at_drop_more}
 use Rattle.std.proofs.lemmas.List.Sorted.{IsPermutation-sym}
-use Rattle.std.proofs.lemmas.Option.{get_or_from_slice_get, slice_get_within}
+use Rattle.std.proofs.lemmas.Option.{get_or_from_slice_get, slice_get_within, same_Some, none-some}
+use Rattle.std.proofs.lemmas.Map.Keys.{any_passes_from_place}
+use Rattle.list_views.proofs.Truths.{or_either, or_second}
+use Rattle.list_views.proofs.Quantified.{all_at}
 use Rattle.lin_core.specs.declared.rows.RowKind.{RowKind}
 use Rattle.lin_core.specs.declared.rows.RowKind.TheVariants.{AtLeastZero, IsZero}
 use Rattle.lin_core.specs.declared.rows.WRow.{WRow}
@@ -20,8 +23,8 @@ use Rattle.rule_links.specs.Rising.{AreRising, back_ties, gives, given_by, given
 use Rattle.rule_links.specs.Searching.{InTies, is_bound, is_inequality}
 use Rattle.rule_links.specs.Links.{HasBound, IsAmong}
 use Rattle.rule_links.proofs.Tied.{bound_is, bound_told}
-use Rattle.rule_links.proofs.Fallen.{any_row, order_terms}
-use Rattle.rule_links.proofs.Listed.{at, in_left, in_right, Rises, rise_both, one_rises, chosen_rise, rising_in, rising_is, in_cases, chosen_is, other_is, chosen_true, chosen_false, moved_in, moved_rise}
+use Rattle.rule_links.proofs.Fallen.{order_terms}
+use Rattle.rule_links.proofs.Listed.{in_left, in_right, Rises, rise_both, one_rises, chosen_rise, rising_in, rising_is, in_cases, chosen_is, other_is, moved_in, moved_rise}
 
 -- all of them lead to greater numbers
 part_rise : (u : ℕ) (k : ℤ) (row : ℕ) (terms : List (ℕ × ℤ)) → Rises (part_ties u k row terms)
@@ -51,9 +54,9 @@ low_here : (here : Bool) (y x low : ℕ) (k rest : ℤ) → eqb y x ≡ here →
 low_here true y x low k rest e l h r = absurd (let s = eqb-true y x e in omega arith)
 low_here false y x low k rest e l h r = omega (arith, ints)
 
-pub coefficient_low : (x low end : ℕ) (terms : List (ℕ × ℤ)) → RiseFrom low end terms → x < low → coefficient_of x terms ≡ pos 0
-coefficient_low x low end [] h less = refl
-coefficient_low x low end (term ∷ rest) h less = low_here (eqb term.0 x) term.0 x low term.1 (coefficient_of x rest) refl h.0 less (coefficient_low x (suc term.0) end rest h.2 (under x low term.0 less h.0))
+pub past_place : (x low end : ℕ) (terms : List (ℕ × ℤ)) → RiseFrom low end terms → x < low → coefficient_of x terms ≡ pos 0
+past_place x low end [] h less = refl
+past_place x low end (term ∷ rest) h less = low_here (eqb term.0 x) term.0 x low term.1 (coefficient_of x rest) refl h.0 less (past_place x (suc term.0) end rest h.2 (under x low term.0 less h.0))
   where
     under : (a b c : ℕ) → a < b → b ≤ c → a < suc c
     under a b c h k = omega (arith, h, k)
@@ -70,7 +73,7 @@ term_here x c term rest e f = (0, ap (λ (a : ℕ). some_term a term.1) e ∙ ap
 has_cases : (here : Bool) (x low end : ℕ) (c : ℤ) (term : ℕ × ℤ) (rest : List (ℕ × ℤ)) → eqb term.0 x ≡ here → RiseFrom (suc term.0) end rest → cond here term.1 (pos 0) +ℤ coefficient_of x rest ≡ c → (c ≡ pos 0 → ⊥) → (coefficient_of x rest ≡ c → HasTerm x c rest) → HasTerm x c (term ∷ rest)
 has_cases true x low end c term rest e rise h some more =
     let same : term.0 ≡ x = eqb-true term.0 x e in
-    let none : coefficient_of x rest ≡ pos 0 = coefficient_low x (suc term.0) end rest rise (below x term.0 same) in
+    let none : coefficient_of x rest ≡ pos 0 = past_place x (suc term.0) end rest rise (below x term.0 same) in
     term_here x c term rest same (alone term.1 (coefficient_of x rest) c none h)
   where
     below : (a b : ℕ) → b ≡ a → a < suc b
@@ -96,51 +99,33 @@ negative_part c h = test_is c (int_lt c (pos 0)) refl h
     test_is c true e h = refl
     test_is c false e h = absurd (omega (arith, ints))
 
-one_term : (a b : ℕ × ℤ) → ◌≡◌ {A = Option (ℕ × ℤ)} (Some a) (Some b) → a ≡ b
-one_term a b e = cc
-
-no_term : (a : ℕ × ℤ) → ◌≡◌ {A = Option (ℕ × ℤ)} None (Some a) → ⊥
-no_term a e = absurd (cc)
-
 part_here : (link : Link) (k : ℤ) (row : ℕ) (c : ℤ) (term : ℕ × ℤ) → term ≡ (link.to, c) → c ≤ℤ negsuc 0 → link.from < link.to → k ≡ link.by → InTies (cond (is_part term.1) (rising_tie link.from term.0 k row false) []) link
-part_here link k row c term e part less by = subst (λ (t : ℕ × ℤ). InTies (cond (is_part t.1) (rising_tie link.from t.0 k row false) []) link) (sym e) (subst (λ (l : List Tie). InTies l link) (sym (chosen_true (is_part c) (rising_tie link.from link.to k row false) [] (negative_part c part))) (rising_in link.from link.to k row false link less refl refl by))
+part_here link k row c term e part less by = subst (λ (t : ℕ × ℤ). InTies (cond (is_part t.1) (rising_tie link.from t.0 k row false) []) link) (sym e) (subst (λ (l : List Tie). InTies l link) (sym (cond-true (is_part c) (rising_tie link.from link.to k row false) [] (negative_part c part))) (rising_in link.from link.to k row false link less refl refl by))
 
 part_in : (link : Link) (k : ℤ) (row n : ℕ) (c : ℤ) (terms : List (ℕ × ℤ)) → slice_get terms n ≡ Some (link.to, c) → c ≤ℤ negsuc 0 → link.from < link.to → k ≡ link.by → InTies (part_ties link.from k row terms) link
-part_in link k row n c [] is part less by = absurd (no_term (link.to, c) is)
-part_in link k row zero c (term ∷ rest) is part less by = in_left _ (part_ties link.from k row rest) link (part_here link k row c term (one_term term (link.to, c) is) part less by)
+part_in link k row n c [] is part less by = absurd (none-some (link.to, c) is)
+part_in link k row zero c (term ∷ rest) is part less by = in_left _ (part_ties link.from k row rest) link (part_here link k row c term (same_Some term (link.to, c) is) part less by)
 part_in link k row (suc n) c (term ∷ rest) is part less by = in_right (cond (is_part term.1) (rising_tie link.from term.0 k row false) []) (part_ties link.from k row rest) link (part_in link k row n c rest is part less by)
 
--- a row that gives a size
-either : (a b : Bool) → (a ≡ true) ⊎ (b ≡ true) → (a || b) ≡ true
-either true b h = refl
-either false b h = elim h as (λ o. b ≡ true) [
-  | inl e ↦ absurd (cc)
-  | inr f ↦ f
-]
-
-both : (a b : Bool) → a ≡ true → b ≡ true → (a && b) ≡ true
-both true b e f = f
-both false b e f = absurd (cc)
-
 pub zero_row : (rows : List WRow) (variable : ℕ) → HasBound rows variable (pos 1) (pos 0) → has_zero variable rows ≡ true
-zero_row rows variable low = any_row (is_zero variable) rows low.among.0 low.row low.among.1 (both (is_bound variable (pos 1) low.row) (int_eq low.row.constant (pos 0)) (bound_told rows variable (pos 1) (pos 0) low) ((Decides-int_eq low.row.constant (pos 0)).1 low.number))
+zero_row rows variable low = any_passes_from_place (is_zero variable) rows low.among.0 low.row low.among.1 (and_from (is_bound variable (pos 1) low.row) (int_eq low.row.constant (pos 0)) (bound_told rows variable (pos 1) (pos 0) low) ((Decides-int_eq low.row.constant (pos 0)).1 low.number))
 
 part_is : (rows : List WRow) (term : ℕ × ℤ) → (term.1 ≤ℤ negsuc 0) × HasBound rows term.0 (pos 1) (pos 0) → (is_part term.1 && has_zero term.0 rows) ≡ true
-part_is rows term h = both (is_part term.1) (has_zero term.0 rows) (negative_part term.1 h.0) (zero_row rows term.0 h.1)
+part_is rows term h = and_from (is_part term.1) (has_zero term.0 rows) (negative_part term.1 h.0) (zero_row rows term.0 h.1)
 
 gives_is : (rows : List WRow) (u : ℕ) (terms : List (ℕ × ℤ)) → ((n : ℕ) (term : ℕ × ℤ) → slice_get terms n ≡ Some term → (term.0 ≡ u) ⊎ ((term.1 ≤ℤ negsuc 0) × HasBound rows term.0 (pos 1) (pos 0))) → gives rows u terms ≡ true
 gives_is rows u [] others = refl
-gives_is rows u (term ∷ rest) others = both (eqb term.0 u || (is_part term.1 && has_zero term.0 rows)) (gives rows u rest) (either (eqb term.0 u) (is_part term.1 && has_zero term.0 rows) (elim (others 0 term refl) as (λ o. (eqb term.0 u ≡ true) ⊎ ((is_part term.1 && has_zero term.0 rows) ≡ true)) [
+gives_is rows u (term ∷ rest) others = and_from (eqb term.0 u || (is_part term.1 && has_zero term.0 rows)) (gives rows u rest) (or_either (eqb term.0 u) (is_part term.1 && has_zero term.0 rows) (elim (others 0 term refl) as (λ o. (eqb term.0 u ≡ true) ⊎ ((is_part term.1 && has_zero term.0 rows) ≡ true)) [
   | inl e ↦ inl (eq-eqb term.0 u e)
   | inr f ↦ inr (part_is rows term f)
 ])) (gives_is rows u rest (λ n other is. others (suc n) other is))
 
 given_here : (rows : List WRow) (link : Link) (k : ℤ) (row : ℕ) (term : ℕ × ℤ) (all : List (ℕ × ℤ)) → term ≡ (link.from, pos 1) → gives rows link.from all ≡ true → InTies (part_ties link.from k row all) link → InTies (given_by rows term k row all) link
-given_here rows link k row term all e g h = subst (λ (t : ℕ × ℤ). InTies (given_by rows t k row all) link) (sym e) (subst (λ (l : List Tie). InTies l link) (sym (chosen_true (int_eq (pos 1) (pos 1) && gives rows link.from all) (part_ties link.from k row all) [] (both (int_eq (pos 1) (pos 1)) (gives rows link.from all) refl g))) h)
+given_here rows link k row term all e g h = subst (λ (t : ℕ × ℤ). InTies (given_by rows t k row all) link) (sym e) (subst (λ (l : List Tie). InTies l link) (sym (cond-true (int_eq (pos 1) (pos 1) && gives rows link.from all) (part_ties link.from k row all) [] (and_from (int_eq (pos 1) (pos 1)) (gives rows link.from all) refl g))) h)
 
 given_in : (rows : List WRow) (link : Link) (k : ℤ) (row n : ℕ) (all terms : List (ℕ × ℤ)) → slice_get terms n ≡ Some (link.from, pos 1) → gives rows link.from all ≡ true → InTies (part_ties link.from k row all) link → InTies (given_ties rows k row all terms) link
-given_in rows link k row n all [] is g h = absurd (no_term (link.from, pos 1) is)
-given_in rows link k row zero all (term ∷ rest) is g h = in_left (given_by rows term k row all) (given_ties rows k row all rest) link (given_here rows link k row term all (one_term term (link.from, pos 1) is) g h)
+given_in rows link k row n all [] is g h = absurd (none-some (link.from, pos 1) is)
+given_in rows link k row zero all (term ∷ rest) is g h = in_left (given_by rows term k row all) (given_ties rows k row all rest) link (given_here rows link k row term all (same_Some term (link.from, pos 1) is) g h)
 given_in rows link k row (suc n) all (term ∷ rest) is g h = in_right (given_by rows term k row all) (given_ties rows k row all rest) link (given_in rows link k row n all rest is g h)
 
 gives_link : (rows : List WRow) (row : WRow) (n end : ℕ) (link : Link) → RiseFrom 0 end row.terms → link.from < link.to → GivesSize rows row link.from → coefficient_of link.to row.terms ≤ℤ negsuc 0 → link.by +ℤ size_constant row ≡ pos 0 → InTies (given_ties rows (pos 0 -ℤ size_constant row) n row.terms row.terms) link
@@ -182,31 +167,25 @@ row_in : (rows : List WRow) (row : WRow) (n end : ℕ) (link : Link) → RiseFro
 row_in rows row n end link rise kind less read =
     let given = given_ties rows (pos 0 -ℤ size_constant row) n row.terms row.terms in
     let back = back_ties (order_in row.terms) (size_constant row) n in
-    subst (λ (l : List Tie). InTies l link) (sym (chosen_false (is_inequality row.kind) [] (given ++ back) (equation_is row.kind kind))) (elim read as (λ o. InTies (given ++ back) link) [
+    subst (λ (l : List Tie). InTies l link) (sym (cond-false (is_inequality row.kind) [] (given ++ back) (equation_is row.kind kind))) (elim read as (λ o. InTies (given ++ back) link) [
       | inl g ↦ in_left given back link (gives_link rows row n end link rise less g.0 g.1 g.2)
       | inr b ↦ in_right given back link (back_in row.terms (size_constant row) n link less b.0 b.1)
     ])
 
-one_row : (a b : WRow) → ◌≡◌ {A = Option WRow} (Some a) (Some b) → a ≡ b
-one_row a b e = cc
-
-no_row : (a : WRow) → ◌≡◌ {A = Option WRow} None (Some a) → ⊥
-no_row a e = absurd (cc)
-
 from_in : (rows : List WRow) (n k : ℕ) (list : List WRow) (row : WRow) (link : Link) → slice_get list k ≡ Some row → ((m : ℕ) → InTies (size_row_ties rows m row) link) → InTies (size_ties_from rows n list) link
-from_in rows n k [] row link is h = absurd (no_row row is)
-from_in rows n zero (r ∷ rest) row link is h = in_left (size_row_ties rows n r) (size_ties_from rows (suc n) rest) link (subst (λ (x : WRow). InTies (size_row_ties rows n x) link) (sym (one_row r row is)) (h n))
+from_in rows n k [] row link is h = absurd (none-some row is)
+from_in rows n zero (r ∷ rest) row link is h = in_left (size_row_ties rows n r) (size_ties_from rows (suc n) rest) link (subst (λ (x : WRow). InTies (size_row_ties rows n x) link) (sym (same_Some r row is)) (h n))
 from_in rows n (suc k) (r ∷ rest) row link is h = in_right (size_row_ties rows n r) (size_ties_from rows (suc n) rest) link (from_in rows (suc n) k rest row link is h)
 
 pub sizes_complete : (vars : ℕ) (rows : List WRow) (ties sorted : List Tie) → AreRows vars rows → IsPermutation ties sorted → ties ≡ size_ties_from rows 0 rows → (link : Link) → IsSizeLink rows link → InTies sorted link
 sizes_complete vars rows ties sorted good moves e link is =
-    let row = at (λ (row : WRow). IsRow vars row) rows is.among.0 is.row good is.among.1 in
+    let row = all_at (λ (row : WRow). IsRow vars row) rows is.among.0 is.row good is.among.1 in
     moved_in ties sorted link moves (subst (λ (l : List Tie). InTies l link) (sym e) (from_in rows 0 is.among.0 rows is.row link is.among.1 (λ m. row_in rows is.row m vars link row.rise is.equation is.greater is.read)))
 
 -- and the other way round: each tie is a size link
 coefficient_here : (here : Bool) (x low end k : ℕ) (c : ℤ) (term : ℕ × ℤ) (rest : List (ℕ × ℤ)) → eqb term.0 x ≡ here → RiseFrom (suc term.0) end rest → (term ≡ (x, c)) ⊎ ((coefficient_of x rest ≡ c) × (term.0 < x)) → cond here term.1 (pos 0) +ℤ coefficient_of x rest ≡ c
 coefficient_here true x low end k c term rest e rise h = elim h as (λ o. term.1 +ℤ coefficient_of x rest ≡ c) [
-  | inl s ↦ alone term.1 (coefficient_of x rest) c (ap (λ (t : ℕ × ℤ). t.1) s) (coefficient_low x (suc term.0) end rest rise (below x term.0 (eqb-true term.0 x e)))
+  | inl s ↦ alone term.1 (coefficient_of x rest) c (ap (λ (t : ℕ × ℤ). t.1) s) (past_place x (suc term.0) end rest rise (below x term.0 (eqb-true term.0 x e)))
   | inr r ↦ absurd (apart term.0 x (eqb-true term.0 x e) r.1)
 ]
   where
@@ -230,13 +209,13 @@ coefficient_here false x low end k c term rest e rise h = elim h as (λ o. pos 0
     wrong a b e h = let t = eq-eqb a b h in absurd (cc)
 
 term_above : (low end k : ℕ) (x : ℕ) (c : ℤ) (terms : List (ℕ × ℤ)) → RiseFrom low end terms → slice_get terms k ≡ Some (x, c) → low ≤ x
-term_above low end k x c [] rise is = absurd (no_term (x, c) is)
-term_above low end zero x c (term ∷ rest) rise is = subst (λ (t : ℕ × ℤ). low ≤ t.0) (one_term term (x, c) is) rise.0
+term_above low end k x c [] rise is = absurd (none-some (x, c) is)
+term_above low end zero x c (term ∷ rest) rise is = subst (λ (t : ℕ × ℤ). low ≤ t.0) (same_Some term (x, c) is) rise.0
 term_above low end (suc k) x c (term ∷ rest) rise is = let more = term_above (suc term.0) end k x c rest rise.2 is in let first = rise.0 in omega (arith, more, first)
 
 coefficient_is : (low end k x : ℕ) (c : ℤ) (terms : List (ℕ × ℤ)) → RiseFrom low end terms → slice_get terms k ≡ Some (x, c) → coefficient_of x terms ≡ c
-coefficient_is low end k x c [] rise is = absurd (no_term (x, c) is)
-coefficient_is low end zero x c (term ∷ rest) rise is = coefficient_here (eqb term.0 x) x low end 0 c term rest refl rise.2 (inl (one_term term (x, c) is))
+coefficient_is low end k x c [] rise is = absurd (none-some (x, c) is)
+coefficient_is low end zero x c (term ∷ rest) rise is = coefficient_here (eqb term.0 x) x low end 0 c term rest refl rise.2 (inl (same_Some term (x, c) is))
 coefficient_is low end (suc k) x c (term ∷ rest) rise is = coefficient_here (eqb term.0 x) x low end k c term rest refl rise.2 (inr (coefficient_is (suc term.0) end k x c rest rise.2 is, above))
   where
     above : term.0 < x
@@ -248,17 +227,12 @@ part_below c e = below_zero c e
     below_zero : (c : ℤ) → int_lt c (pos 0) ≡ true → c ≤ℤ negsuc 0
     below_zero c e = omega (arith, ints)
 
--- what a test for a size says
-later : (a b : Bool) → a ≡ false → (a || b) ≡ true → b ≡ true
-later true b e h = absurd (cc)
-later false b e h = h
-
 zero_cases : (here : Bool) (rows : List WRow) (row : WRow) (rest : List WRow) (variable : ℕ) → is_zero variable row ≡ here → IsAmong rows row → has_zero variable (row ∷ rest) ≡ true → (has_zero variable rest ≡ true → HasBound rows variable (pos 1) (pos 0)) → HasBound rows variable (pos 1) (pos 0)
 zero_cases true rows row rest variable t among e more =
     let parts = and_parts (is_bound variable (pos 1) row) (int_eq row.constant (pos 0)) t in
     let bound = bound_is rows variable (pos 1) row among parts.0 in
     record { row = bound.row; among = bound.among; inequality = bound.inequality; terms = bound.terms; number = bound.number ∙ (Decides-int_eq row.constant (pos 0)).0 parts.1; weights = bound.weights }
-zero_cases false rows row rest variable t among e more = more (later (is_zero variable row) (has_zero variable rest) t e)
+zero_cases false rows row rest variable t among e more = more (or_second (is_zero variable row) (has_zero variable rest) t e)
 
 zero_found : (rows list : List WRow) (variable : ℕ) → ((n : ℕ) (row : WRow) → slice_get list n ≡ Some row → IsAmong rows row) → has_zero variable list ≡ true → HasBound rows variable (pos 1) (pos 0)
 zero_found rows [] variable part e = absurd (cc)
@@ -273,10 +247,10 @@ other_cases false true rows u term s p e = let parts = and_parts (is_part term.1
 other_cases false false rows u term s p e = absurd (cc)
 
 others_are : (rows : List WRow) (u n : ℕ) (terms : List (ℕ × ℤ)) (term : ℕ × ℤ) → gives rows u terms ≡ true → slice_get terms n ≡ Some term → (term.0 ≡ u) ⊎ ((term.1 ≤ℤ negsuc 0) × HasBound rows term.0 (pos 1) (pos 0))
-others_are rows u n [] term e is = absurd (no_term term is)
+others_are rows u n [] term e is = absurd (none-some term is)
 others_are rows u zero (first ∷ rest) term e is =
     let parts = and_parts (eqb first.0 u || (is_part first.1 && has_zero first.0 rows)) (gives rows u rest) e in
-    subst (λ (t : ℕ × ℤ). (t.0 ≡ u) ⊎ ((t.1 ≤ℤ negsuc 0) × HasBound rows t.0 (pos 1) (pos 0))) (one_term first term is) (other_cases (eqb first.0 u) (is_part first.1 && has_zero first.0 rows) rows u first refl refl parts.0)
+    subst (λ (t : ℕ × ℤ). (t.0 ≡ u) ⊎ ((t.1 ≤ℤ negsuc 0) × HasBound rows t.0 (pos 1) (pos 0))) (same_Some first term is) (other_cases (eqb first.0 u) (is_part first.1 && has_zero first.0 rows) rows u first refl refl parts.0)
 others_are rows u (suc n) (first ∷ rest) term e is =
     let parts = and_parts (eqb first.0 u || (is_part first.1 && has_zero first.0 rows)) (gives rows u rest) e in
     others_are rows u n rest term parts.1 is
@@ -407,7 +381,7 @@ from_is rows n (row ∷ rest) link h = elim (in_cases (size_row_ties rows n row)
 pub sizes_sound : (vars : ℕ) (rows : List WRow) (ties sorted : List Tie) → AreRows vars rows → IsPermutation ties sorted → ties ≡ size_ties_from rows 0 rows → (link : Link) → InTies sorted link → IsSizeLink rows link
 sizes_sound vars rows ties sorted good moves e link h =
     let f = from_is rows 0 rows link (subst (λ (l : List Tie). InTies l link) e (moved_in sorted ties link (IsPermutation-sym ties sorted moves) h)) in
-    let row = at (λ (row : WRow). IsRow vars row) rows f.number f.row good f.is in
+    let row = all_at (λ (row : WRow). IsRow vars row) rows f.number f.row good f.is in
     let read = row_read rows f.row f.place vars link row.rise f.among in
     record { row = f.row; among = (f.number, f.is); equation = read.0; greater = read.1.less; read = read.1.read }
 

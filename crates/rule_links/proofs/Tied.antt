@@ -2,9 +2,13 @@
 use Rattle.std.proofs.Common.{◌≡◌, ◌⊎◌, inl, inr, ℕ, zero, suc, ◌+◌, Bool, true, false, cond, eqb, List, [], ◌∷◌, ◌++◌, ℤ, pos, negsuc, ◌+ℤ◌, ◌-ℤ◌, ◌*ℤ◌, Option, Some, None, Result, Ok, Err, subst, ap, arith, refl, ◌∙◌, sym}
 use Rattle.std.specs.Ordering.{int_eq}
 use Rattle.std.specs.Prelude.{◌&&◌, slice_get, IfOk}
-use Rattle.std.proofs.lemmas.Bool.{false≢true, true≢false, eqb-true, eq-eqb, and_parts}
+use Rattle.std.proofs.lemmas.Bool.{false≢true, true≢false, eqb-true, eq-eqb, and_parts, and_from}
 use Rattle.std.proofs.lemmas.Bool.Decides.{Decides-int_eq}
 use Rattle.std.proofs.lemmas.Int.{ints}
+use Rattle.std.proofs.lemmas.Option.{same_Some}
+use Rattle.rule_links.proofs.Fallen.{none_is, kind_is as equation_is}
+use Rattle.list_views.proofs.Options.{cond_guarded}
+use Rattle.list_views.proofs.Orders.{int_eq_true, int_eq_from}
 use Rattle.lin_core.specs.declared.rows.RowKind.{RowKind}
 use Rattle.lin_core.specs.declared.rows.RowKind.TheVariants.{AtLeastZero, IsZero}
 use Rattle.lin_core.specs.declared.rows.WRow.{WRow}
@@ -15,24 +19,10 @@ use Rattle.rule_links.specs.Links.{IsAmong, HasBound, IsFixed, LeadsOn, IsTie, I
 use Rattle.rule_links.specs.Searching.{is_inequality, is_alone, has_none, is_bound, is_opposite, most_from, most_of, fixed_or, fixed_from, constant_at, order_of, both_ways, ties_of, ties_at, ties_beside, beside_ties, terms_ties, row_ties, ties_from, InTies, Covers}
 use Rattle.rule_links.proofs.Listed.{in_cases}
 
-int_true : (x y : ℤ) → int_eq x y ≡ true → x ≡ y
-int_true x y e = (Decides-int_eq x y).0 e
-
-int_same : (x y : ℤ) → x ≡ y → int_eq x y ≡ true
-int_same x y e = (Decides-int_eq x y).1 e
-
-both : (a b : Bool) → a ≡ true → b ≡ true → (a && b) ≡ true
-both true b e f = f
-both false b e f = absurd (false≢true e)
-
 -- a row that bounds a variable
 pub kind_is : (kind : RowKind) → is_inequality kind ≡ true → kind ≡ AtLeastZero
 kind_is AtLeastZero e = refl
 kind_is IsZero e = absurd (false≢true e)
-
-pub none_is : (list : List (ℕ × ℤ)) → has_none list ≡ true → list ≡ []
-none_is [] e = refl
-none_is (one ∷ rest) e = absurd (false≢true e)
 
 pair_is : (term : ℕ × ℤ) (variable : ℕ) (times : ℤ) → term.0 ≡ variable → term.1 ≡ times → term ≡ (variable, times)
 pair_is (v, t) variable times e f = ap (λ (x : ℕ). (x, t)) e ∙ ap (λ (y : ℤ). (variable, y)) f
@@ -41,11 +31,11 @@ pub alone_is : (variable : ℕ) (times : ℤ) (terms : List (ℕ × ℤ)) → is
 alone_is variable times [] e = absurd (false≢true e)
 alone_is variable times (term ∷ []) e =
     let parts = and_parts (eqb term.0 variable) (int_eq term.1 times) e in
-    ap (λ (t : ℕ × ℤ). t ∷ []) (pair_is term variable times (eqb-true term.0 variable parts.0) (int_true term.1 times parts.1))
+    ap (λ (t : ℕ × ℤ). t ∷ []) (pair_is term variable times (eqb-true term.0 variable parts.0) (int_eq_true term.1 times parts.1))
 alone_is variable times (term ∷ more ∷ rest) e = absurd (false≢true e)
 
 alone_same : (variable : ℕ) (times : ℤ) → is_alone variable times ((variable, times) ∷ []) ≡ true
-alone_same variable times = both (eqb variable variable) (int_eq times times) (eq-eqb variable variable refl) (int_same times times refl)
+alone_same variable times = and_from (eqb variable variable) (int_eq times times) (eq-eqb variable variable refl) (int_eq_from times times refl)
 
 pub bound_is : (rows : List WRow) (variable : ℕ) (times : ℤ) (row : WRow) → IsAmong rows row → is_bound variable times row ≡ true → HasBound rows variable times row.constant
 bound_is rows variable times row among e =
@@ -61,7 +51,7 @@ bound_is rows variable times row among e =
     }
 
 pub bound_told : (rows : List WRow) (variable : ℕ) (times constant : ℤ) (bound : HasBound rows variable times constant) → is_bound variable times bound.row ≡ true
-bound_told rows variable times constant bound = both (is_inequality bound.row.kind) (is_alone variable times bound.row.terms && has_none bound.row.weights) (ap is_inequality bound.inequality) (both (is_alone variable times bound.row.terms) (has_none bound.row.weights) (ap (is_alone variable times) bound.terms ∙ alone_same variable times) (ap has_none bound.weights))
+bound_told rows variable times constant bound = and_from (is_inequality bound.row.kind) (is_alone variable times bound.row.terms && has_none bound.row.weights) (ap is_inequality bound.inequality) (and_from (is_alone variable times bound.row.terms) (has_none bound.row.weights) (ap (is_alone variable times) bound.terms ∙ alone_same variable times) (ap has_none bound.weights))
 
 -- the row that a variable is at most a number
 pub record IsMost (variable : ℕ) (low : ℤ) (n most : ℕ) (list : List WRow) : Type 0 where
@@ -72,14 +62,11 @@ pub record IsMost (variable : ℕ) (low : ℤ) (n most : ℕ) (list : List WRow)
   pub bound : is_bound variable (negsuc 0) row ≡ true
   pub opposite : low +ℤ row.constant ≡ pos 0
 
-some_number : (a b : ℕ) → ◌≡◌ {A = Option ℕ} (Some a) (Some b) → a ≡ b
-some_number a b e = cc
-
 most_cases : (here : Bool) (variable : ℕ) (low : ℤ) (n most : ℕ) (row : WRow) (rest : List WRow) → is_opposite variable low row ≡ here → cond here (Some n) (most_from variable low (suc n) rest) ≡ Some most → (most_from variable low (suc n) rest ≡ Some most → IsMost variable low (suc n) most rest) → IsMost variable low n most (row ∷ rest)
 most_cases true variable low n most row rest h e more =
-    let same = some_number n most e in
+    let same = same_Some n most e in
     let parts = and_parts (is_bound variable (negsuc 0) row) (int_eq (low +ℤ row.constant) (pos 0)) h in
-    record { index = 0; row = row; at = omega (arith, same); is = refl; bound = parts.0; opposite = int_true (low +ℤ row.constant) (pos 0) parts.1 }
+    record { index = 0; row = row; at = omega (arith, same); is = refl; bound = parts.0; opposite = int_eq_true (low +ℤ row.constant) (pos 0) parts.1 }
 most_cases false variable low n most row rest h e more =
     let m = more e in
     record { index = suc m.index; row = m.row; at = omega (arith, m.at); is = m.is; bound = m.bound; opposite = m.opposite }
@@ -88,16 +75,13 @@ pub most_is : (variable : ℕ) (low : ℤ) (n most : ℕ) (list : List WRow) →
 most_is variable low n most [] e = absurd (cc)
 most_is variable low n most (row ∷ rest) e = most_cases (is_opposite variable low row) variable low n most row rest refl e (λ h. most_is variable low (suc n) most rest h)
 
-found_cases : (here : Bool) (n : ℕ) (later : Option ℕ) → (here ≡ false → (most : ℕ) × (later ≡ Some most)) → (most : ℕ) × (cond here (Some n) later ≡ Some most)
+pub found_cases : (here : Bool) (n : ℕ) (later : Option ℕ) → (here ≡ false → (most : ℕ) × (later ≡ Some most)) → (most : ℕ) × (cond here (Some n) later ≡ Some most)
 found_cases true n later more = (n, refl)
 found_cases false n later more = more refl
 
-one_row : (a b : WRow) → ◌≡◌ {A = Option WRow} (Some a) (Some b) → a ≡ b
-one_row a b e = cc
-
 most_found : (variable : ℕ) (low : ℤ) (n k : ℕ) (list : List WRow) (row : WRow) → slice_get list k ≡ Some row → is_opposite variable low row ≡ true → (most : ℕ) × (most_from variable low n list ≡ Some most)
 most_found variable low n k [] row is h = absurd (cc)
-most_found variable low n zero (r ∷ rest) row is h = found_cases (is_opposite variable low r) n (most_from variable low (suc n) rest) (λ f. absurd (true≢false (sym (ap (is_opposite variable low) (one_row r row is) ∙ h) ∙ f)))
+most_found variable low n zero (r ∷ rest) row is h = found_cases (is_opposite variable low r) n (most_from variable low (suc n) rest) (λ f. absurd (true≢false (sym (ap (is_opposite variable low) (same_Some r row is) ∙ h) ∙ f)))
 most_found variable low n (suc k) (r ∷ rest) row is h = found_cases (is_opposite variable low r) n (most_from variable low (suc n) rest) (λ f. most_found variable low (suc n) k rest row is h)
 
 -- the two rows that fix a variable
@@ -109,21 +93,14 @@ pub record IsFound (variable : ℕ) (rows : List WRow) (n : ℕ) (fixed : ℕ ×
   pub bound : is_bound variable (pos 1) row ≡ true
   pub most : most_from variable row.constant 0 rows ≡ Some fixed.1
 
-some_pair : (a b : ℕ × ℕ) → ◌≡◌ {A = Option (ℕ × ℕ)} (Some a) (Some b) → a ≡ b
-some_pair a b e = cc
-
-of_cases : (bound : Bool) (found : Option ℕ) (most : ℕ) → cond bound found None ≡ Some most → (bound ≡ true) × (found ≡ Some most)
-of_cases true found most e = (refl, e)
-of_cases false found most e = absurd (cc)
-
 fixed_cases : (variable : ℕ) (rows : List WRow) (found : Option ℕ) (n : ℕ) (fixed : ℕ × ℕ) (row : WRow) (rest : List WRow) → most_of variable rows row ≡ found → fixed_or n found (fixed_from variable rows (suc n) rest) ≡ Some fixed → (fixed_from variable rows (suc n) rest ≡ Some fixed → IsFound variable rows (suc n) fixed rest) → IsFound variable rows n fixed (row ∷ rest)
 fixed_cases variable rows None n fixed row rest h e more =
     let m = more e in
     record { index = suc m.index; first = omega (arith, m.first); row = m.row; is = m.is; bound = m.bound; most = m.most }
 fixed_cases variable rows (Some most) n fixed row rest h e more =
-    let parts = of_cases (is_bound variable (pos 1) row) (most_from variable row.constant 0 rows) most h in
-    let same : most ≡ fixed.1 = ap (λ (p : ℕ × ℕ). p.1) (some_pair (n, most) fixed e) in
-    let first : n ≡ fixed.0 = ap (λ (p : ℕ × ℕ). p.0) (some_pair (n, most) fixed e) in
+    let parts = cond_guarded (is_bound variable (pos 1) row) (most_from variable row.constant 0 rows) most h in
+    let same : most ≡ fixed.1 = ap (λ (p : ℕ × ℕ). p.1) (same_Some (n, most) fixed e) in
+    let first : n ≡ fixed.0 = ap (λ (p : ℕ × ℕ). p.0) (same_Some (n, most) fixed e) in
     record { index = 0; first = omega (arith, first); row = row; is = refl; bound = parts.0; most = parts.1 ∙ ap Some same }
 
 pub found_is : (variable : ℕ) (rows : List WRow) (n : ℕ) (fixed : ℕ × ℕ) (list : List WRow) → fixed_from variable rows n list ≡ Some fixed → IsFound variable rows n fixed list
@@ -161,7 +138,7 @@ some_none a e = absurd (cc)
 
 fixed_found : (variable : ℕ) (rows : List WRow) (n k most : ℕ) (list : List WRow) (row : WRow) → slice_get list k ≡ Some row → most_of variable rows row ≡ Some most → (fixed : ℕ × ℕ) × (fixed_from variable rows n list ≡ Some fixed)
 fixed_found variable rows n k most [] row is h = absurd (cc)
-fixed_found variable rows n zero most (r ∷ rest) row is h = or_cases n (most_of variable rows r) (fixed_from variable rows (suc n) rest) (λ f. absurd (some_none most (sym (ap (most_of variable rows) (one_row r row is) ∙ h) ∙ f)))
+fixed_found variable rows n zero most (r ∷ rest) row is h = or_cases n (most_of variable rows r) (fixed_from variable rows (suc n) rest) (λ f. absurd (some_none most (sym (ap (most_of variable rows) (same_Some r row is) ∙ h) ∙ f)))
 fixed_found variable rows n (suc k) most (r ∷ rest) row is h = or_cases n (most_of variable rows r) (fixed_from variable rows (suc n) rest) (λ f. fixed_found variable rows (suc n) k most rest row is h)
 
 numbered : (rows : List WRow) (variable : ℕ) (number : ℤ) → IsFixed rows variable number → (fixed : ℕ × ℕ) × (fixed_from variable rows 0 rows ≡ Some fixed)
@@ -169,7 +146,7 @@ numbered rows variable number fixed =
     let least = fixed.least in
     let most = fixed.most in
     let opposite : least.row.constant +ℤ most.row.constant ≡ pos 0 = ap (λ (c : ℤ). c +ℤ most.row.constant) least.number ∙ ap (λ (c : ℤ). fixed.low +ℤ c) most.number ∙ fixed.opposite in
-    let m = most_found variable least.row.constant 0 most.among.0 rows most.row most.among.1 (both (is_bound variable (negsuc 0) most.row) (int_eq (least.row.constant +ℤ most.row.constant) (pos 0)) (bound_told rows variable (negsuc 0) number most) (int_same (least.row.constant +ℤ most.row.constant) (pos 0) opposite)) in
+    let m = most_found variable least.row.constant 0 most.among.0 rows most.row most.among.1 (and_from (is_bound variable (negsuc 0) most.row) (int_eq (least.row.constant +ℤ most.row.constant) (pos 0)) (bound_told rows variable (negsuc 0) number most) (int_eq_from (least.row.constant +ℤ most.row.constant) (pos 0) opposite)) in
     fixed_found variable rows 0 least.among.0 m.0 rows least.row least.among.1 (ap (λ (b : Bool). cond b (most_from variable least.row.constant 0 rows) None) (bound_told rows variable (pos 1) fixed.low least) ∙ m.1)
 
 -- lists of ties
@@ -208,10 +185,10 @@ two_cases plus minus k row beside one other link p a m b h = elim h as (λ o. Le
 order_cases : (first second : Bool) (one other : ℕ × ℤ) (k k' : ℤ) (row : ℕ) (beside : Option Beside) (link : Link) → (int_eq one.1 (pos 1) && int_eq other.1 (negsuc 0)) ≡ first → (int_eq one.1 (negsuc 0) && int_eq other.1 (pos 1)) ≡ second → InTies (ties_of (cond first (Some (one.0, other.0)) (cond second (Some (other.0, one.0)) None)) k row beside) link → IsTie one other k link
 order_cases true second one other k k' row beside link e f h =
     let parts = and_parts (int_eq one.1 (pos 1)) (int_eq other.1 (negsuc 0)) e in
-    inl (two_cases one.0 other.0 k row beside one other link refl (int_true one.1 (pos 1) parts.0) refl (int_true other.1 (negsuc 0) parts.1) h)
+    inl (two_cases one.0 other.0 k row beside one other link refl (int_eq_true one.1 (pos 1) parts.0) refl (int_eq_true other.1 (negsuc 0) parts.1) h)
 order_cases false true one other k k' row beside link e f h =
     let parts = and_parts (int_eq one.1 (negsuc 0)) (int_eq other.1 (pos 1)) f in
-    inr (two_cases other.0 one.0 k row beside other one link refl (int_true other.1 (pos 1) parts.1) refl (int_true one.1 (negsuc 0) parts.0) h)
+    inr (two_cases other.0 one.0 k row beside other one link refl (int_eq_true other.1 (pos 1) parts.1) refl (int_eq_true one.1 (negsuc 0) parts.0) h)
 order_cases false false one other k k' row beside link e f h = absurd h
 
 tie_sound : (one other : ℕ × ℤ) (k : ℤ) (row : ℕ) (beside : Option Beside) (link : Link) → InTies (ties_of (order_of one other) k row beside) link → IsTie one other k link
@@ -240,8 +217,8 @@ cover_second false false one other k row beside u v n e h = absurd (false≢true
 
 tie_complete : (one other : ℕ × ℤ) (k l : ℤ) (row : ℕ) (beside : Option Beside) (link : Link) → IsTie one other k link → Covers (ties_of (order_of one other) l row beside) link.from link.to
 tie_complete one other k l row beside link tie = elim tie as (λ o. Covers (ties_of (order_of one other) l row beside) link.from link.to) [
-  | inl t ↦ cover_first (int_eq one.1 (pos 1) && int_eq other.1 (negsuc 0)) (int_eq one.1 (negsuc 0) && int_eq other.1 (pos 1)) one other l row beside link.from link.to (both (int_eq one.1 (pos 1)) (int_eq other.1 (negsuc 0)) (int_same one.1 (pos 1) t.plus) (int_same other.1 (negsuc 0) t.minus)) (ends_of one other k link t)
-  | inr t ↦ cover_second (int_eq one.1 (pos 1) && int_eq other.1 (negsuc 0)) (int_eq one.1 (negsuc 0) && int_eq other.1 (pos 1)) one other l row beside link.from link.to (λ e. not_both one.1 t.minus (int_true one.1 (pos 1) (and_parts (int_eq one.1 (pos 1)) (int_eq other.1 (negsuc 0)) e).0)) (both (int_eq one.1 (negsuc 0)) (int_eq other.1 (pos 1)) (int_same one.1 (negsuc 0) t.minus) (int_same other.1 (pos 1) t.plus)) (ends_of other one k link t)
+  | inl t ↦ cover_first (int_eq one.1 (pos 1) && int_eq other.1 (negsuc 0)) (int_eq one.1 (negsuc 0) && int_eq other.1 (pos 1)) one other l row beside link.from link.to (and_from (int_eq one.1 (pos 1)) (int_eq other.1 (negsuc 0)) (int_eq_from one.1 (pos 1) t.plus) (int_eq_from other.1 (negsuc 0) t.minus)) (ends_of one other k link t)
+  | inr t ↦ cover_second (int_eq one.1 (pos 1) && int_eq other.1 (negsuc 0)) (int_eq one.1 (negsuc 0) && int_eq other.1 (pos 1)) one other l row beside link.from link.to (λ e. not_both one.1 t.minus (int_eq_true one.1 (pos 1) (and_parts (int_eq one.1 (pos 1)) (int_eq other.1 (negsuc 0)) e).0)) (and_from (int_eq one.1 (negsuc 0)) (int_eq other.1 (pos 1)) (int_eq_from one.1 (negsuc 0) t.minus) (int_eq_from other.1 (pos 1) t.plus)) (ends_of other one k link t)
 ]
   where
     not_both : (x : ℤ) → x ≡ negsuc 0 → x ≡ pos 1 → ⊥
@@ -305,10 +282,6 @@ record SaysLink (rows : List WRow) (row : WRow) (link : Link) : Type 0 where
   pub weightless : row.weights ≡ []
   pub tied : LinksOf rows row.terms row.constant link
 
-pub equation_is : (kind : RowKind) → is_inequality kind ≡ false → kind ≡ IsZero
-equation_is AtLeastZero e = absurd (true≢false e)
-equation_is IsZero e = refl
-
 row_cases : (rows : List WRow) (n : ℕ) (row : WRow) (link : Link) (unequal none : Bool) → is_inequality row.kind ≡ unequal → has_none row.weights ≡ none → InTies (cond unequal [] (cond none (terms_ties rows row.terms row.constant n) [])) link → SaysLink rows row link
 row_cases rows n row link true none e f h = absurd h
 row_cases rows n row link false false e f h = absurd h
@@ -341,7 +314,7 @@ all_sound rows n (row ∷ rest) link h = elim (in_cases (row_ties rows n row) (t
 
 all_complete : (rows : List WRow) (n k : ℕ) (list : List WRow) (row : WRow) (link : Link) → slice_get list k ≡ Some row → SaysLink rows row link → Covers (ties_from rows n list) link.from link.to
 all_complete rows n k [] row link is says = absurd (cc)
-all_complete rows n zero (r ∷ rest) row link is says = covers_left (row_ties rows n r) (ties_from rows (suc n) rest) link.from link.to (row_complete rows n r link (subst (λ (x : WRow). SaysLink rows x link) (sym (one_row r row is)) says))
+all_complete rows n zero (r ∷ rest) row link is says = covers_left (row_ties rows n r) (ties_from rows (suc n) rest) link.from link.to (row_complete rows n r link (subst (λ (x : WRow). SaysLink rows x link) (sym (same_Some r row is)) says))
 all_complete rows n (suc k) (r ∷ rest) row link is says = covers_right (row_ties rows n r) (ties_from rows (suc n) rest) link.from link.to (all_complete rows (suc n) k rest row link is says)
 
 pub sound_is : (rows : List WRow) (link : Link) → InTies (ties_from rows 0 rows) link → IsIntLink rows link
@@ -351,7 +324,3 @@ sound_is rows link h =
 
 pub complete_is : (rows : List WRow) (link : Link) → IsIntLink rows link → Covers (ties_from rows 0 rows) link.from link.to
 complete_is rows link is = all_complete rows 0 is.among.0 rows is.row link is.among.1 (record { equation = is.equation; weightless = is.weightless; tied = is.tied })
-
-pub if_ok_then : (A E : Type 0) (r : Result A E) (P Q : A → Type 0) → IfOk r P → ((x : A) → P x → Q x) → IfOk r Q
-if_ok_then A E (Ok x) P Q h f = f x h
-if_ok_then A E (Err e) P Q h f = tt

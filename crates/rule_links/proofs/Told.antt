@@ -3,7 +3,7 @@ use Rattle.std.proofs.Common.{◌≡◌, inl, inr, ℕ, ◌+◌, ◌<◌, ◌≤
 use Rattle.std.specs.Prelude.{slice_get}
 use Rattle.std.proofs.lemmas.Bool.{cases_eq}
 use Rattle.std.proofs.lemmas.List.{get_or_at, get_or_append_left}
-use Rattle.std.proofs.lemmas.Option.{slice_get_within}
+use Rattle.std.proofs.lemmas.Option.{slice_get_within, same_Some}
 
 -- so much is told of the first items
 pub record AreTold {I X : Type 0} (P : I → X → Type 0) (items : List I) (d : X) (told : List X) (n : ℕ) : Type 0 where
@@ -14,15 +14,12 @@ pub record AreTold {I X : Type 0} (P : I → X → Type 0) (items : List I) (d :
 pub told_first : {I X : Type 0} (P : I → X → Type 0) (items : List I) (d : X) (told : List X) → told ≡ [] → AreTold P items d told 0
 told_first P items d told e = record { count = ap length e; low = omega arith; each = λ k item less. absurd (omega (arith, less)) }
 
-one_item : {I : Type 0} (a b : I) → ◌≡◌ {A = Option I} (Some a) (Some b) → a ≡ b
-one_item a b e = cc
-
 pub told_more : {I X : Type 0} (P : I → X → Type 0) (items : List I) (d : X) (told new : List X) (one : X) (item : I) (n : ℕ) → new ≡ told ++ one ∷ [] → slice_get items n ≡ Some item → P item one → AreTold P items d told n → AreTold P items d new (n + 1)
 told_more {I} {X} P items d told new one item n e at tells h = record {
   count = let c : length new ≡ length told + 1 = ap length e ∙ length-append told (one ∷ []) in omega (arith, c, h.count);
   low = let w = slice_get_within items n item at in omega (arith, w);
   each = λ k other less is. subst (λ (l : List X). P other (get_or l k d)) (sym e) (elim (cases_eq k n) as (λ o. P other (get_or (told ++ one ∷ []) k d)) [
-    | inl s ↦ subst (λ (x : X). P other x) (sym (get_or_at told one [] d k (h.count ∙ sym s))) (subst (λ (x : I). P x one) (one_item item other (sym at ∙ ap (slice_get items) (sym s) ∙ is)) tells)
+    | inl s ↦ subst (λ (x : X). P other x) (sym (get_or_at told one [] d k (h.count ∙ sym s))) (subst (λ (x : I). P x one) (same_Some item other (sym at ∙ ap (slice_get items) (sym s) ∙ is)) tells)
     | inr f ↦ subst (λ (x : X). P other x) (sym (get_or_append_left told (one ∷ []) d k (let b = before k n less f in omega (arith, b, h.count)))) (h.each k other (before k n less f) is)
   ]);
 }

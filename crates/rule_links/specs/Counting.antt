@@ -1,4 +1,4 @@
--- Words for this crate's own functions: how often rows count. An entry is a row, by its number, so many times.
+-- Words for the functions of this crate and of those above: how often rows count. An entry is a row, by its number, so many times.
 use Rattle.std.specs.Prelude.{ℕ, suc, ℤ, pos, ◌+ℤ◌, List, [], ◌∷◌, ◌++◌, if◌then◌else◌, slice_set, get_or, replicate}
 use Rattle.std.specs.Ordering.{int_eq}
 

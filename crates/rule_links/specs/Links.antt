@@ -1,4 +1,5 @@
--- Links: what the equations of a path say of one variable by another. A link from u to v by k says that v is u + k.
+-- Links: what the rows of a path say of one variable by another. An int link from u to v by k says that v is u + k; what k says in
+-- the other kinds stands in SizeLinks and FallLinks.
 use Rattle.std.specs.Prelude.{ℕ, ℤ, pos, negsuc, ◌≡◌, ◌⊎◌, ◌+ℤ◌, ◌*ℤ◌, List, [], ◌∷◌, Some, slice_get}
 use Rattle.lin_core.specs.declared.rows.RowKind.TheVariants.{AtLeastZero, IsZero}
 use Rattle.lin_core.specs.declared.rows.WRow.{WRow}

@@ -1,4 +1,4 @@
--- Words for this crate's own functions: links to variables of greater numbers, and the greatest falls.
+-- Words for the functions of this crate and of those above: links to variables of greater numbers, and the greatest falls.
 use Rattle.std.specs.Prelude.{ℕ, suc, ℤ, pos, negsuc, ◌≡◌, ◌⊎◌, ◌<◌, ◌+ℤ◌, ◌-ℤ◌, ◌≤ℤ◌, ◌==◌, ◌&&◌, ◌||◌, ◌++◌, Bool, true, false, List, [], ◌∷◌, Option, Some, None, if◌then◌else◌, slice_get, slice_set, get_or, nat_lt, int_lt, length}
 use Rattle.std.specs.List.{All, list_any}
 use Rattle.std.specs.Ordering.{int_eq}
@@ -78,6 +78,11 @@ is_part c = int_lt c (pos 0)
 abbrev pub is_zero : ℕ → WRow → Bool
 is_zero variable row = is_bound variable (pos 1) row && int_eq row.constant (pos 0)
 
+-- the first such row; the rows are counted from n
+abbrev pub zero_from : ℕ → ℕ → List WRow → Option ℕ
+zero_from variable n [] = None
+zero_from variable n (row ∷ rest) = if is_zero variable row then Some n else zero_from variable (suc n) rest
+
 abbrev pub has_zero : ℕ → List WRow → Bool
 has_zero variable rows = list_any (λ (row : WRow). is_zero variable row) rows
 
@@ -153,7 +158,7 @@ pub record TellsSteps (bounded negative : Bool) (rule : PathRule) (place : Place
 
 -- a list has what is told of each place, a table the list of each rule
 abbrev pub TellAll : (Place → Option ℤ → Type 0) → List Place → List (Option ℤ) → Type 0
-TellAll tells places told = (k : ℕ) (place : Place) → slice_get places k ≡ Some place → tells place (get_or told k None)
+TellAll tells places told = (length told ≡ length places) × ((k : ℕ) (place : Place) → slice_get places k ≡ Some place → tells place (get_or told k None))
 
 abbrev pub IsTableOf : (PathRule → Place → Option ℤ → Type 0) → List PathRule → List Place → List (List (Option ℤ)) → Type 0
 IsTableOf tells rules places table = (length table ≡ length rules) × ((n : ℕ) (rule : PathRule) → slice_get rules n ≡ Some rule → TellAll (tells rule) places (get_or table n []))
@@ -172,6 +177,11 @@ places_of size slot = if same slot.size size then slot.places else []
 abbrev pub places_in : Bool → List SlotForm → List Place
 places_in size [] = []
 places_in size (slot ∷ rest) = places_of size slot ++ places_in size rest
+
+-- those of the first rule where it starts
+abbrev pub places_at_start : Bool → List PathRule → List Place
+places_at_start size [] = []
+places_at_start size (rule ∷ rest) = places_in size rule.first
 
 -- each list of links from the one end of a rule to the other adds up to at most what is told
 pub record TellsWays (size : Bool) (ties : List Tie) (rule : PathRule) (place : Place) (fall : Option ℤ) : Type 0 where
@@ -203,6 +213,7 @@ pub record IsFallTie (negative : Bool) (rows : List WRow) (tie : Tie) : Type 0 w
   pub row : WRow
   pub at : slice_get rows tie.row ≡ Some row
   pub says : SaysAt negative tie.back row tie.link
+  pub alone : tie.beside ≡ None
 
 -- a row that gives the size of the link's start, or, taken back, one of two sizes
 abbrev pub SaysSize : List WRow → WRow → Bool → Link → Type 0
@@ -215,3 +226,4 @@ pub record IsSizeTie (rows : List WRow) (tie : Tie) : Type 0 where
   pub at : slice_get rows tie.row ≡ Some row
   pub equation : row.kind ≡ IsZero
   pub says : SaysSize rows row tie.back tie.link
+  pub alone : tie.beside ≡ None

@@ -1,4 +1,4 @@
--- Words for this crate's own functions: how the links of a path are found.
+-- Words for the functions of this crate and of those above: how the links of a path are found.
 use Rattle.std.specs.Prelude.{ℕ, zero, suc, ℤ, replicate, pos, negsuc, ◌≡◌, ◌⊎◌, ◌<◌, ◌+ℤ◌, ◌-ℤ◌, ◌*ℤ◌, ◌==◌, ◌&&◌, ◌++◌, Bool, true, false, List, [], ◌∷◌, Option, Some, None, if◌then◌else◌, slice_get, slice_set, get_or, nat_lt, is_none, sum_by, ◌||◌, length}
 use Rattle.std.specs.List.{All}
 use Rattle.std.specs.Ordering.{int_eq}
@@ -194,6 +194,19 @@ pub record IsKnownBy (ties : List Tie) (start finish : ℕ) (by : ℤ) : Type 0 
   pub at : get_or known finish None ≡ Some come
   pub adds : come.by ≡ by
 
+-- the ties by which a variable was come to, the last first
+abbrev pub last_of : Option Come → Option Tie
+last_of None = None
+last_of (Some come) = come.last
+
+abbrev pub trail_by : Option Tie → (ℕ → List Tie) → List Tie
+trail_by None more = []
+trail_by (Some tie) more = tie ∷ more tie.link.from
+
+abbrev pub trail_from : ℕ → Known → ℕ → List Tie
+trail_from zero known variable = []
+trail_from (suc n) known variable = trail_by (last_of (get_or known variable None)) (trail_from n known)
+
 -- what one variable has more than another one is told
 pub record IsDifference (ties : List Tie) (start finish : ℕ) (more : Option ℤ) : Type 0 where
   pub sound : (by : ℤ) → more ≡ Some by → IsReached ties start finish by
@@ -221,7 +234,7 @@ pub record TellsChange (rule : PathRule) (place : Place) (change : Option ℤ) :
 
 -- the same for a list of places, and for each of the rules
 abbrev pub TellChanges : PathRule → List Place → List (Option ℤ) → Type 0
-TellChanges rule places changes = (k : ℕ) (place : Place) → slice_get places k ≡ Some place → TellsChange rule place (get_or changes k None)
+TellChanges rule places changes = (length changes ≡ length places) × ((k : ℕ) (place : Place) → slice_get places k ≡ Some place → TellsChange rule place (get_or changes k None))
 
 abbrev pub IsTable : List PathRule → List Place → List (List (Option ℤ)) → Type 0
 IsTable rules places table = (length table ≡ length rules) × ((n : ℕ) (rule : PathRule) → slice_get rules n ≡ Some rule → TellChanges rule places (get_or table n []))

@@ -76,11 +76,11 @@ fn keep(alloc: Global, counts: &[i64]) -> Result<Seq<(u32, i64)>, AllocError>
     Ok(list)
 }
 
-/// The multipliers of so many rows that these entries add up to.
+/// The multipliers of so many rows that these entries add up to; an entry past the rows is left out.
 ///
 /// # Errors
 ///
-/// Want of memory, which also answers a number of more than 64 bits.
+/// Want of memory, which also answers a number of more than 64 bits, or a row past 2^32.
 pub fn multipliers_of(
     alloc: Global,
     rows: usize,

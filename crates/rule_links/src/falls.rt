@@ -231,7 +231,7 @@ fn list_at(table: &[Seq<Option<i64>>], n: usize) -> &[Option<i64>]
     }
 }
 
-/// Of a table of what ints fall by, what counts.
+/// The same table without what ints fall by on rules where no row bounds their start.
 ///
 /// # Errors
 ///

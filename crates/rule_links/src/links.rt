@@ -1,13 +1,14 @@
-//! Links: what the equations of a path say of one variable by another.
+//! Links: what the rows of a path say of one variable by another.
 
-/// A variable is another one plus a number.
+/// From one variable to another one. Of an int link, the second is the first and a number more; of a size link or a fall link, the
+/// first is the second and at least a number more.
 #[derive(Clone, Copy, PartialEq, Eq)]
 pub struct Link {
-    /// The other variable.
+    /// The first variable.
     pub from: u32,
-    /// The variable.
+    /// The second variable.
     pub to: u32,
-    /// The number.
+    /// The number: what an int link adds, what the others fall by at least.
     pub by: i64,
 }
 
@@ -38,7 +39,7 @@ pub struct Tie {
 /// How a variable is come to from a first one.
 #[derive(Clone, Copy, PartialEq, Eq)]
 pub struct Come {
-    /// What it has more than the first one.
+    /// What the links that lead there add up to.
     pub by: i64,
     /// The last of the ties that lead there; none at the first one.
     pub last: Option<Tie>,

@@ -26,7 +26,7 @@ pub struct Part {
 }
 
 /// Whether a size is counted.
-pub fn is_size(course: Course) -> bool {
+pub fn counts_size(course: Course) -> bool {
     match course {
         Course::Sizes => true,
         Course::Ints => false,

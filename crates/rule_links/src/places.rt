@@ -1,7 +1,7 @@
 //! The places that come into question.
 ghost use Rattle.std.specs.Prelude.{◌≡◌, ◌++◌, IfOk, OnOk, if◌then◌else◌, MatchOption, None, Some, slice_get};
 ghost use Rattle.rule_links.specs.Positions.{same};
-ghost use Rattle.rule_links.specs.Rising.{ArePlacesOf, places_in, places_of};
+ghost use Rattle.rule_links.specs.Rising.{ArePlacesOf, places_at_start, places_in, places_of};
 
 use crate::positions::same;
 use descent::{PathRule, Place, SlotForm};
@@ -42,7 +42,8 @@ fn first_rule(rules: &[PathRule]) -> Option<&PathRule>
 ///
 /// Want of memory.
 pub fn first_places(alloc: Global, rules: &[PathRule], size: bool) -> Result<Seq<Place>, AllocError>
-    ensures { IfOk result (λ places. ArePlacesOf rules.now size places) }
+    ensures all { IfOk result (λ places. ArePlacesOf rules.now size places) }
+    ensures is { IfOk result (λ places. places ≡ places_at_start size rules.now) }
 {
     match first_rule(rules) {
         Some(rule) => places_in(alloc, rule.first.as_slice(), size),

@@ -1,5 +1,6 @@
 //! The variables that a variable is tied to by links, and what they have more.
-ghost use Rattle.std.specs.Prelude.{◌≡◌, ◌<◌, ◌+ℤ◌, ℕ, suc, ℤ, None, Some, IfOk, IfSome, get_or, replicate};
+ghost use Rattle.std.specs.Prelude.{◌≡◌, ◌<◌, ◌+ℤ◌, ℕ, suc, ℤ, None, Some, SomeIff, FitsSigned, IfOk, get_or, replicate};
+ghost use Rattle.std.specs.Int.{w64};
 ghost use Rattle.rule_links.specs.declared.links.Come.{Come};
 ghost use Rattle.rule_links.specs.Searching.{IsReached, moves, step, relaxed, any_moves, by_of, span_from, AreBelow, IsFinished};
 
@@ -57,7 +58,7 @@ pub fn by_of(come: Option<Come>) -> i64
 
 /// The sum of two numbers, where it is one of 64 bits.
 pub fn sum(one: &i64, other: &i64) -> Option<i64>
-    ensures { IfSome result (λ sum. sum ≡ one.now +ℤ other.now) }
+    ensures { SomeIff result (FitsSigned w64 (one.now +ℤ other.now)) (one.now +ℤ other.now) }
 {
     one.checked_add(*other)
 }

@@ -1,14 +1,15 @@
 //! Links between sizes, and the most that sizes fall by.
-ghost use Rattle.std.specs.Prelude.{All, ◌≡◌, ◌++◌, ◌+ℤ◌, ◌-ℤ◌, pos, ℤ, [], false, None, Some, IfOk, IfSome, OnOk, if◌then◌else◌, ◌&&◌};
+ghost use Rattle.std.specs.Prelude.{All, ◌≡◌, ◌++◌, ◌-ℤ◌, pos, [], false, IfOk, OnOk, if◌then◌else◌, ◌&&◌};
 ghost use Rattle.std.specs.List.Sorted.{IsNonDecreasingBy};
 ghost use Rattle.lin_core.specs.Weights.{AreRows};
 ghost use Rattle.rule_links.specs.declared.links.Link.{Link};
 ghost use Rattle.rule_links.specs.declared.links.Tie.{Tie};
 ghost use Rattle.rule_links.specs.SizeLinks.{IsSizeLink, weighed_once};
-ghost use Rattle.rule_links.specs.Rising.{AreRising, back_ties, gives, given_by, given_ties, has_zero, is_part, is_zero, order_in, part_ties, rising_tie, size_constant, size_row_ties, size_ties_from, IsSizeTie};
+ghost use Rattle.rule_links.specs.Rising.{AreRising, back_ties, gives, given_by, given_ties, has_zero, is_part, is_zero, order_in, part_ties, rising_tie, size_constant, size_row_ties, size_ties_from, IsSizeTie, zero_from};
 ghost use Rattle.rule_links.specs.Searching.{InTies};
 
 use crate::links::{Link, Tie};
+use crate::reaching::sum;
 use crate::rising::sort_ties;
 use crate::ties::{is_bound, is_inequality, negated, order_of};
 use lin_core::WRow;
@@ -61,7 +62,19 @@ pub fn is_zero(variable: u32, row: &WRow) -> bool
     is_bound(row, variable, &1) && row.constant == 0
 }
 
-/// Whether some row says so.
+/// The first row that says that the variable is at least 0.
+pub fn zero_row(rows: &[WRow], variable: u32) -> Option<usize>
+    ensures { result ≡ zero_from variable 0 rows.now }
+{
+    for (n, row) in rows.iter().enumerate() {
+        if is_zero(variable, row) {
+            return Some(n);
+        }
+    }
+    None
+}
+
+/// Whether some row says that the variable is at least 0.
 pub fn has_zero(variable: u32, rows: &[WRow]) -> bool
     ensures { result ≡ has_zero variable rows.now }
 {
@@ -90,13 +103,6 @@ fn gives(rows: &[WRow], u: u32, terms: &[(u32, i64)]) -> bool
         }
     }
     true
-}
-
-/// The sum of two numbers, where it is one of 64 bits.
-fn sum(one: &i64, other: &i64) -> Option<i64>
-    ensures { IfSome result (λ sum. sum ≡ one.now +ℤ other.now) }
-{
-    one.checked_add(*other)
 }
 
 /// What the weights of a row add, where every class weighs 1.

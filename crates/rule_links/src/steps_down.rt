@@ -127,7 +127,8 @@ pub fn fall_ties(alloc: Global, negative: bool, rows: &[WRow]) -> Result<Vec<Tie
     Ok(ties)
 }
 
-/// Whether the row bounds the start.
+/// Whether a row has this variable alone, so that it bounds it from below, or where the negative is meant from above; weights
+/// don't matter.
 pub fn bounds(negative: bool, start: u32, row: &WRow) -> bool
     ensures { result ≡ bounds negative start row.now }
 {

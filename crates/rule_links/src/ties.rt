@@ -1,5 +1,6 @@
 //! The links of a path, with the rows that say them.
-ghost use Rattle.std.specs.Prelude.{◌≡◌, ◌+ℤ◌, ◌-ℤ◌, ◌*ℤ◌, ◌++◌, pos, IfSome, OnOk, IfOk, slice_get};
+ghost use Rattle.std.specs.Prelude.{◌≡◌, ◌+ℤ◌, ◌-ℤ◌, ◌*ℤ◌, ◌++◌, pos, SomeIff, FitsSigned, OnOk, IfOk, slice_get};
+ghost use Rattle.std.specs.Int.{w64};
 ghost use Rattle.std.specs.Ordering.{int_eq};
 ghost use Rattle.rule_links.specs.declared.links.Link.{Link};
 ghost use Rattle.rule_links.specs.Links.{IsIntLink};
@@ -113,14 +114,14 @@ pub(crate) fn order_of(one: &(u32, i64), other: &(u32, i64)) -> Option<(u32, u32
 
 /// The negative of a number, where it is one of 64 bits.
 pub fn negated(number: &i64) -> Option<i64>
-    ensures { IfSome result (λ negative. negative ≡ pos 0 -ℤ number.now) }
+    ensures { SomeIff result (FitsSigned w64 (pos 0 -ℤ number.now)) (pos 0 -ℤ number.now) }
 {
     0i64.checked_sub(*number)
 }
 
-/// A number and so many times another one, where it is one of 64 bits.
-fn with_times(number: &i64, times: &i64, other: &i64) -> Option<i64>
-    ensures { IfSome result (λ sum. sum ≡ number.now +ℤ times.now *ℤ other.now) }
+/// A number and so many times another one, where both the product and the sum are numbers of 64 bits.
+pub fn with_times(number: &i64, times: &i64, other: &i64) -> Option<i64>
+    ensures { SomeIff result (FitsSigned w64 (times.now *ℤ other.now) × FitsSigned w64 (number.now +ℤ times.now *ℤ other.now)) (number.now +ℤ times.now *ℤ other.now) }
 {
     let product = times.checked_mul(*other)?;
     number.checked_add(product)

@@ -1,15 +1,20 @@
 //! Trails: the links by which a variable was come to, and the multipliers that they stand for.
+ghost use Rattle.std.specs.Prelude.{◌≡◌, IfOk, length};
+ghost use Rattle.rule_links.specs.Searching.{last_of, trail_from};
+
 use crate::links::{Beside, Come, Tie};
 use crate::multipliers::Multipliers;
 use crate::parts::{Course, Part};
 use crate::reaching::known_of;
-use crate::sizes::is_zero;
+use crate::sizes::zero_row;
 use descent::WRow;
 use list_views::Seq;
 use std::alloc::{AllocError, Global};
 
 /// The last tie by which a variable was come to.
-fn last_of(come: Option<Come>) -> Option<Tie> {
+fn last_of(come: Option<Come>) -> Option<Tie>
+    ensures { result ≡ last_of come }
+{
     match come {
         Some(come) => come.last,
         None => None,
@@ -21,7 +26,9 @@ fn last_of(come: Option<Come>) -> Option<Tie> {
 /// # Errors
 ///
 /// Want of memory.
-pub fn trail(alloc: Global, known: &[Option<Come>], finish: u32) -> Result<Seq<Tie>, AllocError> {
+pub fn trail(alloc: Global, known: &[Option<Come>], finish: u32) -> Result<Seq<Tie>, AllocError>
+    ensures { IfOk result (λ ties. ties ≡ trail_from (length known.now) known.now finish) }
+{
     let mut ties = Seq::new(alloc);
     let mut at = finish;
     for _n in 0..known.len() {
@@ -78,30 +85,23 @@ fn row_at(rows: &[WRow], n: usize) -> Option<&WRow> {
     rows.get(n)
 }
 
-/// The first row that says that a variable is at least 0.
-fn zero_row(rows: &[WRow], variable: u32) -> Option<usize> {
-    for (n, row) in rows.iter().enumerate() {
-        if is_zero(variable, row) {
-            return Some(n);
-        }
-    }
-    None
-}
-
 /// Counts a part of a size so often as it drops out: once less where it is the one to which the link leads.
 fn count_part(rows: &[WRow], tie: &Tie, term: &(u32, i64), times: i64, into: &mut Multipliers) {
     if term.0 == tie.link.from {
         return;
     }
     let less = if term.0 == tie.link.to { 1 } else { 0 };
-    if let Some(sum) = term.1.checked_add(less) {
-        if sum == 0 {
-            return;
-        }
-        if let Some(row) = zero_row(rows, term.0) {
-            if let Some(often) = sum.checked_neg() {
-                into.add_product(row, often, times);
-            }
+    let Some(sum) = term.1.checked_add(less) else {
+        into.lose();
+        return;
+    };
+    if sum == 0 {
+        return;
+    }
+    if let Some(row) = zero_row(rows, term.0) {
+        match sum.checked_neg() {
+            Some(often) => into.add_product(row, often, times),
+            None => into.lose(),
         }
     }
 }

@@ -1,5 +1,6 @@
 -- A run of so many steps ends in one way.
 use Rattle.std.proofs.Common.{◌≡◌, ℕ, zero, suc, ◌+◌, ◌-◌, ◌<◌, ◌≤◌, arith, Option, refl, sym, ap, ◌∙◌, subst}
+use Rattle.list_views.proofs.Orders.{neither_below}
 use Rattle.jvm_values.specs.declared.heap.Value.{Value}
 use Rattle.jvm_values.specs.States.{MachineState}
 use Rattle.class_program.specs.Programs.{Program}
@@ -7,7 +8,6 @@ use Rattle.jvm_step.specs.Running.{Step, step, step_on, run}
 use Rattle.jvm_run.specs.declared.ended.Ended.{Ended}
 use Rattle.jvm_run.specs.declared.ended.Ended.TheVariants as ends
 use Rattle.jvm_run.specs.Runs.{EndsAs}
-use Rattle.input_steps.proofs.OneAnswer.{neither_below}
 
 module _ (p : Program) (first : MachineState) where
   step_of : (count : ℕ) (s : MachineState) → run p count first ≡ Step.Going s → run p (suc count) first ≡ step p s

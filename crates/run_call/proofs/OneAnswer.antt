@@ -1,5 +1,6 @@
 -- So many steps, a state and class files have one answer.
 use Rattle.std.proofs.Common.{◌≡◌, ℕ, List, Some, Result, Ok, Err, refl, sym, ap, ◌∙◌, subst}
+use Rattle.list_views.proofs.Options.{one_answer}
 use Rattle.class_world.specs.World.{World}
 use Rattle.class_world.specs.declared.world.MethodRef.{MethodRef}
 use Rattle.class_program.specs.Programs.{Program}
@@ -17,7 +18,7 @@ use Rattle.input_steps.specs.declared.refused.Fault.TheVariants as faults
 use Rattle.input_steps.specs.Programs.{IsProgramOf, RefusesProgram, IsAcyclic, RefusesCalls, HasTypings, RefusesTypes}
 use Rattle.input_steps.specs.Classes.{AllSpell, RefusesClasses, IsWorldOf, RefusesWorld}
 use Rattle.input_steps.proofs.OneText.{said_exact, text_exact}
-use Rattle.input_steps.proofs.OneAnswer.{map_some_one, IsExact, IsOne, at_one, then_one, some_one, none_some, classes_exact, world_exact, program_exact, calls_exact, types_exact}
+use Rattle.input_steps.proofs.OneAnswer.{map_some_one, IsExact, IsOne, at_one, then_one, none_some, classes_exact, world_exact, program_exact, calls_exact, types_exact}
 use Rattle.run_call.specs.Answers.{IsStateText, RefusesState, RefusesEntry, IsInput, input_fault, RefusesInput, AnswersRun, AnswersProgram, AnswersEntry, AnswersNamed}
 use Rattle.run_call.specs.Laws.{AnswersAreOne}
 use Rattle.run_call.specs.Lines.{ended_line}
@@ -36,14 +37,14 @@ input_exact : (p : Program) (text : StateText) → IsExact (IsInput p text) (Ref
 input_exact p text = record {
   one = input_one p text;
   apart = λ input place fault h r. none_some (input_fault p text) r.cause h.0 r.holds;
-  named = at_one {C = DescFault} (λ fault. places.State) faults.Desc (λ fault. input_fault p text ≡ Some fault) (λ f g h k. some_one (input_fault p text) f g h k);
+  named = at_one {C = DescFault} (λ fault. places.State) faults.Desc (λ fault. input_fault p text ≡ Some fault) (λ f g h k. one_answer (input_fault p text) f g h k);
 }
 
 -- ---- the run
 
 run_one : (fuel : ℕ) (p : Program) (input : StateInput) → IsOne (AnswersRun fuel p input)
 run_one fuel p input (Ok x) (Ok y) h k nr ns =
-    let first : h.runs.first ≡ k.runs.first = some_one (start p input.args input.statics input.heap) h.runs.first k.runs.first h.runs.starts k.runs.starts in
+    let first : h.runs.first ≡ k.runs.first = one_answer (start p input.args input.statics input.heap) h.runs.first k.runs.first h.runs.starts k.runs.starts in
     let here = subst (λ (s : MachineState). EndsAs p s fuel h.ended h.last) first h.runs.ends in
     let same = ends_one p k.runs.first fuel h.ended k.ended h.last k.last here k.runs.ends in
     let lines : ended_line p.world h.last.heap fuel h.ended ≡ ended_line p.world k.last.heap fuel k.ended = λ i. ended_line p.world (same.1 i).heap fuel (same.0 i) in

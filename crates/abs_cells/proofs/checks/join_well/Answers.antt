@@ -1,6 +1,6 @@
 use Rattle.std.proofs.Common.{not, ◌∙◌, ap, sym}
-use Rattle.std.proofs.lemmas.Bool.{false≢true}
-use Rattle.abs_cells.proofs.Checking.{AreSets, all_join, untouched, unjoined, not_true}
+use Rattle.std.proofs.lemmas.Bool.{false≢true, not-true}
+use Rattle.abs_cells.proofs.Checking.{AreSets, all_join, untouched, unjoined}
 use Rattle.abs_cells.proofs.checks.join_well.Goals as goal
 
 pub returns-then-not-touches : goal.returns-then-not-touches
@@ -12,7 +12,7 @@ returns-then-not-touches g c =
       others_are = c.outside.ensures;
       every_is = c.outside-2.ensures;
     } in (
-      λ h. all_join c.args.cells.now c.ids_of_sort-references.result c.ids_of_sort-known.result c.new.result c.outside.result c.outside-2.result (g.P.Pairs.pairs c.args.pairs.now) sets c.touches.ensures.rising (sym c.touches.ensures.value ∙ c.if-not-touches.true) (sym c.touches-then-not-touches.ensures.value ∙ not_true c.touches-then-not-touches.result h),
+      λ h. all_join c.args.cells.now c.ids_of_sort-references.result c.ids_of_sort-known.result c.new.result c.outside.result c.outside-2.result (g.P.Pairs.pairs c.args.pairs.now) sets c.touches.ensures.rising (sym c.touches.ensures.value ∙ c.if-not-touches.true) (sym c.touches-then-not-touches.ensures.value ∙ not-true c.touches-then-not-touches.result h),
       λ k. ap not (c.touches-then-not-touches.ensures.value ∙ unjoined c.args.cells.now c.ids_of_sort-references.result c.ids_of_sort-known.result c.new.result c.outside.result c.outside-2.result (g.P.Pairs.pairs c.args.pairs.now) sets c.touches.ensures.rising k),
     )
 
@@ -25,6 +25,6 @@ returns-else-not-touches g c =
       others_are = c.outside.ensures;
       every_is = c.outside-2.ensures;
     } in (
-      λ h. absurd (false≢true (sym (not_true c.touches.result h) ∙ c.if-not-touches.false)),
+      λ h. absurd (false≢true (sym (not-true c.touches.result h) ∙ c.if-not-touches.false)),
       λ k. ap not (c.touches.ensures.value ∙ untouched c.args.cells.now c.ids_of_sort-references.result c.ids_of_sort-known.result c.new.result c.outside.result c.outside-2.result (g.P.Pairs.pairs c.args.pairs.now) sets c.touches.ensures.rising k),
     )

@@ -1,6 +1,6 @@
 use Rattle.std.proofs.Common.{sym, ◌∙◌, arith}
 use Rattle.std.proofs.lemmas.Bool.{false≢true}
-use Rattle.jvm_values.proofs.Options.{none_is_not_some}
+use Rattle.std.proofs.lemmas.Option.{none-some}
 use Rattle.abs_cells.proofs.PackedLooks.{found_same, found_more, slot_in}
 use Rattle.abs_cells.proofs.packed.slots_of.Goals as goal
 use Rattle.abs_cells.proofs.packed.slots_of.Goals.{in-Some+then-has, in-Some+else-has, in_default}
@@ -12,7 +12,7 @@ loop-id-preserved c = elim c.match-slot_of.branch [
   | in-Some+else-has w ↦
       rw w.found-is (found_same c.args.slots.now c.args.set.now c.loop-id.found c.loop-id.id c.loop-id.invariant (λ s e h. false≢true (sym w.if-has.false ∙ w.has.ensures ∙ h)))
   | in_default w ↦
-      rw w.found-is (found_same c.args.slots.now c.args.set.now c.loop-id.found c.loop-id.id c.loop-id.invariant (λ s e h. none_is_not_some s (sym w.in_default.is ∙ c.slot_of.ensures ∙ e)))
+      rw w.found-is (found_same c.args.slots.now c.args.set.now c.loop-id.found c.loop-id.id c.loop-id.invariant (λ s e h. none-some s (sym w.in_default.is ∙ c.slot_of.ensures ∙ e)))
 ]
 
 pub returns-clause-all : goal.returns-clause-all

@@ -1,11 +1,11 @@
 use Rattle.std.proofs.Common.{◌++◌, [], ◌∷◌, sym, subst, rules}
 use Rattle.std.specs.List.{AllZip}
+use Rattle.list_views.proofs.Zipped.{zip_more}
 use Rattle.jvm_values.specs.TypedHeaps.{WorldTypes}
 use Rattle.term_graph.specs.Graphs.{GraphChild}
 use Rattle.abs_expand.specs.declared.plans.Turn.{Turn}
 use Rattle.abs_expand.specs.Building.{IsChildOf}
 use Rattle.abs_expand.specs.PlansSeen.{turn_seen}
-use Rattle.abs_expand.proofs.ChildLists.{zip_more}
 use Rattle.abs_expand.proofs.expanding.children_of.Goals as goal
 
 pub loop-turn-preserved : goal.loop-turn-preserved

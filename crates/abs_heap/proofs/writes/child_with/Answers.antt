@@ -1,10 +1,10 @@
 use Rattle.abs_heap.specs.Renaming.{write_of}
-use Rattle.abs_heap.proofs.Giving.{ok_map}
 use Rattle.abs_heap.proofs.WriteChildren.{child_written}
 use Rattle.abs_heap.proofs.writes.child_with.Goals as goal
+use Rattle.std.proofs.lemmas.Result.{IfOk-weaker}
 
 pub returns : goal.returns
-returns g c = ok_map c.whole.result _ _
+returns g c = IfOk-weaker c.whole.result _ _
     (λ child is. child_written c.args.state.now (write_of c.args.write.now.object c.args.write.now.field c.args.write.now.value) c.as_slice-names.result.now c.args.effect.now.names c.args.effect.now.null c.args.effect.now.no_cycle _ _ _ _ _ _ _ c.args.affected.now _ _ _ _ _ _ _ _ _ _ _
     c.requires.good c.requires.value c.requires.null c.requires.affected c.new-cells.ensures.items c.cells-old.ensures c.in_ok-put_written.ensures c.from_vec-cells.ensures c.as_slice-list.ensures c.eq.ensures c.share-pairs.ensures c.as_slice-names.ensures c.in_ok-eq.ensures c.in_ok-share.ensures
     c.ids-known.ensures c.known_from.ensures c.share-pairs.ensures c.ids_beside-beside.ensures c.cells-old.ensures c.names_among-ids.ensures c.cells-old.ensures c.names_among-met.ensures c.in_ok-put_met.ensures child is) c.whole.ensures

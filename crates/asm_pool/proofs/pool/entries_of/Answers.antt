@@ -1,9 +1,9 @@
 use Rattle.std.proofs.Common.{ℕ, [], ◌∷◌, ◌++◌, sym, ap, ◌∙◌}
+use Rattle.list_views.proofs.Items.{take_one_more}
 use Rattle.asm_pool.specs.declared.entry.Entry.{Entry as Kept}
-use Rattle.asm_pool.proofs.Entered.{take_more}
 use Rattle.asm_pool.proofs.pool.entries_of.Goals as goal
 
 pub loop-place-preserved : goal.loop-place-preserved
 loop-place-preserved c =
     let e : Kept × ℕ = (c.in-Some.entry.now, c.in-Some.line.now) in
-    c.in_ok-push.ensures.items ∙ ap (λ xs. xs ++ e ∷ []) c.loop-place.invariant ∙ sym (take_more c.args.lines.now.entries c.loop-place.place e (sym c.in-Some.ensures.entry))
+    c.in_ok-push.ensures.items ∙ ap (λ xs. xs ++ e ∷ []) c.loop-place.invariant ∙ sym (take_one_more c.args.lines.now.entries c.loop-place.place e (sym c.in-Some.ensures.entry))

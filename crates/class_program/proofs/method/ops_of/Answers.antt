@@ -1,9 +1,10 @@
 use Rattle.std.proofs.Common.{◌≡◌, ◌++◌, ◌∷◌, [], length, Ok, sym, ap, ◌∙◌, append_assoc, append-nil, arith}
 use Rattle.std.specs.Vec.Iter.{into_iter_items}
+use Rattle.std.proofs.lemmas.List.{nil_from_length}
 use Rattle.class_world.specs.Worlds.{classes_of}
 use Rattle.class_program.specs.Said.{each}
 use Rattle.class_program.specs.Methods.{op_said, ops_of}
-use Rattle.class_program.proofs.Saying.{answered, first_broken, nothing_left}
+use Rattle.class_program.proofs.Saying.{answered, first_broken}
 use Rattle.list_views.proofs.Steps.{each_more}
 use Rattle.class_program.proofs.method.ops_of.Goals as goal
 
@@ -35,6 +36,6 @@ unfolding ops_of
 returns c =
     let at = c.loop-insn in
     let none = c.in-None.ensures.steps in
-    let empty : into_iter_items at.insn-iterator ≡ [] = nothing_left _ (sym at.invariant.2 ∙ none.0) in
+    let empty : into_iter_items at.insn-iterator ≡ [] = nil_from_length _ (sym at.invariant.2 ∙ none.0) in
     let all = sym (append-nil at.yielded) ∙ rw empty at at.invariant.0 ∙ c.into_iter-insn-iterator.ensures.into_iter_gives.0 in
     ap (each (op_said (classes_of c.args.world.now) c.args.class c.args.name.now)) (sym all) ∙ at.invariant.1

@@ -1,12 +1,13 @@
 use Rattle.std.proofs.Common.{rules, ◌↔◌}
 use Rattle.std.specs.Prelude.{IsTrue}
+use Rattle.std.proofs.lemmas.Result.{IfOk-weaker}
 use Rattle.class_read.specs.Rules.{WellFormed}
-use Rattle.class_read.proofs.RuleLaws.{if_ok, formed, methods_of}
+use Rattle.class_read.proofs.RuleLaws.{formed, methods_of}
 use Rattle.class_read.proofs.well_formed.parts_hold.Goals as goal
 
 pub returns : goal.returns
 returns c =
-    if_ok c.methods_hold.result _ (λ b. IsTrue b ↔ WellFormed c.args.class.now) (λ b methods. (
+    IfOk-weaker c.methods_hold.result _ (λ b. IsTrue b ↔ WellFormed c.args.class.now) (λ b methods. (
       λ is.
           formed c.args.pool.now c.args.class.now c.requires.same
           (record {

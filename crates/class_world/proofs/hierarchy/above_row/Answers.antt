@@ -1,5 +1,6 @@
 use Rattle.std.proofs.Common.{◌≡◌, length, arith}
-use Rattle.class_world.proofs.Marking.{may_mark, next_within, Closing-first_at, Closing-more_at, less_work, Closing-end_at, no_items}
+use Rattle.std.proofs.lemmas.List.{nil_from_length}
+use Rattle.class_world.proofs.Marking.{may_mark, next_within, Closing-first_at, Closing-more_at, less_work, Closing-end_at}
 use Rattle.class_world.proofs.hierarchy.above_row.Goals as goal
 
 pub mark_all-requires : goal.mark_all-requires
@@ -21,4 +22,4 @@ pub loop-next-preserved : goal.loop-next-preserved
 loop-next-preserved c = Closing-more_at c.args.supers.now c.args.class _ _ _ _ _ _ c.in-Some.next c.requires.closed c.loop-next.invariant c.in-Some.ensures.items c.row_at-in-Some.ensures c.in_ok-mark_all-2.ensures.marks c.in_ok-mark_all-2.ensures.todo
 
 pub returns : goal.returns
-returns c = let e : length c.loop-next.todo.items ≡ 0 = omega (arith, c.loop-next.todo.ok.0, (c.in_default.ensures.cases).0) in Closing-end_at c.args.supers.now c.args.class _ _ _ c.requires.closed c.loop-next.invariant (no_items _ e) c.from_vec.ensures
+returns c = let e : length c.loop-next.todo.items ≡ 0 = omega (arith, c.loop-next.todo.ok.0, (c.in_default.ensures.cases).0) in Closing-end_at c.args.supers.now c.args.class _ _ _ c.requires.closed c.loop-next.invariant (nil_from_length _ e) c.from_vec.ensures

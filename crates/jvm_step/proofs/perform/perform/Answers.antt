@@ -1,4 +1,5 @@
 use Rattle.std.proofs.Common.{◌≡◌, ◌∙◌, List, Some, refl, ap, subst}
+use Rattle.std.proofs.lemmas.Result.{on_err_weaker}
 use Rattle.jvm_values.specs.declared.heap.Value.TheVariants as values
 use Rattle.jvm_values.specs.States.{frame_of}
 use Rattle.class_world.specs.Worlds.{classes_of}
@@ -12,7 +13,7 @@ use Rattle.jvm_step.specs.Acts.{Acts}
 use Rattle.jvm_step.specs.Effects.{types_of, putstatic_effect}
 use Rattle.jvm_step.specs.Steps.{work_seen}
 use Rattle.jvm_step.proofs.Doing.{frame_acts, frame_tries, heap_acts, heap_tries, statics_acts, tries_as, acts_as}
-use Rattle.jvm_step.proofs.Wanted.{on_err, any_err, wants_as, constant_wants, iload_wants, aload_wants, getstatic_wants, shuffle_wants, new_wants, newarray_wants, anewarray_wants}
+use Rattle.jvm_step.proofs.Wanted.{any_err, wants_as, constant_wants, iload_wants, aload_wants, getstatic_wants, shuffle_wants, new_wants, newarray_wants, anewarray_wants}
 use Rattle.jvm_step.proofs.CallOps.{virtual_op, interface_op}
 use Rattle.jvm_step.proofs.perform.perform.Goals as goal
 
@@ -148,22 +149,22 @@ returns-in-Instanceof-clause-effect c = acts_as (program_of c.args.program.now) 
 -- ---- want of memory
 
 pub returns-in-AconstNull-clause-memory : goal.returns-in-AconstNull-clause-memory
-returns-in-AconstNull-clause-memory c = wants_as (program_of c.args.program.now) c.args.method.now (work_seen c.args.frame.now c.args.statics.now c.args.heap.now) c.args.frame.now.stack.1 _ _ c.push.result (ap form_seen c.in-AconstNull.is) (on_err c.push.result (constant_wants (work_seen c.args.frame.now c.args.statics.now c.args.heap.now) c.args.frame.now.stack.1 values.Null) c.push.ensures.memory)
+returns-in-AconstNull-clause-memory c = wants_as (program_of c.args.program.now) c.args.method.now (work_seen c.args.frame.now c.args.statics.now c.args.heap.now) c.args.frame.now.stack.1 _ _ c.push.result (ap form_seen c.in-AconstNull.is) (on_err_weaker c.push.result (constant_wants (work_seen c.args.frame.now c.args.statics.now c.args.heap.now) c.args.frame.now.stack.1 values.Null) c.push.ensures.memory)
 
 pub returns-in-Iconst-clause-memory : goal.returns-in-Iconst-clause-memory
-returns-in-Iconst-clause-memory c = wants_as (program_of c.args.program.now) c.args.method.now (work_seen c.args.frame.now c.args.statics.now c.args.heap.now) c.args.frame.now.stack.1 _ _ c.push_int.result (ap form_seen c.in-Iconst.is) (on_err c.push_int.result (constant_wants (work_seen c.args.frame.now c.args.statics.now c.args.heap.now) c.args.frame.now.stack.1 (values.Int c.in-Iconst.n)) c.push_int.ensures.memory)
+returns-in-Iconst-clause-memory c = wants_as (program_of c.args.program.now) c.args.method.now (work_seen c.args.frame.now c.args.statics.now c.args.heap.now) c.args.frame.now.stack.1 _ _ c.push_int.result (ap form_seen c.in-Iconst.is) (on_err_weaker c.push_int.result (constant_wants (work_seen c.args.frame.now c.args.statics.now c.args.heap.now) c.args.frame.now.stack.1 (values.Int c.in-Iconst.n)) c.push_int.ensures.memory)
 
 pub returns-in-Iload-clause-memory : goal.returns-in-Iload-clause-memory
-returns-in-Iload-clause-memory c = wants_as (program_of c.args.program.now) c.args.method.now (work_seen c.args.frame.now c.args.statics.now c.args.heap.now) c.args.frame.now.stack.1 _ _ c.iload.result (ap form_seen c.in-Iload.is) (on_err c.iload.result (iload_wants (work_seen c.args.frame.now c.args.statics.now c.args.heap.now) c.args.frame.now.stack.1 c.in-Iload.n) c.iload.ensures.memory)
+returns-in-Iload-clause-memory c = wants_as (program_of c.args.program.now) c.args.method.now (work_seen c.args.frame.now c.args.statics.now c.args.heap.now) c.args.frame.now.stack.1 _ _ c.iload.result (ap form_seen c.in-Iload.is) (on_err_weaker c.iload.result (iload_wants (work_seen c.args.frame.now c.args.statics.now c.args.heap.now) c.args.frame.now.stack.1 c.in-Iload.n) c.iload.ensures.memory)
 
 pub returns-in-Aload-clause-memory : goal.returns-in-Aload-clause-memory
-returns-in-Aload-clause-memory c = wants_as (program_of c.args.program.now) c.args.method.now (work_seen c.args.frame.now c.args.statics.now c.args.heap.now) c.args.frame.now.stack.1 _ _ c.aload.result (ap form_seen c.in-Aload.is) (on_err c.aload.result (aload_wants (work_seen c.args.frame.now c.args.statics.now c.args.heap.now) c.args.frame.now.stack.1 c.in-Aload.n) c.aload.ensures.memory)
+returns-in-Aload-clause-memory c = wants_as (program_of c.args.program.now) c.args.method.now (work_seen c.args.frame.now c.args.statics.now c.args.heap.now) c.args.frame.now.stack.1 _ _ c.aload.result (ap form_seen c.in-Aload.is) (on_err_weaker c.aload.result (aload_wants (work_seen c.args.frame.now c.args.statics.now c.args.heap.now) c.args.frame.now.stack.1 c.in-Aload.n) c.aload.ensures.memory)
 
 pub returns-in-Getstatic-clause-memory : goal.returns-in-Getstatic-clause-memory
-returns-in-Getstatic-clause-memory c = wants_as (program_of c.args.program.now) c.args.method.now (work_seen c.args.frame.now c.args.statics.now c.args.heap.now) c.args.frame.now.stack.1 _ _ c.getstatic.result (ap form_seen c.in-Getstatic.is) (on_err c.getstatic.result (getstatic_wants (work_seen c.args.frame.now c.args.statics.now c.args.heap.now) c.args.frame.now.stack.1 c.in-Getstatic.place) c.getstatic.ensures.memory)
+returns-in-Getstatic-clause-memory c = wants_as (program_of c.args.program.now) c.args.method.now (work_seen c.args.frame.now c.args.statics.now c.args.heap.now) c.args.frame.now.stack.1 _ _ c.getstatic.result (ap form_seen c.in-Getstatic.is) (on_err_weaker c.getstatic.result (getstatic_wants (work_seen c.args.frame.now c.args.statics.now c.args.heap.now) c.args.frame.now.stack.1 c.in-Getstatic.place) c.getstatic.ensures.memory)
 
 pub returns-in-Shuffle-clause-memory : goal.returns-in-Shuffle-clause-memory
-returns-in-Shuffle-clause-memory c = wants_as (program_of c.args.program.now) c.args.method.now (work_seen c.args.frame.now c.args.statics.now c.args.heap.now) c.args.frame.now.stack.1 _ _ c.shuffle.result (ap form_seen c.in-Shuffle.is) (on_err c.shuffle.result (shuffle_wants (work_seen c.args.frame.now c.args.statics.now c.args.heap.now) c.args.frame.now.stack.1 c.in-Shuffle.reordering) c.shuffle.ensures.full)
+returns-in-Shuffle-clause-memory c = wants_as (program_of c.args.program.now) c.args.method.now (work_seen c.args.frame.now c.args.statics.now c.args.heap.now) c.args.frame.now.stack.1 _ _ c.shuffle.result (ap form_seen c.in-Shuffle.is) (on_err_weaker c.shuffle.result (shuffle_wants (work_seen c.args.frame.now c.args.statics.now c.args.heap.now) c.args.frame.now.stack.1 c.in-Shuffle.reordering) c.shuffle.ensures.full)
 
 pub returns-in-New-clause-memory : goal.returns-in-New-clause-memory
 returns-in-New-clause-memory c = wants_as (program_of c.args.program.now) c.args.method.now (work_seen c.args.frame.now c.args.statics.now c.args.heap.now) c.args.frame.now.stack.1 _ _ c.new_object.result (ap form_seen c.in-New.is) (any_err c.new_object.result (new_wants (work_seen c.args.frame.now c.args.statics.now c.args.heap.now) c.args.frame.now.stack.1 (types_of (classes_of c.args.program.now.world)) c.in-New.t))

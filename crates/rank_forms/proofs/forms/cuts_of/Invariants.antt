@@ -1,5 +1,5 @@
 use Rattle.std.proofs.Common.{◌-◌, ◌≤◌}
-use Rattle.rank_forms.specs.Forms.{AreCutsTo}
+use Rattle.rank_forms.proofs.Cut.{AreCutsTo}
 use Rattle.rank_forms.proofs.forms.cuts_of.Given as goal
 
 abbrev pub invariant-loop-cut : goal.invariant-loop-cut

@@ -1,6 +1,6 @@
 use Rattle.std.proofs.Common.{◌∷◌, []}
+use Rattle.descent.proofs.Classes.{if_ok_then}
 use Rattle.rank_forms.specs.Reasons.{TellsForm}
-use Rattle.rule_links.proofs.Tied.{if_ok_then}
 use Rattle.rank_forms.proofs.int_reasons.two_at.Goals as goal
 
 pub returns : goal.returns

@@ -1,5 +1,6 @@
 use Rattle.std.proofs.Common.{refl}
-use Rattle.rank_forms.proofs.Weighed.{ones_more, rise_more, rise_wider}
+use Rattle.lin_core.proofs.Coefficients.{rise_wider}
+use Rattle.rank_forms.proofs.Weighed.{ones_more, rise_more}
 use Rattle.rank_forms.proofs.weights.ones_of.Goals as goal
 
 pub loop-class-preserved : goal.loop-class-preserved

@@ -1,7 +1,7 @@
 use Rattle.std.specs.Prelude.{IfSome}
+use Rattle.descent.proofs.Classes.{if_ok_then}
 use Rattle.rank_search.specs.Found.{IsFound}
 use Rattle.rank_search.proofs.Lowered.{some_found}
-use Rattle.rule_links.proofs.Tied.{if_ok_then}
 use Rattle.rank_search.proofs.searching.plain_form.Goals as goal
 
 pub returns : goal.returns

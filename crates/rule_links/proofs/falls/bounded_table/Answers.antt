@@ -1,4 +1,4 @@
-use Rattle.std.proofs.Common.{refl, [], true}
+use Rattle.std.proofs.Common.{refl, subst, sym, [], false, true}
 use Rattle.std.proofs.lemmas.Option.{slice_get_read}
 use Rattle.rule_links.specs.Rising.{TellAll, TellsSteps}
 use Rattle.rule_links.proofs.Told.{told_first, told_more, told_all}
@@ -12,3 +12,6 @@ loop-n-preserved c = told_more (λ rule. TellAll (TellsSteps true c.args.negativ
 
 pub returns : goal.returns
 returns c = told_all (λ rule. TellAll (TellsSteps true c.args.negative rule) c.args.places.now) c.args.rules.now [] c.loop-n.bounded c.loop-n.n c.loop-n-test.false c.loop-n.invariant
+
+pub bounded_of-requires : goal.bounded_of-requires
+bounded_of-requires c = subst (TellAll (TellsSteps false c.args.negative c.index-rules-n.result) c.args.places.now) (sym c.list_at.ensures) (c.requires.1 c.loop-n.n c.index-rules-n.result (slice_get_read c.args.rules.now _ c.loop-n.n c.index-rules-n.result refl c.loop-n-test.true c.index-rules-n.is))

@@ -1,9 +1,9 @@
 use Rattle.std.proofs.Common.{ap, sym, ◌∙◌, List}
+use Rattle.descent.proofs.Classes.{if_ok_then}
 use Rattle.descent.specs.declared.rules.SlotForm.{SlotForm}
 use Rattle.rule_links.specs.Rising.{TellsWays}
 use Rattle.rule_links.specs.Searching.{variable_at}
 use Rattle.rule_links.proofs.Falling.{ways_told}
-use Rattle.rule_links.proofs.Tied.{if_ok_then}
 use Rattle.rule_links.proofs.falls.fall_at.Goals as goal
 
 pub returns : goal.returns

@@ -1,7 +1,8 @@
 use Rattle.std.proofs.Common.{◌∙◌, sym, ap, is_some}
 use Rattle.std.specs.Str.{bytes_eq}
+use Rattle.list_views.proofs.Options.{none_from_is_some}
 use Rattle.indexmap.proofs.CallerLemmas.{insert_entry-new}
-use Rattle.asm_codes.proofs.FoundLabels.{lookup-map, none_is, put, kept}
+use Rattle.asm_codes.proofs.FoundLabels.{lookup-map, put, kept}
 use Rattle.asm_codes.proofs.labels.Labels.add.Goals as goal
 
 pub returns-then-contains_key : goal.returns-then-contains_key
@@ -11,5 +12,5 @@ returns-then-contains_key c =
 
 pub returns : goal.returns
 returns c =
-    let none = none_is _ (sym c.contains_key.ensures ∙ c.if-contains_key.false) in
+    let none = none_from_is_some _ (sym c.contains_key.ensures ∙ c.if-contains_key.false) in
     rw (← c.self.view_is) (put (λ k. k.now) c.self.inside.places.entries c.insert.new.self.entries c.args.label c.args.place (c.in_ok-insert.ensures.entries ∙ insert_entry-new _ c.self.inside.places c.args.label c.args.place none))

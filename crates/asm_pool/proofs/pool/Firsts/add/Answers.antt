@@ -1,6 +1,7 @@
 use Rattle.std.proofs.Common.{◌≡◌, ◌∷◌, [], true, false, List, ◌++◌, map, Option, Some, None, is_some, refl, sym, ap, ◌∙◌}
 use Rattle.std.proofs.lemmas.List.{map-append}
 use Rattle.std.specs.Prelude.{position}
+use Rattle.list_views.proofs.Options.{none_from_is_some}
 use Rattle.indexmap.proofs.CallerLemmas.{insert_entry-new}
 use Rattle.asm_pool.specs.Entries.{same, seen}
 use Rattle.asm_pool.specs.Pools.{Need, with_first}
@@ -19,10 +20,6 @@ returns-then-is_some c =
     let there = ap (λ o. is_some o) (position_is c.args.entry es ∙ sym c.get_index_of.ensures.index) ∙ sym c.is_some.ensures ∙ c.if-is_some.true in
     rw (← c.self.view_is) (stays (map seen_need es) (seen c.args.entry, c.args.line) there)
 
-none_of : {A : Type 0} (o : Option A) → is_some o ≡ false → o ≡ None
-none_of None h = refl
-none_of (Some x) h = absurd cc
-
 pub returns : goal.returns
 returns c =
     let m = c.self.inside.lines in
@@ -30,6 +27,6 @@ returns c =
     let key = c.args.entry in
     let absent = sym c.is_some.ensures ∙ c.if-is_some.false in
     let new = ap (λ o. is_some o) (position_is key es ∙ sym c.get_index_of.ensures.index) ∙ absent in
-    let none = none_of _ (sym c.get_index_of.ensures.found ∙ absent) in
+    let none = none_from_is_some _ (sym c.get_index_of.ensures.found ∙ absent) in
     let entries = c.in_ok-insert.ensures.entries ∙ insert_entry-new equal m key c.args.line none in
     ap (map seen_need) entries ∙ map-append seen_need es ((key, c.args.line) ∷ []) ∙ rw (← c.self.view_is) (grows (map seen_need es) (seen key, c.args.line) new)

@@ -1,5 +1,5 @@
 use Rattle.std.proofs.Common.{◌≡◌, length, refl, arith}
-use Rattle.class_world.proofs.Marking.{no_items}
+use Rattle.std.proofs.lemmas.List.{nil_from_length}
 use Rattle.class_world.proofs.Gathering.{gathering_start, gathering_within, gathering_skips, gathering_enters, gathering_less, gathered}
 use Rattle.class_world.proofs.roster.Roster.sought_in.Goals as goal
 
@@ -34,4 +34,4 @@ loop-interface-preserved c =
 pub returns : goal.returns
 returns c =
     let none : length c.loop-interface.todo.items ≡ 0 = omega (arith, c.loop-interface.todo.ok.0, (c.in_default.ensures.cases).0) in
-    gathered c.args.self.now.classes c.args.class c.loop-interface.seen.items c.loop-interface.todo.items c.loop-interface.found c.requires c.loop-interface.invariant (no_items _ none)
+    gathered c.args.self.now.classes c.args.class c.loop-interface.seen.items c.loop-interface.todo.items c.loop-interface.found c.requires c.loop-interface.invariant (nil_from_length _ none)

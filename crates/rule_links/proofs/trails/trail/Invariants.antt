@@ -1,6 +1,6 @@
 use Rattle.std.proofs.Common.{◌≡◌, ◌++◌, ◌-◌, length}
-use Rattle.rank_forms.specs.Following.{trail_from}
-use Rattle.rank_forms.proofs.following.trail.Given as goal
+use Rattle.rule_links.specs.Searching.{trail_from}
+use Rattle.rule_links.proofs.trails.trail.Given as goal
 
 abbrev pub invariant-loop-n : goal.invariant-loop-n
 invariant-loop-n l = l.ties ++ trail_from (length l.known - l._n) l.known l.at ≡ trail_from (length l.known) l.known l.finish

@@ -1,0 +1,111 @@
+-- What an accepted certificate shows, by the definition of the answer alone.
+use Rattle.std.proofs.Common.{◌≡◌, ℕ, List, Ok, inl, inr, sym, ap, subst, arith}
+use Rattle.std.proofs.lemmas.List.Elements.{All-from_recursion}
+use Rattle.abs_cells.specs.AbstractStates.{AbstractState}
+use Rattle.abs_expand.specs.IntForms.{HasIntForms}
+use Rattle.class_world.specs.World.{World}
+use Rattle.class_world.specs.declared.world.MethodRef.{MethodRef}
+use Rattle.class_program.specs.Programs.{Program, IsClosed}
+use Rattle.frame_types.specs.Tables.{CodeTypes}
+use Rattle.code_verify.specs.Typings.{IsTypingOf}
+use Rattle.jvm_run.specs.Laws.{HasInts}
+use Rattle.input_desc.specs.declared.desc.Desc.{Desc}
+use Rattle.input_desc.specs.Descs.{IsOwnDesc}
+use Rattle.input_desc.specs.Entries.{entry_of}
+use Rattle.input_desc.specs.Initial.{initial_of}
+use Rattle.input_steps.specs.Classes.{IsWorldOf}
+use Rattle.desc_steps.specs.Headline.{NameProgram, AllFittingEnd}
+use Rattle.desc_steps.specs.Ints.{IsIntProgram}
+use Rattle.desc_steps.specs.Names.{names_of}
+use Rattle.descent.specs.declared.proof.ProofStep.{ProofStep}
+use Rattle.descent.specs.Conditions.{AreSteps}
+use Rattle.descent.proofs.Walked.{closed_ends}
+use Rattle.expand_laws.specs.Laws.{HasShortIncrements}
+use Rattle.term_graph.specs.Graphs.{GraphNode}
+use Rattle.path_rules.specs.Bare.{AreBounded}
+use Rattle.graph_check.specs.Conditions.{HasIntStates}
+use Rattle.int_links.specs.Laws.{IntLinksFit}
+use Rattle.json_view.specs.Located.{root_of}
+use Rattle.cert_form.specs.Certificates.{CertContent}
+use Rattle.cert_form.proofs.Lacking.{good_steps}
+use Rattle.cert_check.specs.Certified.{IsCertified}
+use Rattle.cert_check.specs.Laws.{CertifiedIntRunsEnd}
+use Rattle.cert_check.specs.Parts.{case_of}
+use Rattle.cert_check.specs.Valid.{IsValid}
+use Rattle.cert_check.proofs.Preparing.{prepared, cuts_of, ready}
+use Rattle.check_call.specs.declared.outcome.Outcome.{Outcome}
+use Rattle.check_call.specs.Answers.{IsCertText, AnswersChecked, AnswersContent, AnswersCert, Answers}
+use Rattle.check_call.proofs.PathLimits.{all_bounded, rules_good}
+
+-- ---- where an answer comes from
+
+-- a program that the files and the description name, with its typing and described inputs, of which this is the answer
+pub record IsReached (cert desc : List ℕ) (files : List (List ℕ)) (outcome : Outcome) : Type 0 where
+  pub program : Program
+  pub typing : ℕ → CodeTypes
+  pub described : Desc
+  pub named : NameProgram files desc program described
+  pub typed : IsTypingOf program typing
+  pub ints : IsIntProgram program
+  pub says : AnswersCert cert program typing described (Ok outcome)
+
+pub reached : (cert desc : List ℕ) (files : List (List ℕ)) (outcome : Outcome) → Answers cert desc files (Ok outcome) → IsReached cert desc files outcome
+reached cert desc files outcome a =
+    let text = a.1.1 in
+    let world = text.1.1 in
+    let entry = world.1.1 in
+    let program = entry.1.1 in
+    let calls = program.1.1 in
+    let typing = calls.1.1 in
+    let described = typing.1.1 in
+    let made = program.1.0 in
+    let here : entry_of program.0.world text.0.entry ≡ Ok entry.0 = subst (λ (w : World). entry_of w text.0.entry ≡ Ok entry.0) (sym made.world_is) entry.1.0 in record {
+      program = program.0;
+      typing = typing.0;
+      described = described.0;
+      named = record {
+        classes = a.0;
+        spelled = a.1.0;
+        linked = subst (IsWorldOf a.0) (sym made.world_is) world.1.0;
+        text = text.0;
+        said = text.1.0;
+        entry = subst (λ (e : MethodRef). entry_of program.0.world text.0.entry ≡ Ok e) (sym made.entry_is) here;
+        closed = made.closed;
+        faultless = described.1.0.0;
+        is_described = described.1.0.1;
+      };
+      typed = typing.1.0;
+      ints = described.1.1.1.0;
+      says = described.1.1.1.1;
+    }
+
+-- ---- what a valid certificate shows
+
+module _ (fit : IntLinksFit) (ended : CertifiedIntRunsEnd) (p : Program) (typing : ℕ → CodeTypes) (desc : Desc) (closed : IsClosed p) (constants : HasInts p) (typed : IsTypingOf p typing) (own : IsOwnDesc p desc) (forms : HasIntForms p) (increments : HasShortIncrements p) where
+  certified : (nodes : List GraphNode) (cuts : List ℕ) (steps : List ProofStep) → HasIntStates p typing nodes → AreSteps steps → IsValid (case_of p typing (initial_of p desc) nodes cuts steps) → IsCertified p typing nodes cuts (initial_of p desc)
+  certified nodes cuts steps states are valid =
+      let root : AbstractState = initial_of p desc in
+      let is_ready = ready nodes valid.links cuts (prepared fit p typing forms increments nodes root valid.links states valid.graph) (cuts_of (case_of p typing root nodes cuts steps) valid.cuts) in
+      let bounded = All-from_recursion (λ (n : GraphNode). AreBounded n.state) nodes (all_bounded p typing nodes nodes valid.links valid.graph.each) in
+      record {
+        links = valid.links;
+        graph = valid.graph;
+        ready = is_ready;
+        cut = valid.paths.0;
+        rules = valid.rules;
+        are = valid.paths.1;
+        ends = closed_ends valid.rules steps (rules_good nodes valid.links cuts is_ready bounded valid.rules valid.paths.1) are valid.proof;
+      }
+
+  checked_ends : (nodes : List GraphNode) (cuts : List ℕ) (steps : List ProofStep) (outcome : Outcome) → HasIntStates p typing nodes → AreSteps steps → AnswersChecked (case_of p typing (initial_of p desc) nodes cuts steps) (Ok outcome) → outcome.status ≡ 0 → AllFittingEnd p desc
+  checked_ends nodes cuts steps outcome states are (inl h) accepted =
+      λ state fits. ended p typing desc nodes cuts closed constants typed own forms increments states (certified nodes cuts steps states are h.0) state fits
+  checked_ends nodes cuts steps outcome states are (inr h) accepted = absurd (omega (arith, ap (λ (o : Outcome). o.status) h.1.1.1, accepted))
+
+  content_ends : (cert : List ℕ) (content : CertContent) (outcome : Outcome) → IsCertText p cert content → AnswersContent p typing desc content (Ok outcome) → outcome.status ≡ 0 → AllFittingEnd p desc
+  content_ends cert content outcome text h accepted =
+      checked_ends h.0 content.cuts content.proof outcome h.1.0.1 (good_steps (names_of p.world) (root_of text.0) content text.1.1) h.1.1 accepted
+
+  pub cert_ends : (cert : List ℕ) (outcome : Outcome) → AnswersCert cert p typing desc (Ok outcome) → outcome.status ≡ 0 → AllFittingEnd p desc
+  cert_ends cert outcome (inl h) accepted = absurd (omega (arith, ap (λ (o : Outcome). o.status) h.1.1, accepted))
+  cert_ends cert outcome (inr h) accepted = content_ends cert h.0 outcome h.1.0 h.1.1 accepted
