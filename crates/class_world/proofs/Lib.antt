@@ -18,5 +18,6 @@ pub mod Below
 pub mod Prefixes
 pub mod Found
 pub mod BuiltInLaws
+pub mod NoInterfaces
 pub mod Onces
 pub mod Gathering

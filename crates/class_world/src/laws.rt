@@ -4,7 +4,7 @@ ghost use Rattle.class_read.specs.Content.{ClassContent};
 ghost use Rattle.jvm_values.specs.declared.types.Ty.{Ty};
 ghost use Rattle.class_world.specs.Linking.{is_linked};
 ghost use Rattle.class_world.specs.Types.{Sub, is_sub};
-ghost use Rattle.class_world.specs.BuiltIns.{IsWorld, HasBuiltIns, HasFieldsInOrder};
+ghost use Rattle.class_world.specs.BuiltIns.{IsWorld, HasBuiltIns, HasNoInterfacesBelow, HasFieldsInOrder};
 
 /// In a linked world the test of subtypes answers the least relation that has each type below itself, each class below
 /// what it extends and implements, arrays below arrays as their items are, and each type below `java/lang/Object`.
@@ -17,6 +17,12 @@ pub fn sub_is_least()
 /// `java/lang/Throwable`. Among them are those that instructions throw.
 pub fn built_ins_are_known()
     ensures { (world : List ClassContent) → IsWorld world → HasBuiltIns world }
+{}
+
+/// Below a class that is no interface, other than `java/lang/Object`, there are no interfaces. So each type below
+/// `java/lang/Throwable`, as the class of a handler is, stands for itself in assignments.
+pub fn no_interface_is_below_a_class()
+    ensures { (world : List ClassContent) → IsWorld world → HasNoInterfacesBelow world }
 {}
 
 /// The fields of a class come first among those of each class below it, so a field has one place, and holds one kind of
