@@ -26,3 +26,4 @@ pub mod GoodStatics
 pub mod GoodOps
 pub mod GoodPrograms
 pub mod GoodInstructions
+pub mod InWidth

@@ -12,5 +12,7 @@ pub mod Programs
 pub mod Selected
 pub mod Good
 pub mod Views
+pub mod Widths
+pub mod WidthProps
 pub mod Rows
 pub mod Reads

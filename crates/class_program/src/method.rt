@@ -4,6 +4,7 @@ ghost use Rattle.std.specs.Prelude.{◌≡◌, ◌≢◌, ◌⊎◌, ◌<◌, �
 ghost use Rattle.class_world.specs.declared.fault.LinkFault.TheVariants.{Code, Memory};
 ghost use Rattle.code_forms.specs.declared.fault.CodeFault.TheVariants as faults;
 ghost use Rattle.code_decode.specs.Codes.{decode_of};
+ghost use Rattle.code_decode.specs.Encoding.{IsCode};
 ghost use Rattle.class_read.specs.Rules.{name_of};
 ghost use Rattle.class_read.specs.Content.{MethodContent};
 ghost use Rattle.class_read.specs.View.{method_content, code_content};
@@ -12,6 +13,7 @@ ghost use Rattle.class_program.specs.Said.{Says};
 ghost use Rattle.class_program.specs.Ops.{pool_of};
 ghost use Rattle.class_world.specs.Resolve.{method_at, has_body};
 ghost use Rattle.class_program.specs.Methods.{method_name, static_init, code_of, synchronized, own_types, in_method, table_said, insns_of, op_said, ops_of, caught, catch_of, range_of, table_of, with_receiver, coded_of, named_of, method_of};
+ghost use Rattle.class_program.specs.Widths.{constant_in, IsConstantInWidth, AreInWidth};
 
 use crate::insns::Instructions;
 use crate::op::Op;
@@ -86,7 +88,8 @@ fn code_fault(alloc: Global, name: &MethodName, fault: CodeFault) -> LinkFault
 /// The instructions of a code.
 fn decoded(alloc: Global, name: &MethodName, code: &[u8]) -> Result<Vec<(u16, Insn)>, LinkFault>
     requires { length code.now < 2 ^ 16 }
-    ensures { Says (λ insns. insns.items) result (in_method name.now (decode_of code.now)) }
+    ensures insns { Says (λ insns. insns.items) result (in_method name.now (decode_of code.now)) }
+    ensures code { IfOk result (λ insns. IsCode insns.items) }
 {
     match decode(alloc, code) {
         Ok(insns) => Ok(insns),
@@ -118,7 +121,8 @@ fn insns_of(
     code: &CodeView<'_>,
 ) -> Result<Vec<(u16, Insn)>, LinkFault>
     requires { length code.now.code.now < 2 ^ 16 }
-    ensures { Says (λ insns. insns.items) result (insns_of name.now (code_content code.now)) }
+    ensures insns { Says (λ insns. insns.items) result (insns_of name.now (code_content code.now)) }
+    ensures code { IfOk result (λ insns. IsCode insns.items) }
 {
     let insns = decoded(alloc, name, code.code)?;
     has_good_table(alloc, name, code, &insns)?;
@@ -151,8 +155,10 @@ fn ops_of<'a>(
     name: &MethodName,
     insns: Vec<(u16, Insn)>,
 ) -> Result<Seq<(u16, Op)>, LinkFault>
-    requires { class < length (classes_of world.now) }
-    ensures { Says (λ ops. ops) result (ops_of (classes_of world.now) class name.now insns.items) }
+    requires class { class < length (classes_of world.now) }
+    requires code { IsCode insns.items }
+    ensures ops { Says (λ ops. ops) result (ops_of (classes_of world.now) class name.now insns.items) }
+    ensures widths { IfOk result (λ ops. AreInWidth ops) }
 {
     let mut ops = Seq::with_capacity(alloc, insns.len())?;
     for insn in insns {
@@ -191,6 +197,27 @@ fn own_types(
     }
 }
 
+/// The int that an instruction pushes, where the pool has it.
+fn constant(op: &Op) -> Option<i32>
+    ensures { result ≡ constant_in op.now }
+{
+    match op {
+        Op::Constant(value) => Some(*value),
+        _ => None,
+    }
+}
+
+/// An int constant is one of 32 bits.
+#[tactic(auto, using(crate::proofs::InWidth::constant_held))]
+fn is_constant_in_width(op: &Op)
+    ensures { IsConstantInWidth op.now }
+{
+    match constant(op) {
+        Some(_) => {}
+        None => {}
+    }
+}
+
 /// An instruction and its place, with its names resolved.
 #[tactic(auto, unfolding(crate::specs::Methods::op_said))]
 fn op_said<'a>(
@@ -202,10 +229,12 @@ fn op_said<'a>(
     insn: (u16, Insn),
 ) -> Result<(u16, Op), LinkFault>
     requires { class < length (classes_of world.now) }
-    ensures { Says (λ op. op) result (op_said (classes_of world.now) class name.now insn) }
+    ensures op { Says (λ op. op) result (op_said (classes_of world.now) class name.now insn) }
+    ensures width { IfOk result (λ op. IsConstantInWidth op.1) }
 {
     let (pc, insn) = insn;
     let op = op_of(world, alloc, class, name, pc, insn)?;
+    is_constant_in_width(&op);
     Ok((pc, shared.shared_op(world, op)?))
 }
 
