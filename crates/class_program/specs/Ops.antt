@@ -101,15 +101,15 @@ unfoldable pub class_number : Ty → Result ℕ Refusal
 class_number t = if t.dims == 0 then base_class t.base else Err Unresolved
 
 -- `new` makes no interface and no abstract class, and no object of which a JVM runs a method on its own.
-unfoldable pub made_of : World → ℕ → Result Op Refusal
-made_of world class = do
+unfoldable pub new_made : World → ℕ → Result Op Refusal
+new_made world class = do
   made ← required (can_be_made world class)
   alike ← required (not (new_differs world class))
   Ok (New (class_type class))
 
 -- `new` initialises its class and those above it (section 5.5).
 unfoldable pub new_of : World → ℕ → Result Op Refusal
-new_of world class = option_map_or (λ name. Err (refusals.StaticInit name)) (first_static_init world class) (made_of world class)
+new_of world class = option_map_or (λ name. Err (refusals.StaticInit name)) (first_static_init world class) (new_made world class)
 
 -- an array has at most 255 dimensions
 unfoldable pub anewarray_of : Ty → Result Op Refusal
