@@ -87,7 +87,7 @@ package_of (byte ∷ more) = if list_any is_slash more then byte ∷ package_of 
 abbrev pub package_at : World → ℕ → List ℕ
 package_at world class = package_of (option_map_or (λ c. c.name) (slice_get world class) [])
 
--- none of the flags PUBLIC 0x0001, PRIVATE 0x0002 and PROTECTED 0x0004 (table 4.6-A): package-private
+-- none of the flags PUBLIC 0x0001, PRIVATE 0x0002 and PROTECTED 0x0004 (table 4.6-A): package-private; the other flags don't matter
 abbrev pub is_package_private : MethodContent → Bool
 is_package_private m = not (has_flag m.flags 0x0007)
 
@@ -116,7 +116,8 @@ call_differs world _ = false
 
 -- ---- what a JVM calls on its own
 
--- the code of a method is these bytes; one without code has none
+-- The code of a method is these bytes; one without code has none. Those that are asked for below can throw nothing, so that handlers
+-- and attributes of such a code can't be seen.
 abbrev pub has_code : List ℕ → MethodContent → Bool
 has_code bytes m = option_map_or (λ code. bytes_eq code.code bytes) m.code false
 

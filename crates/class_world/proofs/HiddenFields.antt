@@ -25,16 +25,16 @@ none_more p n none f =
     ap (list_any p) (range_more 0 n) ∙ list_any-append p (range_with_len 0 n) ((0 + n) ∷ [])
     ∙ ap₂ (λ v w. v || (w || false)) none (ap p (zero-add n) ∙ f)
 
--- ---- numbers of a list
+-- ---- items of a list
 
 -- the one at a place passes, where what comes from there on decides
-pub any_at : (p : ℕ → Bool) (xs : List ℕ) (i d : ℕ) (all : Bool) → list_any p (drop i xs) ≡ all → i < length xs → p (get_or xs i d) ≡ true → true ≡ all
+pub any_at : {X : Type 0} (p : X → Bool) (xs : List X) (i : ℕ) (d : X) (all : Bool) → list_any p (drop i xs) ≡ all → i < length xs → p (get_or xs i d) ≡ true → true ≡ all
 any_at p xs i d all e l t =
     let a : drop i xs ≡ get_or xs i d ∷ drop (i + 1) xs = rw (add-one) (drop-cons xs i d l) in
     sym (ap (list_any p) a ∙ ap (λ b. b || list_any p (drop (i + 1) xs)) t) ∙ e
 
 -- nothing comes from there on
-pub any_past : (p : ℕ → Bool) (xs : List ℕ) (i : ℕ) (all : Bool) → list_any p (drop i xs) ≡ all → length xs ≤ i → false ≡ all
+pub any_past : {X : Type 0} (p : X → Bool) (xs : List X) (i : ℕ) (all : Bool) → list_any p (drop i xs) ≡ all → length xs ≤ i → false ≡ all
 any_past p xs i all e l = sym (ap (list_any p) (drop_past xs i l)) ∙ e
 
 -- ---- up to a class
