@@ -93,8 +93,8 @@ is_package_private m = not (has_flag m.flags 0x0007)
 
 -- a class selects a method that a class of another package declares
 abbrev pub selects_outside : World → List ℕ → List ℕ → List ℕ → ℕ → Bool
-selects_outside world package name desc class =
-    option_map_or (λ ref. not (bytes_eq (package_at world ref.class) package)) (select world name desc class) false
+selects_outside world home name desc class =
+    option_map_or (λ ref. not (bytes_eq (package_at world ref.class) home)) (select world name desc class) false
 
 -- A call of the named class, whose resolved method is `m`, declared by `declaring`, has a receiver that selects a method of
 -- another package, though `m` can be overridden in its own package alone.

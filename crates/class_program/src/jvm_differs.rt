@@ -95,12 +95,7 @@ fn inherits(world: &World<'_>, name: &[u8], desc: &[u8], class: u32) -> bool
 }
 
 /// Whether a class selects no declaration, and inherits one in a JVM.
-fn loses(
-    world: &World<'_>,
-    row: &[Option<MethodRef>],
-    named: &MethodView<'_>,
-    class: u32,
-) -> bool
+fn loses(world: &World<'_>, row: &[Option<MethodRef>], named: &MethodView<'_>, class: u32) -> bool
     requires class { class < length (classes_of world.now) }
     requires row { IsRow (classes_of world.now) (method_content named.now) row.now }
     ensures { result ≡ loses (classes_of world.now) named.now.name.now named.now.desc.now class }
@@ -159,7 +154,9 @@ fn loses_method(
     requires { IsRow (classes_of world.now) (method_content named.now) row.now }
     ensures { result ≡ loses_method (classes_of world.now) class (method_content named.now) }
 {
-    is_selectable(named) && is_inherited(named.name, named.desc) && some_loses(world, row, class, named)
+    is_selectable(named)
+        && is_inherited(named.name, named.desc)
+        && some_loses(world, row, class, named)
 }
 
 /// The package of the class of that name: the bytes up to the last `/`, without it.
@@ -190,15 +187,15 @@ fn package_at<'a>(world: &World<'a>, class: u32) -> &'a [u8]
 fn selects_outside(
     world: &World<'_>,
     row: &[Option<MethodRef>],
-    package: &[u8],
+    home: &[u8],
     named: &MethodView<'_>,
     class: u32,
 ) -> bool
     requires { IsRow (classes_of world.now) (method_content named.now) row.now }
-    ensures { result ≡ selects_outside (classes_of world.now) package.now named.now.name.now named.now.desc.now class }
+    ensures { result ≡ selects_outside (classes_of world.now) home.now named.now.name.now named.now.desc.now class }
 {
     match selected(world, row, named, class) {
-        Some(method) => package_at(world, method.class) != package,
+        Some(method) => package_at(world, method.class) != home,
         None => false,
     }
 }
@@ -207,17 +204,17 @@ fn selects_outside(
 fn some_selects_outside(
     world: &World<'_>,
     row: &[Option<MethodRef>],
-    package: &[u8],
+    home: &[u8],
     class: u32,
     named: &MethodView<'_>,
 ) -> bool
     requires { IsRow (classes_of world.now) (method_content named.now) row.now }
-    ensures { result ≡ list_any (selects_outside (classes_of world.now) package.now named.now.name.now named.now.desc.now) (receivers (classes_of world.now) class) }
+    ensures { result ≡ list_any (selects_outside (classes_of world.now) home.now named.now.name.now named.now.desc.now) (receivers (classes_of world.now) class) }
 {
     for receiver in 0..world.len() {
         let receiver = receiver as u32;
         if is_receiver(world, receiver, class)
-            && selects_outside(world, row, package, named, receiver)
+            && selects_outside(world, row, home, named, receiver)
         {
             return true;
         }
@@ -345,7 +342,14 @@ fn declares_other(world: &World<'_>, name: &[u8], desc: &[u8], code: &[u8], clas
     ensures { result ≡ declares_other (classes_of world.now) name.now desc.now code.now class }
 {
     match world.declared_method(class, name, desc) {
-        Some(index) => !has_code(world, code, MethodRef { class, index: index as u32 }),
+        Some(index) => !has_code(
+            world,
+            code,
+            MethodRef {
+                class,
+                index: index as u32,
+            },
+        ),
         None => false,
     }
 }
