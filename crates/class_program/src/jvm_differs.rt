@@ -154,9 +154,10 @@ fn loses_method(
     requires { IsRow (classes_of world.now) (method_content named.now) row.now }
     ensures { result ≡ loses_method (classes_of world.now) class (method_content named.now) }
 {
-    is_selectable(named)
-        && is_inherited(named.name, named.desc)
-        && some_loses(world, row, class, named)
+    if is_inherited(named.name, named.desc) {
+        return is_selectable(named) && some_loses(world, row, class, named);
+    }
+    false
 }
 
 /// The package of the class of that name: the bytes up to the last `/`, without it.
