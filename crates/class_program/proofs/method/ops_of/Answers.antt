@@ -31,6 +31,7 @@ loop-insn-preserved c =
           let short = ap length steps in
           omega arith,
       one_more_constant at.ops _ _ c.in_ok-push.ensures.items at.invariant.3 c.in_ok-op_said.ensures.width,
+      c.in_ok-op_said.ensures.rows,
     )
 
 pub returns-clause-ops : goal.returns-clause-ops
