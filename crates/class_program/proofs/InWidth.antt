@@ -39,9 +39,9 @@ use Rattle.class_program.specs.Ops.{class_op, class_number, new_of, field_op, st
 use Rattle.class_program.specs.Methods.{op_said, ops_of}
 use Rattle.class_program.specs.Reached.{op_numbered, insns_numbered}
 use Rattle.class_program.specs.Widths.{constant_in, IsConstantInWidth, IsInWidth, AreInWidth, AreMethodsInWidth}
-use Rattle.class_program.proofs.Got.{got_faultless, all_at}
+use Rattle.class_program.proofs.Got.{all_at}
 use Rattle.class_program.proofs.GoodNames.{new_good, anewarray_good}
-use Rattle.class_program.proofs.GoodShapes.{shape_of}
+use Rattle.class_program.proofs.GoodShapes.{shape_of, op_resolved}
 
 -- ---- an instruction with its names resolved
 
@@ -90,9 +90,8 @@ operand_wide world class pc insn (operands.Call form entry) op e fits constant =
 -- an instruction of a class, where the constant that it names is of 32 bits
 pub op_wide : (world : World) (class : ℕ) (name : MethodName) (pc : ℕ) (insn : Insn) (op : Op) → op_of world class name pc insn ≡ Ok op → Fits pc insn
     → ((entry : ℕ) → constant_of (pool_of world class) entry ≡ Ok op → IsInWidth pc op) → IsInWidth pc op
-unfolding op_of
 op_wide world class name pc insn op e fits constant =
-    operand_wide world class pc insn (operand_of insn) op (got_faultless name pc (op_with world class (pool_of world class) insn (operand_of insn)) op e) fits constant
+    operand_wide world class pc insn (operand_of insn) op (op_resolved world class name pc insn op e) fits constant
 
 constant_wide : (world : World) (class pc : ℕ) (insn : Insn) (op : Op) (entry : ℕ) → IsConstantInWidth op → constant_of (pool_of world class) entry ≡ Ok op → IsInWidth pc op
 unfolding op_with
