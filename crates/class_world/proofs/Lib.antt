@@ -19,5 +19,6 @@ pub mod Prefixes
 pub mod Found
 pub mod BuiltInLaws
 pub mod NoInterfaces
+pub mod ArrayNames
 pub mod Onces
 pub mod Gathering
