@@ -19,5 +19,7 @@ pub mod Below
 pub mod Prefixes
 pub mod Found
 pub mod BuiltInLaws
+pub mod NoInterfaces
+pub mod ArrayNames
 pub mod Onces
 pub mod Gathering
