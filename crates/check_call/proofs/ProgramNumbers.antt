@@ -46,15 +46,15 @@ use Rattle.class_program.specs.declared.program.StaticField.{StaticField}
 use Rattle.class_program.specs.Refusals.{wanted, required}
 use Rattle.class_program.specs.Said.{each}
 use Rattle.class_program.specs.Signatures.{types_of, all_there, all_supported, signature, declared_signature}
-use Rattle.class_program.specs.Ops.{constant_of, is_other_constant, class_number, new_of, anewarray_of, class_op, op_with, pool_of, op_of}
+use Rattle.class_program.specs.Ops.{constant_of, is_other_constant, class_number, new_made, new_of, anewarray_of, class_op, op_with, pool_of, op_of}
 use Rattle.class_program.specs.Methods.{method_name, code_of, op_said, ops_of, with_receiver, method_of}
 use Rattle.class_program.specs.Statics.{statics_named}
 use Rattle.class_program.specs.Reached.{reached, contents_of, methods_of, op_numbered, insns_numbered, method_numbered, close_of}
 use Rattle.class_program.specs.Programs.{ref_of}
-use Rattle.class_program.proofs.Got.{got_wanted, got_faultless, all_at, each_good}
+use Rattle.class_program.proofs.Got.{got_wanted, all_at, each_good}
 use Rattle.class_program.proofs.GoodPrograms.{IsMadeOf, typed_of}
 use Rattle.class_program.proofs.GoodCalls.{IsTyped}
-use Rattle.class_program.proofs.GoodShapes.{op_shape}
+use Rattle.class_program.proofs.GoodShapes.{op_shape, op_resolved}
 use Rattle.class_program.proofs.Made.{method_made}
 use Rattle.class_program.proofs.Rising.{insns_read}
 use Rattle.op_forms.specs.Forms.{form_of, form_of_insn}
@@ -246,13 +246,14 @@ constant_small pool entry op all e = go _ _ (integer_at pool entry) refl (is_oth
 -- ---- instructions with their names resolved
 
 class_made_small : (world : World) (class : ℕ) (op : Op) → new_of world class ≡ Ok op → IsSmallOp op
-unfolding new_of
-class_made_small world class op e = go _ _ (first_static_init world class) e
+unfolding new_of new_made
+class_made_small world class op e = go _ _ _ (first_static_init world class) e
   where
-    go : {E N : Type 0} (fault : N → E) (made : Result (Unit {0}) E) (o : Option N) → option_map_or (λ (name : N). Err (fault name)) o (made >>= λ _. Ok (ops.New (class_type class))) ≡ Ok op → IsSmallOp op
-    go fault made (Some name) f = absurd (cc)
-    go fault made None f =
-        let r = bind_ok made (λ _. Ok (ops.New (class_type class))) op f in
+    go : {E N : Type 0} (fault : N → E) (made alike : Result (Unit {0}) E) (o : Option N) → option_map_or (λ (name : N). Err (fault name)) o (made >>= λ _. alike >>= λ _. Ok (ops.New (class_type class))) ≡ Ok op → IsSmallOp op
+    go fault made alike (Some name) f = absurd (cc)
+    go fault made alike None f =
+        let q = bind_ok made (λ _. alike >>= λ _. Ok (ops.New (class_type class))) op f in
+        let r = bind_ok alike (λ _. Ok (ops.New (class_type class))) op q.2 in
         let same : ops.New (class_type class) ≡ op = cc in
         subst IsSmallOp same (tt, tt)
 
@@ -279,8 +280,8 @@ op_small world class name pc insns.Iconst4 op all h e = subst IsSmallOp (sym (op
 op_small world class name pc insns.Iconst5 op all h e = subst IsSmallOp (sym (op_shape world class name pc insns.Iconst5 op e)) h
 op_small world class name pc (insns.Bipush a) op all h e = subst IsSmallOp (sym (op_shape world class name pc (insns.Bipush a) op e)) h
 op_small world class name pc (insns.Sipush a) op all h e = subst IsSmallOp (sym (op_shape world class name pc (insns.Sipush a) op e)) h
-op_small world class name pc (insns.Ldc a) op all h e = constant_small (pool_of world class) a op all (got_faultless name pc (constant_of (pool_of world class) a) op e)
-op_small world class name pc (insns.LdcW a) op all h e = constant_small (pool_of world class) a op all (got_faultless name pc (constant_of (pool_of world class) a) op e)
+op_small world class name pc (insns.Ldc a) op all h e = constant_small (pool_of world class) a op all (op_resolved world class name pc (insns.Ldc a) op e)
+op_small world class name pc (insns.LdcW a) op all h e = constant_small (pool_of world class) a op all (op_resolved world class name pc (insns.LdcW a) op e)
 op_small world class name pc (insns.Iload a) op all h e = subst IsSmallOp (sym (op_shape world class name pc (insns.Iload a) op e)) h
 op_small world class name pc (insns.Aload a) op all h e = subst IsSmallOp (sym (op_shape world class name pc (insns.Aload a) op e)) h
 op_small world class name pc insns.Iload0 op all h e = subst IsSmallOp (sym (op_shape world class name pc insns.Iload0 op e)) h

@@ -5,6 +5,7 @@ pub mod Saying
 pub mod Reaching
 pub mod Room
 pub mod Rows
+pub mod Differing
 pub mod SlotLists
 pub mod Bodies
 pub mod GoingThrough

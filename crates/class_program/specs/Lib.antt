@@ -1,6 +1,7 @@
 pub mod Refusals
 pub mod Signatures
 pub mod Operands
+pub mod JvmDiffers
 pub mod Ops
 pub mod Runs
 pub mod Said

@@ -76,7 +76,7 @@ fn reach<'a>(
 {
     refs.add(entry)?;
     while let Some(next) = refs.get(methods.len()) {
-        let method = method_of(world, alloc, shared, next)?;
+        let method = method_of(world, alloc, shared, rows, next)?;
         add_runs(world, alloc, method.insns.as_slice(), rows, refs)?;
         methods.push(method)?;
     }

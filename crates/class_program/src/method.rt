@@ -10,6 +10,7 @@ ghost use Rattle.class_read.specs.View.{method_content, code_content};
 ghost use Rattle.class_world.specs.Linking.{Refuses, has_short_code};
 ghost use Rattle.class_program.specs.Said.{Says};
 ghost use Rattle.class_program.specs.Ops.{pool_of};
+ghost use Rattle.class_program.specs.Rows.{AreRows};
 ghost use Rattle.class_world.specs.Resolve.{method_at, has_body};
 ghost use Rattle.class_program.specs.Methods.{method_name, static_init, code_of, synchronized, own_types, in_method, table_said, insns_of, op_said, ops_of, caught, catch_of, range_of, table_of, with_receiver, coded_of, named_of, method_of};
 
@@ -17,6 +18,7 @@ use crate::insns::Instructions;
 use crate::op::Op;
 use crate::ops::{fault_at, op_of};
 use crate::program::{CatchRange, Method};
+use crate::selections::Selections;
 use crate::signature::{Signature, declared_signature};
 use crate::slots::SharedSlots;
 use class_base::{Handler, NATIVE, STATIC, SYNCHRONIZED, has_flag};
@@ -147,16 +149,19 @@ fn ops_of<'a>(
     world: &World<'a>,
     alloc: Global,
     shared: &mut SharedSlots<'a>,
+    rows: &mut Selections,
     class: u32,
     name: &MethodName,
     insns: Vec<(u16, Insn)>,
 ) -> Result<Seq<(u16, Op)>, LinkFault>
-    requires { class < length (classes_of world.now) }
-    ensures { Says (λ ops. ops) result (ops_of (classes_of world.now) class name.now insns.items) }
+    requires class { class < length (classes_of world.now) }
+    requires rows { AreRows (classes_of world.now) rows.now }
+    ensures ops { Says (λ ops. ops) result (ops_of (classes_of world.now) class name.now insns.items) }
+    ensures rows { IfOk result (λ _. AreRows (classes_of world.now) rows.new) }
 {
     let mut ops = Seq::with_capacity(alloc, insns.len())?;
     for insn in insns {
-        ops.push(op_said(world, alloc, shared, class, name, insn)?)?;
+        ops.push(op_said(world, alloc, shared, rows, class, name, insn)?)?;
     }
     Ok(ops)
 }
@@ -197,15 +202,18 @@ fn op_said<'a>(
     world: &World<'a>,
     alloc: Global,
     shared: &mut SharedSlots<'a>,
+    rows: &mut Selections,
     class: u32,
     name: &MethodName,
     insn: (u16, Insn),
 ) -> Result<(u16, Op), LinkFault>
-    requires { class < length (classes_of world.now) }
-    ensures { Says (λ op. op) result (op_said (classes_of world.now) class name.now insn) }
+    requires class { class < length (classes_of world.now) }
+    requires rows { AreRows (classes_of world.now) rows.now }
+    ensures op { Says (λ op. op) result (op_said (classes_of world.now) class name.now insn) }
+    ensures rows { IfOk result (λ _. AreRows (classes_of world.now) rows.new) }
 {
     let (pc, insn) = insn;
-    let op = op_of(world, alloc, class, name, pc, insn)?;
+    let op = op_of(world, alloc, rows, class, name, pc, insn)?;
     Ok((pc, shared.shared_op(world, op)?))
 }
 
@@ -287,6 +295,7 @@ fn coded<'a>(
     world: &World<'a>,
     alloc: Global,
     shared: &mut SharedSlots<'a>,
+    rows: &mut Selections,
     method: MethodRef,
     name: &MethodName,
     view: &MethodView<'a>,
@@ -295,11 +304,13 @@ fn coded<'a>(
 ) -> Result<Method<'a>, LinkFault>
     requires class { method.class < length (classes_of world.now) }
     requires short { length code.now.code.now < 2 ^ 16 }
-    ensures { Says (λ m. m) result (coded_of (classes_of world.now) method name.now (method_content view.now) (code_content code.now) types.now) }
+    requires rows { AreRows (classes_of world.now) rows.now }
+    ensures method { Says (λ m. m) result (coded_of (classes_of world.now) method name.now (method_content view.now) (code_content code.now) types.now) }
+    ensures rows { IfOk result (λ _. AreRows (classes_of world.now) rows.new) }
 {
     let class = method.class;
     let insns = insns_of(alloc, name, code)?;
-    let insns = ops_of(world, alloc, shared, class, name, insns)?;
+    let insns = ops_of(world, alloc, shared, rows, class, name, insns)?;
     let table = table_of(world, alloc, pool(world, class), code.table.as_slice())?;
     Ok(Method {
         class,
@@ -321,18 +332,21 @@ fn named<'a>(
     world: &World<'a>,
     alloc: Global,
     shared: &mut SharedSlots<'a>,
+    rows: &mut Selections,
     method: MethodRef,
     name: &MethodName,
     view: &MethodView<'a>,
 ) -> Result<Method<'a>, LinkFault>
     requires class { method.class < length (classes_of world.now) }
     requires short { IsTrue (has_short_code (method_content view.now)) }
-    ensures { Says (λ m. m) result (named_of (classes_of world.now) method name.now (method_content view.now)) }
+    requires rows { AreRows (classes_of world.now) rows.now }
+    ensures method { Says (λ m. m) result (named_of (classes_of world.now) method name.now (method_content view.now)) }
+    ensures rows { IfOk result (λ _. AreRows (classes_of world.now) rows.new) }
 {
     let code = code_of(alloc, name, view)?;
     not_synchronized(alloc, name, view)?;
     let types = own_types(world, alloc, name, view.desc)?;
-    coded(world, alloc, shared, method, name, view, code, &types)
+    coded(world, alloc, shared, rows, method, name, view, code, &types)
 }
 
 /// The method of that class and place, whose calls have no numbers yet, or the first rule that it breaks.
@@ -341,16 +355,19 @@ fn declared<'a>(
     world: &World<'a>,
     alloc: Global,
     shared: &mut SharedSlots<'a>,
+    rows: &mut Selections,
     method: MethodRef,
     view: &MethodView<'a>,
 ) -> Result<Method<'a>, LinkFault>
     requires class { method.class < length (classes_of world.now) }
     requires short { IsTrue (has_short_code (method_content view.now)) }
-    ensures { Says (λ m. m) result (method_of (classes_of world.now) method (method_content view.now)) }
+    requires rows { AreRows (classes_of world.now) rows.now }
+    ensures method { Says (λ m. m) result (method_of (classes_of world.now) method (method_content view.now)) }
+    ensures rows { IfOk result (λ _. AreRows (classes_of world.now) rows.new) }
 {
     keeps_static_init(world, alloc, method.class)?;
     let name = method_name(world, alloc, method.class, view)?;
-    named(world, alloc, shared, method, &name, view)
+    named(world, alloc, shared, rows, method, &name, view)
 }
 
 /// A method of the world, whose calls have no numbers yet, or the first rule that it breaks.
@@ -358,13 +375,16 @@ pub(crate) fn method_of<'a>(
     world: &World<'a>,
     alloc: Global,
     shared: &mut SharedSlots<'a>,
+    rows: &mut Selections,
     method: MethodRef,
 ) -> Result<Method<'a>, LinkFault>
-    requires { IsTrue (has_body (classes_of world.now) method) }
-    ensures { (content : MethodContent) → method_at (classes_of world.now) method ≡ Some content → Says (λ m. m) result (method_of (classes_of world.now) method content) }
+    requires body { IsTrue (has_body (classes_of world.now) method) }
+    requires rows { AreRows (classes_of world.now) rows.now }
+    ensures method { (content : MethodContent) → method_at (classes_of world.now) method ≡ Some content → Says (λ m. m) result (method_of (classes_of world.now) method content) }
+    ensures rows { IfOk result (λ _. AreRows (classes_of world.now) rows.new) }
 {
     match world.method_at(method) {
-        Some(view) => declared(world, alloc, shared, method, view),
+        Some(view) => declared(world, alloc, shared, rows, method, view),
         None => Err(LinkFault::Memory),
     }
 }

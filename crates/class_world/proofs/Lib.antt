@@ -11,6 +11,7 @@ pub mod Few
 pub mod Keys
 pub mod Indexes
 pub mod Chain
+pub mod HiddenFields
 pub mod Seeking
 pub mod Counting
 pub mod ShortCodes

@@ -85,7 +85,7 @@ pub enum LinkFault {
         /// The place of the instruction, or 0 for the method's own descriptor.
         pc: u16,
     },
-    /// An operand of reached code names nothing of the right kind (section 5.4.3).
+    /// An operand of reached code names nothing of the right kind (section 5.4.3), or what a JVM would do otherwise with.
     Unresolved {
         /// The method.
         method: MethodName,

@@ -7,6 +7,7 @@ mod classes;
 mod fault;
 mod fault_text;
 mod fields;
+mod hidden;
 mod hierarchy;
 mod index;
 mod interfaces;
