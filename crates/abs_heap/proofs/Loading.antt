@@ -24,14 +24,14 @@ use Rattle.abs_cells.specs.declared.cells.Cell.TheVariants as cells
 use Rattle.abs_cells.specs.AbstractStates.{AbstractState}
 use Rattle.abs_cells.specs.Cells.{is_known, is_hazy, is_reference, shape_of, cell_in, cell_at, HasCell, AreEqual, Share}
 use Rattle.abs_cells.specs.Sound.{IsSound, IsSoundCell}
-use Rattle.abs_cells.specs.Fits.{Meaning, Describes, Fits, with_statics}
+use Rattle.abs_cells.specs.Fits.{Meaning, Describes, Fits, with_statics, IsClosedState}
 use Rattle.abs_cells.proofs.Fitting.{known_apart}
 use Rattle.abs_cells.proofs.PairLaws.{has_swapped}
 use Rattle.abs_reach.proofs.Walks.{some_cell}
 use Rattle.term_graph.specs.Edges.{HoldsBetween}
 use Rattle.abs_heap.specs.Given.{first_cell, with_cells, MayBeOne}
 use Rattle.abs_heap.specs.Writing.{JoinsItem, IsItemChild}
-use Rattle.abs_heap.specs.Laws.{IsClosedState, GoesWith, ItemsGoOn}
+use Rattle.abs_heap.specs.Laws.{GoesWith, ItemsGoOn}
 use Rattle.abs_heap.proofs.Placing.{cell_here, cell_later}
 use Rattle.abs_heap.proofs.Fitted.{FitsBy, fits_given, names_reference}
 use Rattle.abs_heap.proofs.SameTerms.{same_size}

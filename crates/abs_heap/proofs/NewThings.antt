@@ -28,13 +28,13 @@ use Rattle.abs_cells.specs.declared.cells.Cell.TheVariants as cells
 use Rattle.abs_cells.specs.AbstractStates.{AbstractState}
 use Rattle.abs_cells.specs.Cells.{is_known, is_hazy, shape_of, cell_in, cell_at, HasCell, AreEqual, Share}
 use Rattle.abs_cells.specs.Sound.{IsWellFormed}
-use Rattle.abs_cells.specs.Fits.{Meaning, Describes, Fits, with_statics}
+use Rattle.abs_cells.specs.Fits.{Meaning, Describes, Fits, with_statics, IsClosedState}
 use Rattle.abs_cells.proofs.Fitting.{known_apart}
 use Rattle.abs_reach.proofs.Walks.{some_cell}
 use Rattle.term_graph.specs.Edges.{HoldsBetween}
 use Rattle.abs_heap.specs.Given.{first_cell, with_cells, IsGiven, AreFresh, AreRising}
 use Rattle.abs_heap.specs.Writing.{zero_cell, IsObjectChild}
-use Rattle.abs_heap.specs.Laws.{heap_with, with_heap, IsClosedState, GoesWith, ObjectsGoOn, ArraysGoOn}
+use Rattle.abs_heap.specs.Laws.{heap_with, with_heap, GoesWith, ObjectsGoOn, ArraysGoOn}
 use Rattle.abs_heap.proofs.Placing.{cell_here, cell_later}
 use Rattle.abs_heap.proofs.Fitted.{FitsBy, fits_given}
 use Rattle.abs_heap.proofs.SameTerms.{size_kept}

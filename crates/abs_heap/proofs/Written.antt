@@ -31,7 +31,7 @@ use Rattle.abs_cells.specs.AbstractStates.{AbstractState}
 use Rattle.abs_cells.specs.Cells.{is_known, is_hazy, is_int, is_reference, ids_in, ids_of, shape_of, cell_in, cell_at, HasCell, AreEqual, Share}
 use Rattle.abs_cells.specs.Closures.{cell_steps, KnownFrom}
 use Rattle.abs_cells.specs.Sound.{IsWellFormed, AreIdsRising, ids_used, ids_of_frame, given_ids}
-use Rattle.abs_cells.specs.Fits.{Meaning, Describes, Fits, with_statics}
+use Rattle.abs_cells.specs.Fits.{Meaning, Describes, Fits, with_statics, IsClosedState}
 use Rattle.abs_cells.proofs.Fitting.{known_apart}
 use Rattle.abs_cells.proofs.PairLaws.{has_swapped}
 use Rattle.abs_reach.specs.Ways.{Way}
@@ -41,7 +41,7 @@ use Rattle.abs_cells.specs.Patterns.{Pattern, IsSized, pattern_within, pattern_o
 use Rattle.term_graph.specs.Edges.{HoldsBetween, is_size_variable, HasSameSize}
 use Rattle.abs_heap.specs.Names.{name_in, frame_named, cell_named, IsImage}
 use Rattle.abs_heap.specs.Writing.{Write, IsAffected, IsMet, IsNullId, MakesNoCycle, shape_after, with_shape, with_field, is_renamed, reshaped, cell_after, GainsPair, IsWriteChild, is_array_of_references}
-use Rattle.abs_heap.specs.Laws.{plain_link, IsClosedState, IsWriteOf, Goes, with_heap, WritesGoOn}
+use Rattle.abs_heap.specs.Laws.{plain_link, IsWriteOf, Goes, with_heap, WritesGoOn}
 use Rattle.abs_heap.proofs.Placing.{cell_here, cell_later, absent}
 use Rattle.abs_heap.proofs.Fitted.{FitsBy, fits_given}
 use Rattle.abs_heap.proofs.SameTerms.{size_kept}

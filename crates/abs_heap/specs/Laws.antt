@@ -11,7 +11,7 @@ use Rattle.jvm_values.specs.declared.heap.Heap.{Heap}
 use Rattle.jvm_values.specs.declared.shape.Shape.{Shape}
 use Rattle.jvm_values.specs.Subtyping.{IsReference}
 use Rattle.jvm_values.specs.States.{MachineState}
-use Rattle.jvm_values.specs.Heaps.{target, IsInHeap, IsClosed}
+use Rattle.jvm_values.specs.Heaps.{target}
 use Rattle.jvm_values.specs.TypedHeaps.{WorldTypes, AreLawful, HasType, IsTypedHeap}
 use Rattle.jvm_values.specs.Writes.{IsWritten}
 use Rattle.jvm_values.specs.Slots.{initial_value}
@@ -21,7 +21,7 @@ use Rattle.abs_cells.specs.declared.cells.Cell.TheVariants as cells
 use Rattle.abs_cells.specs.AbstractStates.{AbstractState}
 use Rattle.abs_cells.specs.Cells.{is_int, is_known, is_comparable, cell_at, HasCell, AreEqual}
 use Rattle.abs_cells.specs.Sound.{IsWellFormed, IsSound}
-use Rattle.abs_cells.specs.Fits.{Meaning, Fits}
+use Rattle.abs_cells.specs.Fits.{Meaning, Fits, IsClosedState}
 use Rattle.term_graph.specs.declared.links.Link.{Link}
 use Rattle.term_graph.specs.Edges.{Edge}
 use Rattle.abs_heap.specs.Refining.{IsCase, cases_of, IsWithCell, AreEqualChildren}
@@ -36,11 +36,6 @@ pub record Goes (types : WorldTypes) (state : AbstractState) (machine : MachineS
   pub meaning_after : Meaning
   pub fits : Fits types child machine_after meaning_after
   pub edge : Edge state machine meaning link child machine_after meaning_after
-
--- the references of a machine's state are below its heap's length
-pub record IsClosedState (machine : MachineState) (state : AbstractState) (meaning : Meaning) : Type 0 where
-  pub heap : IsClosed machine.heap
-  pub ids : (id : ℕ) → HasCell (λ _. true) state id → IsInHeap (length machine.heap.objects) (meaning id)
 
 -- null, or not
 abbrev pub NullSplits : Type 0
