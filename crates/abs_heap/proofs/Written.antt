@@ -196,7 +196,7 @@ only_itself state y q h r = go r.path r.leads
         absurd (none-some s.0 (sym none ∙ s.1.0))
 
 -- an object of the new heap
-object_after : (heap after : Heap) (o place : ℕ) (value : Value) (w : IsWritten heap o place value after) (r : ℕ) (ob : Object) → slice_get heap.objects r ≡ Some ob
+pub object_after : (heap after : Heap) (o place : ℕ) (value : Value) (w : IsWritten heap o place value after) (r : ℕ) (ob : Object) → slice_get heap.objects r ≡ Some ob
     → ((r ≡ o → ⊥) × (slice_get after.objects r ≡ Some ob)) ⊎ ((r ≡ o) × ((ob ≡ w.object) × (slice_get after.objects r ≡ Some (with_value place value ob))))
 object_after heap after o place value w r ob e = elim (cases_eq r o) [
   | inl s ↦
@@ -205,7 +205,7 @@ object_after heap after o place value w r ob e = elim (cases_eq r o) [
   | inr n ↦ inl (n, ap (λ (xs : List Object). slice_get xs r) w.objects ∙ get_set_other heap.objects o r (with_value place value w.object) n ∙ e)
 ]
 
-type_after : (place : ℕ) (value : Value) (ob : Object) → type_of (with_value place value ob) ≡ type_of ob
+pub type_after : (place : ℕ) (value : Value) (ob : Object) → type_of (with_value place value ob) ≡ type_of ob
 type_after place value (objects.Instance class fields) = refl
 type_after place value (objects.Nums kind items) = refl
 type_after place value (objects.Refs element items) = refl

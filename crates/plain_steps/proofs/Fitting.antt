@@ -17,7 +17,7 @@ use Rattle.abs_cells.specs.AbstractStates.{AbstractState}
 use Rattle.abs_cells.specs.Cells.{is_int, is_hazy, shape_of, cell_in, cell_at, HasCell}
 use Rattle.abs_cells.specs.Fits.{Meaning, FitsFrame, FitsMode, with_statics, Describes, Fits}
 use Rattle.abs_heap.specs.Given.{first_cell, with_cells}
-use Rattle.abs_reach.specs.Reached.{IsRestricted, IsDropped}
+use Rattle.abs_reach.proofs.Restricting.{dropped_restricted}
 use Rattle.abs_reach.specs.Laws.{RestrictedStatesFit}
 use Rattle.term_graph.specs.declared.links.Link.{Link}
 use Rattle.term_graph.specs.Edges.{is_size_variable, HoldsBetween}
@@ -171,15 +171,6 @@ gone_cells is_thrown id cell state m k = refl
 seen_moved : (types : WorldTypes) (heap : Heap) (meaning : Meaning) (fresh : Option ℕ) (a b : AbstractState) → ((k : ℕ) → cell_at b k ≡ cell_at a k) → IsSeen types heap meaning fresh a → IsSeen types heap meaning fresh b
 seen_moved types heap meaning fresh a b cells seen = record { each = λ k cell at. seen.each k cell (sym (cells k) ∙ at) }
 
-restricted : (whole child : AbstractState) → IsDropped whole child → IsRestricted whole child
-restricted whole child d = record {
-  frames = d.frames;
-  throwing = d.throwing;
-  cells = λ id has. d.kept id (d.gone id has);
-  eq = λ a b ha hb e. (d.eq a b).1 (e, (d.gone a ha, d.gone b hb));
-  share = λ a b ha hb e. (d.share a b).1 (e, (d.gone a ha, d.gone b hb));
-}
-
 -- ---- the law
 
 -- what a child is seen as, and that ids of the state keep their values
@@ -222,7 +213,7 @@ steps_fit drop types state machine after meaning turn whole child value ints fit
     let more = after_act turn.act meaning is.id value in
     let f = followed types state machine after meaning turn whole.state is.changed is.acted is.id value turn.act turn.goal ints fits it it.makes is.is_changed.cells is.is_acted is.is taken.narrowed taken.made in
     let whole_fits : Fits types whole.state after more = seen_fits types after more f.fresh whole.state f.seen taken.positions taken.mode in (
-      drop types whole.state child.state after more (restricted whole.state child.state lean.dropped) whole_fits,
+      drop types whole.state child.state after more (dropped_restricted whole.state child.state lean.dropped) whole_fits,
       record {
         ints = λ k has other. f.kept k has.cell has.is;
         rows = subst (λ (l : Link). All (HoldsBetween meaning more) l.rows) (sym lean.link) taken.rows;
