@@ -1,11 +1,11 @@
--- What expansion promises: a state of the machine that fits and is typed ends with its next step where the expansion says so, and
--- else fits a child, by an edge.
+-- What expansion promises, of closed programs whose instructions hold numbers of their fields' widths: a state of the machine that fits
+-- and is typed ends with its next step where the expansion says so, and else fits a child, by an edge.
 use Rattle.std.specs.Prelude.{◌≡◌, ℕ, Bool, true, false, List, Some, slice_get}
 use Rattle.jvm_values.specs.States.{MachineState}
 use Rattle.abs_cells.specs.AbstractStates.{AbstractState}
 use Rattle.abs_cells.specs.Fits.{Meaning, Fits}
 use Rattle.class_world.specs.WorldTypes.{types_of}
-use Rattle.class_program.specs.Programs.{Program}
+use Rattle.class_program.specs.Programs.{Program, IsClosed}
 use Rattle.class_program.specs.Good.{IsGood}
 use Rattle.frame_types.specs.Tables.{CodeTypes}
 use Rattle.code_verify.specs.Typings.{IsTypingOf}
@@ -16,6 +16,7 @@ use Rattle.term_graph.specs.Graphs.{GraphChild}
 use Rattle.term_graph.specs.Edges.{Edge}
 use Rattle.abs_expand.specs.Plans.{ends}
 use Rattle.abs_expand.specs.BadStates.{IsGoodState}
+use Rattle.abs_expand.specs.Widths.{HasWidths}
 use Rattle.abs_expand.specs.Expansions.{plan_of, AreExpanded}
 
 -- the machine's state at a child: the same where the machine makes no step, else the one after its step
@@ -43,7 +44,12 @@ pub record IsMet (p : Program) (typing : ℕ → CodeTypes) (state : AbstractSta
   pub fits : Fits (types_of p.world) state machine meaning
 
 abbrev pub EndsEnd : Type 0
-EndsEnd = (p : Program) (typing : ℕ → CodeTypes) (state : AbstractState) (machine : MachineState) (meaning : Meaning) → IsMet p typing state machine meaning → plan_of p typing state ≡ ends → IsEnd (step p machine)
+EndsEnd =
+    (p : Program) (typing : ℕ → CodeTypes) (state : AbstractState) (machine : MachineState) (meaning : Meaning)
+    → IsClosed p → HasWidths p → IsMet p typing state machine meaning → plan_of p typing state ≡ ends → IsEnd (step p machine)
 
 abbrev pub StepsFitChildren : Type 0
-StepsFitChildren = (p : Program) (typing : ℕ → CodeTypes) (state : AbstractState) (machine : MachineState) (meaning : Meaning) (children : List GraphChild) → IsMet p typing state machine meaning → AreExpanded (types_of p.world) state (plan_of p typing state) children → GoesToChild p state machine meaning children
+StepsFitChildren =
+    (p : Program) (typing : ℕ → CodeTypes) (state : AbstractState) (machine : MachineState) (meaning : Meaning) (children : List GraphChild)
+    → IsClosed p → HasWidths p → IsMet p typing state machine meaning
+    → AreExpanded (types_of p.world) state (plan_of p typing state) children → GoesToChild p state machine meaning children

@@ -224,6 +224,11 @@ length_id (Some (cells.Nums kind len)) = Some len
 length_id (Some (cells.Refs element len shape)) = Some len
 length_id _ = None
 
+-- that of an array of references alone
+abbrev pub items_length_id : Option Cell → Option ℕ
+items_length_id (Some (cells.Refs element len shape)) = Some len
+items_length_id _ = None
+
 abbrev pub length_plan : Here → List ℕ → Plan
 length_plan here [] = no_child
 length_plan here (k ∷ stack) = accessed here 0 k (step_if (option_map (λ len. goes_on here here.next (len ∷ stack)) (length_id (cell_here here k))))
@@ -242,8 +247,12 @@ out_of_bounds here index len =
 abbrev pub access_at : Here → ℕ → ℕ → (List (ℕ × Cell) → (ℕ → List LinkRow) → List Turn) → Plan
 access_at here index len good = steps (option_map_or (λ inside. good inside.0 inside.1) (in_bounds here index len) [] ++ out_of_bounds here index len)
 
+-- the array k has the id of its length, or it isn't one that the access takes
+abbrev pub access_of : Here → ℕ → ℕ → ℕ → Option ℕ → (List (ℕ × Cell) → (ℕ → List LinkRow) → List Turn) → Plan
+access_of here depth k index length good = accessed here depth k (option_map_or (λ len. access_at here index len good) length no_child)
+
 abbrev pub access_plan : Here → ℕ → ℕ → ℕ → (List (ℕ × Cell) → (ℕ → List LinkRow) → List Turn) → Plan
-access_plan here depth k index good = accessed here depth k (option_map_or (λ len. access_at here index len good) (length_id (cell_here here k)) no_child)
+access_plan here depth k index good = access_of here depth k index (length_id (cell_here here k)) good
 
 -- the numbers of a kind
 abbrev pub of_kind : Option Cell → Bounds
@@ -258,8 +267,9 @@ abbrev pub number_store_plan : Here → List ℕ → Plan
 number_store_plan here (value ∷ index ∷ k ∷ stack) = access_plan here 2 k index (λ narrowed rows. record { changed = narrowed; frames = with_stack here here.next stack; throwing = None; act = nothing; goal = nowhere; rows = rows } ∷ [])
 number_store_plan here _ = no_child
 
+-- an item of an array of references; what is none has no child
 abbrev pub aaload_plan : Here → List ℕ → Plan
-aaload_plan here (index ∷ k ∷ stack) = access_plan here 1 k index (λ narrowed rows. record { changed = narrowed; frames = with_stack here here.next stack; throwing = None; act = item k; goal = on_stack; rows = rows } ∷ [])
+aaload_plan here (index ∷ k ∷ stack) = access_of here 1 k index (items_length_id (cell_here here k)) (λ narrowed rows. record { changed = narrowed; frames = with_stack here here.next stack; throwing = None; act = item k; goal = on_stack; rows = rows } ∷ [])
 aaload_plan here _ = no_child
 
 -- the value is stored; then, where it isn't null, the array may not take it
