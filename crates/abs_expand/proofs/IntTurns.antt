@@ -53,7 +53,7 @@ set_held P (Some y ∷ locals) (suc n) x h p = (h.0, set_held P locals n x h.1 p
 
 -- ---- stacks
 
-reordered : (P : ℕ → Type 0) (shuffle : StackShuffle) (stack rest : List ℕ) → AllByRecursion P stack → shuffled shuffle stack ≡ Some rest → AllByRecursion P rest
+pub reordered : (P : ℕ → Type 0) (shuffle : StackShuffle) (stack rest : List ℕ) → AllByRecursion P stack → shuffled shuffle stack ≡ Some rest → AllByRecursion P rest
 reordered P Pop [] rest h e = absurd (none-some rest e)
 reordered P Pop (a ∷ below) rest h e = subst (AllByRecursion P) (some_is e) h.1
 reordered P Pop2 [] rest h e = absurd (none-some rest e)

@@ -68,7 +68,7 @@ use Rattle.expand_laws.proofs.Machine.{gone, Runs, next_runs, jump_runs, return_
 use Rattle.expand_laws.proofs.IntSteps.{Fitting, Meets, IntAt, int_at, Numbered, operand_is, narrow_both, going_turn, narrowing_turn, pushing_turn, setting_turn, storing_turn}
 
 -- a reordering of values is that of the ids
-shuffled_values : (meaning : Meaning) (shuffle : StackShuffle) (ids : List ℕ) → shuffled shuffle (map meaning ids) ≡ option_map (map meaning) (shuffled shuffle ids)
+pub shuffled_values : (meaning : Meaning) (shuffle : StackShuffle) (ids : List ℕ) → shuffled shuffle (map meaning ids) ≡ option_map (map meaning) (shuffled shuffle ids)
 shuffled_values meaning Pop [] = refl
 shuffled_values meaning Pop (a ∷ ids) = refl
 shuffled_values meaning Pop2 [] = refl
