@@ -1,16 +1,15 @@
 -- The tests of operands and the needs of rows: a typed operand passes, or the state is split and one of the children fits.
-use Rattle.std.proofs.Common.{◌≡◌, ◌≢◌, ◌∙◌, ◌<◌, ◌==◌, eqb, ℕ, zero, suc, Bool, true, false, cond, not, ◌&&◌, ◌||◌, if◌then◌else◌, List, [], ◌∷◌, length, map, Option, ◌+◌, Some, None, ◌⊎◌, inl, inr, slice_get, refl, sym, ap, subst, arith, IsTrue}
-use Rattle.std.specs.Prelude.{All, zip, take, reverse, slice_index_or}
-use Rattle.std.specs.List.{AllZip, AllByRecursion, find}
+use Rattle.std.proofs.Common.{◌≡◌, ◌≢◌, ◌∙◌, ◌<◌, ℕ, zero, suc, Bool, true, false, not, ◌&&◌, ◌||◌, if◌then◌else◌, List, [], ◌∷◌, map, Option, ◌+◌, Some, None, ◌⊎◌, inl, inr, slice_get, refl, sym, ap, subst, arith, IsTrue}
+use Rattle.std.specs.Prelude.{All}
+use Rattle.std.specs.List.{AllZip, find}
 use Rattle.std.specs.Option.{option_map_or}
-use Rattle.std.proofs.lemmas.Bool.{false≢true, eq-eqb, and_parts, or_left, or_right}
-use Rattle.std.proofs.lemmas.List.Elements.{All-nil, All-cons, All-head, All-tail, All-take, All-push, All-from_recursion}
-use Rattle.std.proofs.lemmas.Option.{none-some, slice_get_within}
+use Rattle.std.proofs.lemmas.Bool.{false≢true, and_parts, or_left, or_right}
+use Rattle.std.proofs.lemmas.List.Elements.{All-head, All-tail}
+use Rattle.std.proofs.lemmas.Option.{none-some}
 use Rattle.list_views.proofs.Quantified.{all_at}
 use Rattle.jvm_values.specs.declared.types.Ty.{Ty}
 use Rattle.jvm_values.specs.declared.types.Base.{Base}
 use Rattle.jvm_values.specs.declared.types.Base.TheVariants as bases
-use Rattle.jvm_values.specs.declared.types.Kind.{Kind}
 use Rattle.jvm_values.specs.declared.shape.Shape.{Shape}
 use Rattle.jvm_values.specs.declared.heap.Value.{Value}
 use Rattle.jvm_values.specs.declared.heap.Value.TheVariants as values
@@ -24,10 +23,9 @@ use Rattle.jvm_values.specs.TypedHeaps.{WorldTypes, AreLawful, type_of, HasType,
 use Rattle.jvm_values.proofs.Options.{some_is}
 use Rattle.abs_cells.specs.declared.cells.Cell.{Cell}
 use Rattle.abs_cells.specs.declared.cells.Cell.TheVariants as cells
-use Rattle.abs_cells.specs.AbstractStates.{AbstractFrame, AbstractState}
-use Rattle.abs_cells.specs.Cells.{is_known, is_comparable, is_of_sort, type_of_cell, cell_in, cell_at, HasCell, AreEqual}
+use Rattle.abs_cells.specs.AbstractStates.{AbstractState}
+use Rattle.abs_cells.specs.Cells.{is_known, is_comparable, is_of_sort, cell_at, HasCell, AreEqual}
 use Rattle.abs_cells.specs.PairLists.{has}
-use Rattle.abs_cells.specs.Sound.{IsSoundCell}
 use Rattle.abs_cells.specs.Fits.{Meaning, Describes, Fits}
 use Rattle.abs_cells.proofs.CellLaws.{place_of_cell}
 use Rattle.abs_heap.specs.Refining.{Case, IsCase, cases_of}
@@ -35,17 +33,15 @@ use Rattle.abs_heap.specs.Laws.{plain_link, Goes}
 use Rattle.class_world.specs.WorldTypes.{types_of}
 use Rattle.class_program.specs.Programs.{Program}
 use Rattle.frame_types.specs.Places.{IsOfWorld, IsSet}
-use Rattle.frame_types.specs.Tables.{CodeTypes}
-use Rattle.code_verify.specs.TypedStates.{HasPlaceType, HasStack}
+use Rattle.code_verify.specs.TypedStates.{HasPlaceType}
 use Rattle.term_graph.specs.Graphs.{GraphChild}
 use Rattle.term_graph.specs.declared.links.Link.{Link}
 use Rattle.term_graph.specs.Edges.{Edge}
-use Rattle.abs_expand.specs.Plans.{Plan, steps, by_null, by_class, by_equal}
-use Rattle.abs_expand.specs.Needs.{Passing, passes, fails, splits, is_below_place, is_comparable_place, passes_if, passing, after_test, passing_id, tested, operands_of, may_be_null, need_null, is_unknown, known_partner, split_unknown, split_below, need_class, need_object}
-use Rattle.abs_expand.specs.Expansions.{stays, IsSplitChild, AreNullChildren, AreClassChildren, AreEqualSplit, AreChildren}
+use Rattle.abs_expand.specs.Plans.{Plan, by_null, by_class, by_equal}
+use Rattle.abs_expand.specs.Needs.{Passing, passes, fails, splits, is_below_place, is_comparable_place, passes_if, passing, after_test, passing_id, tested, may_be_null, need_null, is_unknown, known_partner, split_unknown, split_below, need_class, need_object}
+use Rattle.abs_expand.specs.Expansions.{stays, IsSplitChild, AreNullChildren, AreClassChildren}
 use Rattle.abs_expand.proofs.ZipLists.{beside}
-use Rattle.turn_fits.proofs.Steps.{FitsChild}
-use Rattle.form_steps.proofs.Standing.{Stands}
+use Rattle.form_steps.proofs.Standing.{Rests}
 use Rattle.form_steps.proofs.TurnKinds.{FitsSplit, Meets, sound_at}
 
 -- ---- lists
@@ -116,7 +112,7 @@ pub record IsTypedId (types : WorldTypes) (state : AbstractState) (machine : Mac
   pub set : IsSet place
   pub of_world : IsOfWorld types place
 
-module _ (p : Program) (typing : ℕ → CodeTypes) (state : AbstractState) (machine : MachineState) (meaning : Meaning) (s : Stands p typing state machine meaning) where
+module _ (p : Program) (state : AbstractState) (machine : MachineState) (meaning : Meaning) (s : Rests p state machine meaning) where
   abbrev types : WorldTypes
   types = types_of p.world
 
@@ -239,7 +235,7 @@ module _ (p : Program) (typing : ℕ → CodeTypes) (state : AbstractState) (mac
       apart k h q =
           let place = place_of_cell state.cells k h.cell h.is in
           found_none (λ (other : ℕ). is_of_sort is_known (cell_at state other) && has x other state.eq) (map (λ (c : ℕ × Cell). c.0) state.cells) none place.0 k (mapped_get (λ (c : ℕ × Cell). c.0) state.cells place.0 (k, h.cell) place.1)
-              (ap (λ (b : Bool). b && has x k state.eq) (ap (is_of_sort is_known) h.is ∙ h.sort_is) ∙ q)
+          (ap (λ (b : Bool). b && has x k state.eq) (ap (is_of_sort is_known) h.is ∙ h.sort_is) ∙ q)
 
   pub equal_meets : (x y : ℕ) → AreEqual state x y → x ≢ y → Covered (by_equal x y)
   equal_meets x y q apart wholes are =
@@ -283,8 +279,8 @@ module _ (p : Program) (typing : ℕ → CodeTypes) (state : AbstractState) (mac
 
   -- ---- the test of operands
 
-  record Passes (place : PlaceType) (x : ℕ) (result : Passing) : Type 0 where
-    only : (result ≡ passes) ⊎ ((result ≡ splits) × (may_be_null (cell_at state x) ≡ true))
+  pub record Passes (place : PlaceType) (x : ℕ) (result : Passing) : Type 0 where
+    pub only : (result ≡ passes) ⊎ ((result ≡ splits) × (may_be_null (cell_at state x) ≡ true))
 
   passed : (place : PlaceType) (x : ℕ) (b : Bool) → b ≡ true → Passes place x (passes_if b fails)
   passed place x b e = record { only = inl (ap (λ (y : Bool). passes_if y fails) e) }
@@ -322,13 +318,10 @@ module _ (p : Program) (typing : ℕ → CodeTypes) (state : AbstractState) (mac
           base (bases.Class class) k = k
           base (bases.Num kind) k = omega (arith, k)
 
-  pub passing_meets : (place : PlaceType) (x : ℕ) → TypedId place x → (plan : Plan) → Covered plan → Covered (after_test (passing_id types state place x) x plan)
-  passing_meets place x t plan h = by (passing_id types state place x) (at t.own.cell t.own.is (s.fits.cells x t.own.cell t.own.is)).only
+  -- a typed id passes, or may be null
+  pub passing_typed : (place : PlaceType) (x : ℕ) → TypedId place x → Passes place x (passing_id types state place x)
+  passing_typed place x t = at t.own.cell t.own.is (s.fits.cells x t.own.cell t.own.is)
     where
-      by : (result : Passing) → (result ≡ passes) ⊎ ((result ≡ splits) × (may_be_null (cell_at state x) ≡ true)) → Covered (after_test result x plan)
-      by result (inl e) = subst (λ (q : Passing). Covered (after_test q x plan)) (sym e) h
-      by result (inr e) = subst (λ (q : Passing). Covered (after_test q x plan)) (sym e.0) (by_null_meets x e.1)
-
       found : (c : Cell) → cell_at state x ≡ Some c → Passes place x (passing types place c) → Passes place x (passing_id types state place x)
       found c e g = subst (Passes place x) (sym (ap (λ (o : Option Cell). option_map_or (passing types place) o passes) e)) g
 
@@ -348,6 +341,13 @@ module _ (p : Program) (typing : ℕ → CodeTypes) (state : AbstractState) (mac
           let own = s.laws.below_array d.holds.item element (array_reference d.object d.place d.holds.item d.holds.items d.holds.is d.stands) sound.1.1.0 d.holds.below in
           found (cells.Refs element len shape) e (passed place x (is_comparable_place types place (Some (array_of element))) (comparable_place place x d.place d.object (array_of element) sound.1.1.1 (subst (λ (ob : Object). IsTrue (types.sub (type_of ob) (array_of element))) (sym d.holds.is) own) d.names d.stands t.typed t.set t.of_world))
       at (cells.Unk bound b shape) e d = found (cells.Unk bound b shape) e (unknown_passes bound b shape e d b (is_comparable_place types place (Some bound)) refl refl)
+
+  pub passing_meets : (place : PlaceType) (x : ℕ) → TypedId place x → (plan : Plan) → Covered plan → Covered (after_test (passing_id types state place x) x plan)
+  passing_meets place x t plan h = by (passing_id types state place x) (passing_typed place x t).only
+    where
+      by : (result : Passing) → (result ≡ passes) ⊎ ((result ≡ splits) × (may_be_null (cell_at state x) ≡ true)) → Covered (after_test result x plan)
+      by result (inl e) = subst (λ (q : Passing). Covered (after_test q x plan)) (sym e) h
+      by result (inr e) = subst (λ (q : Passing). Covered (after_test q x plan)) (sym e.0) (by_null_meets x e.1)
 
   pub tested_meets : (operands : List (PlaceType × ℕ)) (plan : Plan) → All (λ (o : PlaceType × ℕ). TypedId o.0 o.1) operands → Covered plan → Covered (tested types state operands plan)
   tested_meets [] plan a h = h

@@ -1,21 +1,19 @@
 -- The operands of forms: ints and references on the machine's stack beside the ids of an abstract one.
-use Rattle.std.proofs.Common.{◌≡◌, ◌∙◌, ◌<◌, ◌==◌, eqb, ℕ, zero, suc, ℤ, pos, Bool, true, false, if◌then◌else◌, List, [], ◌∷◌, ◌++◌, length, map, Option, Some, None, slice_get, inl, inr, refl, sym, ap, subst, arith}
-use Rattle.std.specs.Prelude.{All}
+use Rattle.std.proofs.Common.{◌≡◌, ◌∙◌, ◌==◌, eqb, ℕ, ℤ, Bool, true, false, if◌then◌else◌, List, [], ◌∷◌, map, Option, Some, None, inl, inr, refl, sym, ap, subst, arith}
 use Rattle.std.specs.List.{AllByRecursion}
 use Rattle.std.specs.Option.{option_map, IsSomeAnd}
-use Rattle.std.proofs.lemmas.Bool.{false≢true, eqb-true}
+use Rattle.std.proofs.lemmas.Bool.{eqb-true}
 use Rattle.std.proofs.lemmas.Int.{ints}
-use Rattle.std.proofs.lemmas.Option.{none-some}
 use Rattle.lin_core.specs.Intervals.{Bounds, IsIn}
 use Rattle.jvm_values.specs.declared.heap.Value.{Value}
 use Rattle.jvm_values.specs.declared.heap.Value.TheVariants as values
-use Rattle.jvm_values.specs.States.{MachineFrame, MachineState}
+use Rattle.jvm_values.specs.States.{MachineState}
 use Rattle.jvm_values.specs.TypedHeaps.{WorldTypes}
 use Rattle.abs_cells.specs.declared.cells.Cell.{Cell}
 use Rattle.abs_cells.specs.declared.cells.Cell.TheVariants as cells
-use Rattle.abs_cells.specs.AbstractStates.{AbstractFrame, AbstractState}
+use Rattle.abs_cells.specs.AbstractStates.{AbstractState}
 use Rattle.abs_cells.specs.Cells.{is_int, cell_at, HasCell}
-use Rattle.abs_cells.specs.Fits.{Meaning, Describes, Fits}
+use Rattle.abs_cells.specs.Fits.{Meaning, Describes}
 use Rattle.abs_cells.specs.Sound.{IsSoundCell}
 use Rattle.abs_ints.specs.IntIntervals.{meet_of}
 use Rattle.abs_ints.proofs.AllCases.{AreInts}
@@ -23,10 +21,10 @@ use Rattle.abs_ints.proofs.Covering.{in_meet}
 use Rattle.class_world.specs.WorldTypes.{types_of}
 use Rattle.class_program.specs.Programs.{Program}
 use Rattle.frame_types.specs.Tables.{CodeTypes}
-use Rattle.jvm_step.specs.Operands.{int_of, top_int, top_reference}
+use Rattle.jvm_step.specs.Operands.{top_int}
 use Rattle.term_graph.specs.Edges.{number_of}
 use Rattle.abs_expand.specs.Plans.{Plan}
-use Rattle.abs_expand.specs.Turns.{Operand, known, id, interval_in, interval_of_id, interval_at, narrowings}
+use Rattle.abs_expand.specs.Turns.{Operand, known, id, interval_in, interval_of_id, narrowings}
 use Rattle.expand_laws.proofs.RowsHold.{OperandIs}
 use Rattle.form_steps.proofs.Standing.{Stands, held}
 use Rattle.form_steps.proofs.TurnKinds.{sound_at, Meets, IsChange, int_change}

@@ -1,7 +1,7 @@
 -- Where a state and a machine's state that fits it stand: at an instruction of the running frame. What the machine's step does there.
-use Rattle.std.proofs.Common.{◌≡◌, ◌∙◌, ℕ, Bool, true, List, [], ◌∷◌, ◌++◌, length, map, Option, Some, None, IsTrue, slice_get, refl, sym, ap, subst}
+use Rattle.std.proofs.Common.{◌≡◌, ◌∙◌, ℕ, List, [], ◌∷◌, length, Option, Some, None, IsTrue, slice_get, refl, sym, ap, subst}
 use Rattle.std.specs.Prelude.{All, unwrap_or}
-use Rattle.std.specs.List.{AllByRecursion}
+use Rattle.std.specs.List.{AllZip, AllByRecursion}
 use Rattle.std.specs.Option.{option_map, option_map_or, option_and_then}
 use Rattle.jvm_values.specs.declared.heap.Value.{Value}
 use Rattle.jvm_values.specs.declared.heap.Heap.{Heap}
@@ -9,7 +9,7 @@ use Rattle.jvm_values.specs.declared.state.Mode.{Mode}
 use Rattle.jvm_values.specs.declared.state.Mode.TheVariants.{Normal, Throwing}
 use Rattle.jvm_values.specs.declared.typing.PlaceType.{PlaceType}
 use Rattle.jvm_values.specs.States.{MachineFrame, MachineState, PlaceTypes}
-use Rattle.jvm_values.specs.TypedHeaps.{WorldTypes, AreLawful, IsTypedHeap}
+use Rattle.jvm_values.specs.TypedHeaps.{WorldTypes, AreLawful, Holds, IsTypedHeap}
 use Rattle.abs_cells.specs.AbstractStates.{AbstractFrame, AbstractState}
 use Rattle.abs_cells.specs.Sound.{IsSound}
 use Rattle.abs_cells.specs.Fits.{Meaning, Fits}
@@ -19,6 +19,7 @@ use Rattle.class_world.specs.Linking.{is_linked}
 use Rattle.class_world.specs.WorldTypes.{types_of}
 use Rattle.class_program.specs.declared.op.Op.{Op}
 use Rattle.class_program.specs.declared.program.Method.{Method}
+use Rattle.class_program.specs.declared.program.StaticField.{StaticField}
 use Rattle.class_program.specs.Programs.{Program, insn_at}
 use Rattle.op_forms.specs.Forms.{Form, form_of}
 use Rattle.frame_types.specs.Places.{IsOfWorld, IsSet}
@@ -35,6 +36,7 @@ use Rattle.abs_expand.specs.Turns.{Here}
 use Rattle.form_steps.specs.Laws.{Lows}
 use Rattle.turn_fits.proofs.Formed.{frames_held}
 use Rattle.turn_fits.proofs.Tops.{FitFrames}
+use Rattle.form_steps.proofs.Bottoms.{StandsOnStatics, last_of}
 
 -- the running frame is at an instruction of a form
 pub record Runs (p : Program) (machine : MachineState) (running : MachineFrame) (below : List MachineFrame) (m : Method) (op : Op) (next : Option ℕ) (form : Form) : Type 0 where
@@ -60,6 +62,8 @@ pub record Stands (p : Program) (typing : ℕ → CodeTypes) (state : AbstractSt
   pub running : MachineFrame
   pub below : List MachineFrame
   pub fit : FitFrames meaning frame lower machine.statics running below
+  pub on_statics : StandsOnStatics p state meaning machine.statics (last_of frame lower) (running ∷ below)
+  pub statics_typed : AllZip (λ (field : StaticField) (value : Value). Holds (types_of p.world) machine.heap field.slot value) p.statics machine.statics
   pub there : PlaceTypes
   pub typed : HasStack (types_of p.world) machine.heap there.stack running.stack
   pub set : All IsSet there.stack
@@ -75,6 +79,18 @@ pub record Stands (p : Program) (typing : ℕ → CodeTypes) (state : AbstractSt
   pub named : IsNamed p method.class op form
   pub runs : Runs p machine running below method op next form
   pub goes : GoesTyped p typing (step p machine)
+
+-- what a test of an id and a split rest on
+pub record Rests (p : Program) (state : AbstractState) (machine : MachineState) (meaning : Meaning) : Type 0 where
+  pub lows : Lows
+  pub sound : IsSound (types_of p.world) state
+  pub laws : AreLawful (types_of p.world)
+  pub heap : IsTypedHeap (types_of p.world) machine.heap
+  pub closed : IsClosedState machine state meaning
+  pub fits : Fits (types_of p.world) state machine meaning
+
+pub rests : (p : Program) (typing : ℕ → CodeTypes) (state : AbstractState) (machine : MachineState) (meaning : Meaning) → Stands p typing state machine meaning → Rests p state machine meaning
+rests p typing state machine meaning s = record { lows = s.lows; sound = s.sound; laws = s.laws; heap = s.heap; closed = s.closed; fits = s.fits }
 
 -- the state with these frames, in normal mode
 abbrev pub going : List MachineFrame → Heap → List Value → MachineState
@@ -156,4 +172,3 @@ module _ (p : Program) (typing : ℕ → CodeTypes) (state : AbstractState) (mac
 
   pub raises_heap : (effect : Option (Effect (MachineFrame × Heap))) (class : ℕ) → effect_of p s.method s.form Work_ ≡ on_heap Work_ effect → effect ≡ Some (Effect.Raise class) → step p machine ≡ Step.Going (raised class)
   raises_heap effect class is e = raises class (is ∙ ap (on_heap Work_) e)
-

@@ -1,5 +1,5 @@
 -- The kinds of steps that plans have, each with the machine's step that it covers.
-use Rattle.std.proofs.Common.{◌≡◌, ◌∙◌, ◌<◌, ℕ, ℤ, pos, IsTrue, Bool, not, true, false, slice_get, List, [], ◌∷◌, ◌++◌, length, map, zip, Option, Some, None, refl, sym, ap, subst, arith}
+use Rattle.std.proofs.Common.{◌≡◌, ◌∙◌, ◌<◌, ℕ, ℤ, pos, IsTrue, not, true, false, slice_get, List, [], ◌∷◌, length, map, Option, Some, None, refl, sym, ap, subst}
 use Rattle.std.specs.Prelude.{slice_set}
 use Rattle.std.specs.List.{All, AllByRecursion, AllZip}
 use Rattle.std.proofs.lemmas.Bool.{false≢true}
@@ -24,12 +24,12 @@ use Rattle.jvm_values.specs.TypedHeaps.{WorldTypes}
 use Rattle.abs_cells.specs.declared.cells.Cell.{Cell}
 use Rattle.abs_cells.specs.declared.cells.Cell.TheVariants as cells
 use Rattle.abs_cells.specs.AbstractStates.{AbstractFrame, AbstractState}
-use Rattle.abs_cells.specs.Cells.{is_int, ids_in, cell_in, cell_at, HasCell, AreEqual, Share}
+use Rattle.abs_cells.specs.Cells.{is_int, ids_in, cell_in, cell_at, HasCell}
 use Rattle.abs_cells.specs.Sound.{IsOfSlot, IsSoundCell}
 use Rattle.abs_cells.proofs.CellLaws.{place_of_cell}
-use Rattle.abs_cells.specs.Fits.{Meaning, FitsFrame, FitsMode, with_statics, Describes, Fits}
-use Rattle.abs_heap.specs.Given.{IsGiven, AreFresh, first_cell, with_cells}
-use Rattle.abs_heap.specs.Laws.{IsClosedState, IsWriteOf, GoesWith, with_heap, heap_with, zeros_of, IsItemSlot}
+use Rattle.abs_cells.specs.Fits.{Meaning, FitsFrame, with_statics, Describes}
+use Rattle.abs_heap.specs.Given.{first_cell, with_cells}
+use Rattle.abs_heap.specs.Laws.{IsClosedState, IsWriteOf, heap_with, zeros_of, IsItemSlot}
 use Rattle.abs_heap.specs.Writing.{Write, IsObjectChild}
 use Rattle.class_world.specs.BuiltIns.{built_in_count}
 use Rattle.class_world.specs.WorldTypes.{types_of}
@@ -40,16 +40,15 @@ use Rattle.jvm_run.proofs.Lists.{zip_map}
 use Rattle.term_graph.specs.Graphs.{GraphChild}
 use Rattle.term_graph.specs.Edges.{HoldsBetween}
 use Rattle.term_graph.specs.declared.links.LinkRow.{LinkRow}
-use Rattle.abs_expand.specs.Plans.{Goal, nowhere, on_stack, in_local, in_bottom, is_thrown, nothing, makes, writes, item, object, array, no_rows, Turn, Plan, ends, steps, by_null, by_class, by_equal}
+use Rattle.abs_expand.specs.Plans.{Goal, nowhere, on_stack, in_local, nothing, makes, writes, item, object, array, no_rows, Turn, Plan, ends, steps, by_null, by_class, by_equal}
 use Rattle.abs_expand.specs.Building.{HoldsIds}
 use Rattle.abs_expand.specs.Children.{IsTurnChild, IsLean, gone_to, top_with}
 use Rattle.abs_expand.specs.Expansions.{AreChildren}
-use Rattle.abs_expand.specs.Table.{bottom_with}
 use Rattle.abs_expand.specs.Turns.{emptied, throws_after}
 use Rattle.turn_fits.specs.Laws.{IsPlainCell, AreSoundReferences, Moved}
 use Rattle.turn_fits.proofs.Carry.{in_list, IsAlike, alike_of, sort_stays}
 use Rattle.turn_fits.proofs.Steps.{FitsChild, formed, ints_stay, mid_fits, moved_goes, kept_goes, written_goes, made_goes}
-use Rattle.turn_fits.proofs.Tops.{FitFrames, tops, from_tops, stacked, pushed_id, local_set, BottomHas, bottom_set}
+use Rattle.turn_fits.proofs.Tops.{FitFrames, tops, from_tops, pushed_id, local_set}
 use Rattle.expand_laws.proofs.Cases.{SomeOf}
 use Rattle.form_steps.proofs.Standing.{Stands, types, here, held, lower_held, going, raised}
 
@@ -169,7 +168,7 @@ module _ (p : Program) (typing : ℕ → CodeTypes) (state : AbstractState) (mac
         let thrown_is : t.acted.throwing ≡ None = t.is_acted.1.throwing_is ∙ t.is_changed.throwing_is in
         let acted_positions : AllZip (FitsFrame goes.meaning_after) frames (with_statics statics running) = subst (λ (fs : List AbstractFrame). AllZip (FitsFrame goes.meaning_after) fs (with_statics statics running)) frames_are goes.fits.positions in
         made_goes s.lows.drop Types state machine meaning s.sound.well_formed s.fits list (alikes list a) (nameds list a) frames h None tt running Normal statics positions tt t.changed t.is_changed (describeds list a) t.acted machine.heap t.id value goes whole child (rows t.id) (frames_after t.id) None running_after Normal statics_after
-            (t.is ∙ to t.id t.acted frames_are thrown_is) lean t.link (places t.id goes.meaning_after goes.value_is acted_positions) tt (holds t.id goes.meaning_after goes.value_is);
+        (t.is ∙ to t.id t.acted frames_are thrown_is) lean t.link (places t.id goes.meaning_after goes.value_is acted_positions) tt (holds t.id goes.meaning_after goes.value_is);
   }
 
   -- on the stack of the running frame
@@ -219,7 +218,7 @@ module _ (p : Program) (typing : ℕ → CodeTypes) (state : AbstractState) (mac
         let frames_are : t.acted.frames ≡ EmptiedFrames = t.is_acted.1.frames_are ∙ t.is_changed.frames_are in
         let acted_positions : AllZip (FitsFrame goes.meaning_after) EmptiedFrames (with_statics machine.statics EmptiedRunning) = subst (λ (fs : List AbstractFrame). AllZip (FitsFrame goes.meaning_after) fs (with_statics machine.statics EmptiedRunning)) frames_are goes.fits.positions in
         made_goes s.lows.drop Types state machine meaning s.sound.well_formed s.fits list (alikes list a) (nameds list a) EmptiedFrames h None tt EmptiedRunning Normal machine.statics positions tt t.changed t.is_changed (describeds list a) t.acted (heap_with machine.heap (objects.Instance class (map initial_value (Types.fields class)))) t.id (values.Ref (length machine.heap.objects)) goes whole child (rows t.id) EmptiedFrames (Some t.id) EmptiedRunning (Throwing (length machine.heap.objects)) machine.statics
-            (t.is ∙ ap (λ (fs : List AbstractFrame). Moved t.acted fs (Some t.id)) frames_are) lean t.link acted_positions goes.value_is (holds t.id goes.meaning_after);
+        (t.is ∙ ap (λ (fs : List AbstractFrame). Moved t.acted fs (Some t.id)) frames_are) lean t.link acted_positions goes.value_is (holds t.id goes.meaning_after);
   }
     where
       h : AllByRecursion (HoldsIds state) EmptiedFrames
@@ -252,7 +251,7 @@ module _ (p : Program) (typing : ℕ → CodeTypes) (state : AbstractState) (mac
         let thrown_is : t.acted.throwing ≡ None = t.is_acted.is.throwing_is ∙ t.is_changed.throwing_is in
         let acted_positions : AllZip (FitsFrame goes.meaning_after) (frame ∷ s.lower) (with_statics machine.statics (running ∷ s.below)) = subst (λ (fs : List AbstractFrame). AllZip (FitsFrame goes.meaning_after) fs (with_statics machine.statics (running ∷ s.below))) frames_are goes.fits.positions in
         made_goes s.lows.drop Types state machine meaning s.sound.well_formed s.fits [] tt tt (frame ∷ s.lower) held_ None tt (running ∷ s.below) Normal machine.statics positions tt t.changed t.is_changed tt t.acted (heap_with machine.heap (objects.Instance class (map initial_value (Types.fields class)))) t.id (values.Ref (length machine.heap.objects)) goes whole child [] (record frame { stack = t.id ∷ frame.stack } ∷ s.lower) None (record running { stack = values.Ref (length machine.heap.objects) ∷ running.stack } ∷ s.below) Normal machine.statics
-            (t.is ∙ stack_goal frame t.id t.acted frames_are thrown_is) lean t.link (stack_places frame running goes.meaning_after t.id (values.Ref (length machine.heap.objects)) goes.value_is acted_positions) tt (All-nil (HoldsBetween meaning goes.meaning_after));
+        (t.is ∙ stack_goal frame t.id t.acted frames_are thrown_is) lean t.link (stack_places frame running goes.meaning_after t.id (values.Ref (length machine.heap.objects)) goes.value_is acted_positions) tt (All-nil (HoldsBetween meaning goes.meaning_after));
   }
     where
       held_ : AllByRecursion (HoldsIds state) (frame ∷ s.lower)
@@ -276,7 +275,7 @@ module _ (p : Program) (typing : ℕ → CodeTypes) (state : AbstractState) (mac
         let thrown_is : t.acted.throwing ≡ None = t.is_acted.is.throwing_is ∙ t.is_changed.throwing_is in
         let acted_positions : AllZip (FitsFrame goes.meaning_after) (frame ∷ s.lower) (with_statics machine.statics (running ∷ s.below)) = subst (λ (fs : List AbstractFrame). AllZip (FitsFrame goes.meaning_after) fs (with_statics machine.statics (running ∷ s.below))) frames_are goes.fits.positions in
         made_goes s.lows.drop Types state machine meaning s.sound.well_formed s.fits list (alikes list a) (nameds list a) (frame ∷ s.lower) held_ None tt (running ∷ s.below) Normal machine.statics positions tt t.changed t.is_changed (describeds list a) t.acted (heap_with machine.heap (zeros_of slot count)) t.id (values.Ref (length machine.heap.objects)) goes whole child [] (record frame { stack = t.id ∷ frame.stack } ∷ s.lower) None (record running { stack = values.Ref (length machine.heap.objects) ∷ running.stack } ∷ s.below) Normal machine.statics
-            (t.is ∙ stack_goal frame t.id t.acted frames_are thrown_is) lean t.link (stack_places frame running goes.meaning_after t.id (values.Ref (length machine.heap.objects)) goes.value_is acted_positions) tt (All-nil (HoldsBetween meaning goes.meaning_after));
+        (t.is ∙ stack_goal frame t.id t.acted frames_are thrown_is) lean t.link (stack_places frame running goes.meaning_after t.id (values.Ref (length machine.heap.objects)) goes.value_is acted_positions) tt (All-nil (HoldsBetween meaning goes.meaning_after));
   }
     where
       held_ : AllByRecursion (HoldsIds state) (frame ∷ s.lower)
@@ -350,7 +349,7 @@ module _ (p : Program) (typing : ℕ → CodeTypes) (state : AbstractState) (mac
         let thrown_is : t.acted.throwing ≡ None = child_.is.throwing_is ∙ t.is_changed.throwing_is in
         let acted_positions : AllZip (FitsFrame goes.meaning_after) (frame ∷ s.lower) (with_statics machine.statics (running ∷ s.below)) = subst (λ (fs : List AbstractFrame). AllZip (FitsFrame goes.meaning_after) fs (with_statics machine.statics (running ∷ s.below))) frames_are goes.fits.positions in
         made_goes s.lows.drop Types state machine meaning s.sound.well_formed s.fits list (alikes list a) (nameds list a) (frame ∷ s.lower) held_ None tt (running ∷ s.below) Normal machine.statics positions tt t.changed t.is_changed (describeds list a) t.acted machine.heap t.id value goes whole child (rows t.id) (record frame { stack = t.id ∷ frame.stack } ∷ s.lower) None (record running { stack = value ∷ running.stack } ∷ s.below) Normal machine.statics
-            (t.is ∙ stack_goal frame t.id t.acted frames_are thrown_is) lean t.link (stack_places frame running goes.meaning_after t.id value goes.value_is acted_positions) tt (holds t.id goes.meaning_after);
+        (t.is ∙ stack_goal frame t.id t.acted frames_are thrown_is) lean t.link (stack_places frame running goes.meaning_after t.id value goes.value_is acted_positions) tt (holds t.id goes.meaning_after);
   }
     where
       held_ : AllByRecursion (HoldsIds state) (frame ∷ s.lower)
@@ -369,7 +368,7 @@ module _ (p : Program) (typing : ℕ → CodeTypes) (state : AbstractState) (mac
         let good = formed s.lows.drop Types state machine meaning s.sound.well_formed s.fits list (alikes list a) (nameds list a) (frame ∷ s.lower) held_ None tt (running ∷ s.below) Normal machine.statics positions tt t.changed t.is_changed in
         let mid = mid_fits s.lows.drop Types state machine meaning s.sound.well_formed s.fits list (alikes list a) (nameds list a) (frame ∷ s.lower) held_ None tt (running ∷ s.below) Normal machine.statics positions tt t.changed t.is_changed (describeds list a) in
         let goes = s.lows.writes Types t.changed t.acted (going (running ∷ s.below) machine.heap machine.statics) meaning write cell o place heap good (closed_changed list (frame ∷ s.lower) (running ∷ s.below) machine.statics t.changed t.is_changed.cells (alikes list a)) mid
-            (record { cell = value_cell; is = stays_cell list only a t.changed t.is_changed.cells write.value value_cell value_at_ value_is; sort_is = ap not value_is }) (stays_cell list only a t.changed t.is_changed.cells write.object cell at is) (write_of t.changed) names written t.is_acted in
+        (record { cell = value_cell; is = stays_cell list only a t.changed t.is_changed.cells write.value value_cell value_at_ value_is; sort_is = ap not value_is }) (stays_cell list only a t.changed t.is_changed.cells write.object cell at is) (write_of t.changed) names written t.is_acted in
         written_goes s.lows.drop Types state machine meaning s.sound.well_formed s.fits list (alikes list a) (nameds list a) (frame ∷ s.lower) held_ None tt (running ∷ s.below) Normal machine.statics positions tt t.changed t.is_changed (describeds list a) t.acted heap goes whole child (rows t.id) t.is lean t.link (λ after. holds t.id after);
   }
     where

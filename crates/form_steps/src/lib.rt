@@ -1,6 +1,2 @@
-//! That expansions are true of the machine, form by form, of any state.
+//! What the steps of all forms rest on: where a state and a machine's state that fits it stand, the kinds of turns, tests, splits and operands. The lemmas have no calls.
 #![tactic(auto)]
-
-mod laws;
-
-pub use laws::built_steps_go_on;

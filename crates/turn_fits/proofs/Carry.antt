@@ -1,15 +1,14 @@
 -- Cells of a state that tell more, of the same sorts: a state of the machine that fits goes on fitting, in the same heap or in one in
 -- which each value keeps its region, its shapes and its term.
-use Rattle.std.proofs.Common.{◌≡◌, ◌≢◌, ◌∙◌, eqb, ℕ, Bool, true, false, cond, List, [], ◌∷◌, Option, Some, None, ◌⊎◌, inl, inr, refl, sym, ap, subst}
+use Rattle.std.proofs.Common.{◌≡◌, ◌∙◌, eqb, ℕ, Bool, true, cond, List, [], ◌∷◌, Option, Some, None, inl, inr, refl, sym, ap, subst}
 use Rattle.std.specs.List.{AllZip, AllByRecursion}
-use Rattle.std.proofs.lemmas.Bool.{false≢true, eqb-true, cases_Bool}
+use Rattle.std.proofs.lemmas.Bool.{eqb-true, cases_Bool}
 use Rattle.std.proofs.lemmas.Option.{none-some}
 use Rattle.jvm_values.specs.declared.heap.Value.{Value}
 use Rattle.jvm_values.specs.declared.heap.Heap.{Heap}
-use Rattle.jvm_values.specs.declared.shape.Shape.{Shape}
 use Rattle.jvm_values.specs.declared.state.Mode.{Mode}
 use Rattle.jvm_values.specs.States.{MachineFrame, MachineState}
-use Rattle.jvm_values.specs.Heaps.{Region, HasShape}
+use Rattle.jvm_values.specs.Heaps.{Region}
 use Rattle.jvm_values.specs.TypedHeaps.{WorldTypes}
 use Rattle.jvm_values.specs.Writes.{IsKept}
 use Rattle.jvm_values.specs.Terms.{HeapTerm}

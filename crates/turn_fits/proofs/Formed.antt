@@ -1,17 +1,15 @@
 -- The state of a step's changed cells and frames is well-formed.
-use Rattle.std.proofs.Common.{◌≡◌, ◌∙◌, ◌<◌, ℕ, zero, suc, Bool, true, false, ◌&&◌, not, List, [], ◌∷◌, ◌++◌, Option, Some, None, ◌⊎◌, inl, inr, slice_get, refl, sym, ap, subst}
+use Rattle.std.proofs.Common.{◌≡◌, ◌∙◌, ℕ, suc, Bool, true, false, ◌&&◌, not, List, [], ◌∷◌, ◌++◌, Option, Some, None, ◌⊎◌, inl, inr, slice_get, refl, sym, ap, subst}
 use Rattle.std.specs.List.{AllByRecursion, flat_map}
 use Rattle.std.proofs.lemmas.Bool.{false≢true, and_parts}
 use Rattle.std.proofs.lemmas.List.Elements.{All-from_recursion, recursion_from_All}
-use Rattle.std.proofs.lemmas.Option.{none-some}
 use Rattle.list_views.proofs.Quantified.{all_joined, all_front, all_back, all_weaker, all_places}
-use Rattle.jvm_values.proofs.Options.{some_is}
 use Rattle.abs_cells.specs.declared.cells.Cell.{Cell}
 use Rattle.abs_cells.specs.AbstractStates.{AbstractFrame, AbstractState}
 use Rattle.abs_cells.specs.Cells.{is_known, is_reference, is_of_sort, ids_in, cell_in, cell_at, HasCell, AreEqual, Share}
-use Rattle.abs_cells.specs.Sound.{AreIdsRising, given_ids, ids_of_frame, ids_used, may_join, IsWellFormed}
+use Rattle.abs_cells.specs.Sound.{given_ids, ids_of_frame, ids_used, IsWellFormed}
 use Rattle.abs_reach.proofs.Walks.{named_has_cell}
-use Rattle.abs_heap.specs.Given.{IsGiven, IsPair, first_cell, with_cells}
+use Rattle.abs_heap.specs.Given.{IsGiven, first_cell, with_cells}
 use Rattle.abs_heap.proofs.Placing.{cell_there}
 use Rattle.abs_expand.specs.Building.{HoldsIds}
 use Rattle.turn_fits.proofs.Carry.{in_list, still_there}
@@ -63,8 +61,7 @@ given_formed frames throwing cell equal sharing child g wider used = record {
     joined a b h =
         let may = ((g.share a b).0 h).1.0 in
         let parts = and_parts (is_of_sort is_reference (cell_in child.cells a) && is_of_sort is_reference (cell_in child.cells b)) (not (is_of_sort is_known (cell_in child.cells a) && is_of_sort is_known (cell_in child.cells b))) may in
-        let sides = and_parts (is_of_sort is_reference (cell_in child.cells a)) (is_of_sort is_reference (cell_in child.cells b)) parts.0 in
-        (
+        let sides = and_parts (is_of_sort is_reference (cell_in child.cells a)) (is_of_sort is_reference (cell_in child.cells b)) parts.0 in (
           sort_there child.cells child is_reference a refl sides.0,
           (
             sort_there child.cells child is_reference b refl sides.1,
@@ -115,8 +112,7 @@ frames_held state good = each state.frames (all_front (HasCell (λ _. true) stat
     each : (frames : List AbstractFrame) → AllByRecursion (HasCell (λ _. true) state) (flat_map ids_of_frame frames) → AllByRecursion (HoldsIds state) frames
     each [] h = tt
     each (frame ∷ rest) h =
-        let own = all_front (HasCell (λ _. true) state) (ids_of_frame frame) (flat_map ids_of_frame rest) h in
-        (
+        let own = all_front (HasCell (λ _. true) state) (ids_of_frame frame) (flat_map ids_of_frame rest) h in (
           record { locals = all_front (HasCell (λ _. true) state) (given_ids frame.locals) frame.stack own; stack = all_back (HasCell (λ _. true) state) (given_ids frame.locals) frame.stack own },
           each rest (all_back (HasCell (λ _. true) state) (ids_of_frame frame) (flat_map ids_of_frame rest) h),
         )

@@ -1,8 +1,7 @@
 -- The child of a step fits the machine's state after it, and the edge to it holds: cells change, the act makes an id, which goes to its
 -- goal, and ids are dropped.
-use Rattle.std.proofs.Common.{◌≡◌, ◌∙◌, ℕ, zero, suc, Bool, true, false, List, [], ◌∷◌, map, Option, Some, None, refl, sym, ap, subst}
+use Rattle.std.proofs.Common.{◌≡◌, ◌∙◌, ℕ, zero, suc, Bool, true, List, [], ◌∷◌, Option, Some, None, refl, sym, ap, subst}
 use Rattle.std.specs.List.{All, AllByRecursion, AllZip}
-use Rattle.std.specs.Option.{option_and_then}
 use Rattle.std.proofs.lemmas.Option.{none-some}
 use Rattle.list_views.proofs.Options.{then_some}
 use Rattle.jvm_values.specs.declared.heap.Value.{Value}
@@ -14,7 +13,7 @@ use Rattle.jvm_values.specs.Terms.{HeapTerm}
 use Rattle.jvm_values.specs.Writes.{IsKept}
 use Rattle.abs_cells.specs.declared.cells.Cell.{Cell}
 use Rattle.abs_cells.specs.AbstractStates.{AbstractFrame, AbstractState}
-use Rattle.abs_cells.specs.Cells.{is_int, ids_in, cell_in, cell_at, HasCell, AreEqual, Share}
+use Rattle.abs_cells.specs.Cells.{is_int, ids_in, cell_at, HasCell, AreEqual, Share}
 use Rattle.abs_cells.specs.Sound.{given_ids, IsWellFormed}
 use Rattle.abs_cells.specs.Fits.{Meaning, FitsFrame, FitsMode, with_statics, Describes, Fits}
 use Rattle.abs_cells.specs.Patterns.{pattern_of_cell, pattern_within, IsSized}
@@ -93,7 +92,6 @@ module _ (drop : DroppedKeepSized) (types : WorldTypes) (state : AbstractState) 
     (frames : List AbstractFrame) (held : AllByRecursion (HoldsIds state) frames) (throwing : Option ℕ) (thrown : AllByRecursion (HasCell (λ _. true) state) (given_ids (throwing ∷ [])))
     (running : List MachineFrame) (mode : Mode) (statics : List Value) (positions : AllZip (FitsFrame m) frames (with_statics statics running)) (moded : FitsMode m throwing mode)
     (changed : AbstractState) (g : IsGiven frames throwing (with_cells list state) (AreEqual state) (Share state) changed) where
-
   pub formed : IsWellFormed changed
   formed = changed_formed state good list named frames held throwing thrown changed g
 

@@ -1,5 +1,5 @@
 -- What the laws of low crates give, in the form that steps ask for them.
-use Rattle.std.specs.Prelude.{◌≡◌, ℕ, ◌<◌, Bool, true, false, List, [], ◌∷◌, ◌++◌, length, map, Option, Some, None, slice_get, slice_set, IsTrue, ℤ, pos}
+use Rattle.std.specs.Prelude.{◌≡◌, ℕ, ◌<◌, true, false, List, [], ◌∷◌, length, map, Option, Some, None, slice_get, slice_set, IsTrue, ℤ, pos}
 use Rattle.std.specs.List.{AllZip}
 use Rattle.jvm_values.specs.declared.types.Ty.{Ty}
 use Rattle.jvm_values.specs.declared.types.Kind.{Kind}

@@ -1,14 +1,14 @@
 -- putfield: a reference is written, or an int, which may be narrowed to the field's kind.
-use Rattle.std.proofs.Common.{◌≡◌, ◌≢◌, ◌∙◌, ◌<◌, ◌⊎◌, inl, inr, ◌==◌, eqb, ℕ, ℤ, zero, suc, Bool, true, false, not, cond, if◌then◌else◌, List, [], ◌∷◌, ◌++◌, length, map, Option, Some, None, IsTrue, slice_get, refl, sym, ap, subst, arith}
-use Rattle.std.specs.Prelude.{All, nat_lt, slice_set}
+use Rattle.std.proofs.Common.{◌≡◌, ◌≢◌, ◌∙◌, ◌<◌, ◌⊎◌, inl, inr, eqb, ℕ, ℤ, zero, suc, Bool, true, false, if◌then◌else◌, List, [], ◌∷◌, length, map, Option, Some, None, slice_get, refl, sym, ap, subst}
+use Rattle.std.specs.Prelude.{nat_lt, slice_set}
 use Rattle.std.specs.List.{AllByRecursion, AllZip}
 use Rattle.std.specs.Option.{option_map, option_and_then, MatchOption}
 use Rattle.std.proofs.lemmas.Bool.{false≢true, eqb-true, eq-eqb, ne_eqb, ltb-true, cases_eq}
 use Rattle.std.proofs.lemmas.List.Elements.{All-nil, All-head}
 use Rattle.std.proofs.lemmas.Option.{none-some}
 use Rattle.list_views.specs.Options.{asked}
-use Rattle.list_views.proofs.Items.{get_within, length_mapped}
-use Rattle.list_views.proofs.Quantified.{all_at, all_places}
+use Rattle.list_views.proofs.Items.{length_mapped}
+use Rattle.list_views.proofs.Quantified.{all_places}
 use Rattle.lin_core.specs.Intervals.{Bounds, IsIn}
 use Rattle.jvm_values.specs.declared.heap.Value.{Value}
 use Rattle.jvm_values.specs.declared.heap.Value.TheVariants as values
@@ -17,30 +17,28 @@ use Rattle.jvm_values.specs.declared.heap.Object.TheVariants as objects
 use Rattle.jvm_values.specs.declared.heap.Heap.{Heap}
 use Rattle.jvm_values.specs.declared.ints.IntOp.TheVariants.{Narrow}
 use Rattle.jvm_values.specs.declared.state.Mode.TheVariants.{Normal}
-use Rattle.jvm_values.specs.declared.types.Kind.{Kind}
 use Rattle.jvm_values.specs.declared.types.Slot.{Slot}
 use Rattle.jvm_values.specs.declared.types.Slot.TheVariants as slots
 use Rattle.jvm_values.specs.declared.types.Ty.{Ty}
-use Rattle.jvm_values.specs.Heaps.{target, values_of, value_at}
+use Rattle.jvm_values.specs.Heaps.{target, values_of}
 use Rattle.jvm_values.specs.Kinds.{narrowed}
 use Rattle.jvm_values.specs.States.{MachineFrame, MachineState}
 use Rattle.jvm_values.specs.Subtyping.{class_type}
-use Rattle.jvm_values.specs.TypedHeaps.{WorldTypes, type_of, IsTypedObject}
-use Rattle.jvm_values.specs.Writes.{with_value, IsWritten, IsKept}
+use Rattle.jvm_values.specs.TypedHeaps.{WorldTypes}
+use Rattle.jvm_values.specs.Writes.{IsKept}
 use Rattle.jvm_values.proofs.Options.{some_is}
 use Rattle.abs_cells.specs.declared.cells.Cell.{Cell}
 use Rattle.abs_cells.specs.declared.cells.Cell.TheVariants as cells
 use Rattle.abs_cells.specs.AbstractStates.{AbstractFrame, AbstractState}
-use Rattle.abs_cells.specs.Cells.{is_int, ids_in, cell_in, cell_at, HasCell}
+use Rattle.abs_cells.specs.Cells.{is_int, cell_in, cell_at, HasCell}
 use Rattle.abs_cells.specs.Fits.{Meaning, FitsFrame, with_statics, Describes, Fits}
-use Rattle.abs_cells.specs.Sound.{IsWellFormed, IsOfSlot, IsSoundCell}
+use Rattle.abs_cells.specs.Sound.{IsOfSlot, IsSoundCell}
 use Rattle.abs_ints.specs.Falling.{FallsUnder}
 use Rattle.abs_ints.specs.Operating.{operated}
 use Rattle.abs_ints.specs.declared.cases.IntCase.{IntCase}
 use Rattle.abs_ints.proofs.AllCases.{operated_covers}
 use Rattle.abs_reach.proofs.Walks.{named_has_cell}
 use Rattle.abs_heap.specs.Given.{first_cell, with_cells}
-use Rattle.abs_heap.specs.Laws.{IsWriteOf, with_heap}
 use Rattle.abs_heap.proofs.Placing.{cell_here, cell_later}
 use Rattle.class_world.specs.BuiltIns.{null_pointer_exception}
 use Rattle.class_world.specs.WorldTypes.{types_of}
@@ -50,27 +48,25 @@ use Rattle.class_program.specs.Programs.{Program}
 use Rattle.frame_types.specs.Tables.{CodeTypes}
 use Rattle.jvm_step.specs.Effects.{Effect, with_stack, fields_in, with_item, putfield_effect}
 use Rattle.jvm_step.specs.Operands.{reference_of, top, top_reference, object_at, is_assignable, is_passed, kept}
-use Rattle.jvm_step.specs.Table.{Work, effect_of, on_heap}
+use Rattle.jvm_step.specs.Table.{effect_of, on_heap}
 use Rattle.jvm_step.specs.Running.{Step, step}
 use Rattle.jvm_run.proofs.Lists.{zip_get}
 use Rattle.jvm_run.proofs.Objects.{erased_class, class_below_by}
-use Rattle.term_graph.specs.Graphs.{GraphChild}
 use Rattle.term_graph.specs.Edges.{HoldsBetween}
-use Rattle.abs_expand.specs.Plans.{nothing, nowhere, makes, writes, in_field, Turn, Plan, steps, no_rows}
-use Rattle.abs_expand.specs.Children.{IsTurnChild, IsLean, set_field, field_with, gone_to}
+use Rattle.abs_expand.specs.Plans.{makes, in_field, Turn, Plan, steps, no_rows}
+use Rattle.abs_expand.specs.Children.{set_field, field_with}
 use Rattle.abs_expand.specs.Building.{HoldsIds}
-use Rattle.abs_expand.specs.Table.{cell_here as cell_of, on_instance, put_int, put_reference, put_slot, putfield_plan, one_step}
+use Rattle.abs_expand.specs.Table.{cell_here as cell_of, on_instance, put_slot, putfield_plan}
 use Rattle.abs_expand.specs.Turns.{moves, turn_narrowing, turns_narrowing, interval_of_id, with_stack as stack_at}
 use Rattle.expand_laws.proofs.Cases.{SomeOf, some_one, some_of_map}
-use Rattle.turn_fits.specs.Laws.{HasOtherCells, GoesAlike}
-use Rattle.turn_fits.proofs.Carry.{IsAlike}
+use Rattle.turn_fits.specs.Laws.{HasOtherCells}
 use Rattle.turn_fits.proofs.Formed.{changed_formed, frames_held, thrown_held}
-use Rattle.turn_fits.proofs.Steps.{FitsChild, formed, mid_fits, field_goes}
+use Rattle.turn_fits.proofs.Steps.{formed, mid_fits, field_goes}
 use Rattle.turn_fits.proofs.Tops.{stacked, from_tops}
-use Rattle.form_steps.proofs.Standing.{Stands, here, onward, Work_, held, lower_held, going, raised, no_heap_effect, goes_after, raises_heap}
-use Rattle.form_steps.proofs.TurnKinds.{Fitting, Meets, IsChange, sound_at, writing_turn, keeping_turn}
+use Rattle.form_steps.proofs.Standing.{Stands, here, onward, Work_, held, lower_held, going, no_heap_effect, goes_after, raises_heap}
+use Rattle.form_steps.proofs.TurnKinds.{Fitting, Meets, sound_at, writing_turn, keeping_turn}
 use Rattle.form_steps.proofs.Operands.{IntAt, int_at, bounded, stack_is, stack_held}
-use Rattle.form_steps.proofs.References.{accessed_meets}
+use Rattle.frame_steps.proofs.References.{accessed_meets}
 
 -- ---- effects
 
@@ -188,7 +184,7 @@ module _ (p : Program) (typing : ℕ → CodeTypes) (state : AbstractState) (mac
       → step p machine ≡ Step.Going (going (PlacedRunning (map meaning rest) ∷ s.below) (Written r place class ids (values.Int n)) machine.statics) → Fit (record (moves (stack_at (here p typing state machine meaning s) Next rest)) { changed = (k, cells.Obj class (slice_set ids place x)) ∷ [] })
   same_turn k class place old r x ids rest n f i h e =
       let alike_law = s.lows.int_writes types state (record state { cells = map (field_with k place x) state.cells }) machine meaning k class place old x r ids (Written r place class ids (values.Int n)) s.sound.well_formed s.fits f.at f.got (int_cell old f.before f.old_int) (int_cell x n i) (ap target f.names)
-          (record { object = objects.Instance class (map meaning ids); stands = f.stands; objects = ap (λ (v : Value). (Written r place class ids v).objects) (sym i.is) }) (other_cells state k place x class ids f.at) in
+      (record { object = objects.Instance class (map meaning ids); stands = f.stands; objects = ap (λ (v : Value). (Written r place class ids v).objects) (sym i.is) }) (other_cells state k place x class ids f.at) in
       keeping_turn p typing state machine meaning s ((k, cells.Obj class (slice_set ids place x)) ∷ []) (Placed rest) no_rows (PlacedRunning (map meaning rest)) (Written r place class ids (values.Int n))
       (record { old = cells.Obj class ids; is = f.at; known = refl; hazy = refl; shape = refl; int = refl; variable = refl }, tt)
       (set_all Holds ids place x (all_places Holds ids (λ j y q. named_has_cell state s.sound.well_formed k j y (cells.Obj class ids) f.at q)) (record { cell = cells.Int i.old; is = i.at; sort_is = refl }), tt)
@@ -211,12 +207,12 @@ module _ (p : Program) (typing : ℕ → CodeTypes) (state : AbstractState) (mac
         let stays : (y : ℕ) (c : Cell) → cell_at state y ≡ Some c → cell_at t.acted y ≡ Some c = λ y c q. t.is_acted.1.cells y ∙ ap (λ (o : Option Cell). first_cell o (cell_at t.changed y)) (cell_later (t.id, cells.Int interval) [] y (λ same. none-some c (sym free ∙ ap (cell_at t.changed) same ∙ t.is_changed.cells y ∙ q))) ∙ t.is_changed.cells y ∙ q in
         let own : (y : ℕ) (c : Cell) → cell_at state y ≡ Some c → HasCell (λ _. true) t.changed y = λ y c q. record { cell = c; is = t.is_changed.cells y ∙ q; sort_is = refl } in
         let written = s.lows.int_writes types t.acted (record t.acted { cells = map (field_with k place t.id) t.acted.cells }) (going (PlacedRunning (map meaning rest) ∷ s.below) machine.heap machine.statics) goes.meaning_after k class place old t.id r ids (Written r place class ids (values.Int n)) acted_good goes.fits (stays k (cells.Obj class ids) f.at) f.got
-            (record { cell = cells.Int f.old_int.old; is = stays old (cells.Int f.old_int.old) f.old_int.at; sort_is = refl })
-            (record { cell = cells.Int interval; is = t.is_acted.1.cells t.id ∙ ap (λ (o : Option Cell). first_cell o (cell_at t.changed t.id)) (cell_here (t.id, cells.Int interval) [] t.id refl); sort_is = refl })
-            (ap target (goes.others k (own k (cells.Obj class ids) f.at)) ∙ ap target f.names)
-            (record { object = objects.Instance class (map meaning ids); stands = f.stands; objects = ap (λ (v : Value). (Written r place class ids v).objects) (sym goes.value_is) }) (other_cells t.acted k place t.id class ids (stays k (cells.Obj class ids) f.at)) in
+        (record { cell = cells.Int f.old_int.old; is = stays old (cells.Int f.old_int.old) f.old_int.at; sort_is = refl })
+        (record { cell = cells.Int interval; is = t.is_acted.1.cells t.id ∙ ap (λ (o : Option Cell). first_cell o (cell_at t.changed t.id)) (cell_here (t.id, cells.Int interval) [] t.id refl); sort_is = refl })
+        (ap target (goes.others k (own k (cells.Obj class ids) f.at)) ∙ ap target f.names)
+        (record { object = objects.Instance class (map meaning ids); stands = f.stands; objects = ap (λ (v : Value). (Written r place class ids v).objects) (sym goes.value_is) }) (other_cells t.acted k place t.id class ids (stays k (cells.Obj class ids) f.at)) in
         field_goes s.lows.drop types state machine meaning s.sound.well_formed s.fits [] tt tt (Placed rest ∷ s.lower) held_ None tt (PlacedRunning (map meaning rest) ∷ s.below) Normal machine.statics positions tt t.changed t.is_changed tt t.acted (Written r place class ids (values.Int n)) t.id (values.Int n) goes whole child []
-            (subst (λ (w : AbstractState). Fits types w (going (PlacedRunning (map meaning rest) ∷ s.below) (Written r place class ids (values.Int n)) machine.statics) goes.meaning_after) (sym t.is) written.fits) (keeps_all k class place old r ids n f) lean t.link (All-nil (HoldsBetween meaning goes.meaning_after));
+        (subst (λ (w : AbstractState). Fits types w (going (PlacedRunning (map meaning rest) ∷ s.below) (Written r place class ids (values.Int n)) machine.statics) goes.meaning_after) (sym t.is) written.fits) (keeps_all k class place old r ids n f) lean t.link (All-nil (HoldsBetween meaning goes.meaning_after));
   }
     where
       held_ : AllByRecursion (HoldsIds state) (Placed rest ∷ s.lower)
@@ -359,4 +355,3 @@ module _ (p : Program) (typing : ℕ → CodeTypes) (state : AbstractState) (mac
           receiver (values.Int n) f = absurd (no_heap effect is (putfield_stuck_next types used s.running machine.heap (meaning x) (meaning k ∷ map meaning rest) top_is (next_is (values.Int n) f)))
           receiver values.Null f = found (ap reference_of f ∙ ap Some (sym f))
           receiver (values.Ref r) f = found (ap reference_of f ∙ ap Some (sym f))
-

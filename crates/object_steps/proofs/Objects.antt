@@ -1,63 +1,50 @@
 -- Forms that read a field, take an array's length, make an object or an array, and throw an object.
-use Rattle.std.proofs.Common.{◌≡◌, ◌∙◌, ◌<◌, ◌⊎◌, inl, inr, ℕ, ℤ, zero, suc, pos, negsuc, Bool, true, false, cond, if◌then◌else◌, List, [], ◌∷◌, ◌++◌, length, map, Option, Some, None, IsTrue, slice_get, refl, sym, ap, subst, arith}
+use Rattle.std.proofs.Common.{◌≡◌, ◌∙◌, inl, ℕ, ℤ, zero, suc, pos, Bool, true, false, cond, if◌then◌else◌, List, [], ◌∷◌, length, map, Option, Some, None, slice_get, refl, sym, ap, subst, arith}
 use Rattle.std.specs.Prelude.{nat_lt}
 use Rattle.std.specs.List.{AllByRecursion}
-use Rattle.std.specs.Option.{option_map, option_and_then, option_to_list, IsSomeAnd}
-use Rattle.std.proofs.lemmas.Bool.{false≢true}
-use Rattle.std.proofs.lemmas.Int.{ints}
+use Rattle.std.specs.Option.{option_map, option_and_then}
 use Rattle.std.proofs.lemmas.List.Elements.{All-nil}
 use Rattle.std.proofs.lemmas.Option.{none-some}
 use Rattle.list_views.specs.Options.{asked}
-use Rattle.lin_core.specs.Intervals.{Bounds, IsIn}
 use Rattle.jvm_values.specs.declared.heap.Value.{Value}
 use Rattle.jvm_values.specs.declared.heap.Value.TheVariants as values
 use Rattle.jvm_values.specs.declared.heap.Object.{Object}
 use Rattle.jvm_values.specs.declared.heap.Object.TheVariants as objects
 use Rattle.jvm_values.specs.declared.heap.Heap.{Heap}
-use Rattle.jvm_values.specs.declared.shape.Shape.{Shape}
-use Rattle.jvm_values.specs.declared.types.Base.{Base}
-use Rattle.jvm_values.specs.declared.types.Base.TheVariants as bases
 use Rattle.jvm_values.specs.declared.types.Kind.{Kind}
-use Rattle.jvm_values.specs.declared.types.Slot.{Slot}
-use Rattle.jvm_values.specs.declared.types.Slot.TheVariants as slots
 use Rattle.jvm_values.specs.declared.types.Ty.{Ty}
 use Rattle.jvm_values.specs.States.{MachineFrame, MachineState}
-use Rattle.jvm_values.specs.Slots.{initial_value}
 use Rattle.jvm_values.specs.Subtyping.{class_type}
 use Rattle.jvm_values.specs.TypedHeaps.{WorldTypes}
 use Rattle.jvm_values.proofs.Options.{some_is}
 use Rattle.abs_cells.specs.declared.cells.Cell.{Cell}
 use Rattle.abs_cells.specs.declared.cells.Cell.TheVariants as cells
-use Rattle.abs_cells.specs.AbstractStates.{AbstractFrame, AbstractState}
-use Rattle.abs_cells.specs.Cells.{is_int, ids_in, cell_at, HasCell}
-use Rattle.abs_cells.specs.Fits.{Meaning, Describes}
-use Rattle.abs_ints.specs.IntIntervals.{meet_of}
-use Rattle.abs_ints.proofs.Covering.{in_meet}
+use Rattle.abs_cells.specs.AbstractStates.{AbstractState}
+use Rattle.abs_cells.specs.Cells.{ids_in, cell_at, HasCell}
+use Rattle.abs_cells.specs.Fits.{Meaning}
 use Rattle.abs_reach.proofs.Walks.{named_has_cell}
-use Rattle.abs_heap.specs.Laws.{IsItemSlot, heap_with, zeros_of}
-use Rattle.class_world.specs.BuiltIns.{null_pointer_exception, negative_array_size_exception, throwable}
+use Rattle.abs_heap.specs.Laws.{heap_with}
+use Rattle.class_world.specs.BuiltIns.{null_pointer_exception, throwable}
 use Rattle.class_world.specs.WorldTypes.{types_of}
 use Rattle.class_program.specs.declared.op.FieldUse.{FieldUse}
 use Rattle.class_program.specs.Good.{IsGoodNew}
 use Rattle.class_program.specs.Programs.{Program}
 use Rattle.frame_types.specs.Tables.{CodeTypes}
-use Rattle.jvm_step.specs.Effects.{Effect, with_stack, on_object, fields_in, getfield_effect, length_of, arraylength_effect, athrow_effect, instance_of, new_instance, new_effect, array_made, zeros, nulls, newarray_effect, anewarray_effect, makes}
+use Rattle.jvm_step.specs.Effects.{Effect, with_stack, fields_in, getfield_effect, length_of, arraylength_effect, athrow_effect, instance_of, new_instance, new_effect, array_made, zeros, nulls, newarray_effect, anewarray_effect, makes}
 use Rattle.jvm_step.specs.Operands.{is_null, reference_of, top_int, top_reference, object_at, is_assignable}
 use Rattle.jvm_step.specs.Table.{effect_of, on_frame, on_heap}
 use Rattle.jvm_step.specs.Running.{Step, step}
 use Rattle.term_graph.specs.Edges.{HoldsBetween}
-use Rattle.abs_expand.specs.Needs.{may_be_null}
 use Rattle.abs_expand.specs.Plans.{Turn, Plan, steps, no_rows}
-use Rattle.abs_expand.specs.Table.{cell_here, is_null_cell, is_null_here, unless_null, accessed, step_if, one_step, field_id, getfield_plan, length_id, length_plan, athrow_plan, new_of_base, new_plan, natural, negative, array_turn, array_plan}
-use Rattle.abs_expand.specs.Turns.{goes_on, moves, emptied, throws, throws_after, with_stack as stack_at, interval_of_id}
+use Rattle.abs_expand.specs.Table.{cell_here, is_null_here, unless_null, step_if, one_step, field_id, getfield_plan, length_id, length_plan, athrow_plan, new_of_base, new_plan}
+use Rattle.abs_expand.specs.Turns.{goes_on, moves, emptied, throws}
 use Rattle.expand_laws.proofs.Cases.{SomeOf}
 use Rattle.turn_fits.proofs.Tops.{stacked}
-use Rattle.form_steps.proofs.Standing.{Stands, here, onward, Work_, held, going, raised, by_effect, no_frame_effect, no_heap_effect, goes_after, goes_next, raises_frame, raises_heap}
-use Rattle.form_steps.proofs.TurnKinds.{Fitting, Meets, IsChange, throwing_turn, throws_turn, object_turn, array_making_turn}
+use Rattle.form_steps.proofs.Standing.{rests, Stands, here, onward, Work_, held, raised, by_effect, no_frame_effect, no_heap_effect, goes_after, goes_next, raises_frame}
+use Rattle.form_steps.proofs.TurnKinds.{Fitting, Meets, throwing_turn, throws_turn, object_turn}
 use Rattle.form_steps.proofs.Needs.{need_null_meets}
-use Rattle.form_steps.proofs.Operands.{IntAt, by_int, narrow_to, stack_is}
-use Rattle.form_steps.proofs.Moves.{by_reference, by_reference_at, going_turn}
-use Rattle.form_steps.proofs.References.{null_agrees, top_is_reference, accessed_meets}
+use Rattle.frame_steps.proofs.Moves.{by_reference, by_reference_at, going_turn}
+use Rattle.frame_steps.proofs.References.{null_agrees, top_is_reference, accessed_meets}
 
 -- ---- effects
 
@@ -268,7 +255,7 @@ module _ (p : Program) (typing : ℕ → CodeTypes) (state : AbstractState) (mac
       effect = athrow_effect types machine.heap s.running
 
       at : (x : ℕ) (rest : List ℕ) → AllByRecursion Holds (x ∷ rest) → s.running.stack ≡ meaning x ∷ map meaning rest → top_reference s.running.stack ≡ Some (meaning x, map meaning rest) → Covered (athrow_plan (here p typing state machine meaning s) (x ∷ rest))
-      at x rest h g t = need_null_meets p typing state machine meaning s x (unless_null (here p typing state machine meaning s) x (one_step (record (moves (emptied (here p typing state machine meaning s))) { throwing = Some x }))) (λ n. by (meaning x) refl (null_agrees p typing state machine meaning s x h.0 n))
+      at x rest h g t = need_null_meets p state machine meaning (rests p typing state machine meaning s) x (unless_null (here p typing state machine meaning s) x (one_step (record (moves (emptied (here p typing state machine meaning s))) { throwing = Some x }))) (λ n. by (meaning x) refl (null_agrees p typing state machine meaning s x h.0 n))
         where
           throws_npe : meaning x ≡ values.Null → SomeOf Fit (throws (here p typing state machine meaning s) null_pointer_exception ∷ [])
           throws_npe f = inl (throwing_turn p typing state machine meaning s [] no_rows null_pointer_exception tt (omega arith) (λ id after. All-nil (HoldsBetween meaning after)) (raise effect null_pointer_exception is (athrow_null types machine.heap s.running (map meaning rest) (top_valued x rest values.Null t f))))

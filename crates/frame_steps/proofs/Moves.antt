@@ -1,17 +1,16 @@
 -- Forms that move values between locals and the stack, that compute with ints, that jump, and that return.
-use Rattle.std.proofs.Common.{◌≡◌, ◌≢◌, ◌∙◌, ◌<◌, ◌⊎◌, inl, inr, ℕ, zero, suc, ℤ, pos, ◌+ℤ◌, ◌-ℤ◌, Bool, true, false, cond, if◌then◌else◌, List, [], ◌∷◌, ◌++◌, length, map, Option, Some, None, slice_get, refl, sym, ap, subst, arith}
-use Rattle.std.specs.Prelude.{slice_set, nat_lt, unwrap_or}
+use Rattle.std.proofs.Common.{◌≡◌, ◌≢◌, ◌∙◌, ◌<◌, ◌⊎◌, inl, inr, ℕ, ℤ, pos, ◌+ℤ◌, ◌-ℤ◌, Bool, true, false, if◌then◌else◌, List, [], ◌∷◌, length, map, Option, Some, None, slice_get, refl, sym, ap, subst, arith}
+use Rattle.std.specs.Prelude.{slice_set, nat_lt}
 use Rattle.std.specs.Int.{int_wrap, w32}
-use Rattle.std.specs.List.{All, AllByRecursion, AllZip}
-use Rattle.std.specs.Option.{option_map, option_map_or, option_and_then, option_to_list, MatchOption}
-use Rattle.std.proofs.lemmas.Bool.{false≢true, ltb-true, lt-ltb}
+use Rattle.std.specs.List.{AllByRecursion}
+use Rattle.std.specs.Option.{option_map, option_and_then, option_to_list, MatchOption}
+use Rattle.std.proofs.lemmas.Bool.{false≢true, ltb-true}
 use Rattle.std.proofs.lemmas.Int.{ints}
 use Rattle.std.proofs.lemmas.List.Elements.{All-nil}
 use Rattle.std.proofs.lemmas.Option.{none-some}
 use Rattle.list_views.specs.Options.{asked}
 use Rattle.list_views.proofs.Items.{get_before}
 use Rattle.list_views.proofs.Options.{then_some}
-use Rattle.list_views.proofs.Quantified.{all_joined}
 use Rattle.lin_core.specs.Intervals.{Bounds, IsIn}
 use Rattle.code_forms.specs.declared.insn.Case.{Case}
 use Rattle.jvm_values.specs.declared.heap.Value.{Value}
@@ -21,57 +20,52 @@ use Rattle.jvm_values.specs.declared.ints.IntOp.{IntOp}
 use Rattle.jvm_values.specs.declared.ints.IntOp.TheVariants.{Add, Sub, Narrow}
 use Rattle.jvm_values.specs.declared.types.Kind.{Kind}
 use Rattle.jvm_values.specs.declared.types.Kind.TheVariants as kinds
-use Rattle.jvm_values.specs.declared.types.Slot.{Slot}
 use Rattle.jvm_values.specs.declared.typing.PlaceType.{PlaceType}
 use Rattle.jvm_values.specs.declared.typing.PlaceType.TheVariants as places
-use Rattle.jvm_values.specs.Ints.{int_result, cond_holds}
+use Rattle.jvm_values.specs.Ints.{cond_holds}
 use Rattle.jvm_values.specs.Kinds.{IsOfKind, narrowed}
 use Rattle.jvm_values.specs.States.{MachineFrame, MachineState, PlaceTypes}
 use Rattle.abs_cells.specs.declared.cells.Cell.{Cell}
 use Rattle.abs_cells.specs.declared.cells.Cell.TheVariants as cells
-use Rattle.abs_cells.specs.AbstractStates.{AbstractFrame, AbstractState}
+use Rattle.abs_cells.specs.AbstractStates.{AbstractState}
 use Rattle.abs_cells.specs.Cells.{HasCell}
-use Rattle.abs_cells.specs.Sound.{given_ids}
-use Rattle.abs_cells.specs.Fits.{Meaning, FitsFrame, with_statics, Describes}
+use Rattle.abs_cells.specs.Fits.{Meaning, Describes}
 use Rattle.abs_ints.specs.Falling.{FallsUnder}
-use Rattle.abs_ints.specs.IntIntervals.{just}
 use Rattle.abs_ints.specs.Operating.{operated}
 use Rattle.abs_ints.specs.declared.cases.IntCase.{IntCase}
 use Rattle.abs_ints.proofs.AllCases.{operated_covers}
 use Rattle.class_world.specs.BuiltIns.{arithmetic_exception}
 use Rattle.class_world.specs.WorldTypes.{types_of}
-use Rattle.class_program.specs.declared.op.Op.{Op}
-use Rattle.class_program.specs.declared.program.Method.{Method}
-use Rattle.class_program.specs.Programs.{Program, insn_at}
+use Rattle.class_program.specs.Programs.{Program}
 use Rattle.op_forms.specs.declared.form.Shuffle.{Shuffle as StackShuffle}
-use Rattle.op_forms.specs.Forms.{Form, shuffled}
+use Rattle.op_forms.specs.Forms.{shuffled}
 use Rattle.frame_types.specs.Places.{IsSet}
 use Rattle.frame_types.specs.Tables.{CodeTypes}
 use Rattle.code_verify.specs.Operands.{is_int, is_reference}
-use Rattle.code_verify.specs.Rows.{types_after, iload_types, aload_types, iinc_types}
+use Rattle.code_verify.specs.Rows.{iload_types, aload_types, iinc_types}
 use Rattle.jvm_step.specs.Operands.{int_of, reference_of, top_int, top_reference}
-use Rattle.jvm_step.specs.Effects.{Effect, with_stack, branch, sets, int_of_local, reference_of_local, constant_effect, iload_effect, aload_effect, istore_effect, astore_effect, iinc_effect, shuffle_effect, arith_result, arith_effect, ineg_effect, narrow_effect, if_effect, if_icmp_effect, goto_effect, tableswitch_effect, lookupswitch_effect, target_at, target_of, is_number_slot, ireturn_effect, is_returned, areturn_effect, return_effect}
-use Rattle.jvm_step.specs.Table.{Work, effect_of, on_frame}
-use Rattle.jvm_step.specs.Running.{Step, step, returns, with_result, IsEnd}
+use Rattle.jvm_step.specs.Effects.{Effect, with_stack, branch, sets, int_of_local, reference_of_local, constant_effect, iload_effect, aload_effect, istore_effect, astore_effect, iinc_effect, shuffle_effect, arith_result, arith_effect, ineg_effect, narrow_effect, if_effect, if_icmp_effect, goto_effect, tableswitch_effect, lookupswitch_effect}
+use Rattle.jvm_step.specs.Table.{effect_of, on_frame}
+use Rattle.jvm_step.specs.Running.{Step, step}
 use Rattle.jvm_run.proofs.Placed.{asked_is}
 use Rattle.term_graph.specs.Edges.{HoldsBetween}
 use Rattle.term_graph.specs.declared.links.LinkRow.{LinkRow}
-use Rattle.abs_expand.specs.Plans.{Goal, on_stack, in_local, makes, Turn, Plan, steps, no_rows}
+use Rattle.abs_expand.specs.Plans.{on_stack, in_local, makes, Turn, Plan, steps, no_rows}
 use Rattle.abs_expand.specs.Building.{HoldsIds}
 use Rattle.abs_expand.specs.Switches.{table_keys, lookup_keys}
-use Rattle.abs_expand.specs.Table.{local_here, step_if, one_step, unary, binary, load_plan, store_plan, increment_plan, negation_plan, narrow_plan, switch_plan, number_cell, returned_to, value_plan}
-use Rattle.abs_expand.specs.Turns.{with_stack as stack_at, frames_at, moves, pushes, turn_narrowing, known, id, goes_on, interval_of_id, turns_of, branches}
+use Rattle.abs_expand.specs.Table.{local_here, step_if, one_step, unary, binary, load_plan, store_plan, increment_plan, negation_plan, narrow_plan, switch_plan, number_cell}
+use Rattle.abs_expand.specs.Turns.{with_stack as stack_at, pushes, turn_narrowing, known, id, goes_on, interval_of_id, turns_of, branches}
 use Rattle.abs_expand.proofs.IntTurns.{local_held, set_held, reordered}
 use Rattle.expand_laws.proofs.Cases.{SomeOf, some_one, some_of_map}
 use Rattle.expand_laws.proofs.Keys.{key_target, lookup_target, table_target}
 use Rattle.expand_laws.proofs.Machine.{constant_is, goto_is, sets_is, sets_none, shuffle_is, arith_is, ineg_is, narrow_is, if_is, if_icmp_is, table_is, lookup_is}
 use Rattle.expand_laws.proofs.Forms.{shuffled_values}
 use Rattle.turn_fits.specs.Laws.{IsPlainCell}
-use Rattle.turn_fits.proofs.Tops.{FitFrames, tops, from_tops, stacked, local_set}
-use Rattle.form_steps.proofs.Standing.{Stands, onward, here, Work_, held, lower_held, going, raised, by_effect, not_stuck, some_effect, no_frame_effect, goes_after, goes_next, goes_to, raises_frame}
-use Rattle.form_steps.proofs.TurnKinds.{Fitting, Meets, IsChange, RowsHold, top_turn, moving_turn, pushing_turn, setting_turn}
-use Rattle.form_steps.proofs.Operands.{IntAt, int_at, bounded, TopInt, by_int, TwoInts, by_two_ints, stack_is, stack_held}
-use Rattle.form_steps.proofs.IntSteps.{is_operator, operator, narrowing_turn, comparison, switched}
+use Rattle.turn_fits.proofs.Tops.{stacked, local_set}
+use Rattle.form_steps.proofs.Standing.{Stands, onward, here, Work_, held, going, no_frame_effect, goes_after, goes_next, goes_to, raises_frame}
+use Rattle.form_steps.proofs.TurnKinds.{Fitting, Meets, IsChange, RowsHold, top_turn, pushing_turn, setting_turn}
+use Rattle.form_steps.proofs.Operands.{IntAt, int_at, bounded, by_int, by_two_ints, stack_is, stack_held}
+use Rattle.frame_steps.proofs.IntSteps.{is_operator, operator, narrowing_turn, comparison, switched}
 
 -- ---- effects
 

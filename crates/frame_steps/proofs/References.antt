@@ -1,15 +1,13 @@
 -- Forms that test references: null or not, one object or two; and accesses to the object of a reference.
-use Rattle.std.proofs.Common.{◌≡◌, ◌≢◌, ◌∙◌, ◌<◌, ◌⊎◌, inl, inr, ◌==◌, eqb, ℕ, ℤ, pos, zero, suc, IsTrue, Bool, true, false, not, cond, ◌&&◌, ◌||◌, if◌then◌else◌, List, [], ◌∷◌, length, map, Option, Some, None, slice_get, refl, sym, ap, subst, arith}
+use Rattle.std.proofs.Common.{◌≡◌, ◌≢◌, ◌∙◌, inl, inr, ◌==◌, eqb, ℕ, ℤ, pos, zero, suc, IsTrue, Bool, true, false, ◌&&◌, ◌||◌, if◌then◌else◌, List, [], ◌∷◌, length, map, Option, Some, None, slice_get, refl, sym, ap, subst, arith}
 use Rattle.std.specs.Prelude.{All, slice_index_or}
 use Rattle.std.specs.List.{AllByRecursion}
-use Rattle.std.specs.Option.{option_map, option_and_then}
+use Rattle.std.specs.Option.{option_map}
 use Rattle.std.proofs.lemmas.Bool.{false≢true, eqb-true, eq-eqb}
 use Rattle.std.proofs.lemmas.List.Elements.{All-nil, All-head, All-tail}
-use Rattle.std.proofs.lemmas.Option.{none-some, slice_get_within}
-use Rattle.list_views.proofs.Quantified.{all_at}
+use Rattle.std.proofs.lemmas.Option.{none-some}
 use Rattle.jvm_values.specs.declared.heap.Value.{Value}
 use Rattle.jvm_values.specs.declared.heap.Value.TheVariants as values
-use Rattle.jvm_values.specs.declared.heap.Object.{Object}
 use Rattle.jvm_values.specs.declared.heap.Object.TheVariants as objects
 use Rattle.jvm_values.specs.declared.shape.Shape.{Shape}
 use Rattle.jvm_values.specs.declared.types.Kind.{Kind}
@@ -23,7 +21,7 @@ use Rattle.jvm_values.specs.TypedHeaps.{WorldTypes}
 use Rattle.jvm_values.proofs.Options.{some_is}
 use Rattle.abs_cells.specs.declared.cells.Cell.{Cell}
 use Rattle.abs_cells.specs.declared.cells.Cell.TheVariants as cells
-use Rattle.abs_cells.specs.AbstractStates.{AbstractFrame, AbstractState}
+use Rattle.abs_cells.specs.AbstractStates.{AbstractState}
 use Rattle.abs_cells.specs.Cells.{cell_at, HasCell, AreEqual}
 use Rattle.abs_cells.specs.PairLists.{has}
 use Rattle.abs_cells.specs.Fits.{Meaning, Describes}
@@ -33,21 +31,20 @@ use Rattle.class_program.specs.Programs.{Program}
 use Rattle.frame_types.specs.Places.{IsOfWorld, IsSet}
 use Rattle.frame_types.specs.Tables.{CodeTypes}
 use Rattle.code_verify.specs.TypedStates.{HasPlaceType, HasStack}
-use Rattle.jvm_step.specs.Effects.{Effect, with_stack, branch, is_wanted, on_object, if_acmp_effect, if_null_effect}
-use Rattle.jvm_step.specs.Operands.{reference_of, same_reference, is_null, top_reference, object_at}
+use Rattle.jvm_step.specs.Effects.{Effect, with_stack, branch, is_wanted, if_acmp_effect, if_null_effect}
+use Rattle.jvm_step.specs.Operands.{reference_of, same_reference, is_null, top_reference}
 use Rattle.jvm_step.specs.Table.{effect_of, on_frame}
 use Rattle.jvm_step.specs.Running.{Step, step}
-use Rattle.jvm_run.proofs.Lists.{zip_get}
 use Rattle.term_graph.specs.Edges.{HoldsBetween}
 use Rattle.abs_expand.specs.Needs.{may_be_null, need_null, is_unknown}
-use Rattle.abs_expand.specs.Plans.{Turn, Plan, steps, by_equal, no_rows}
-use Rattle.abs_expand.specs.Table.{place_under, cell_here, is_null_cell, is_null_here, unless_null, accessed, one_step, jump_if, null_plan, equal_plan}
-use Rattle.abs_expand.specs.Turns.{goes_on, throws}
-use Rattle.form_steps.proofs.Standing.{Stands, onward, here, Work_, going, raised, no_frame_effect}
-use Rattle.form_steps.proofs.TurnKinds.{Fitting, Meets, throwing_turn}
+use Rattle.abs_expand.specs.Plans.{Plan, steps, by_equal, no_rows}
+use Rattle.abs_expand.specs.Table.{place_under, is_null_cell, is_null_here, unless_null, accessed, jump_if, null_plan, equal_plan}
+use Rattle.abs_expand.specs.Turns.{throws}
+use Rattle.form_steps.proofs.Standing.{rests, Stands, onward, here, Work_, raised, no_frame_effect}
+use Rattle.form_steps.proofs.TurnKinds.{Meets, throwing_turn}
 use Rattle.form_steps.proofs.Needs.{IsTypedId, need_null_meets, need_object_meets, equal_meets}
-use Rattle.form_steps.proofs.Operands.{stack_is, stack_held}
-use Rattle.form_steps.proofs.Moves.{by_reference, branched, going_turn}
+use Rattle.form_steps.proofs.Operands.{stack_held}
+use Rattle.frame_steps.proofs.Moves.{by_reference, branched, going_turn}
 
 -- ---- effects
 
@@ -165,7 +162,7 @@ module _ (p : Program) (typing : ℕ → CodeTypes) (state : AbstractState) (mac
   pub null_test : (wanted : Bool) (place : ℕ) → Effects (if_null_effect wanted place s.running) → Covered (null_plan (here p typing state machine meaning s) wanted place s.frame.stack)
   null_test wanted place is =
       by_reference p typing state machine meaning s (null_plan (here p typing state machine meaning s) wanted place) (λ f. none (if_null_effect wanted place s.running) is (null_stuck wanted place s.running f)) (λ a rest h e t.
-      need_null_meets p typing state machine meaning s a (jump_if (here p typing state machine meaning s) wanted (is_null_here (here p typing state machine meaning s) a) place rest) (λ n.
+      need_null_meets p state machine meaning (rests p typing state machine meaning s) a (jump_if (here p typing state machine meaning s) wanted (is_null_here (here p typing state machine meaning s) a) place rest) (λ n.
       jumps_if wanted (is_null_here (here p typing state machine meaning s) a) place rest h.1 (if_null_effect wanted place s.running) is
       (null_by wanted place s.running (meaning a) (map meaning rest) t ∙ ap (λ (b : Bool). Some (branch (is_wanted wanted b) place (with_stack s.running (map meaning rest)))) (sym (null_agrees a h.0 n))))) s.frame.stack refl
 
@@ -212,7 +209,7 @@ module _ (p : Program) (typing : ℕ → CodeTypes) (state : AbstractState) (mac
                           absurd (false≢true (sym unequal ∙ eq))
 
               equal : (x : Bool) → has a b state.eq ≡ x → (a == b) ≡ false → is_null (meaning a) ≡ false → is_null (meaning b) ≡ false → Covered (if x then by_equal a b else jump_if (here p typing state machine meaning s) wanted false place rest)
-              equal true k differ na nb = equal_meets p typing state machine meaning s a b k (λ (z : a ≡ b). false≢true (sym differ ∙ eq-eqb a b z))
+              equal true k differ na nb = equal_meets p state machine meaning (rests p typing state machine meaning s) a b k (λ (z : a ≡ b). false≢true (sym differ ∙ eq-eqb a b z))
               equal false k differ na nb = jump false (apart differ k na nb)
 
               nulls : (x y : Bool) → is_null (meaning a) ≡ x → is_null (meaning b) ≡ y → (a == b) ≡ false
@@ -228,8 +225,8 @@ module _ (p : Program) (typing : ℕ → CodeTypes) (state : AbstractState) (mac
                   (jump true (ap (λ (v : Value). same_reference v (meaning b)) (ap meaning (eqb-true a b k)) ∙ same_itself (meaning b) right_reference))
               same false k =
                   subst (λ (x : Bool). Covered (if x then jump_if (here p typing state machine meaning s) wanted true place rest else need_null state a (need_null state b (EqualRest wanted place a b rest (is_null_here (here p typing state machine meaning s) a) (is_null_here (here p typing state machine meaning s) b))))) (sym k)
-                  (need_null_meets p typing state machine meaning s a (need_null state b (EqualRest wanted place a b rest (is_null_here (here p typing state machine meaning s) a) (is_null_here (here p typing state machine meaning s) b))) (λ na.
-                  need_null_meets p typing state machine meaning s b (EqualRest wanted place a b rest (is_null_here (here p typing state machine meaning s) a) (is_null_here (here p typing state machine meaning s) b)) (λ nb.
+                  (need_null_meets p state machine meaning (rests p typing state machine meaning s) a (need_null state b (EqualRest wanted place a b rest (is_null_here (here p typing state machine meaning s) a) (is_null_here (here p typing state machine meaning s) b))) (λ na.
+                  need_null_meets p state machine meaning (rests p typing state machine meaning s) b (EqualRest wanted place a b rest (is_null_here (here p typing state machine meaning s) a) (is_null_here (here p typing state machine meaning s) b)) (λ nb.
                   nulls (is_null_here (here p typing state machine meaning s) a) (is_null_here (here p typing state machine meaning s) b) (sym (null_agrees a h.1.0 na)) (sym (null_agrees b h.0 nb)) k)))
 
           by : (v : Value) → meaning a ≡ v → Covered (equal_plan (here p typing state machine meaning s) wanted place (b ∷ a ∷ rest))
@@ -251,7 +248,7 @@ module _ (p : Program) (typing : ℕ → CodeTypes) (state : AbstractState) (mac
       → Covered (accessed (here p typing state machine meaning s) depth x plan)
   accessed_meets depth x plan e reference raise instance numbers references =
       let t = typed_under depth x e in
-      need_object_meets p typing state machine meaning s x (place_under (here p typing state machine meaning s) depth) (unless_null (here p typing state machine meaning s) x plan) t (λ n u. by t.own.cell t.own.is (s.fits.cells x t.own.cell t.own.is) (sym (ap may_be_null t.own.is) ∙ n) (sym (ap is_unknown t.own.is) ∙ u))
+      need_object_meets p state machine meaning (rests p typing state machine meaning s) x (place_under (here p typing state machine meaning s) depth) (unless_null (here p typing state machine meaning s) x plan) t (λ n u. by t.own.cell t.own.is (s.fits.cells x t.own.cell t.own.is) (sym (ap may_be_null t.own.is) ∙ n) (sym (ap is_unknown t.own.is) ∙ u))
     where
       goes : (c : Cell) → cell_at state x ≡ Some c → is_null_cell (Some c) ≡ false → Covered plan → Covered (unless_null (here p typing state machine meaning s) x plan)
       goes c f n g = subst (λ (b : Bool). Covered (if b then steps (throws (here p typing state machine meaning s) null_pointer_exception ∷ []) else plan)) (sym (ap is_null_cell f ∙ n)) g

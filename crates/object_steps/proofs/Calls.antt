@@ -1,15 +1,14 @@
 -- Calls: the frame of the method that runs, over its caller's.
-use Rattle.std.proofs.Common.{◌≡◌, ◌∙◌, ◌<◌, ◌⊎◌, inl, inr, ◌+◌, ◌-◌, ℕ, zero, suc, Bool, true, false, cond, if◌then◌else◌, List, [], ◌∷◌, ◌++◌, length, map, Option, Some, None, slice_get, refl, sym, ap, subst, arith, take, drop, replicate, reverse}
+use Rattle.std.proofs.Common.{◌≡◌, ◌∙◌, inl, ◌+◌, ◌-◌, ℕ, zero, suc, Bool, true, false, cond, if◌then◌else◌, List, [], ◌∷◌, ◌++◌, length, map, Option, Some, None, slice_get, refl, sym, ap, subst, arith, take, drop, replicate, reverse}
 use Rattle.std.specs.Prelude.{unwrap_or}
 use Rattle.std.specs.List.{AllByRecursion}
 use Rattle.std.specs.Option.{option_map, option_map_or, option_and_then}
-use Rattle.std.proofs.lemmas.Bool.{false≢true}
 use Rattle.std.proofs.lemmas.List.{reverse-append}
-use Rattle.std.proofs.lemmas.List.Elements.{All-nil, All-take, All-drop, All-from_recursion, recursion_from_All}
+use Rattle.std.proofs.lemmas.List.Elements.{All-nil}
 use Rattle.std.proofs.lemmas.Option.{none-some}
 use Rattle.list_views.specs.Options.{asked}
 use Rattle.list_views.proofs.Items.{map_reversed}
-use Rattle.list_views.proofs.Quantified.{all_joined, all_places}
+use Rattle.list_views.proofs.Quantified.{all_joined}
 use Rattle.jvm_values.specs.declared.heap.Value.{Value}
 use Rattle.jvm_values.specs.declared.heap.Value.TheVariants as values
 use Rattle.jvm_values.specs.declared.heap.Object.{Object}
@@ -21,7 +20,7 @@ use Rattle.jvm_values.specs.TypedHeaps.{WorldTypes}
 use Rattle.jvm_values.proofs.Options.{some_is}
 use Rattle.abs_cells.specs.declared.cells.Cell.{Cell}
 use Rattle.abs_cells.specs.declared.cells.Cell.TheVariants as cells
-use Rattle.abs_cells.specs.AbstractStates.{AbstractFrame, AbstractState}
+use Rattle.abs_cells.specs.AbstractStates.{AbstractState}
 use Rattle.abs_cells.specs.Cells.{cell_at, HasCell}
 use Rattle.abs_cells.specs.Fits.{Meaning}
 use Rattle.abs_cells.specs.Sound.{given_ids}
@@ -30,7 +29,6 @@ use Rattle.class_world.specs.World.{World}
 use Rattle.class_world.specs.WorldTypes.{types_of}
 use Rattle.class_program.specs.declared.op.Call.{Call}
 use Rattle.class_program.specs.declared.op.Op.{Op}
-use Rattle.class_program.specs.declared.op.Op.TheVariants as ops
 use Rattle.class_program.specs.declared.program.Method.{Method}
 use Rattle.class_program.specs.declared.selected.Selected.{Selected}
 use Rattle.class_program.specs.declared.selected.Selected.TheVariants as answers
@@ -43,15 +41,15 @@ use Rattle.jvm_step.specs.Table.{Work, effect_of, on_frame}
 use Rattle.jvm_step.specs.Running.{Step, step, new_frame, entered, invokes as machine_invokes}
 use Rattle.term_graph.specs.Edges.{HoldsBetween}
 use Rattle.abs_expand.specs.Building.{HoldsIds}
-use Rattle.abs_expand.specs.Needs.{may_be_null, need_null}
+use Rattle.abs_expand.specs.Needs.{need_null}
 use Rattle.abs_expand.specs.Plans.{Turn, Plan, steps, no_child, no_rows}
-use Rattle.abs_expand.specs.Table.{cell_here, is_null_here, unless_null, accessed, one_step, called_frame, invokes, runs_or_lacks, static_plan, receiver_of, special_plan, class_of_cell, answered, selecting_plan}
+use Rattle.abs_expand.specs.Table.{cell_here, is_null_here, unless_null, accessed, one_step, called_frame, invokes, runs_or_lacks, static_plan, special_plan, class_of_cell, answered, selecting_plan}
 use Rattle.abs_expand.specs.Turns.{moves, throws, with_stack as stack_at}
-use Rattle.turn_fits.proofs.Tops.{FitsTop, FitFrames, from_tops, stacked, nothing_behind}
-use Rattle.form_steps.proofs.Standing.{Stands, here, Work_, held, lower_held, going, raised, by_effect, not_stuck, no_frame_effect, raises_frame}
+use Rattle.turn_fits.proofs.Tops.{from_tops, nothing_behind}
+use Rattle.form_steps.proofs.Standing.{rests, Stands, here, Work_, held, lower_held, going, by_effect, not_stuck, no_frame_effect, raises_frame}
 use Rattle.form_steps.proofs.TurnKinds.{Fitting, Meets, moving_turn, throwing_turn}
 use Rattle.form_steps.proofs.Needs.{need_null_meets}
-use Rattle.form_steps.proofs.References.{null_agrees, accessed_meets}
+use Rattle.frame_steps.proofs.References.{null_agrees, accessed_meets}
 
 -- ---- lists
 
@@ -298,7 +296,7 @@ module _ (p : Program) (typing : ℕ → CodeTypes) (state : AbstractState) (mac
       at : (x : ℕ) → slice_get s.frame.stack (length call.params) ≡ Some x → reference_of (meaning x) ≡ Some (meaning x) → (meaning x ≡ values.Null → effect ≡ Some (Effect.Raise null_pointer_exception))
           → ((r : ℕ) → meaning x ≡ values.Ref r → effect ≡ option_and_then (λ (object : Object). cond (is_special_receiver p.world s.method.class call object) (Some (effect_or_lacks (length call.params + 1) call.target)) None) (object_at machine.heap r)) → Covered (need_null state x (unless_null (here p typing state machine meaning s) x (runs_or_lacks (here p typing state machine meaning s) (length call.params + 1) call.target)))
       at x e reference null_case object_case =
-          need_null_meets p typing state machine meaning s x (unless_null (here p typing state machine meaning s) x (runs_or_lacks (here p typing state machine meaning s) (length call.params + 1) call.target)) (λ n. by (meaning x) refl (null_agrees p typing state machine meaning s x own n))
+          need_null_meets p state machine meaning (rests p typing state machine meaning s) x (unless_null (here p typing state machine meaning s) x (runs_or_lacks (here p typing state machine meaning s) (length call.params + 1) call.target)) (λ n. by (meaning x) refl (null_agrees p typing state machine meaning s x own n))
         where
           own : Holds x
           own = place_held Holds s.frame.stack (length call.params) x frame_held.stack e

@@ -1,7 +1,7 @@
 -- Accesses to arrays at an index: within the bounds or not, by what both ints are narrowed to.
-use Rattle.std.proofs.Common.{◌≡◌, ◌∙◌, ◌<◌, ◌⊎◌, inl, inr, ℕ, ℤ, zero, suc, ◌≤◌, pos, negsuc, ◌<ℤ◌, ◌≤ℤ◌, Bool, true, false, if◌then◌else◌, List, [], ◌∷◌, ◌++◌, length, map, Option, Some, None, slice_get, refl, sym, ap, subst, arith}
+use Rattle.std.proofs.Common.{◌≡◌, ◌∙◌, ◌<◌, ◌⊎◌, inl, inr, ℕ, ℤ, ◌≤◌, pos, negsuc, ◌<ℤ◌, ◌≤ℤ◌, Bool, true, false, List, [], ◌∷◌, ◌++◌, Option, Some, None, refl, sym, ap, subst, arith}
 use Rattle.std.specs.Prelude.{nat_lt, int_le, int_lt}
-use Rattle.std.specs.List.{All, AllByRecursion, cons_option}
+use Rattle.std.specs.List.{All, AllByRecursion}
 use Rattle.std.specs.Option.{option_map, option_map_or, option_and_then, option_to_list, IsSomeAnd}
 use Rattle.std.proofs.lemmas.Bool.{false≢true, ltb-true, ltb-false}
 use Rattle.std.proofs.lemmas.Int.{ints}
@@ -38,12 +38,12 @@ use Rattle.frame_types.specs.Tables.{CodeTypes}
 use Rattle.jvm_step.specs.Running.{Step, step}
 use Rattle.term_graph.specs.Edges.{HoldsBetween}
 use Rattle.term_graph.specs.declared.links.LinkRow.{LinkRow}
-use Rattle.abs_expand.specs.Plans.{Turn, Plan, steps, no_rows}
+use Rattle.abs_expand.specs.Plans.{Turn, no_rows}
 use Rattle.abs_expand.specs.Table.{natural, negative, in_bounds, out_of_bounds, access_at}
 use Rattle.abs_expand.specs.Turns.{id, interval_of_id, narrowings, rows_over, throws_after}
-use Rattle.expand_laws.proofs.Cases.{SomeOf, some_one, NamesNone, rows_of_two}
+use Rattle.expand_laws.proofs.Cases.{SomeOf, some_one, NamesNone}
 use Rattle.expand_laws.proofs.RowsHold.{rows_hold_without}
-use Rattle.form_steps.proofs.Casts.{some_later}
+use Rattle.object_steps.proofs.Casts.{some_later}
 use Rattle.form_steps.proofs.Standing.{Stands, here, raised}
 use Rattle.form_steps.proofs.TurnKinds.{Fitting, Meets, IsChange, throwing_turn}
 use Rattle.form_steps.proofs.Operands.{bounded, IntAt, operand_is, narrow_both, narrow_to}

@@ -1,10 +1,9 @@
 -- Returns: the run ends, or the caller goes on after its call.
-use Rattle.std.proofs.Common.{◌≡◌, ◌∙◌, inl, ℕ, ℤ, Bool, true, false, cond, if◌then◌else◌, List, [], ◌∷◌, ◌++◌, length, map, Option, Some, None, refl, sym, ap, subst}
+use Rattle.std.proofs.Common.{◌≡◌, ◌∙◌, inl, ℕ, ℤ, Bool, true, false, cond, List, [], ◌∷◌, ◌++◌, map, Option, Some, None, refl, sym, ap, subst}
 use Rattle.std.specs.Prelude.{unwrap_or}
 use Rattle.std.specs.List.{AllByRecursion, AllZip}
 use Rattle.std.specs.Option.{option_map, option_and_then, option_to_list}
 use Rattle.std.proofs.lemmas.List.Elements.{All-nil}
-use Rattle.list_views.proofs.Quantified.{all_joined}
 use Rattle.jvm_values.specs.declared.heap.Value.{Value}
 use Rattle.jvm_values.specs.declared.heap.Value.TheVariants as values
 use Rattle.jvm_values.specs.declared.types.Slot.{Slot}
@@ -24,15 +23,15 @@ use Rattle.jvm_step.specs.Operands.{top_int, top_reference}
 use Rattle.jvm_step.specs.Table.{Work, effect_of, on_frame}
 use Rattle.jvm_step.specs.Running.{Step, step, with_result, returns, IsEnd}
 use Rattle.term_graph.specs.Edges.{HoldsBetween}
-use Rattle.abs_expand.specs.Plans.{Turn, Plan, no_rows}
+use Rattle.abs_expand.specs.Plans.{Plan, no_rows}
 use Rattle.abs_expand.specs.Building.{HoldsIds}
 use Rattle.abs_expand.specs.Table.{step_if, returned_to, value_plan}
 use Rattle.abs_expand.specs.Turns.{moves}
 use Rattle.turn_fits.proofs.Tops.{FitFrames, tops, from_tops, stacked}
 use Rattle.form_steps.proofs.Standing.{Stands, here, Work_, lower_held, going, by_effect, not_stuck, no_frame_effect}
-use Rattle.form_steps.proofs.TurnKinds.{Fitting, Meets, moving_turn}
-use Rattle.form_steps.proofs.Operands.{by_int, stack_is, stack_held}
-use Rattle.form_steps.proofs.Moves.{by_reference}
+use Rattle.form_steps.proofs.TurnKinds.{Meets, moving_turn}
+use Rattle.form_steps.proofs.Operands.{by_int}
+use Rattle.frame_steps.proofs.Moves.{by_reference}
 
 ireturn_by : (result : Option Slot) (f : MachineFrame) (n : ℤ) (below : List Value) → top_int f.stack ≡ Some (n, below) → ireturn_effect result f ≡ cond (is_number_slot result) (Some (Effect.Return (Some (values.Int n)))) None
 unfolding ireturn_effect

@@ -1,13 +1,11 @@
 -- Forms over arrays: new ones, and numbers that are read.
-use Rattle.std.proofs.Common.{◌≡◌, ◌∙◌, ◌<◌, ◌≤◌, ◌⊎◌, inl, inr, ◌+◌, ℕ, ℤ, zero, suc, pos, negsuc, ◌<ℤ◌, ◌≤ℤ◌, Bool, true, false, cond, if◌then◌else◌, List, [], ◌∷◌, ◌++◌, length, map, Option, Some, None, IsTrue, slice_get, refl, sym, ap, subst, arith}
-use Rattle.std.specs.Prelude.{All, nat_lt, slice_set}
+use Rattle.std.proofs.Common.{◌≡◌, ◌∙◌, ◌<◌, ◌≤◌, ◌⊎◌, inl, inr, ◌+◌, ℕ, ℤ, zero, suc, pos, negsuc, ◌<ℤ◌, ◌≤ℤ◌, Bool, true, false, cond, List, [], ◌∷◌, ◌++◌, length, map, Option, Some, None, slice_get, refl, sym, ap, subst, arith}
+use Rattle.std.specs.Prelude.{All}
 use Rattle.std.specs.List.{AllByRecursion}
-use Rattle.std.specs.Option.{option_map, option_map_or, option_and_then, option_to_list, IsSomeAnd}
-use Rattle.std.proofs.lemmas.Bool.{false≢true, lt-ltb, le-ltb}
+use Rattle.std.specs.Option.{option_map, option_map_or, option_to_list, IsSomeAnd}
 use Rattle.std.proofs.lemmas.Int.{ints}
 use Rattle.std.proofs.lemmas.List.Elements.{All-nil}
-use Rattle.std.proofs.lemmas.Option.{none-some, slice_get_within}
-use Rattle.list_views.proofs.Items.{get_within, get_past}
+use Rattle.list_views.proofs.Items.{get_within}
 use Rattle.list_views.proofs.Quantified.{all_at}
 use Rattle.lin_core.specs.Intervals.{Bounds, IsIn}
 use Rattle.jvm_values.specs.declared.heap.Value.{Value}
@@ -15,7 +13,6 @@ use Rattle.jvm_values.specs.declared.heap.Value.TheVariants as values
 use Rattle.jvm_values.specs.declared.heap.Object.{Object}
 use Rattle.jvm_values.specs.declared.heap.Object.TheVariants as objects
 use Rattle.jvm_values.specs.declared.heap.Heap.{Heap}
-use Rattle.jvm_values.specs.declared.shape.Shape.{Shape}
 use Rattle.jvm_values.specs.declared.types.Kind.{Kind}
 use Rattle.jvm_values.specs.declared.types.Slot.{Slot}
 use Rattle.jvm_values.specs.declared.types.Slot.TheVariants as slots
@@ -24,12 +21,11 @@ use Rattle.jvm_values.specs.Kinds.{IsOfKind}
 use Rattle.jvm_values.specs.States.{MachineFrame, MachineState}
 use Rattle.jvm_values.specs.Subtyping.{IsReference}
 use Rattle.jvm_values.specs.TypedHeaps.{WorldTypes, IsTypedObject}
-use Rattle.jvm_values.proofs.Options.{some_is}
 use Rattle.abs_cells.specs.declared.cells.Cell.{Cell}
 use Rattle.abs_cells.specs.declared.cells.Cell.TheVariants as cells
-use Rattle.abs_cells.specs.AbstractStates.{AbstractFrame, AbstractState}
-use Rattle.abs_cells.specs.Cells.{is_int, ids_in, cell_at, HasCell}
-use Rattle.abs_cells.specs.Fits.{Meaning, Describes}
+use Rattle.abs_cells.specs.AbstractStates.{AbstractState}
+use Rattle.abs_cells.specs.Cells.{ids_in, cell_at, HasCell}
+use Rattle.abs_cells.specs.Fits.{Meaning}
 use Rattle.abs_ints.specs.IntIntervals.{meet_of}
 use Rattle.abs_ints.proofs.AllCases.{is_int as int_inside}
 use Rattle.abs_ints.proofs.Covering.{in_meet}
@@ -40,25 +36,25 @@ use Rattle.class_world.specs.WorldTypes.{types_of}
 use Rattle.class_program.specs.Programs.{Program}
 use Rattle.op_forms.specs.declared.form.ItemKind.{ItemKind}
 use Rattle.frame_types.specs.Tables.{CodeTypes}
-use Rattle.jvm_step.specs.Effects.{Effect, with_stack, array_made, zeros, nulls, newarray_effect, anewarray_effect, makes, on_object, on_item, item_at, is_for, numbers_in, number_load_effect}
+use Rattle.jvm_step.specs.Effects.{Effect, with_stack, array_made, zeros, nulls, newarray_effect, anewarray_effect, on_item, item_at, is_for, numbers_in, number_load_effect}
 use Rattle.jvm_step.specs.Operands.{reference_of, top_int, top_reference, object_at}
 use Rattle.jvm_step.specs.Table.{effect_of, on_frame, on_heap}
 use Rattle.jvm_step.specs.Running.{Step, step}
 use Rattle.term_graph.specs.Edges.{HoldsBetween}
 use Rattle.term_graph.specs.declared.links.LinkRow.{LinkRow}
-use Rattle.abs_expand.specs.Plans.{makes as makes_act, on_stack, Turn, Plan, steps, no_child, no_rows}
-use Rattle.abs_expand.specs.Table.{cell_here, accessed, natural, negative, array_turn, array_plan, length_id, access_at, of_kind, number_load_plan}
-use Rattle.abs_expand.specs.Turns.{goes_on, throws_after, with_stack as stack_at, interval_of_id}
+use Rattle.abs_expand.specs.Plans.{makes as makes_act, on_stack, Turn, Plan, no_child, no_rows}
+use Rattle.abs_expand.specs.Table.{cell_here, natural, negative, array_turn, array_plan, length_id, access_at, of_kind, number_load_plan}
+use Rattle.abs_expand.specs.Turns.{throws_after, with_stack as stack_at, interval_of_id}
 use Rattle.expand_laws.proofs.Cases.{SomeOf}
 use Rattle.turn_fits.proofs.Tops.{stacked}
-use Rattle.form_steps.proofs.Accesses.{access_meets}
-use Rattle.form_steps.proofs.Casts.{some_later}
+use Rattle.access_steps.proofs.Accesses.{access_meets}
+use Rattle.object_steps.proofs.Casts.{some_later}
 use Rattle.form_steps.proofs.Standing.{Stands, here, onward, Work_, held, going, raised, no_frame_effect, no_heap_effect, goes_after, goes_next, raises_frame, raises_heap}
 use Rattle.form_steps.proofs.TurnKinds.{Fitting, Meets, IsChange, throwing_turn, array_making_turn}
-use Rattle.form_steps.proofs.Operands.{IntAt, int_at, bounded, TopInt, by_int, narrow_to, stack_is, stack_held}
-use Rattle.form_steps.proofs.Moves.{pushed_turn}
-use Rattle.form_steps.proofs.Objects.{newarray_stuck, newarray_by, anewarray_stuck, anewarray_by}
-use Rattle.form_steps.proofs.References.{accessed_meets}
+use Rattle.form_steps.proofs.Operands.{IntAt, int_at, bounded, by_int, narrow_to}
+use Rattle.frame_steps.proofs.Moves.{pushed_turn}
+use Rattle.object_steps.proofs.Objects.{newarray_stuck, newarray_by, anewarray_stuck, anewarray_by}
+use Rattle.frame_steps.proofs.References.{accessed_meets}
 
 missing : {A : Type 0} (xs : List A) (i : ℕ) → length xs ≤ i → slice_get xs i ≡ None
 missing [] i l = refl

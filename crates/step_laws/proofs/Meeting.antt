@@ -1,17 +1,15 @@
 -- Where a good state and a typed state of the machine that fits it stand, in normal mode: the plan is the row of the form, after the test of its operands.
-use Rattle.std.proofs.Common.{◌≡◌, ◌≢◌, ◌∙◌, ◌<◌, ◌⊎◌, inl, inr, ◌++◌, ℕ, zero, suc, Bool, true, false, List, [], ◌∷◌, length, map, Option, Some, None, slice_get, refl, sym, ap, subst, arith}
+use Rattle.std.proofs.Common.{◌≡◌, ◌∙◌, ◌<◌, inl, inr, ℕ, zero, suc, Bool, true, List, [], ◌∷◌, length, map, Option, Some, None, slice_get, refl, sym, ap, subst}
 use Rattle.std.specs.Prelude.{All, IfSome, zip, take, reverse}
 use Rattle.std.specs.List.{AllZip, AllByRecursion}
 use Rattle.std.specs.Option.{option_map_or}
-use Rattle.std.proofs.lemmas.Bool.{false≢true}
 use Rattle.std.proofs.lemmas.List.{reverse-append}
-use Rattle.std.proofs.lemmas.List.Elements.{All-nil, All-cons, All-head, All-tail, All-take, All-push, All-append}
+use Rattle.std.proofs.lemmas.List.Elements.{All-nil, All-cons, All-head, All-tail, All-take, All-push}
 use Rattle.std.proofs.lemmas.Option.{none-some, slice_get_within}
 use Rattle.list_views.proofs.Quantified.{all_at}
 use Rattle.jvm_values.specs.declared.types.Kind.TheVariants as kinds
 use Rattle.jvm_values.specs.Kinds.{IsOfKind}
 use Rattle.jvm_values.specs.declared.heap.Value.{Value}
-use Rattle.jvm_values.specs.declared.heap.Value.TheVariants as values
 use Rattle.jvm_values.specs.declared.state.Mode.{Mode}
 use Rattle.jvm_values.specs.declared.state.Mode.TheVariants.{Normal, Throwing}
 use Rattle.jvm_values.specs.declared.typing.PlaceType.{PlaceType}
@@ -38,9 +36,9 @@ use Rattle.class_program.proofs.Got.{all_at as good_at}
 use Rattle.op_forms.specs.Forms.{Form, form_of}
 use Rattle.frame_types.specs.Places.{IsOfWorld, IsSet, IsFrame}
 use Rattle.frame_types.specs.Tables.{CodeTypes}
-use Rattle.code_verify.specs.TypedStates.{HasPlaceType, HasStack, IsRunning, AreTypedFrames, IsTypedState}
-use Rattle.jvm_step.specs.Running.{Step, step, IsEnd}
-use Rattle.jvm_run.specs.Laws.{GoesTyped, HasInts, StepsAreTyped}
+use Rattle.code_verify.specs.TypedStates.{HasPlaceType, HasStack, IsRunning, AreCallers, AreTypedFrames}
+use Rattle.jvm_step.specs.Running.{step}
+use Rattle.jvm_run.specs.Laws.{HasInts, StepsAreTyped}
 use Rattle.jvm_run.proofs.Lists.{zip_get}
 use Rattle.jvm_run.proofs.Named.{IsNamed, named_of}
 use Rattle.jvm_run.proofs.Placed.{Placed, placed, at_has, at_has_all}
@@ -49,20 +47,21 @@ use Rattle.term_graph.specs.Graphs.{GraphChild}
 use Rattle.term_graph.specs.declared.links.Link.{Link}
 use Rattle.term_graph.specs.Edges.{Edge, id_after}
 use Rattle.abs_expand.specs.Plans.{Plan, ends, steps, by_null, by_class, by_equal}
-use Rattle.abs_expand.specs.Needs.{tested, operands_of}
+use Rattle.abs_expand.specs.Needs.{operands_of}
 use Rattle.abs_expand.specs.Table.{taken_by, row_of, plan_of_form}
 use Rattle.abs_expand.specs.BadStates.{IsOfPlace, IsRunningPlaced, ArePlaced, statics_under}
 use Rattle.abs_expand.specs.Children.{IsTurnChild, IsLean}
-use Rattle.abs_expand.specs.Expansions.{plan_here, plan_in, plan_of, AreChildren, AreExpanded}
+use Rattle.abs_expand.specs.Expansions.{plan_here, plan_in, plan_of, AreExpanded}
 use Rattle.abs_expand.specs.Laws.{IsAfter, GoesToChild, IsMet}
 use Rattle.abs_expand.proofs.ZipLists.{beside}
 use Rattle.expand_laws.specs.Laws.{increment_of, HasShortIncrements}
 use Rattle.expand_laws.proofs.Cases.{SomeOf}
 use Rattle.turn_fits.specs.Laws.{DroppedKeepSized}
 use Rattle.turn_fits.proofs.Steps.{FitsChild, dropped_fits, dropped_sort, sized_there}
-use Rattle.turn_fits.proofs.Tops.{FitFrames, tops}
+use Rattle.turn_fits.proofs.Tops.{FitFrames, tops, from_tops}
+use Rattle.form_steps.proofs.Bottoms.{StandsOnStatics, last_of, on_statics_of}
 use Rattle.form_steps.specs.Laws.{Lows}
-use Rattle.form_steps.proofs.Standing.{Stands, Runs, here, held}
+use Rattle.form_steps.proofs.Standing.{rests, Stands, here, held}
 use Rattle.form_steps.proofs.TurnKinds.{Fitting, FitsSplit, Meets}
 use Rattle.form_steps.proofs.Needs.{IsTypedId, tested_meets}
 
@@ -178,10 +177,10 @@ is_normal meaning None Normal e h = refl
 is_normal meaning None (Throwing r) e h = absurd h
 is_normal meaning (Some id) mode e h = absurd (none-some id (sym e))
 
-running_typed : (p : Program) (typing : ℕ → CodeTypes) (machine : MachineState) (running : MachineFrame) (below : List MachineFrame) → machine.frames ≡ running ∷ below → machine.mode ≡ Normal → AreTypedFrames p typing machine.heap machine.mode machine.frames → IsRunning p typing machine.heap running
+running_typed : (p : Program) (typing : ℕ → CodeTypes) (machine : MachineState) (running : MachineFrame) (below : List MachineFrame) → machine.frames ≡ running ∷ below → machine.mode ≡ Normal → AreTypedFrames p typing machine.heap machine.mode machine.frames → IsRunning p typing machine.heap running × AreCallers p typing machine.heap running.method below
 running_typed p typing machine running below f n h =
     let k : AreTypedFrames p typing machine.heap Normal (running ∷ below) = subst (λ (fs : List MachineFrame). AreTypedFrames p typing machine.heap Normal fs) f (subst (λ (m : Mode). AreTypedFrames p typing machine.heap m machine.frames) n h) in
-    k.0
+    k
 
 -- ---- where they stand
 
@@ -205,7 +204,10 @@ module _ (lows : Lows) (typed_steps : StepsAreTyped) (p : Program) (typing : ℕ
   limits = ((met.typing_is.each frame.method running.placed.method running.placed.is_method).is_typing.each frame.pc running.there running.placed.is_there).limits
 
   typed_running : IsRunning p typing machine.heap top.running
-  typed_running = running_typed p typing machine top.running top.below top.frames_are normal met.typed.frames
+  typed_running = (running_typed p typing machine top.running top.below top.frames_are normal met.typed.frames).0
+
+  bottom : StandsOnStatics p state meaning machine.statics (last_of frame lower) (top.running ∷ top.below)
+  bottom = on_statics_of p typing state meaning machine.heap machine.statics frame lower running.there top.running top.below typed_running.there running.placed (subst (ArePlaced p typing state) frames_are met.good.placed).1 typed_running.typed (running_typed p typing machine top.running top.below top.frames_are normal met.typed.frames).1 (from_tops meaning frame lower machine.statics top.running top.below top.fit)
 
   insn : insn_at p.methods frame.method frame.pc ≡ Some (at.op, at.next)
   insn = insn_there p frame.method frame.pc running.placed.method at.op at.next running.placed.is_method at.insn_is
@@ -235,6 +237,8 @@ module _ (lows : Lows) (typed_steps : StepsAreTyped) (p : Program) (typing : ℕ
     running = top.running;
     below = top.below;
     fit = top.fit;
+    on_statics = bottom;
+    statics_typed = met.typed.statics;
     there = running.there;
     typed = subst (λ (t : PlaceTypes). HasStack types machine.heap t.stack top.running.stack) there_same typed_running.stack;
     set = limits.proper.set;
@@ -306,6 +310,6 @@ module _ (lows : Lows) (typed_steps : StepsAreTyped) (p : Program) (typing : ℕ
   pub plan_meets : Meets p state machine meaning (row_of (here p typing state machine meaning stands) stands.form) → Meets p state machine meaning (plan_of p typing state)
   unfolding running stands
   plan_meets m =
-      subst (Meets p state machine meaning) (sym plan_is) (tested_meets p typing state machine meaning stands (operands_of (taken_by at.form) running.there.stack frame.stack) (row_of (here p typing state machine meaning stands) at.form)
+      subst (Meets p state machine meaning) (sym plan_is) (tested_meets p state machine meaning (rests p typing state machine meaning stands) (operands_of (taken_by at.form) running.there.stack frame.stack) (row_of (here p typing state machine meaning stands) at.form)
       (all_reversed (λ (o : PlaceType × ℕ). IsTypedId types state machine meaning o.0 o.1) (take (taken_by at.form) (zip running.there.stack frame.stack)) (All-take (λ (o : PlaceType × ℕ). IsTypedId types state machine meaning o.0 o.1) (taken_by at.form) (zip running.there.stack frame.stack)
       (operands_typed running.there.stack top.running.stack frame.stack stands.typed limits.proper.set limits.proper.stack top.fit.top.stack (held p typing state machine meaning stands).stack))) m)

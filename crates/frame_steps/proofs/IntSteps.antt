@@ -1,9 +1,8 @@
 -- Operators, comparisons and switches over ints: the machine's step is covered by a turn of the list.
-use Rattle.std.proofs.Common.{◌≡◌, ◌∙◌, ◌<◌, ◌⊎◌, inl, inr, ◌==◌, ℕ, ℤ, pos, ◌-ℤ◌, Bool, true, false, if◌then◌else◌, cond, ◌&&◌, List, [], ◌∷◌, length, map, Option, Some, None, refl, sym, ap, subst, arith}
+use Rattle.std.proofs.Common.{◌≡◌, ◌∙◌, ◌⊎◌, inl, inr, ℕ, ℤ, pos, Bool, true, false, if◌then◌else◌, ◌&&◌, List, [], ◌∷◌, map, Option, Some, None, refl, sym, ap, subst, arith}
 use Rattle.std.specs.List.{All, AllByRecursion, cons_option, filter_map}
 use Rattle.std.specs.Option.{IfSome, option_map, option_and_then, IsSomeAnd, MatchOption}
 use Rattle.std.proofs.lemmas.Bool.{false≢true, eqb-true}
-use Rattle.std.proofs.lemmas.Int.{ints}
 use Rattle.std.proofs.lemmas.List.Elements.{All-nil, All-from_recursion}
 use Rattle.std.proofs.lemmas.Option.{none-some}
 use Rattle.list_views.proofs.Quantified.{all_weaker}
@@ -14,7 +13,7 @@ use Rattle.jvm_values.specs.declared.ints.Cond.{Cond}
 use Rattle.jvm_values.specs.declared.ints.IntOp.{IntOp}
 use Rattle.jvm_values.specs.declared.ints.IntOp.TheVariants.{Add, Sub, Mul, Div, Rem, Shl, Shr, Ushr, And, Or, Xor, Narrow}
 use Rattle.jvm_values.specs.Ints.{int_result, cond_holds}
-use Rattle.jvm_values.specs.States.{MachineFrame, MachineState}
+use Rattle.jvm_values.specs.States.{MachineState}
 use Rattle.jvm_values.specs.TypedHeaps.{WorldTypes}
 use Rattle.abs_cells.specs.declared.cells.Cell.{Cell}
 use Rattle.abs_cells.specs.declared.cells.Cell.TheVariants as cells
@@ -42,7 +41,7 @@ use Rattle.frame_types.specs.Tables.{CodeTypes}
 use Rattle.jvm_step.specs.Running.{Step, step}
 use Rattle.term_graph.specs.Edges.{HoldsBetween, number_of}
 use Rattle.term_graph.specs.declared.links.LinkRow.{LinkRow}
-use Rattle.abs_expand.specs.Plans.{Goal, Turn, Plan, steps, no_rows, makes}
+use Rattle.abs_expand.specs.Plans.{Goal, Turn, Plan, no_rows, makes}
 use Rattle.abs_expand.specs.Turns.{with_stack as stack_at, narrows, turn_of_result, Operand, known, id, interval_of_id, interval_at, are_one, rows_over, turn_of_case, turns_of, rows_if, place_of_way, branch_of_case, branches, switch_turn}
 use Rattle.abs_expand.specs.Switches.{parts_of}
 use Rattle.expand_laws.proofs.Cases.{SomeOf, some_of, some_mapped, gives_result, HasResult, results, NamesNone, rows_of_two}
@@ -50,7 +49,7 @@ use Rattle.expand_laws.proofs.Keys.{Leads, key_target, parts_cover}
 use Rattle.expand_laws.proofs.RowsHold.{rows_hold, rows_hold_without}
 use Rattle.form_steps.proofs.Standing.{Stands, here, onward, held, going, raised}
 use Rattle.form_steps.proofs.TurnKinds.{Fitting, Meets, IsChange, RowsHold, top_turn, throwing_turn}
-use Rattle.form_steps.proofs.Operands.{IntAt, Numbered, operand_is, narrow_both, narrow_to, bounded, Narrowed}
+use Rattle.form_steps.proofs.Operands.{IntAt, Numbered, operand_is, narrow_both, narrow_to, bounded}
 
 -- ---- the cases of the two divisions
 

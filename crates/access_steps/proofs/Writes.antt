@@ -1,11 +1,10 @@
 -- Forms that read and write items of arrays of references, and that write numbers into arrays.
-use Rattle.std.proofs.Common.{◌≡◌, ◌∙◌, ◌<◌, ◌≤◌, ◌⊎◌, inl, inr, ◌+◌, ℕ, ℤ, zero, suc, pos, negsuc, ◌<ℤ◌, ◌≤ℤ◌, Bool, true, false, cond, if◌then◌else◌, List, [], ◌∷◌, ◌++◌, length, map, Option, Some, None, IsTrue, slice_get, refl, sym, ap, subst, arith}
-use Rattle.std.specs.Prelude.{All, nat_lt, slice_set}
+use Rattle.std.proofs.Common.{◌≡◌, ◌∙◌, ◌<◌, ◌≤◌, ◌⊎◌, inl, inr, ℕ, ℤ, pos, negsuc, ◌<ℤ◌, ◌≤ℤ◌, Bool, true, false, cond, if◌then◌else◌, List, [], ◌∷◌, length, map, Option, Some, None, slice_get, refl, sym, ap, subst, arith}
+use Rattle.std.specs.Prelude.{All, slice_set}
 use Rattle.std.specs.List.{AllByRecursion}
-use Rattle.std.specs.Option.{option_map, option_map_or, option_and_then}
+use Rattle.std.specs.Option.{option_map, option_map_or}
 use Rattle.std.proofs.lemmas.Bool.{false≢true, lt-ltb, le-ltb}
 use Rattle.std.proofs.lemmas.Int.{ints}
-use Rattle.std.proofs.lemmas.List.Elements.{All-nil}
 use Rattle.std.proofs.lemmas.Option.{none-some}
 use Rattle.list_views.proofs.Items.{get_within, length_set}
 use Rattle.jvm_values.specs.declared.heap.Value.{Value}
@@ -19,41 +18,38 @@ use Rattle.jvm_values.specs.declared.types.Ty.{Ty}
 use Rattle.jvm_values.specs.Heaps.{target}
 use Rattle.jvm_values.specs.Kinds.{narrowed}
 use Rattle.jvm_values.specs.States.{MachineFrame, MachineState}
-use Rattle.jvm_values.specs.TypedHeaps.{WorldTypes, type_of}
-use Rattle.jvm_values.specs.Writes.{with_value, IsWritten}
+use Rattle.jvm_values.specs.TypedHeaps.{WorldTypes}
 use Rattle.jvm_values.proofs.Options.{some_is}
 use Rattle.abs_cells.specs.declared.cells.Cell.{Cell}
 use Rattle.abs_cells.specs.declared.cells.Cell.TheVariants as cells
 use Rattle.abs_cells.specs.AbstractStates.{AbstractFrame, AbstractState}
-use Rattle.abs_cells.specs.Cells.{is_int, cell_in, cell_at, HasCell}
+use Rattle.abs_cells.specs.Cells.{is_int, cell_at, HasCell}
 use Rattle.abs_cells.specs.Fits.{Meaning, Describes}
-use Rattle.abs_heap.specs.Given.{first_cell, with_cells}
-use Rattle.abs_heap.specs.Laws.{IsWriteOf}
 use Rattle.class_world.specs.BuiltIns.{null_pointer_exception, array_index_out_of_bounds_exception, array_store_exception}
 use Rattle.class_world.specs.WorldTypes.{types_of}
 use Rattle.class_program.specs.Programs.{Program}
 use Rattle.op_forms.specs.declared.form.ItemKind.{ItemKind}
 use Rattle.frame_types.specs.Tables.{CodeTypes}
-use Rattle.jvm_step.specs.Effects.{Effect, with_stack, on_object, on_item, item_at, index_below, is_for, numbers_in, references_in, with_number, with_item, aaload_effect, number_store_effect, aastore_effect}
-use Rattle.jvm_step.specs.Operands.{is_null, reference_of, top_int, top_reference, object_at, is_null_or_below}
-use Rattle.jvm_step.specs.Table.{Work, effect_of, on_frame, on_heap}
+use Rattle.jvm_step.specs.Effects.{Effect, with_stack, on_item, item_at, index_below, is_for, numbers_in, references_in, with_number, with_item, aaload_effect, number_store_effect, aastore_effect}
+use Rattle.jvm_step.specs.Operands.{reference_of, top_int, top_reference, object_at, is_null_or_below}
+use Rattle.jvm_step.specs.Table.{effect_of, on_frame, on_heap}
 use Rattle.jvm_step.specs.Running.{Step, step}
 use Rattle.term_graph.specs.Edges.{HoldsBetween}
 use Rattle.term_graph.specs.declared.links.LinkRow.{LinkRow}
-use Rattle.abs_expand.specs.Plans.{nothing, nowhere, on_stack, item, writes, Turn, Plan, steps, no_child}
+use Rattle.abs_expand.specs.Plans.{nothing, nowhere, on_stack, item, writes, Turn, Plan, no_child}
 use Rattle.abs_expand.specs.Table.{cell_here, is_null_cell, is_null_here, access_at, length_id, items_length_id, number_store_plan, aaload_plan, aastore_plan}
 use Rattle.abs_expand.specs.Turns.{throws_after, with_stack as stack_at}
 use Rattle.expand_laws.proofs.Cases.{SomeOf}
 use Rattle.turn_fits.specs.Laws.{AreRenumbered}
-use Rattle.turn_fits.proofs.Carry.{in_list, IsAlike, described_of}
+use Rattle.turn_fits.proofs.Carry.{described_of}
 use Rattle.turn_fits.proofs.Tops.{stacked}
-use Rattle.form_steps.proofs.Accesses.{access_meets}
-use Rattle.form_steps.proofs.Arrays.{IndexOver, index_of, by_index, length_held, top_array, outside_item}
-use Rattle.form_steps.proofs.Standing.{Stands, here, onward, Work_, held, going, raised, no_frame_effect, no_heap_effect, goes_after, goes_next, raises_frame, raises_heap}
+use Rattle.access_steps.proofs.Accesses.{access_meets}
+use Rattle.access_steps.proofs.Arrays.{IndexOver, index_of, by_index, length_held, top_array, outside_item}
+use Rattle.form_steps.proofs.Standing.{Stands, here, onward, Work_, held, raised, no_frame_effect, no_heap_effect, goes_after, goes_next, raises_frame, raises_heap}
 use Rattle.form_steps.proofs.TurnKinds.{Fitting, Meets, IsChange, throwing_turn, item_turn, writing_turn, keeping_turn, alikes, nameds}
-use Rattle.form_steps.proofs.Operands.{IntAt, int_at, by_int_at, TopInt, stack_is, stack_held}
-use Rattle.form_steps.proofs.Moves.{by_reference_at}
-use Rattle.form_steps.proofs.References.{top_is_reference, accessed_meets}
+use Rattle.form_steps.proofs.Operands.{int_at, by_int_at, TopInt}
+use Rattle.frame_steps.proofs.Moves.{by_reference_at}
+use Rattle.frame_steps.proofs.References.{top_is_reference, accessed_meets}
 
 -- ---- effects
 

@@ -1,27 +1,25 @@
 -- Casts and tests of types.
-use Rattle.std.proofs.Common.{◌≡◌, ◌∙◌, ◌<◌, ◌⊎◌, inl, inr, ◌+◌, ◌≤◌, ℕ, ℤ, pos, Bool, true, false, cond, not, ◌&&◌, ◌||◌, if◌then◌else◌, List, [], ◌∷◌, ◌++◌, length, map, Option, Some, None, IsTrue, slice_get, refl, sym, ap, subst, arith}
+use Rattle.std.proofs.Common.{◌≡◌, ◌∙◌, ◌⊎◌, inl, inr, ◌+◌, ℕ, ℤ, pos, Bool, true, false, not, ◌&&◌, if◌then◌else◌, List, [], ◌∷◌, ◌++◌, map, Option, Some, None, IsTrue, slice_get, refl, sym, ap, subst, arith}
 use Rattle.std.specs.List.{AllByRecursion}
 use Rattle.std.specs.Option.{option_map, option_and_then}
-use Rattle.std.proofs.lemmas.Bool.{false≢true, and_parts}
+use Rattle.std.proofs.lemmas.Bool.{false≢true}
 use Rattle.std.proofs.lemmas.Int.{ints}
 use Rattle.std.proofs.lemmas.List.Elements.{All-nil}
 use Rattle.std.proofs.lemmas.Option.{none-some}
-use Rattle.list_views.proofs.Quantified.{all_at}
 use Rattle.jvm_values.specs.declared.heap.Value.{Value}
 use Rattle.jvm_values.specs.declared.heap.Value.TheVariants as values
 use Rattle.jvm_values.specs.declared.heap.Object.{Object}
-use Rattle.jvm_values.specs.declared.heap.Object.TheVariants as objects
 use Rattle.jvm_values.specs.declared.heap.Heap.{Heap}
 use Rattle.jvm_values.specs.declared.shape.Shape.{Shape}
 use Rattle.jvm_values.specs.declared.shape.Shape.TheVariants.{Tree, Dag, Any}
 use Rattle.jvm_values.specs.declared.types.Ty.{Ty}
 use Rattle.jvm_values.specs.Subtyping.{class_type, array_of, array_of_numbers, IsReference}
 use Rattle.jvm_values.specs.States.{MachineFrame, MachineState}
-use Rattle.jvm_values.specs.TypedHeaps.{WorldTypes, AreLawful, type_of}
+use Rattle.jvm_values.specs.TypedHeaps.{WorldTypes, type_of}
 use Rattle.abs_cells.specs.declared.cells.Cell.{Cell}
 use Rattle.abs_cells.specs.declared.cells.Cell.TheVariants as cells
-use Rattle.abs_cells.specs.AbstractStates.{AbstractFrame, AbstractState}
-use Rattle.abs_cells.specs.Cells.{is_comparable, type_of_cell, cell_at, HasCell}
+use Rattle.abs_cells.specs.AbstractStates.{AbstractState}
+use Rattle.abs_cells.specs.Cells.{type_of_cell, cell_at, HasCell}
 use Rattle.abs_cells.specs.Fits.{Meaning, IsObject, Describes}
 use Rattle.abs_cells.specs.Sound.{IsSoundCell}
 use Rattle.class_world.specs.BuiltIns.{class_cast_exception}
@@ -29,21 +27,20 @@ use Rattle.class_world.specs.WorldTypes.{types_of}
 use Rattle.class_program.specs.Programs.{Program}
 use Rattle.frame_types.specs.Tables.{CodeTypes}
 use Rattle.jvm_step.specs.Effects.{Effect, with_stack, checkcast_effect, instanceof_effect}
-use Rattle.jvm_step.specs.Operands.{reference_of, top_reference, object_at, is_null_or_below, is_below}
+use Rattle.jvm_step.specs.Operands.{reference_of, top_reference, is_null_or_below, is_below}
 use Rattle.jvm_step.specs.Table.{effect_of, on_frame}
-use Rattle.jvm_step.specs.Running.{Step, step}
 use Rattle.term_graph.specs.Edges.{is_size_variable, HoldsBetween}
 use Rattle.abs_expand.specs.Needs.{may_be_null, need_null}
 use Rattle.abs_expand.specs.Plans.{makes, on_stack, Turn, Plan, steps, no_rows}
-use Rattle.abs_expand.specs.Table.{cell_here, is_null_cell, is_null_here, one_step, number_cell, Cast, checkcast_of, instanceof_of, bounded, with_bound, cell_bound, is_bound_below, may_be_below, is_known_cell, undecided, cast_plan, checkcast_plan, instanceof_plan}
-use Rattle.abs_expand.specs.Turns.{goes_on, pushes, throws, narrows, with_stack as stack_at}
+use Rattle.abs_expand.specs.Table.{cell_here, is_null_cell, one_step, number_cell, Cast, checkcast_of, instanceof_of, bounded, with_bound, cell_bound, is_bound_below, may_be_below, is_known_cell, undecided, cast_plan, checkcast_plan, instanceof_plan}
+use Rattle.abs_expand.specs.Turns.{narrows, with_stack as stack_at}
 use Rattle.expand_laws.proofs.Cases.{SomeOf}
-use Rattle.form_steps.proofs.Standing.{Stands, here, onward, Work_, going, raised, no_frame_effect, goes_next, raises_frame}
+use Rattle.form_steps.proofs.Standing.{rests, Stands, here, onward, Work_, no_frame_effect, goes_next, raises_frame}
 use Rattle.form_steps.proofs.TurnKinds.{sound_at, Fitting, Meets, IsChange, throwing_turn}
 use Rattle.form_steps.proofs.Needs.{need_null_meets, comparable, array_reference}
-use Rattle.form_steps.proofs.IntSteps.{narrowing_turn}
-use Rattle.form_steps.proofs.Moves.{by_reference, going_turn, pushed_turn}
-use Rattle.form_steps.proofs.References.{top_is_reference}
+use Rattle.frame_steps.proofs.IntSteps.{narrowing_turn}
+use Rattle.frame_steps.proofs.Moves.{by_reference, pushed_turn}
+use Rattle.frame_steps.proofs.References.{top_is_reference}
 
 pub some_later : {X : Type 0} (P : X → Type 0) (xs ys : List X) → SomeOf P ys → SomeOf P (xs ++ ys)
 some_later P [] ys h = h
@@ -122,14 +119,14 @@ module _ (p : Program) (typing : ℕ → CodeTypes) (state : AbstractState) (mac
 
     -- the bound is below the type
     below_goes : (a : Bool) → asks ≡ a → (may_be_null (cell_at state x) ≡ false → Fit cast.passed) → (asks ≡ false → Fit cast.passed) → Covered (if a then need_null state x (one_step cast.passed) else one_step cast.passed)
-    below_goes true e h k = need_null_meets p typing state machine meaning s x (one_step cast.passed) (λ n. inl (h n))
+    below_goes true e h k = need_null_meets p state machine meaning (rests p typing state machine meaning s) x (one_step cast.passed) (λ n. inl (h n))
     below_goes false e h k = inl (k e)
 
     known_goes : (bound : Ty) (r : ℕ) (object : Object) → type_of object ≡ bound → meaning x ≡ values.Ref r → slice_get machine.heap.objects r ≡ Some object → (b : Bool) → types.sub bound t ≡ b → Covered (if b then (if asks then need_null state x (one_step cast.passed) else one_step cast.passed) else need_null state x (one_step cast.failed))
     known_goes bound r object ty f o true g =
         let passed = does.passes r object f o (ap (λ (u : Ty). types.sub u t) ty ∙ g) in
         below_goes asks refl (λ n. passed) (λ a. passed)
-    known_goes bound r object ty f o false g = need_null_meets p typing state machine meaning s x (one_step cast.failed) (λ n. inl (does.fails r object f o (ap (λ (u : Ty). types.sub u t) ty ∙ g)))
+    known_goes bound r object ty f o false g = need_null_meets p state machine meaning (rests p typing state machine meaning s) x (one_step cast.failed) (λ n. inl (does.fails r object f o (ap (λ (u : Ty). types.sub u t) ty ∙ g)))
 
     cell_goes : (c : Cell) → cell_at state x ≡ Some c → Describes types machine.heap meaning c (meaning x) → Covered (After c)
     cell_goes (cells.Int interval) e d = absurd (none-some (meaning x) (sym (ap reference_of d.1.0) ∙ no_int))
@@ -142,13 +139,13 @@ module _ (p : Program) (typing : ℕ → CodeTypes) (state : AbstractState) (mac
         sound = sound_at types state s.sound.cells x (cells.Refs element len shape) e
 
         own_below : types.sub (type_of d.object) (array_of element) ≡ true
-        own_below = ap (λ (ob : Object). types.sub (type_of ob) (array_of element)) d.holds.is ∙ s.laws.below_array d.holds.item element (array_reference p typing state machine meaning s d.object d.place d.holds.item d.holds.items d.holds.is d.stands) sound.1.1.0 d.holds.below
+        own_below = ap (λ (ob : Object). types.sub (type_of ob) (array_of element)) d.holds.is ∙ s.laws.below_array d.holds.item element (array_reference p state machine meaning (rests p typing state machine meaning s) d.object d.place d.holds.item d.holds.items d.holds.is d.stands) sound.1.1.0 d.holds.below
 
         by : (b : Bool) → types.sub (array_of element) t ≡ b → Covered (if b then (if asks then need_null state x (one_step cast.passed) else one_step cast.passed) else need_null state x (steps (undecided (here p typing state machine meaning s) t x cast)))
         by true g =
             let passed = does.passes d.place d.object d.names d.stands (s.laws.transitive (type_of d.object) (array_of element) t own_below g) in
             below_goes asks refl (λ n. passed) (λ a. passed)
-        by false g = need_null_meets p typing state machine meaning s x (steps (undecided (here p typing state machine meaning s) t x cast)) (λ n.
+        by false g = need_null_meets p state machine meaning (rests p typing state machine meaning s) x (steps (undecided (here p typing state machine meaning s) t x cast)) (λ n.
             undecided_meets (cells.Refs element len shape) (array_of element) d.place d.object e refl sound.1.1.1 own_below d.names d.stands (λ up h. does.passes d.place d.object d.names d.stands h))
     cell_goes (cells.Unk bound b shape) e d = by (types.sub bound t) refl
       where
@@ -188,7 +185,7 @@ module _ (p : Program) (typing : ℕ → CodeTypes) (state : AbstractState) (mac
             at : ((b ≡ true) × (meaning x ≡ values.Null)) ⊎ IsObject machine.heap (meaning x) (λ object. IsTrue (types.sub (type_of object) bound)) → Covered (if asks then need_null state x (one_step cast.passed) else one_step cast.passed)
             at (inl k) = below_goes asks refl (λ n. absurd (no_null k.1 n b refl)) (λ a. does.null_passes a k.1)
             at (inr k) = below_goes asks refl (λ n. passed_below k g) (λ a. passed_below k g)
-        by false g = need_null_meets p typing state machine meaning s x (steps (undecided (here p typing state machine meaning s) t x cast)) (λ n. at n d)
+        by false g = need_null_meets p state machine meaning (rests p typing state machine meaning s) x (steps (undecided (here p typing state machine meaning s) t x cast)) (λ n. at n d)
           where
             at : may_be_null (cell_at state x) ≡ false → ((b ≡ true) × (meaning x ≡ values.Null)) ⊎ IsObject machine.heap (meaning x) (λ object. IsTrue (types.sub (type_of object) bound)) → SomeOf Fit (undecided (here p typing state machine meaning s) t x cast)
             at n (inl k) = absurd (no_null k.1 n b refl)

@@ -1,0 +1,5 @@
+pub mod Covering
+pub mod Going
+pub mod Handlers
+pub mod Meeting
+pub mod Throwing
