@@ -3,7 +3,8 @@
 Reads again: crates/code_forms/specs, crates/code_decode/specs, crates/class_world/specs (World, Types, Fields, Resolve, Select),
 crates/class_program/specs (Ops, Runs, Reached, Statics). JVM specification, SE 8, chapter 4 and section 5.4.3.
 
-Only input that breaks no rule of reading and linking is understood; of refusals nothing is known here. A type is a
+Only input that breaks no rule of reading is understood. Of the refusals of linking and closing those are known that tell of a
+name that stands twice, of a class or member that isn't there, and of programs that a JVM would run otherwise. A type is a
 triple of its dimensions, 'c' or 'n', and a class's number or a kind's letter. A slot is a kind's letter or a type.
 """
 import struct
@@ -209,6 +210,26 @@ CODE_OF_KIND = {'Z': 4, 'C': 5, 'B': 8, 'S': 9, 'I': 10}
 KIND_OF_CODE = {4: 'Z', 5: 'C', 8: 'B', 9: 'S', 10: 'I'}
 RANGES = {'Z': (0, 1), 'C': (0, 65535), 'B': (-128, 127), 'S': (-32768, 32767), 'I': (MIN, MAX)}
 OBJECT = (0, 'c', 0)
+THROWABLE = 1
+PRIVATE, STATIC, ACCESS = 2, 8, 7
+
+# interfaces that arrays implement in a JVM: no class has these names
+OF_ARRAYS = ('java/lang/Cloneable', 'java/io/Serializable')
+
+# what Object and Throwable declare in a JVM (SE 8), beside constructors and what is static or private
+OF_OBJECT = {('getClass', '()Ljava/lang/Class;'), ('hashCode', '()I'), ('equals', '(Ljava/lang/Object;)Z'),
+        ('clone', '()Ljava/lang/Object;'), ('toString', '()Ljava/lang/String;'), ('notify', '()V'), ('notifyAll', '()V'),
+        ('wait', '(J)V'), ('wait', '(JI)V'), ('wait', '()V'), ('finalize', '()V')}
+OF_THROWABLE = {('getMessage', '()Ljava/lang/String;'), ('getLocalizedMessage', '()Ljava/lang/String;'),
+        ('getCause', '()Ljava/lang/Throwable;'), ('initCause', '(Ljava/lang/Throwable;)Ljava/lang/Throwable;'),
+        ('toString', '()Ljava/lang/String;'), ('printStackTrace', '()V'),
+        ('printStackTrace', '(Ljava/io/PrintStream;)V'), ('printStackTrace', '(Ljava/io/PrintWriter;)V'),
+        ('fillInStackTrace', '()Ljava/lang/Throwable;'), ('getStackTrace', '()[Ljava/lang/StackTraceElement;'),
+        ('setStackTrace', '([Ljava/lang/StackTraceElement;)V'), ('addSuppressed', '(Ljava/lang/Throwable;)V'),
+        ('getSuppressed', '()[Ljava/lang/Throwable;')}
+
+# the codes of `return this;` and of `return;`
+RETURN_THIS, RETURN = bytes([42, 176]), bytes([177])
 
 
 class Missing(Exception):
@@ -228,13 +249,19 @@ class World:
             self.classes.append(dict(flags=33, name=nm, superclass=s, interfaces=[], fields=[],
                     methods=[dict(flags=1, name='<init>', desc='()V', code=(0, 1, bytes([177]), []))], pool=[None],
                     class_name=None, text=None))
-        given = [read_class(b) for b in blobs]
-        for g in given:
-            self.classes.append(g)
         self.numbers = {c['name']: i for i, c in enumerate(self.classes)}
+        for g in [read_class(b) for b in blobs]:
+            if g['name'] in OF_ARRAYS or g['name'] in self.numbers:
+                raise Refused('link: DuplicateClass name=' + g['name'])
+            self.numbers[g['name']] = len(self.classes)
+            self.classes.append(g)
         for c in self.classes[15:]:
+            interfaces = [x for x in c['interfaces'] if x not in OF_ARRAYS]
+            for x in [c['super']] + interfaces:
+                if x not in self.numbers:
+                    raise Refused('link: MissingClass name=' + x)
             c['superclass'] = self.numbers[c['super']]
-            c['superinterfaces'] = [self.numbers[x] for x in c['interfaces']]
+            c['superinterfaces'] = [self.numbers[x] for x in interfaces]
         for c in self.classes[:15]:
             c['superinterfaces'] = []
         self.above = [None] * len(self.classes)
@@ -395,9 +422,54 @@ class World:
     def method(self, ref):
         return self.classes[ref[0]]['methods'][ref[1]]
 
+    def receivers(self, named):
+        return [c for c in range(len(self.classes)) if self.can_be_made(c) and named in self.above[c]]
+
+    def package(self, c):
+        return self.classes[c]['name'].rpartition('/')[0]
+
+    def asks_the_platform(self, named, nm, d):
+        """Some receiver selects no declaration, and in a JVM its class has the method of Object or of Throwable."""
+        return any(self.select(c, nm, d) is None
+                and ((nm, d) in OF_OBJECT or THROWABLE in self.above[c] and (nm, d) in OF_THROWABLE)
+                for c in self.receivers(named))
+
+    def leaves_the_package(self, ref, named, nm, d):
+        """The method is package-private, and some receiver selects one of another package."""
+        found = [self.select(c, nm, d) for c in self.receivers(named)]
+        return (not self.method(ref)['flags'] & ACCESS
+                and any(x and self.package(x[0]) != self.package(ref[0]) for x in found))
+
+    def superinterfaces(self, c):
+        """In any number of steps, without those of superclasses."""
+        return {x for i in self.classes[c]['superinterfaces'] for x in self.superinterfaces(i) | {i}}
+
+    def declares_field(self, c, nm, d):
+        return any((n, t) == (nm, d) for _, n, t in self.classes[c]['fields'])
+
+    def hides_field(self, named, found, nm, d):
+        """A class before the one that declares the field has a superinterface with such a field."""
+        line = self.line(named)
+        return any(self.declares_field(i, nm, d) for c in line[:line.index(found)] for i in self.superinterfaces(c))
+
+    def declares_otherwise(self, c, nm, d, code):
+        """A given class of the chain declares the method with another code, or without one."""
+        return any(m['name'] == nm and m['desc'] == d and (m['code'] is None or m['code'][2] != code)
+                for x in self.line(c) if x >= 15 for m in self.classes[x]['methods'])
+
+    def runs_beside(self, c):
+        """A JVM runs a method when such an object is made or is no longer needed."""
+        return (self.declares_otherwise(c, 'finalize', '()V', RETURN)
+                or THROWABLE in self.above[c]
+                and self.declares_otherwise(c, 'fillInStackTrace', '()Ljava/lang/Throwable;', RETURN_THIS))
+
 
 class Refused(Exception):
-    """Something that linking would refuse."""
+    """A refusal of linking or closing, in words."""
+
+
+class Unresolved(Exception):
+    """An operand that names nothing of the right kind, or something that a JVM runs otherwise."""
 
 
 class Program:
@@ -416,14 +488,14 @@ class Program:
             m = world.method(ref)
             c = world.classes[ref[0]]
             if m['code'] is None:
-                raise Refused('no code')
+                raise Refused('link: Native')
             ms, ml, code, tab = m['code']
             ps, res = world.signature(m['desc'])
             static = bool(m['flags'] & 8)
             params = ps if static else [(0, 'c', ref[0])] + ps
             insns = []
             for pc, o, a in decode(code):
-                x = self.resolve(ref[0], c, o, a)
+                x = self.said(ref, pc, o, a)
                 insns.append((pc, x))
                 for r2 in self.runs(x):
                     if r2 not in self.numbers:
@@ -449,11 +521,10 @@ class Program:
             return [] if world.method(r)['flags'] & 1024 else [r]
         if x[0] in ('invokevirtual', 'invokeinterface'):
             out = []
-            for c in range(len(world.classes)):
-                if world.can_be_made(c) and x[1]['of_class'] in world.above[c]:
-                    s = world.select(c, x[1]['name'], x[1]['desc'])
-                    if s and (not world.method(s)['flags'] & 1024):
-                        out.append(s)
+            for c in world.receivers(x[1]['of_class']):
+                s = world.select(c, x[1]['name'], x[1]['desc'])
+                if s and (not world.method(s)['flags'] & 1024):
+                    out.append(s)
             return out
         return []
 
@@ -465,6 +536,17 @@ class Program:
         if nm not in world.numbers:
             raise Missing(nm)
         return (0, 'c', world.numbers[nm])
+
+    def said(self, ref, pc, o, a):
+        """What an instruction is, or its refusal in words."""
+        c = self.world.classes[ref[0]]
+        try:
+            return self.resolve(ref[0], c, o, a)
+        except Missing as missing:
+            raise Refused('link: MissingClass name=%s' % missing)
+        except Unresolved:
+            m = self.world.method(ref)
+            raise Refused('link: Unresolved method=%s.%s%s pc=%d' % (c['name'], m['name'], m['desc'], pc))
 
     def resolve(self, cur, c, o, a):
         world = self.world
@@ -479,7 +561,7 @@ class Program:
         if o in (18, 19):
             e = c['pool'][a[0]]
             if e[0] != 3:
-                raise Refused('ldc')
+                raise Unresolved()
             return ('const', e[1])
         if o == 21:
             return ('iload', a[0])
@@ -552,7 +634,10 @@ class Program:
         if o == 193:
             return ('instanceof', self.type_operand(c, a[0]))
         if o == 187:
-            return ('new', self.type_operand(c, a[0])[2])
+            t = self.type_operand(c, a[0])
+            if t[0] or not world.can_be_made(t[2]) or world.runs_beside(t[2]):
+                raise Unresolved()
+            return ('new', t[2])
         if o in (178, 179, 180, 181):
             e = c['pool'][a[0]]
             nt = c['pool'][e[2]]
@@ -563,15 +648,17 @@ class Program:
                 for k, (f, n2, d2) in enumerate(world.classes[x]['fields']):
                     if n2 == nm and d2 == d:
                         s = world.slot(d)
+                        if world.hides_field(cls, x, nm, d):
+                            raise Unresolved()
                         if o >= 180:
                             if f & 8:
-                                raise Refused('static')
+                                raise Unresolved()
                             pl = [i for i, (c2, k2, _) in enumerate(world.fields_of(x)) if (c2, k2) == (x, k)][0]
                             return ('getfield' if o == 180 else 'putfield', cls, pl, s)
                         if not f & 8:
-                            raise Refused('nonstatic')
+                            raise Unresolved()
                         return ('getstatic' if o == 178 else 'putstatic', (x, k), s)
-            raise Refused('field')
+            raise Unresolved()
         if 182 <= o <= 185:
             e = c['pool'][a[0]]
             nt = c['pool'][e[2]]
@@ -591,11 +678,19 @@ class Program:
                     ref = world.resolve_method(start, nm, d)
             else:
                 ref = world.resolve_method(cls, nm, d)
-            if ref is None:
-                raise Refused('method')
+            if ref is None or o in (182, 185) and self.differs(o, cls, ref, nm, d):
+                raise Unresolved()
             return ({182: 'invokevirtual', 183: 'invokespecial', 184: 'invokestatic', 185: 'invokeinterface'}[o],
                     dict(of_class=cls, name=nm, desc=d, ref=ref, params=ps, result=res))
         raise Refused('op %d' % o)
+
+
+    def differs(self, o, named, ref, nm, d):
+        """A virtual or interface call that a JVM may answer by another method."""
+        world = self.world
+        if world.method(ref)['flags'] & (STATIC | PRIVATE):
+            return False
+        return world.asks_the_platform(named, nm, d) or o == 182 and world.leaves_the_package(ref, named, nm, d)
 
 
 def program_of(fields):

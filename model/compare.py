@@ -26,7 +26,7 @@ import search
 import simulate
 import states
 import widen
-from classes import World, program_of
+from classes import Refused, World, program_of
 from expand import TooManyIds
 from least_typing import least_typings, method_word, place_word
 
@@ -58,6 +58,13 @@ def link(fields):
     if isinstance(types, tuple):
         return typing_answer(program, types)
     return ' '.join(['OK'] + [method_word(program, n) for n in range(len(program.methods))])
+
+
+def link_or_refusal(fields):
+    try:
+        return link(fields)
+    except Refused as refused:
+        return str(refused)
 
 
 def value_word(world, heap, ended):
@@ -261,6 +268,7 @@ def is_unlinked(answer):
 TABLES = [
     ('typing', typing, None),
     ('link-52', link, is_unlinked),
+    ('jvm-52', link_or_refusal, None),
     ('run', run, is_refused_before_verification),
     ('run-52', run, is_refused),
     ('ints', ints, None),

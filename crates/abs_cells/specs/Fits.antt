@@ -13,7 +13,7 @@ use Rattle.jvm_values.specs.declared.types.Kind.{Kind}
 use Rattle.jvm_values.specs.declared.state.Mode.{Mode}
 use Rattle.jvm_values.specs.declared.state.Mode.TheVariants.{Normal, Throwing}
 use Rattle.jvm_values.specs.States.{MachineFrame, MachineState}
-use Rattle.jvm_values.specs.Heaps.{target, Region, HasShape}
+use Rattle.jvm_values.specs.Heaps.{target, Region, HasShape, IsInHeap, IsClosed}
 use Rattle.jvm_values.specs.TypedHeaps.{WorldTypes, type_of}
 use Rattle.abs_cells.specs.declared.cells.Cell.{Cell}
 use Rattle.abs_cells.specs.declared.cells.Cell.TheVariants.{Int, Null, Obj, Nums, Refs, Unk}
@@ -95,3 +95,8 @@ pub record Fits (types : WorldTypes) (state : AbstractState) (machine : MachineS
   pub inside : (k b o : ℕ) → HasCell is_known state k → HasCell is_hazy state b → target (meaning k) ≡ Some o → Region machine.heap (meaning b) o → Share state k b
   -- each hazy id's shape holds of its region
   pub shapes : (id : ℕ) (cell : Cell) (shape : Shape) → cell_at state id ≡ Some cell → shape_of cell ≡ Some shape → HasShape shape machine.heap (meaning id)
+
+-- no reference that an object holds, or that an id stands for, leads past the heap's end
+pub record IsClosedState (machine : MachineState) (state : AbstractState) (meaning : Meaning) : Type 0 where
+  pub heap : IsClosed machine.heap
+  pub ids : (id : ℕ) → HasCell (λ _. true) state id → IsInHeap (length machine.heap.objects) (meaning id)

@@ -26,4 +26,4 @@ pub use packed::PackedPairs;
 pub use pairs::{ListPairs, Pairs};
 pub use replays::{PairCall, replay};
 pub use sets::IdSet;
-pub use states::{AbsFrame, AbsState};
+pub use states::{AbsFrame, AbsState, StateParts};

@@ -83,6 +83,21 @@ pub struct AbsState<P: Pairs> {
     share: P,
 }
 
+/// The parts of an abstract state.
+#[derive(Drop)]
+pub struct StateParts<P: Pairs> {
+    /// The frames, the running call's last.
+    pub frames: Seq<AbsFrame>,
+    /// The id of the thrown object, while a handler is looked for.
+    pub throwing: Option<Id>,
+    /// The ids with their cells, rising by id where the state is well-formed.
+    pub cells: Seq<(Id, Cell)>,
+    /// The pairs of ids that have one object.
+    pub eq: P,
+    /// The pairs of ids whose regions meet.
+    pub share: P,
+}
+
 impl<P: Pairs> Model for AbsState<P> {
     ghost use Rattle.std.specs.Prelude.{reverse};
     ghost use Rattle.abs_cells.specs.AbstractStates.{AbstractState};
@@ -148,18 +163,43 @@ impl<P: Pairs> AbsState<P> {
         &self.share
     }
 
-    /// The state without the cells of ids that are not in a set, and without their pairs. Frames and the thrown id stay as
-    /// they are. It takes no memory.
-    pub fn kept(self, ids: &IdSet) -> AbsState<P>
-        ensures { result ≡ record { frames = self.frames; throwing = self.throwing; cells = filter (λ c. has_id ids.now c.0) self.cells; eq = kept ids.now self.eq; share = kept ids.now self.share } }
+    /// The state taken apart, so that its cells and pairs can stand in another one without copies. `AbsState::new` puts the
+    /// parts together again.
+    pub fn into_parts(self) -> StateParts<P>
+        ensures frames { reverse result.frames ≡ self.frames }
+        ensures throwing { result.throwing ≡ self.throwing }
+        ensures cells { result.cells ≡ self.cells }
+        ensures eq { P.pairs result.eq ≡ self.eq }
+        ensures share { P.pairs result.share ≡ self.share }
     {
         let AbsState {
             frames,
             throwing,
             cells,
+            eq,
+            share,
+        } = self;
+        StateParts {
+            frames,
+            throwing,
+            cells,
+            eq,
+            share,
+        }
+    }
+
+    /// The state without the cells of ids that are not in a set, and without their pairs. Frames and the thrown id stay as
+    /// they are. It takes no memory.
+    pub fn kept(self, ids: &IdSet) -> AbsState<P>
+        ensures { result ≡ record { frames = self.frames; throwing = self.throwing; cells = filter (λ c. has_id ids.now c.0) self.cells; eq = kept ids.now self.eq; share = kept ids.now self.share } }
+    {
+        let StateParts {
+            frames,
+            throwing,
+            cells,
             mut eq,
             mut share,
-        } = self;
+        } = self.into_parts();
         eq.keep(ids);
         share.keep(ids);
         AbsState::new(frames, throwing, kept_cells(cells, ids), eq, share)

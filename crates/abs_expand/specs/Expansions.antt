@@ -1,6 +1,6 @@
 -- The expansion of an abstract state: the children of its plan, without the ids that nothing reaches (Otto, Brockschmidt, von Essen,
 -- Giesl 2010).
-use Rattle.std.specs.Prelude.{◌≡◌, ℕ, ◌+◌, ◌-◌, ◌<◌, ◌≤◌, Bool, false, if◌then◌else◌, List, [], ◌∷◌, All, map, length, take, Option, Some, None, slice_get}
+use Rattle.std.specs.Prelude.{ℕ, ◌+◌, ◌-◌, if◌then◌else◌, List, [], ◌∷◌, map, length, Option, Some, None, slice_get}
 use Rattle.std.specs.List.{AllZip}
 use Rattle.std.specs.Option.{option_map_or}
 use Rattle.jvm_values.specs.declared.types.Ty.{Ty}
@@ -10,11 +10,11 @@ use Rattle.abs_cells.specs.declared.cells.Cell.{Cell}
 use Rattle.abs_cells.specs.declared.cells.Cell.TheVariants as cells
 use Rattle.abs_cells.specs.AbstractStates.{AbstractFrame, AbstractState}
 use Rattle.abs_cells.specs.Cells.{cell_at, are_compatible}
-use Rattle.abs_cells.specs.Limits.{most_ids}
-use Rattle.term_graph.specs.declared.links.Link.{Link}
 use Rattle.term_graph.specs.Graphs.{GraphChild}
-use Rattle.abs_heap.specs.Refining.{IsCase, cases_of, IsWithCell, AreEqualChildren}
-use Rattle.abs_heap.specs.Counts.{new_ids}
+use Rattle.abs_heap.specs.Refining.{cases_of}
+use Rattle.abs_heap.specs.Counts.{case_counts}
+pub use Rattle.abs_heap.specs.Counts.{AreFew, IsFirstTooMany}
+use Rattle.abs_heap.specs.Answers.{AreNullChildren, AreClassChildren, AreEqualAnswers}
 use Rattle.class_world.specs.WorldTypes.{types_of}
 use Rattle.class_program.specs.declared.program.Method.{Method}
 use Rattle.class_program.specs.Programs.{Program, insn_at}
@@ -43,39 +43,20 @@ plan_of p typing state = plan_in p typing state state.throwing state.frames
 
 -- ---- the children of a plan
 
-abbrev pub stays : Option (ℕ × ℕ) → Link
-stays merged = record { rows = []; merged = merged; step = false }
-
-pub record IsSplitChild (P : AbstractState → Type 0) (merged : Option (ℕ × ℕ)) (child : GraphChild) : Type 0 where
-  pub is : P child.state
-  pub link : child.link ≡ stays merged
-
-abbrev pub AreNullChildren : AbstractState → ℕ → Option Cell → List GraphChild → Type 0
-AreNullChildren state x (Some (cells.Unk bound nullable shape)) (first ∷ second ∷ []) = IsSplitChild (IsWithCell state x cells.Null) None first × IsSplitChild (IsWithCell state x (cells.Unk bound false shape)) None second
-AreNullChildren state x _ _ = ⊥
-
-abbrev pub AreClassChildren : WorldTypes → AbstractState → ℕ → Ty → Option Cell → List GraphChild → Type 0
-AreClassChildren types state x wanted (Some (cells.Unk bound nullable shape)) children = AllZip (λ case (child : GraphChild). IsSplitChild (IsCase types state x shape case) None child) (cases_of types bound wanted) children
-AreClassChildren types state x wanted _ children = ⊥
-
-pub record AreEqualSplit (sub : Ty → Ty → Bool) (state : AbstractState) (x y : ℕ) (children : List GraphChild) : Type 0 where
-  pub merged : List (Option (ℕ × ℕ) × AbstractState)
-  pub are : AreEqualChildren sub state x y merged
-  pub each : AllZip (λ (m : Option (ℕ × ℕ) × AbstractState) (child : GraphChild). (child.state ≡ m.1) × (child.link ≡ stays m.0)) merged children
-
--- the children of a plan in their order, before ids are dropped
+-- the children of a plan in their order, before ids are dropped. A plan splits by null an id whose cell may be null, and by class one whose cell
+-- is `Unk` and not nullable, as the splits of the abstract heap ask
 abbrev pub AreChildren : WorldTypes → AbstractState → Plan → List GraphChild → Type 0
 AreChildren types state ends children = ⊥
 AreChildren types state (steps turns) children = AllZip (IsTurnChild types state) turns children
-AreChildren types state (by_null x) children = AreNullChildren state x (cell_at state x) children
-AreChildren types state (by_class x wanted) children = AreClassChildren types state x wanted (cell_at state x) children
-AreChildren types state (by_equal x y) children = AreEqualSplit types.sub state x y children
+AreChildren types state (by_null x) children = AreNullChildren state x children
+AreChildren types state (by_class x wanted) children = AreClassChildren types state x wanted children
+AreChildren types state (by_equal x y) children = AreEqualAnswers types.sub state x y children
 
 -- ---- too many ids
 
 -- how many ids each child has before ids are dropped
 abbrev pub class_counts : WorldTypes → AbstractState → Ty → Option Cell → List ℕ
-class_counts types state wanted (Some (cells.Unk bound nullable shape)) = map (λ case. length state.cells + new_ids types case) (cases_of types bound wanted)
+class_counts types state wanted (Some (cells.Unk bound nullable shape)) = case_counts types state (cases_of types bound wanted)
 class_counts types state wanted _ = []
 
 abbrev pub equal_counts : WorldTypes → AbstractState → Option Cell → Option Cell → List ℕ
@@ -88,16 +69,6 @@ counts_of types state (steps turns) = map (λ (turn : Turn). length state.cells 
 counts_of types state (by_null x) = length state.cells ∷ length state.cells ∷ []
 counts_of types state (by_class x wanted) = class_counts types state wanted (cell_at state x)
 counts_of types state (by_equal x y) = equal_counts types state (cell_at state x) (cell_at state y)
-
-abbrev pub AreFew : List ℕ → Type 0
-AreFew counts = All (λ count. count ≤ most_ids) counts
-
--- the first child that has too many ids
-pub record IsFirstTooMany (counts : List ℕ) (n : ℕ) : Type 0 where
-  pub count : ℕ
-  pub is : slice_get counts n ≡ Some count
-  pub many : most_ids < count
-  pub before : AreFew (take n counts)
 
 -- ---- the expansion
 

@@ -16,7 +16,7 @@ use Rattle.term_graph.specs.Graphs.{GraphChild}
 use Rattle.term_graph.specs.Edges.{Edge}
 use Rattle.abs_expand.specs.Plans.{ends}
 use Rattle.abs_expand.specs.BadStates.{IsGoodState}
-use Rattle.abs_expand.specs.Widths.{HasWidths}
+use Rattle.class_program.specs.Widths.{HasWidths}
 use Rattle.abs_expand.specs.Expansions.{plan_of, AreExpanded}
 
 -- the machine's state at a child: the same where the machine makes no step, else the one after its step

@@ -8,7 +8,6 @@ pub mod BadStates
 pub mod Children
 pub mod Expansions
 pub mod Answers
-pub mod Widths
 pub mod Laws
 pub mod IntForms
 pub mod OperandsSeen

@@ -1,24 +1,21 @@
 -- A heap with one more object at its end: what was there keeps its steps, regions, shapes and terms.
-use Rattle.std.proofs.Common.{◌≡◌, ℕ, zero, suc, ◌<◌, List, [], ◌∷◌, ◌++◌, length, Option, Some, None, refl, sym, ap, subst, ◌∙◌, arith, All}
+use Rattle.std.proofs.Common.{◌≡◌, ℕ, zero, suc, ◌<◌, List, [], ◌∷◌, length, Option, Some, refl, sym, ap, subst, ◌∙◌, All}
 use Rattle.std.specs.Prelude.{slice_get}
-use Rattle.std.specs.Option.{option_map, option_and_then}
-use Rattle.std.proofs.lemmas.Option.{slice_get_within, slice_get-get_or}
-use Rattle.jvm_values.proofs.AfterWrites.{same_shape}
+use Rattle.std.specs.Option.{option_and_then}
+use Rattle.std.proofs.lemmas.Option.{slice_get_within}
+use Rattle.jvm_values.proofs.AfterWrites.{same_shape, same_object_term}
 use Rattle.list_views.proofs.Quantified.{all_at}
 use Rattle.list_views.proofs.Items.{get_front}
 use Rattle.list_views.proofs.Options.{same_answer, then_some}
 use Rattle.jvm_values.specs.declared.heap.Value.{Value}
 use Rattle.jvm_values.specs.declared.heap.Value.TheVariants as values
 use Rattle.jvm_values.specs.declared.heap.Object.{Object}
-use Rattle.jvm_values.specs.declared.heap.Object.TheVariants.{Instance, Nums, Refs}
 use Rattle.jvm_values.specs.declared.heap.Heap.{Heap}
 use Rattle.jvm_values.specs.declared.shape.Shape.{Shape}
 use Rattle.jvm_values.specs.declared.shape.Shape.TheVariants.{Dag}
 use Rattle.jvm_values.specs.Paths.{follow}
 use Rattle.jvm_values.specs.Heaps.{target, values_of, value_at, heap_steps, Region, HasShape, IsInHeap, IsClosed}
-use Rattle.jvm_values.specs.Terms.{HeapTerm, HeapTerms, term_within, term_of_object, terms_by, IsTerm}
-use Rattle.jvm_values.specs.Terms.HeapTerm.{null, node}
-use Rattle.jvm_values.specs.Terms.HeapTerms.{more}
+use Rattle.jvm_values.specs.Terms.{HeapTerm, term_within, term_of_object, IsTerm}
 use Rattle.jvm_values.proofs.Options.{some_is}
 use Rattle.abs_heap.specs.Laws.{heap_with}
 
@@ -63,19 +60,6 @@ module _ (heap : Heap) (object : Object) (closed : IsClosed heap) where
   shape_stays v shape l = same_shape heap (heap_with heap object) v (λ a t p b e. sym (same_follow p a (l a t)) ∙ e) shape
 
   -- terms
-  values_same : (f g : Value → Option HeapTerm) (vs : List Value) → ((j : ℕ) (y : Value) → slice_get vs j ≡ Some y → f y ≡ g y) → terms_by f vs ≡ terms_by g vs
-  values_same f g [] h = refl
-  values_same f g (values.Int n ∷ vs) h = values_same f g vs (λ j y e. h (suc j) y e)
-  values_same f g (values.Null ∷ vs) h = ap (option_map (more null)) (values_same f g vs (λ j y e. h (suc j) y e))
-  values_same f g (values.Ref r ∷ vs) h =
-      ap (option_and_then (λ (first : HeapTerm). option_map (more first) (terms_by f vs))) (h 0 (values.Ref r) refl)
-      ∙ ap (λ (rest : Option HeapTerms). option_and_then (λ (first : HeapTerm). option_map (more first) rest) (g (values.Ref r))) (values_same f g vs (λ j y e. h (suc j) y e))
-
-  objects_same : (f g : Value → Option HeapTerm) (ob : Object) → ((j : ℕ) (y : Value) → slice_get (values_of ob) j ≡ Some y → f y ≡ g y) → term_of_object f ob ≡ term_of_object g ob
-  objects_same f g (Instance class fields) h = ap (option_map (node class)) (values_same f g fields h)
-  objects_same f g (Nums kind items) h = refl
-  objects_same f g (Refs element items) h = refl
-
   same_within : (depth : ℕ) (v : Value) → IsInHeap (length heap.objects) v → term_within depth (heap_with heap object) v ≡ term_within depth heap v
   same_within depth (values.Int n) l = refl
   same_within depth values.Null l = refl
@@ -83,7 +67,7 @@ module _ (heap : Heap) (object : Object) (closed : IsClosed heap) where
   same_within (suc depth) (values.Ref r) l =
       ap (option_and_then (term_of_object (term_within depth (heap_with heap object)))) (same_object r (l r refl))
       ∙ same_answer (term_of_object (term_within depth (heap_with heap object))) (term_of_object (term_within depth heap)) (slice_get heap.objects r)
-      (λ ob e. objects_same (term_within depth (heap_with heap object)) (term_within depth heap) ob (λ j y f. same_within depth y (value_low r ob j y e f)))
+      (λ ob e. same_object_term ob (term_within depth (heap_with heap object)) (term_within depth heap) (λ j y f. same_within depth y (value_low r ob j y e f)))
 
   pub term_back : (v : Value) (t : HeapTerm) → IsInHeap (length heap.objects) v → IsTerm (heap_with heap object) v t → IsTerm heap v t
   term_back v t l is = record {

@@ -1,26 +1,31 @@
 mod Affected
 mod After
-mod Carried
+pub mod Carried
+pub mod Carrying
 mod Choosing
 mod Classes
 mod FieldCells
 mod FieldPairs
-mod Fitted
+mod FirstCrowds
+pub mod Fitted
+pub mod FreshValues
 mod Freshness
 mod Giving
-mod Growing
+pub mod Growing
 mod Listing
 mod Loading
 mod Merging
-mod NewThings
+pub mod NewThings
+pub mod NumberWrites
 mod OneObject
 mod PairGains
 pub mod Placing
 mod Reading
-mod Renamed
-mod Replacing
-mod SameTerms
-mod Telling
+pub mod Renamed
+pub mod Renumbering
+pub mod Replacing
+pub mod SameTerms
+pub mod Telling
 mod Untold
 mod WriteChildren
 pub mod Written

@@ -1,10 +1,11 @@
 -- The cases of a split by class, one after another.
 use Rattle.std.proofs.Common.{◌≡◌, ℕ, zero, suc, ◌+◌, ◌<◌, ◌≤◌, ◌&&◌, ◌||◌, Bool, true, false, List, [], ◌∷◌, ◌++◌, length, map, get_or, take, Option, Some, None, Result, Ok, Err, inl, inr, refl, sym, ap, subst, ◌∙◌, arith, append_assoc, append-nil}
-use Rattle.std.specs.Prelude.{◌↔◌, nat_lt, filter, Contains, is_some}
+use Rattle.std.specs.Prelude.{◌↔◌, nat_lt, filter}
 use Rattle.std.specs.List.{AllZip, list_any}
-use Rattle.std.proofs.lemmas.Bool.{false≢true, cases_Bool, or_cases, or_left, or_right, or_parts, or_from, ltb-true, lt-ltb, cond-true, cond-false}
+use Rattle.std.proofs.lemmas.Bool.{false≢true, cases_Bool, or_parts, lt-ltb, cond-true, cond-false}
 use Rattle.std.proofs.lemmas.List.{take_more, take_all, get_or_default, map-append}
-use Rattle.std.proofs.lemmas.List.Elements.{filter-append, Contains-append_left, Contains-append_right, Contains-append_cases, Contains-push, Contains-push_cases}
+use Rattle.std.proofs.lemmas.List.Elements.{filter-append}
+use Rattle.std.proofs.lemmas.Option.{none-some}
 use Rattle.std.proofs.lemmas.List.Folds.{list_any-append}
 use Rattle.list_views.proofs.Zipped.{zip_joined}
 use Rattle.list_views.proofs.Truths.{or_false}
@@ -20,10 +21,10 @@ use Rattle.abs_cells.specs.AbstractStates.{AbstractState}
 use Rattle.abs_cells.specs.Cells.{cell_at, is_comparable}
 use Rattle.term_graph.specs.declared.links.Link.{Link}
 use Rattle.term_graph.specs.Graphs.{GraphChild}
-use Rattle.abs_heap.specs.Answers.{AreClassChildren, HasTooManyChildren}
-use Rattle.abs_heap.specs.Counts.{HasTooMany, HasTooManyIn, new_ids}
-use Rattle.abs_heap.specs.declared.fault.HeapFault.{HeapFault}
-use Rattle.abs_heap.specs.declared.fault.HeapFault.TheVariants.{TooManyIds}
+use Rattle.abs_heap.specs.Answers.{AreClassChildren, IsFirstTooManyChild}
+use Rattle.abs_heap.specs.Counts.{case_counts, IsFirstTooMany}
+use Rattle.abs_heap.specs.declared.fault.SplitFault.{SplitFault}
+use Rattle.abs_heap.specs.declared.fault.SplitFault.TheVariants.{TooManyIds}
 use Rattle.list_views.specs.Lists.{numbers_from}
 use Rattle.abs_heap.specs.Refining.{Case, instance, numbers, references, IsCase, IsArrayChild, lower_of, listed, cases_below, cases_of}
 use Rattle.abs_heap.specs.Splitting.{instances_among, numbers_among, crowds, plain_child, AddsCases, IsCaseAnswer, IsArrayAnswer}
@@ -51,7 +52,7 @@ module _ {X : Type 0} (make : X → Case) (test : X → Bool) (p : Case → Bool
   abbrev among : List X → List Case
   among xs = map make (filter test xs)
 
-  among_joined : (xs ys : List X) → among (xs ++ ys) ≡ among xs ++ among ys
+  pub among_joined : (xs ys : List X) → among (xs ++ ys) ≡ among xs ++ among ys
   among_joined xs ys = ap (map make) (filter-append test xs ys) ∙ map-append make (filter test xs) (filter test ys)
 
   pub among_yes : (x : X) → test x ≡ true → among (x ∷ []) ≡ make x ∷ []
@@ -66,15 +67,8 @@ module _ {X : Type 0} (make : X → Case) (test : X → Bool) (p : Case → Bool
     | inr t ↦ ap (list_any p) (among_no x t) ∙ ap (λ (b : Bool). b && p (make x)) (sym t)
   ]
 
-  among_more : (xs : List X) (i : ℕ) (x : X) → i < length xs → x ≡ get_or xs i x → among (take (i + 1) xs) ≡ among (take i xs) ++ among (x ∷ [])
+  pub among_more : (xs : List X) (i : ℕ) (x : X) → i < length xs → x ≡ get_or xs i x → among (take (i + 1) xs) ≡ among (take i xs) ++ among (x ∷ [])
   among_more xs i x l e = ap among (take_more xs i x l) ∙ among_joined (take i xs) (get_or xs i x ∷ []) ∙ ap (λ (y : X). among (take i xs) ++ among (y ∷ [])) (sym e)
-
-  pub none_next : (xs : List X) (i : ℕ) (x : X) (b : Bool) → i < length xs → x ≡ get_or xs i x → list_any p (among (take i xs)) ≡ false → b ≡ list_any p (among (x ∷ [])) → b ≡ false → list_any p (among (take (i + 1) xs)) ≡ false
-  none_next xs i x b l e was is f =
-      ap (list_any p) (among_more xs i x l e) ∙ list_any-append p (among (take i xs)) (among (x ∷ [])) ∙ or_from (list_any p (among (take i xs))) (list_any p (among (x ∷ []))) was (sym is ∙ f)
-
-  pub none_of_all : (xs : List X) (i : ℕ) → length xs ≤ i → list_any p (among (take i xs)) ≡ false → list_any p (among xs) ≡ false
-  none_of_all xs i l was = ap (λ (ys : List X). list_any p (among ys)) (sym (take_all i xs l)) ∙ was
 
   pub none_there : (xs : List X) (i : ℕ) (x : X) → i < length xs → x ≡ get_or xs i x → list_any p (among xs) ≡ false → list_any p (among (x ∷ [])) ≡ false
   none_there [] i x l e f = absurd (omega (arith, l))
@@ -85,21 +79,9 @@ module _ {X : Type 0} (make : X → Case) (test : X → Bool) (p : Case → Bool
   pub room_of : (x : X) (b : Bool) → b ≡ test x → b ≡ true → list_any p (among (x ∷ [])) ≡ false → p (make x) ≡ false
   room_of x b e t f = ap (λ (c : Bool). c && p (make x)) (sym t ∙ e) ∙ sym (any_one x) ∙ f
 
-  pub one_there : (xs : List X) (i : ℕ) (x : X) (b : Bool) → i < length xs → x ≡ get_or xs i x → b ≡ list_any p (among (x ∷ [])) → b ≡ true → list_any p (among xs) ≡ true
-  one_there xs i x b l e is t = elim (cases_Bool (list_any p (among xs))) [
-    | inl h ↦ h
-    | inr h ↦ absurd (false≢true (sym (none_there xs i x l e h) ∙ sym is ∙ t))
-  ]
-
   -- the same where the code reads the element
-  pub none_next_at : (xs : List X) (i : ℕ) (d : X) (b : Bool) → i < length xs → list_any p (among (take i xs)) ≡ false → b ≡ list_any p (among (get_or xs i d ∷ [])) → b ≡ false → list_any p (among (take (i + 1) xs)) ≡ false
-  none_next_at xs i d b l was is f = none_next xs i (get_or xs i d) b l (get_or_default xs i d (get_or xs i d) l) was is f
-
   pub none_there_at : (xs : List X) (i : ℕ) (d : X) → i < length xs → list_any p (among xs) ≡ false → list_any p (among (get_or xs i d ∷ [])) ≡ false
   none_there_at xs i d l f = none_there xs i (get_or xs i d) l (get_or_default xs i d (get_or xs i d) l) f
-
-  pub one_there_at : (xs : List X) (i : ℕ) (d : X) (b : Bool) → i < length xs → b ≡ list_any p (among (get_or xs i d ∷ [])) → b ≡ true → list_any p (among xs) ≡ true
-  one_there_at xs i d b l is t = one_there xs i (get_or xs i d) b l (get_or_default xs i d (get_or xs i d) l) is t
 
 -- ---- the numbers from 0 on
 
@@ -170,30 +152,6 @@ module _ (types : WorldTypes) (state : AbstractState) (x : ℕ) (shape : Shape) 
 
 -- ---- too many ids
 
-module _ (types : WorldTypes) (state : AbstractState) where
-  crowd_listed : (cases : List Case) → list_any (crowds types state) cases ≡ true → HasTooManyIn types state cases
-  crowd_listed [] h = absurd (false≢true h)
-  crowd_listed (case ∷ cases) h = elim (or_cases (crowds types state case) (list_any (crowds types state) cases) h) [
-    | inl c ↦ record { case = case; listed = Contains-append_left (case ∷ []) cases case (Contains-push [] case); many = ltb-true 512 (length state.cells + new_ids types case) c }
-    | inr c ↦
-        let r = crowd_listed cases c in
-        record { case = r.case; listed = Contains-append_right (case ∷ []) cases r.case r.listed; many = r.many }
-  ]
-
-  crowd_there : (cases : List Case) (case : Case) → Contains cases case → HasTooMany state (new_ids types case) → list_any (crowds types state) cases ≡ true
-  crowd_there [] case c m = absurd (let k = c.1 in omega (arith, k))
-  crowd_there (first ∷ cases) case c m = elim (Contains-append_cases (first ∷ []) cases case c) [
-    | inl h ↦ elim (Contains-push_cases [] first case h) [
-      | inl n ↦ absurd (let k = n.1 in omega (arith, k))
-      | inr e ↦ or_left (crowds types state first) (list_any (crowds types state) cases) (ap (crowds types state) e ∙ lt-ltb 512 (length state.cells + new_ids types case) m)
-    ]
-    | inr h ↦ or_right (crowds types state first) (list_any (crowds types state) cases) (crowd_there cases case h m)
-  ]
-
-  pub listed_crowds : (o : Option Ty) (some b : Bool) → some ≡ is_some o → b ≡ nat_lt 512 (length state.cells + 1) → (some && b) ≡ list_any (crowds types state) (listed o)
-  listed_crowds None some b e f = ap (λ (c : Bool). c && b) e
-  listed_crowds (Some t) some b e f = ap (λ (c : Bool). c && b) e ∙ f ∙ sym (or_false (nat_lt 512 (length state.cells + 1)))
-
 pub has_room_for : (count more : ℕ) → nat_lt 512 (count + more) ≡ false → count + more ≤ 512
 has_room_for count more e = let h : 512 < count + more → ⊥ = λ l. false≢true (sym e ∙ lt-ltb 512 (count + more) l) in omega (arith, h)
 
@@ -241,8 +199,8 @@ module _ (types : WorldTypes) (state : AbstractState) (x : ℕ) (bound wanted : 
   bound_of (cells.Refs element len s) = bound
   bound_of (cells.Unk own nullable s) = own
 
-  one_bound : (h : HasTooManyChildren types state x wanted) → h.bound ≡ bound
-  one_bound h = ap bound_of (some_is (sym h.was ∙ at))
+  one_bound : (n : ℕ) (h : IsFirstTooManyChild types state x wanted n) → h.bound ≡ bound
+  one_bound n h = ap bound_of (some_is (sym h.was ∙ at))
 
   are_cases : (b : Bool) → b ≡ is_comparable types.sub bound wanted → b ≡ true → cases_of types bound wanted ≡ cases_below types (lower_of types.sub bound wanted)
   are_cases b e t = cond-true (is_comparable types.sub bound wanted) _ _ (sym e ∙ t)
@@ -260,11 +218,13 @@ module _ (types : WorldTypes) (state : AbstractState) (x : ℕ) (bound wanted : 
     is = empty;
   }
 
-  apart_not_many : (b : Bool) → b ≡ is_comparable types.sub bound wanted → b ≡ false → HasTooManyChildren types state x wanted → ⊥
-  apart_not_many b e f h =
-      let many : HasTooManyIn types state (cases_of types bound wanted) = subst (λ (t : Ty). HasTooManyIn types state (cases_of types t wanted)) (one_bound h) h.many in
-      let none : HasTooManyIn types state [] = subst (λ (cs : List Case). HasTooManyIn types state cs) (are_none b e f) many in
-      let k = none.listed.1 in omega (arith, k)
+  many_below : (n : ℕ) → IsFirstTooManyChild types state x wanted n → IsFirstTooMany (case_counts types state (cases_of types bound wanted)) n
+  many_below n h = subst (λ (t : Ty). IsFirstTooMany (case_counts types state (cases_of types t wanted)) n) (one_bound n h) h.first
+
+  apart_not_many : (b : Bool) (n : ℕ) → b ≡ is_comparable types.sub bound wanted → b ≡ false → IsFirstTooManyChild types state x wanted n → ⊥
+  apart_not_many b n e f h =
+      let none : IsFirstTooMany [] n = subst (λ (cs : List Case). IsFirstTooMany (case_counts types state cs) n) (are_none b e f) (many_below n h) in
+      none-some none.count none.is
 
   pub split_children : (b : Bool) (low : Ty) (children : List GraphChild) → b ≡ is_comparable types.sub bound wanted → b ≡ true → low ≡ lower_of types.sub bound wanted → AddsCases types state x shape (cases_below types low) [] children
       → AreClassChildren types state x wanted children
@@ -277,23 +237,12 @@ module _ (types : WorldTypes) (state : AbstractState) (x : ℕ) (bound wanted : 
     is = a.is;
   }
 
-  pub split_many : (b : Bool) (low : Ty) (fault : Type 0) → b ≡ is_comparable types.sub bound wanted → b ≡ true → low ≡ lower_of types.sub bound wanted → fault ↔ (list_any (crowds types state) (cases_below types low) ≡ true)
-      → fault ↔ HasTooManyChildren types state x wanted
-  split_many b low fault e t l k = (to, from)
-    where
-      to : fault → HasTooManyChildren types state x wanted
-      to h = record {
-        bound = bound;
-        shape = shape;
-        was = at;
-        many = subst (λ (cs : List Case). HasTooManyIn types state cs) (ap (cases_below types) l ∙ sym (are_cases b e t)) (crowd_listed types state (cases_below types low) (k.0 h));
-      }
+  pub split_many : (b : Bool) (low : Ty) (fault : Type 0) (n : ℕ) → b ≡ is_comparable types.sub bound wanted → b ≡ true → low ≡ lower_of types.sub bound wanted → fault ↔ IsFirstTooMany (case_counts types state (cases_below types low)) n
+      → fault ↔ IsFirstTooManyChild types state x wanted n
+  split_many b low fault n e t l k = (
+    λ h. record { bound = bound; shape = shape; was = at; first = subst (λ (cs : List Case). IsFirstTooMany (case_counts types state cs) n) (ap (cases_below types) l ∙ sym (are_cases b e t)) (k.0 h) },
+    λ h. k.1 (subst (λ (cs : List Case). IsFirstTooMany (case_counts types state cs) n) (are_cases b e t ∙ ap (cases_below types) (sym l)) (many_below n h)),
+  )
 
-      from : HasTooManyChildren types state x wanted → fault
-      from h =
-          let many : HasTooManyIn types state (cases_of types bound wanted) = subst (λ (u : Ty). HasTooManyIn types state (cases_of types u wanted)) (one_bound h) h.many in
-          let below : HasTooManyIn types state (cases_below types low) = subst (λ (cs : List Case). HasTooManyIn types state cs) (are_cases b e t ∙ ap (cases_below types) (sym l)) many in
-          k.1 (crowd_there types state (cases_below types low) below.case below.listed below.many)
-
-  pub apart_many : {A : Type 0} (b : Bool) (r : Result A HeapFault) (given : A) → b ≡ is_comparable types.sub bound wanted → b ≡ false → r ≡ Ok given → (r ≡ Err TooManyIds) ↔ HasTooManyChildren types state x wanted
-  apart_many b r given e f ok = (λ h. absurd (not_err given TooManyIds (sym ok ∙ h)), λ h. absurd (apart_not_many b e f h))
+  pub apart_many : {A : Type 0} (b : Bool) (r : Result A SplitFault) (given : A) (n : ℕ) → b ≡ is_comparable types.sub bound wanted → b ≡ false → r ≡ Ok given → (r ≡ Err (TooManyIds n)) ↔ IsFirstTooManyChild types state x wanted n
+  apart_many b r given n e f ok = (λ h. absurd (not_err given (TooManyIds n) (sym ok ∙ h)), λ h. absurd (apart_not_many b n e f h))

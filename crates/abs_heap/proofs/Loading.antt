@@ -23,21 +23,21 @@ use Rattle.abs_cells.specs.declared.cells.Cell.{Cell}
 use Rattle.abs_cells.specs.declared.cells.Cell.TheVariants as cells
 use Rattle.abs_cells.specs.AbstractStates.{AbstractState}
 use Rattle.abs_cells.specs.Cells.{is_known, is_hazy, is_reference, shape_of, cell_in, cell_at, HasCell, AreEqual, Share}
-use Rattle.abs_cells.specs.Sound.{IsSound, IsSoundCell}
-use Rattle.abs_cells.specs.Fits.{Meaning, Describes, Fits, with_statics}
+use Rattle.abs_cells.specs.Sound.{IsWellFormed, IsSoundCell}
+use Rattle.abs_cells.specs.Fits.{Meaning, Describes, Fits, with_statics, IsClosedState}
 use Rattle.abs_cells.proofs.Fitting.{known_apart}
 use Rattle.abs_cells.proofs.PairLaws.{has_swapped}
 use Rattle.abs_reach.proofs.Walks.{some_cell}
 use Rattle.term_graph.specs.Edges.{HoldsBetween}
 use Rattle.abs_heap.specs.Given.{first_cell, with_cells, MayBeOne}
 use Rattle.abs_heap.specs.Writing.{JoinsItem, IsItemChild}
-use Rattle.abs_heap.specs.Laws.{IsClosedState, GoesWith, ItemsGoOn}
+use Rattle.abs_heap.specs.Laws.{AreSoundReferences, GoesWith, ItemsGoOn}
 use Rattle.abs_heap.proofs.Placing.{cell_here, cell_later}
 use Rattle.abs_heap.proofs.Fitted.{FitsBy, fits_given, names_reference}
 use Rattle.abs_heap.proofs.SameTerms.{same_size}
 use Rattle.abs_heap.proofs.Carried.{Agrees, positions_carried, mode_carried, cell_carried}
 use Rattle.abs_heap.proofs.NewThings.{with_values, kept_others, valued_here}
-use Rattle.abs_heap.proofs.Telling.{tells, told_compatible, sound_at, array_typed}
+use Rattle.abs_heap.proofs.Telling.{tells, told_compatible, reference_no_int, array_typed}
 
 -- ---- what an object holds
 
@@ -85,7 +85,7 @@ known_or_hazy (cells.Refs element len shape) r = inr refl
 known_or_hazy (cells.Unk bound nullable shape) r = inr refl
 
 module _ (types : WorldTypes) (state child : AbstractState) (machine : MachineState) (m : Meaning) (k item o n : ℕ) (element own : Ty) (len : ℕ) (shape : Shape) (items : List Value) (value : Value)
-    (laws : AreLawful types) (sound : IsSound types state) (typed : IsTypedHeap types machine.heap) (closed : IsClosedState machine state m) (h : Fits types state machine m)
+    (laws : AreLawful types) (good : IsWellFormed state) (sound : AreSoundReferences types state) (typed : IsTypedHeap types machine.heap) (closed : IsClosedState machine state m) (h : Fits types state machine m)
     (at : cell_at state k ≡ Some (cells.Refs element len shape)) (names : target (m k) ≡ Some o) (stands : slice_get machine.heap.objects o ≡ Some (objects.Refs own items)) (got : slice_get items n ≡ Some value)
     (is : IsItemChild types.sub state k element shape item child) where
   abbrev heap : Heap
@@ -159,7 +159,7 @@ module _ (types : WorldTypes) (state child : AbstractState) (machine : MachineSt
   item_cell = in_child item thing (ap (λ (x : Option Cell). first_cell x (cell_at state item)) (cell_here (item, thing) [] item refl))
 
   sound_thing : IsSoundCell types state thing
-  sound_thing = (sound_at types state k (cells.Refs element len shape) sound at).1.0
+  sound_thing = (sound k (cells.Refs element len shape) at refl).1.0
 
   one_with : (a b : ℕ) (c : Cell) → cell_at state a ≡ Some c → (item ≡ a → ⊥) → target (m a) ≡ Some b → target value ≡ Some b → MayBeOne types.sub (JoinsItem state k item shape) child.cells item a
   one_with a b c e apart ta tv =
@@ -174,7 +174,7 @@ module _ (types : WorldTypes) (state child : AbstractState) (machine : MachineSt
         right_is = in_child a c (ap (λ (x : Option Cell). first_cell x (cell_at state a)) (cell_later (item, thing) [] a apart) ∙ e);
         compatible = told_compatible types laws thing c (object_of c (m a) b d ta).0
             (tells types state heap now laws typed thing value b (object_of c (m a) b d ta).0 sound_thing item_described tv (object_of c (m a) b d ta).1)
-            (tells types state heap m laws typed c (m a) b (object_of c (m a) b d ta).0 (sound_at types state a c sound e) d ta (object_of c (m a) b d ta).1);
+            (tells types state heap m laws typed c (m a) b (object_of c (m a) b d ta).0 (sound a c e (reference_no_int c r)) d ta (object_of c (m a) b d ta).1);
       }
     where
       why : (a b : ℕ) (c : Cell) → cell_at state a ≡ Some c → is_reference c ≡ true → target (m a) ≡ Some b → target value ≡ Some b → Region heap (m k) b → Share state k a ⊎ ((shape ≡ Any) × (a ≡ k))
@@ -210,7 +210,7 @@ module _ (types : WorldTypes) (state child : AbstractState) (machine : MachineSt
   aliases_now a b x c d (new e g s) (new f i t) apart ta tb = absurd (apart (sym e ∙ f))
 
   apart_now : (a b x : ℕ) (c d : Cell) → Sort a c → Sort b d → is_known c ≡ true → is_known d ≡ true → a ≢ b → target (now a) ≡ Some x → target (now b) ≡ Some x → ⊥
-  apart_now a b x c d (old e s p) (old f t q) u v apart ta tb = known_apart types state machine m sound.well_formed h a b x (record { cell = c; is = e; sort_is = u }) (record { cell = d; is = f; sort_is = v }) apart (old_target a x s ta) (old_target b x t tb)
+  apart_now a b x c d (old e s p) (old f t q) u v apart ta tb = known_apart types state machine m good h a b x (record { cell = c; is = e; sort_is = u }) (record { cell = d; is = f; sort_is = v }) apart (old_target a x s ta) (old_target b x t tb)
   apart_now a b x c d (old e s p) (new f g t) u v apart ta tb = false≢true (ap is_known g ∙ v)
   apart_now a b x c d (new e g s) y u v apart ta tb = false≢true (ap is_known g ∙ u)
 
@@ -241,15 +241,15 @@ module _ (types : WorldTypes) (state child : AbstractState) (machine : MachineSt
   shapes_now i c s (new e g t) f = subst (λ (v : Value). HasShape s heap v) (sym t) (shape_of_thing s (ap shape_of g ∙ f))
 
   cells_now : (i : ℕ) (c : Cell) → Sort i c → Describes types heap now c (now i)
-  cells_now i c (old e t p) = cell_carried types state heap heap m now sound.well_formed agrees (λ r ob f. f) i c e (h.cells i c e)
+  cells_now i c (old e t p) = cell_carried types state heap heap m now good agrees (λ r ob f. f) i c e (h.cells i c e)
   cells_now i c (new e g t) = subst (λ (v : Value). Describes types heap now c v) (sym t) (subst (λ (d : Cell). Describes types heap now d value) g item_described)
 
   pub item_fits : FitsBy types state.frames state.throwing (with_cells ((item, cells.Unk element true shape) ∷ []) state)
       (λ a b. AreEqual state a b ⊎ MayBeOne types.sub (JoinsItem state k item shape) child.cells a b)
       (λ a b. Share state a b ⊎ (JoinsItem state k item shape a b ⊎ ((a ≡ item) × (b ≡ k)))) machine now
   item_fits = record {
-    positions = positions_carried state m now (with_statics machine.statics machine.frames) sound.well_formed agrees h.positions;
-    mode = mode_carried state m now machine.mode sound.well_formed agrees h.mode;
+    positions = positions_carried state m now (with_statics machine.statics machine.frames) good agrees h.positions;
+    mode = mode_carried state m now machine.mode good agrees h.mode;
     cells = λ i c e. cells_now i c (sort_of i c e);
     aliases = λ a b x c d e f apart ta tb. aliases_now a b x c d (sort_of a c e) (sort_of b d f) apart ta tb;
     apart = λ a b x c d e f u v apart ta tb. apart_now a b x c d (sort_of a c e) (sort_of b d f) u v apart ta tb;
@@ -274,4 +274,4 @@ module _ (types : WorldTypes) (state child : AbstractState) (machine : MachineSt
   }
 
 pub items_go_on : ItemsGoOn
-items_go_on types state child machine m k item o n element own len shape items value laws sound typed closed h at names stands got is = item_goes types state child machine m k item o n element own len shape items value laws sound typed closed h at names stands got is
+items_go_on types state child machine m k item o n element own len shape items value laws good sound typed closed h at names stands got is = item_goes types state child machine m k item o n element own len shape items value laws good sound typed closed h at names stands got is

@@ -28,13 +28,13 @@ use Rattle.abs_cells.specs.declared.cells.Cell.TheVariants as cells
 use Rattle.abs_cells.specs.AbstractStates.{AbstractState}
 use Rattle.abs_cells.specs.Cells.{is_known, is_hazy, shape_of, cell_in, cell_at, HasCell, AreEqual, Share}
 use Rattle.abs_cells.specs.Sound.{IsWellFormed}
-use Rattle.abs_cells.specs.Fits.{Meaning, Describes, Fits, with_statics}
+use Rattle.abs_cells.specs.Fits.{Meaning, Describes, Fits, with_statics, IsClosedState}
 use Rattle.abs_cells.proofs.Fitting.{known_apart}
 use Rattle.abs_reach.proofs.Walks.{some_cell}
 use Rattle.term_graph.specs.Edges.{HoldsBetween}
 use Rattle.abs_heap.specs.Given.{first_cell, with_cells, IsGiven, AreFresh, AreRising}
 use Rattle.abs_heap.specs.Writing.{zero_cell, IsObjectChild}
-use Rattle.abs_heap.specs.Laws.{heap_with, with_heap, IsClosedState, GoesWith, ObjectsGoOn, ArraysGoOn}
+use Rattle.abs_heap.specs.Laws.{heap_with, with_heap, GoesWith, ObjectsGoOn, ArraysGoOn}
 use Rattle.abs_heap.proofs.Placing.{cell_here, cell_later}
 use Rattle.abs_heap.proofs.Fitted.{FitsBy, fits_given}
 use Rattle.abs_heap.proofs.SameTerms.{size_kept}
@@ -265,11 +265,11 @@ zeros_empty (slots.Ref t ∷ ss) zero y e = ap target (sym (some_is e))
 zeros_empty (s ∷ ss) (suc j) y e = zeros_empty ss j y e
 
 pub objects_go_on : ObjectsGoOn
-objects_go_on types state child machine m class id sound closed h low made is =
+objects_go_on types state child machine m class id good closed h low made is =
     let ss = types.fields class in
     let object = objects.Instance class (map initial_value ss) in
     let thing = cells.Obj class is.ids in
-    goes_now types state machine m sound.well_formed closed h id thing object is.ids ss is.fresh is.count (zeros_empty ss)
+    goes_now types state machine m good closed h id thing object is.ids ss is.fresh is.count (zeros_empty ss)
     (record {
       place = length machine.heap.objects;
       object = object;
@@ -301,9 +301,9 @@ replicated_length x zero = refl
 replicated_length x (suc count) = ap suc (replicated_length x count)
 
 pub arrays_go_on : ArraysGoOn
-arrays_go_on types state child machine m (slots.Num kind) len id count laws sound closed h slot int is_count is =
+arrays_go_on types state child machine m (slots.Num kind) len id count laws good closed h slot int is_count is =
     let object = objects.Nums kind (replicate count (pos 0)) in
-    goes_now types state machine m sound.well_formed closed h id (cells.Nums kind len) object [] [] is.fresh refl (λ j y e. absurd (none-some y e))
+    goes_now types state machine m good closed h id (cells.Nums kind len) object [] [] is.fresh refl (λ j y e. absurd (none-some y e))
     (record {
       place = length machine.heap.objects;
       object = object;
@@ -312,15 +312,15 @@ arrays_go_on types state child machine m (slots.Num kind) len id count laws soun
       holds = record {
         items = replicate count (pos 0);
         is = refl;
-        length_is = now_agrees types state machine m sound.well_formed closed h id (cells.Nums kind len) object [] [] is.fresh refl (λ j y e. absurd (none-some y e)) len (some_cell state len int) ∙ is_count ∙ ap (λ (k : ℕ). values.Int (pos k)) (sym (replicated_length (pos 0) count));
+        length_is = now_agrees types state machine m good closed h id (cells.Nums kind len) object [] [] is.fresh refl (λ j y e. absurd (none-some y e)) len (some_cell state len int) ∙ is_count ∙ ap (λ (k : ℕ). values.Int (pos k)) (sym (replicated_length (pos 0) count));
       };
     })
     (λ s e. absurd (none-some s e))
     child is.is
-arrays_go_on types state child machine m (slots.Ref t) len id count laws sound closed h slot int is_count is =
+arrays_go_on types state child machine m (slots.Ref t) len id count laws good closed h slot int is_count is =
     let object = objects.Refs t (replicate count values.Null) in
     let empty : (j : ℕ) (y : Value) → slice_get (replicate count values.Null) j ≡ Some y → target y ≡ None = λ j y e. ap target (replicated values.Null count j y e) in
-    goes_now types state machine m sound.well_formed closed h id (cells.Refs (types.erase t) len Tree) object [] [] is.fresh refl empty
+    goes_now types state machine m good closed h id (cells.Refs (types.erase t) len Tree) object [] [] is.fresh refl empty
     (record {
       place = length machine.heap.objects;
       object = object;
@@ -331,8 +331,8 @@ arrays_go_on types state child machine m (slots.Ref t) len id count laws sound c
         items = replicate count values.Null;
         is = refl;
         below = laws.erase_up t slot.0;
-        length_is = now_agrees types state machine m sound.well_formed closed h id (cells.Refs (types.erase t) len Tree) object [] [] is.fresh refl empty len (some_cell state len int) ∙ is_count ∙ ap (λ (k : ℕ). values.Int (pos k)) (sym (replicated_length values.Null count));
+        length_is = now_agrees types state machine m good closed h id (cells.Refs (types.erase t) len Tree) object [] [] is.fresh refl empty len (some_cell state len int) ∙ is_count ∙ ap (λ (k : ℕ). values.Int (pos k)) (sym (replicated_length values.Null count));
       };
     })
-    (λ s e. subst (λ (x : Shape). HasShape x (heap_with machine.heap object) (values.Ref (length machine.heap.objects))) (some_is e) (tree_of_new types state machine m sound.well_formed closed h id (cells.Refs (types.erase t) len Tree) object [] [] is.fresh refl empty))
+    (λ s e. subst (λ (x : Shape). HasShape x (heap_with machine.heap object) (values.Ref (length machine.heap.objects))) (some_is e) (tree_of_new types state machine m good closed h id (cells.Refs (types.erase t) len Tree) object [] [] is.fresh refl empty))
     child is.is

@@ -37,7 +37,7 @@ use Rattle.abs_heap.specs.Laws.{plain_link, Goes, GoesToMerged, EqualSplits}
 use Rattle.abs_heap.proofs.Placing.{cell_here, cell_later}
 use Rattle.abs_heap.proofs.Fitted.{FitsBy, fits_given}
 use Rattle.abs_heap.proofs.SameTerms.{same_size}
-use Rattle.abs_heap.proofs.Replacing.{same_edge}
+use Rattle.abs_heap.proofs.Carrying.{same_edge}
 use Rattle.abs_heap.proofs.Telling.{Tells, tells, told_compatible, sound_at, array_typed}
 use Rattle.abs_heap.proofs.Written.{known_named, hazy_named, shape_named}
 

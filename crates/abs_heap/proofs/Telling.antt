@@ -20,9 +20,10 @@ use Rattle.jvm_values.proofs.Options.{some_is}
 use Rattle.abs_cells.specs.declared.cells.Cell.{Cell}
 use Rattle.abs_cells.specs.declared.cells.Cell.TheVariants as cells
 use Rattle.abs_cells.specs.AbstractStates.{AbstractState}
-use Rattle.abs_cells.specs.Cells.{is_known, type_of_cell, are_compatible, are_compatible_types, is_comparable, cell_in, cell_at}
+use Rattle.abs_cells.specs.Cells.{is_int, is_known, is_reference, type_of_cell, are_compatible, are_compatible_types, is_comparable, cell_in, cell_at}
 use Rattle.abs_cells.specs.Sound.{IsSound, IsSoundCell}
 use Rattle.abs_cells.specs.Fits.{Meaning, Describes}
+use Rattle.abs_heap.specs.Laws.{AreSoundReferences}
 use Rattle.abs_heap.proofs.Placing.{cell_here, cell_later}
 
 -- what a cell tells of the type of the object that it describes
@@ -42,6 +43,17 @@ sound_in types state (x ∷ list) id c a e = elim (cases_eq x.0 id) [
 
 pub sound_at : (types : WorldTypes) (state : AbstractState) (id : ℕ) (c : Cell) → IsSound types state → cell_at state id ≡ Some c → IsSoundCell types state c
 sound_at types state id c sound e = sound_in types state state.cells id c sound.cells e
+
+pub sound_references : (types : WorldTypes) (state : AbstractState) → IsSound types state → AreSoundReferences types state
+sound_references types state sound id c e n = sound_at types state id c sound e
+
+pub reference_no_int : (c : Cell) → is_reference c ≡ true → is_int c ≡ false
+reference_no_int (cells.Int interval) r = absurd (false≢true r)
+reference_no_int cells.Null r = refl
+reference_no_int (cells.Obj class ids) r = refl
+reference_no_int (cells.Nums kind len) r = refl
+reference_no_int (cells.Refs element len shape) r = refl
+reference_no_int (cells.Unk bound nullable shape) r = refl
 
 -- the array's item type of an object in a typed heap
 pub array_typed : (types : WorldTypes) (heap : Heap) (o : ℕ) (item : Ty) (items : List Value) → IsTypedHeap types heap → slice_get heap.objects o ≡ Some (objects.Refs item items) → IsTypedObject types heap (objects.Refs item items)

@@ -31,7 +31,7 @@ use Rattle.abs_cells.specs.AbstractStates.{AbstractState}
 use Rattle.abs_cells.specs.Cells.{is_known, is_hazy, is_int, is_reference, ids_in, ids_of, shape_of, cell_in, cell_at, HasCell, AreEqual, Share}
 use Rattle.abs_cells.specs.Closures.{cell_steps, KnownFrom}
 use Rattle.abs_cells.specs.Sound.{IsWellFormed, AreIdsRising, ids_used, ids_of_frame, given_ids}
-use Rattle.abs_cells.specs.Fits.{Meaning, Describes, Fits, with_statics}
+use Rattle.abs_cells.specs.Fits.{Meaning, Describes, Fits, with_statics, IsClosedState}
 use Rattle.abs_cells.proofs.Fitting.{known_apart}
 use Rattle.abs_cells.proofs.PairLaws.{has_swapped}
 use Rattle.abs_reach.specs.Ways.{Way}
@@ -41,7 +41,7 @@ use Rattle.abs_cells.specs.Patterns.{Pattern, IsSized, pattern_within, pattern_o
 use Rattle.term_graph.specs.Edges.{HoldsBetween, is_size_variable, HasSameSize}
 use Rattle.abs_heap.specs.Names.{name_in, frame_named, cell_named, IsImage}
 use Rattle.abs_heap.specs.Writing.{Write, IsAffected, IsMet, IsNullId, MakesNoCycle, shape_after, with_shape, with_field, is_renamed, reshaped, cell_after, GainsPair, IsWriteChild, is_array_of_references}
-use Rattle.abs_heap.specs.Laws.{plain_link, IsClosedState, IsWriteOf, Goes, with_heap, WritesGoOn}
+use Rattle.abs_heap.specs.Laws.{plain_link, IsWriteOf, Goes, with_heap, WritesGoOn}
 use Rattle.abs_heap.proofs.Placing.{cell_here, cell_later, absent}
 use Rattle.abs_heap.proofs.Fitted.{FitsBy, fits_given}
 use Rattle.abs_heap.proofs.SameTerms.{size_kept}
@@ -196,7 +196,7 @@ only_itself state y q h r = go r.path r.leads
         absurd (none-some s.0 (sym none ∙ s.1.0))
 
 -- an object of the new heap
-object_after : (heap after : Heap) (o place : ℕ) (value : Value) (w : IsWritten heap o place value after) (r : ℕ) (ob : Object) → slice_get heap.objects r ≡ Some ob
+pub object_after : (heap after : Heap) (o place : ℕ) (value : Value) (w : IsWritten heap o place value after) (r : ℕ) (ob : Object) → slice_get heap.objects r ≡ Some ob
     → ((r ≡ o → ⊥) × (slice_get after.objects r ≡ Some ob)) ⊎ ((r ≡ o) × ((ob ≡ w.object) × (slice_get after.objects r ≡ Some (with_value place value ob))))
 object_after heap after o place value w r ob e = elim (cases_eq r o) [
   | inl s ↦
@@ -205,7 +205,7 @@ object_after heap after o place value w r ob e = elim (cases_eq r o) [
   | inr n ↦ inl (n, ap (λ (xs : List Object). slice_get xs r) w.objects ∙ get_set_other heap.objects o r (with_value place value w.object) n ∙ e)
 ]
 
-type_after : (place : ℕ) (value : Value) (ob : Object) → type_of (with_value place value ob) ≡ type_of ob
+pub type_after : (place : ℕ) (value : Value) (ob : Object) → type_of (with_value place value ob) ≡ type_of ob
 type_after place value (objects.Instance class fields) = refl
 type_after place value (objects.Nums kind items) = refl
 type_after place value (objects.Refs element items) = refl

@@ -8,7 +8,7 @@ use Rattle.abs_cells.specs.declared.cells.Cell.TheVariants as cells
 use Rattle.abs_cells.specs.AbstractStates.{AbstractState}
 use Rattle.abs_cells.specs.Cells.{cell_at}
 use Rattle.term_graph.specs.Graphs.{GraphChild}
-use Rattle.abs_heap.specs.Counts.{HasTooManyIn}
+use Rattle.abs_heap.specs.Counts.{case_counts, IsFirstTooMany}
 use Rattle.abs_heap.specs.Names.{IsPairOf}
 use Rattle.abs_heap.specs.Refining.{IsWithCell, IsCase, cases_of, Stays, IsMergedChild, IsApartChild, AreEqualChildren}
 use Rattle.abs_heap.specs.Writing.{IsItemChild}
@@ -70,9 +70,9 @@ pub record AreClassChildren (types : WorldTypes) (state : AbstractState) (x : �
   pub are : AllZip (IsCase types state x shape) (cases_of types bound wanted) states
   pub is : children ≡ map (λ s. record { state = s; link = plain_link false None }) states
 
--- one of them has too many ids
-pub record HasTooManyChildren (types : WorldTypes) (state : AbstractState) (x : ℕ) (wanted : Ty) : Type 0 where
+-- the first of them that has too many ids
+pub record IsFirstTooManyChild (types : WorldTypes) (state : AbstractState) (x : ℕ) (wanted : Ty) (n : ℕ) : Type 0 where
   pub bound : Ty
   pub shape : Shape
   pub was : cell_at state x ≡ Some (cells.Unk bound false shape)
-  pub many : HasTooManyIn types state (cases_of types bound wanted)
+  pub first : IsFirstTooMany (case_counts types state (cases_of types bound wanted)) n

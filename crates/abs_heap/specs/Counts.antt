@@ -1,5 +1,5 @@
 -- How many ids a child has, of which there is a limit: by number, since a chain of classes may have more fields than there are ids.
-use Rattle.std.specs.Prelude.{ℕ, ◌+◌, ◌<◌, List, length, Contains}
+use Rattle.std.specs.Prelude.{◌≡◌, ℕ, ◌+◌, ◌<◌, ◌≤◌, List, All, map, length, take, Some, slice_get}
 use Rattle.jvm_values.specs.TypedHeaps.{WorldTypes}
 use Rattle.abs_cells.specs.AbstractStates.{AbstractState}
 use Rattle.abs_cells.specs.Limits.{most_ids}
@@ -15,8 +15,16 @@ new_ids types (references element) = 1
 abbrev pub HasTooMany : AbstractState → ℕ → Type 0
 HasTooMany state more = most_ids < length state.cells + more
 
--- one of the cases makes too many
-pub record HasTooManyIn (types : WorldTypes) (state : AbstractState) (cases : List Case) : Type 0 where
-  pub case : Case
-  pub listed : Contains cases case
-  pub many : HasTooMany state (new_ids types case)
+-- how many ids the child of each case has
+abbrev pub case_counts : WorldTypes → AbstractState → List Case → List ℕ
+case_counts types state cases = map (λ case. length state.cells + new_ids types case) cases
+
+abbrev pub AreFew : List ℕ → Type 0
+AreFew counts = All (λ count. count ≤ most_ids) counts
+
+-- the first of some counts of ids that is too large
+pub record IsFirstTooMany (counts : List ℕ) (n : ℕ) : Type 0 where
+  pub count : ℕ
+  pub is : slice_get counts n ≡ Some count
+  pub many : most_ids < count
+  pub before : AreFew (take n counts)

@@ -1,5 +1,5 @@
 -- What the calls promise: whatever fits a state fits one of its children, by an edge.
-use Rattle.std.specs.Prelude.{◌≡◌, ◌≢◌, ◌⊎◌, ℕ, ◌<◌, Bool, true, false, not, IsTrue, List, [], ◌∷◌, ◌++◌, length, map, Option, Some, None, slice_get, pos, replicate}
+use Rattle.std.specs.Prelude.{◌≡◌, ◌≢◌, ◌⊎◌, ℕ, ◌<◌, Bool, true, false, not, IsTrue, List, [], ◌∷◌, ◌++◌, length, map, Option, Some, None, slice_get, slice_set, pos, replicate}
 use Rattle.jvm_values.specs.declared.types.Ty.{Ty}
 use Rattle.jvm_values.specs.declared.types.Slot.{Slot}
 use Rattle.jvm_values.specs.declared.types.Slot.TheVariants as slots
@@ -11,19 +11,20 @@ use Rattle.jvm_values.specs.declared.heap.Heap.{Heap}
 use Rattle.jvm_values.specs.declared.shape.Shape.{Shape}
 use Rattle.jvm_values.specs.Subtyping.{IsReference}
 use Rattle.jvm_values.specs.States.{MachineState}
-use Rattle.jvm_values.specs.Heaps.{target, IsInHeap, IsClosed}
+use Rattle.jvm_values.specs.Heaps.{target}
 use Rattle.jvm_values.specs.TypedHeaps.{WorldTypes, AreLawful, HasType, IsTypedHeap}
-use Rattle.jvm_values.specs.Writes.{IsWritten}
+use Rattle.jvm_values.specs.Writes.{IsWritten, AreRenumbered}
 use Rattle.jvm_values.specs.Slots.{initial_value}
 use Rattle.std.specs.List.{AllZip}
 use Rattle.abs_cells.specs.declared.cells.Cell.{Cell}
 use Rattle.abs_cells.specs.declared.cells.Cell.TheVariants as cells
 use Rattle.abs_cells.specs.AbstractStates.{AbstractState}
-use Rattle.abs_cells.specs.Cells.{is_int, is_known, is_comparable, cell_at, HasCell, AreEqual}
-use Rattle.abs_cells.specs.Sound.{IsWellFormed, IsSound}
-use Rattle.abs_cells.specs.Fits.{Meaning, Fits}
+use Rattle.abs_cells.specs.Cells.{is_int, is_known, is_reference, is_comparable, cell_at, HasCell, AreEqual}
+use Rattle.abs_cells.specs.Sound.{IsWellFormed, IsSound, IsSoundCell}
+use Rattle.abs_cells.specs.Fits.{Meaning, Describes, Fits, IsClosedState}
 use Rattle.term_graph.specs.declared.links.Link.{Link}
 use Rattle.term_graph.specs.Edges.{Edge}
+use Rattle.abs_heap.specs.Given.{with_cells}
 use Rattle.abs_heap.specs.Refining.{IsCase, cases_of, IsWithCell, AreEqualChildren}
 use Rattle.abs_heap.specs.Writing.{Write, IsWriteChild, IsItemChild, IsObjectChild, IsNewArrayChild}
 
@@ -36,11 +37,6 @@ pub record Goes (types : WorldTypes) (state : AbstractState) (machine : MachineS
   pub meaning_after : Meaning
   pub fits : Fits types child machine_after meaning_after
   pub edge : Edge state machine meaning link child machine_after meaning_after
-
--- the references of a machine's state are below its heap's length
-pub record IsClosedState (machine : MachineState) (state : AbstractState) (meaning : Meaning) : Type 0 where
-  pub heap : IsClosed machine.heap
-  pub ids : (id : ℕ) → HasCell (λ _. true) state id → IsInHeap (length machine.heap.objects) (meaning id)
 
 -- null, or not
 abbrev pub NullSplits : Type 0
@@ -100,6 +96,10 @@ WritesGoOn =
     → IsWriteChild state write child
     → Goes types state machine meaning (plain_link true None) child (with_heap machine heap)
 
+-- each cell is of the world, but those of ints, of which nothing is asked
+abbrev pub AreSoundReferences : WorldTypes → AbstractState → Type 0
+AreSoundReferences types state = (id : ℕ) (cell : Cell) → cell_at state id ≡ Some cell → is_int cell ≡ false → IsSoundCell types state cell
+
 -- an item of an array of references: the child fits with its id standing for the item
 pub record GoesWith (types : WorldTypes) (state : AbstractState) (machine : MachineState) (meaning : Meaning) (child : AbstractState) (machine_after : MachineState) (id : ℕ) (value : Value) : Type 0 where
   pub meaning_after : Meaning
@@ -111,7 +111,7 @@ pub record GoesWith (types : WorldTypes) (state : AbstractState) (machine : Mach
 abbrev pub ItemsGoOn : Type 0
 ItemsGoOn =
     (types : WorldTypes) (state child : AbstractState) (machine : MachineState) (meaning : Meaning) (k item o n : ℕ) (element own : Ty) (len : ℕ) (shape : Shape) (items : List Value) (value : Value)
-    → AreLawful types → IsSound types state → IsTypedHeap types machine.heap → IsClosedState machine state meaning → Fits types state machine meaning
+    → AreLawful types → IsWellFormed state → AreSoundReferences types state → IsTypedHeap types machine.heap → IsClosedState machine state meaning → Fits types state machine meaning
     → cell_at state k ≡ Some (cells.Refs element len shape) → target (meaning k) ≡ Some o
     → slice_get machine.heap.objects o ≡ Some (objects.Refs own items) → slice_get items n ≡ Some value
     → IsItemChild types.sub state k element shape item child
@@ -124,7 +124,7 @@ heap_with heap object = record { objects = heap.objects ++ (object ∷ []) }
 abbrev pub ObjectsGoOn : Type 0
 ObjectsGoOn =
     (types : WorldTypes) (state child : AbstractState) (machine : MachineState) (meaning : Meaning) (class id : ℕ)
-    → IsSound types state → IsClosedState machine state meaning → Fits types state machine meaning
+    → IsWellFormed state → IsClosedState machine state meaning → Fits types state machine meaning
     → class < types.classes → IsTrue (types.can_be_made class)
     → IsObjectChild types state class id child
     → GoesWith types state machine meaning child (with_heap machine (heap_with machine.heap (objects.Instance class (map initial_value (types.fields class))))) id (values.Ref (length machine.heap.objects))
@@ -142,7 +142,49 @@ IsItemSlot types (slots.Ref t) = IsReference types.classes t × (t.dims < 255)
 abbrev pub ArraysGoOn : Type 0
 ArraysGoOn =
     (types : WorldTypes) (state child : AbstractState) (machine : MachineState) (meaning : Meaning) (element : Slot) (len id count : ℕ)
-    → AreLawful types → IsSound types state → IsClosedState machine state meaning → Fits types state machine meaning
+    → AreLawful types → IsWellFormed state → IsClosedState machine state meaning → Fits types state machine meaning
     → IsItemSlot types element → HasCell is_int state len → meaning len ≡ values.Int (pos count)
     → IsNewArrayChild types.erase state element len id child
     → GoesWith types state machine meaning child (with_heap machine (heap_with machine.heap (zeros_of element count))) id (values.Ref (length machine.heap.objects))
+
+-- ---- ints
+
+-- an int, or null, that gets a fresh id
+abbrev pub ValuesGoOn : Type 0
+ValuesGoOn =
+    (types : WorldTypes) (state child : AbstractState) (machine : MachineState) (meaning : Meaning) (id : ℕ) (cell : Cell) (value : Value)
+    → IsWellFormed state → Fits types state machine meaning
+    → is_reference cell ≡ false → Describes types machine.heap meaning cell value
+    → cell_at state id ≡ None → IsWithCell state id cell child
+    → GoesWith types state machine meaning child machine id value
+
+-- a child fits a state of the machine by the same map, and the edge to it holds
+pub record GoesAlike (types : WorldTypes) (state : AbstractState) (machine : MachineState) (meaning : Meaning) (child : AbstractState) (machine_after : MachineState) : Type 0 where
+  pub fits : Fits types child machine_after meaning
+  pub edge : Edge state machine meaning (plain_link true None) child machine_after meaning
+
+-- a state differs from another one in its cells alone
+pub record HasOtherCells (state : AbstractState) (cell : ℕ → Option Cell) (child : AbstractState) : Type 0 where
+  pub frames_are : child.frames ≡ state.frames
+  pub throwing_is : child.throwing ≡ state.throwing
+  pub eq_is : child.eq ≡ state.eq
+  pub share_is : child.share ≡ state.share
+  pub cells : (id : ℕ) → cell_at child id ≡ cell id
+
+-- a write of an int into a field: the known instance `k` names the written id there, and nothing else changes
+abbrev pub IntWritesGoOn : Type 0
+IntWritesGoOn =
+    (types : WorldTypes) (state child : AbstractState) (machine : MachineState) (meaning : Meaning) (k class place old value o : ℕ) (ids : List ℕ) (heap : Heap)
+    → IsWellFormed state → Fits types state machine meaning
+    → cell_at state k ≡ Some (cells.Obj class ids) → slice_get ids place ≡ Some old → HasCell is_int state old → HasCell is_int state value
+    → target (meaning k) ≡ Some o → IsWritten machine.heap o place (meaning value) heap
+    → HasOtherCells state (with_cells ((k, cells.Obj class (slice_set ids place value)) ∷ []) state) child
+    → GoesAlike types state machine meaning child (with_heap machine heap)
+
+-- items of an array of numbers that change, as many as before: the state fits as it is
+abbrev pub NumberWritesGoOn : Type 0
+NumberWritesGoOn =
+    (types : WorldTypes) (state : AbstractState) (machine : MachineState) (meaning : Meaning) (o : ℕ) (heap : Heap)
+    → IsWellFormed state → Fits types state machine meaning
+    → (write : AreRenumbered machine.heap o heap) → length write.after ≡ length write.before
+    → GoesAlike types state machine meaning state (with_heap machine heap)

@@ -1,5 +1,5 @@
 -- How the children of a split by class are listed, one case after another. The call's own clauses are over the other files alone.
-use Rattle.std.specs.Prelude.{◌≡◌, ◌⊎◌, ℕ, ◌+◌, ◌<◌, nat_lt, Bool, ◌&&◌, true, false, List, ◌∷◌, ◌++◌, map, filter, zip, length, Some, None, slice_get}
+use Rattle.std.specs.Prelude.{◌≡◌, ◌⊎◌, ℕ, ◌+◌, ◌<◌, nat_lt, Bool, ◌&&◌, true, false, if◌then◌else◌, List, [], ◌∷◌, ◌++◌, map, filter, zip, length, Some, None, Result, Ok, Err, slice_get}
 use Rattle.std.specs.List.{AllZip}
 use Rattle.jvm_values.specs.declared.types.Ty.{Ty}
 use Rattle.jvm_values.specs.declared.types.Kind.{Kind}
@@ -31,6 +31,11 @@ numbers_among types bound kinds = map numbers (filter (λ kind. types.sub (array
 -- the child of a case has too many ids
 abbrev pub crowds : WorldTypes → AbstractState → Case → Bool
 crowds types state case = nat_lt most_ids (length state.cells + new_ids types case)
+
+-- how many cases there are with so many that have passed, or the number of the first that passes a test
+abbrev pub first_crowd : (Case → Bool) → List Case → ℕ → Result ℕ ℕ
+first_crowd test [] passed = Ok passed
+first_crowd test (case ∷ cases) passed = if test case then Err passed else first_crowd test cases (passed + 1)
 
 -- the children of some cases, behind others
 abbrev pub plain_child : AbstractState → GraphChild

@@ -1,5 +1,5 @@
 //! What the calls promise of the machine's states, for the proofs of other crates. They run nothing.
-ghost use Rattle.abs_heap.specs.Laws.{NullSplits, ClassesSplit, EqualSplits, ItemsGoOn, ObjectsGoOn, ArraysGoOn, WritesGoOn};
+ghost use Rattle.abs_heap.specs.Laws.{NullSplits, ClassesSplit, EqualSplits, ItemsGoOn, ObjectsGoOn, ArraysGoOn, WritesGoOn, ValuesGoOn, IntWritesGoOn, NumberWritesGoOn};
 
 /// Whatever fits a state in which an id's object may be null fits one of the two children of that split.
 pub fn null_splits()
@@ -36,4 +36,19 @@ pub fn writes_go_on()
 /// that object by class.
 pub fn classes_split()
     ensures { ClassesSplit }
+{}
+
+/// Whatever fits a state fits the child in which an int, or null, gets a fresh id, with that id standing for it.
+pub fn values_go_on()
+    ensures { ValuesGoOn }
+{}
+
+/// Whatever fits a state fits, after a write of an int into a field of a known instance, the child whose cell names the written id.
+pub fn int_writes_go_on()
+    ensures { IntWritesGoOn }
+{}
+
+/// Whatever fits a state fits it still where items of an array of numbers change.
+pub fn number_writes_go_on()
+    ensures { NumberWritesGoOn }
 {}

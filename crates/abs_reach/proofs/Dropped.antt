@@ -1,9 +1,9 @@
 -- The state that is left when ids that nothing reaches are dropped.
-use Rattle.std.proofs.Common.{◌≡◌, ◌≢◌, ℕ, zero, suc, ◌+◌, ◌<◌, ◌≤◌, ◌&&◌, ◌||◌, ◌==◌, min, max, eqb, Bool, true, false, cond, List, [], ◌∷◌, ◌++◌, length, get_or, drop, drop-cons, add-one, reverse, All, Option, Some, None, ◌⊎◌, inl, inr, refl, sym, ap, subst, ◌∙◌, arith, eq-eqb, ne_eqb, if◌then◌else◌, append_assoc}
+use Rattle.std.proofs.Common.{◌≡◌, ◌≢◌, ℕ, zero, suc, ◌+◌, ◌<◌, ◌≤◌, ◌&&◌, ◌||◌, ◌==◌, min, max, eqb, Bool, true, false, cond, List, [], ◌∷◌, ◌++◌, length, get_or, drop, drop-cons, add-one, reverse, All, Option, Some, None, inl, inr, refl, sym, ap, subst, ◌∙◌, arith, eq-eqb, ne_eqb, if◌then◌else◌, append_assoc}
 use Rattle.std.specs.Prelude.{◌↔◌, slice_get, filter}
 use Rattle.std.specs.Option.{option_and_then}
 use Rattle.std.specs.List.{list_any, flat_map}
-use Rattle.std.proofs.lemmas.Bool.{false≢true, cases_eq, cases_lt, cases_Bool, and_parts, and_from, or_cases, or_left, or_right, eqb-true}
+use Rattle.std.proofs.lemmas.Bool.{false≢true, cases_lt, cases_Bool, and_parts, and_from, or_cases, or_left, or_right, eqb-true}
 use Rattle.std.proofs.lemmas.List.{reverse-append, drop_all}
 use Rattle.std.proofs.lemmas.List.Folds.{list_any-append}
 use Rattle.std.proofs.lemmas.List.Elements.{All-append}
@@ -22,7 +22,7 @@ use Rattle.abs_cells.proofs.KeepLaws.{has_filter}
 use Rattle.abs_cells.proofs.Checking.{has_cell_from, has_cell_to}
 use Rattle.abs_reach.specs.declared.find.Names.TheVariants.{All as AllNames}
 use Rattle.abs_reach.specs.Steps.{IsIn, IsReachedInside}
-use Rattle.abs_reach.specs.Reached.{named_steps, positions, IsReached, IsDropped, IsRestricted}
+use Rattle.abs_reach.specs.Reached.{named_steps, positions, IsReached, IsDropped}
 use Rattle.abs_reach.proofs.Finding.{stands}
 use Rattle.abs_reach.proofs.Room.{has_cell_low, reached_there}
 use Rattle.abs_reach.proofs.Answering.{all_named_there}
@@ -201,15 +201,6 @@ module _ (state : AbstractState) (good : IsWellFormed state) (starts met : List 
         λ h. let k = (pair_kept met pairs a b).0 h in (k.0, ((reached a).0 k.1.0, (reached b).0 k.1.1)),
         λ k. (pair_kept met pairs a b).1 (k.0, ((reached a).1 k.1.0, (reached b).1 k.1.1)),
       )
-
-  pub restricted : IsRestricted state part
-  restricted = record {
-    frames = refl;
-    throwing = refl;
-    cells = λ id h. cell_kept met state.cells id (met_if_there id h);
-    eq = λ a b h k e. (pair_kept met state.eq a b).1 (e, (met_if_there a h, met_if_there b k));
-    share = λ a b h k e. (pair_kept met state.share a b).1 (e, (met_if_there a h, met_if_there b k));
-  }
 
   still_there : {sort : Cell → Bool} (id : ℕ) → IsReached state id → HasCell sort state id → HasCell sort part id
   still_there id r h = record { cell = h.cell; is = cell_kept met state.cells id ((reached id).1 r) ∙ h.is; sort_is = h.sort_is }

@@ -2,6 +2,7 @@ pub mod Answering
 pub mod AnsweringSets
 pub mod Beginning
 pub mod Dropped
+pub mod DroppedSizes
 pub mod Finding
 pub mod HeadLists
 pub mod Keys

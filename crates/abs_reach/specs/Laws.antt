@@ -10,7 +10,7 @@ use Rattle.abs_cells.specs.Sound.{IsWellFormed}
 use Rattle.abs_cells.specs.Fits.{Meaning, Fits}
 use Rattle.abs_cells.specs.Closures.{MayMeet, MayBeIn, IsFiniteId, IsTreeId}
 use Rattle.abs_reach.specs.Ways.{Way}
-use Rattle.abs_reach.specs.Reached.{IsRestricted}
+use Rattle.abs_reach.specs.Reached.{IsRestricted, IsDropped, IsSizedAlike}
 
 -- A path from an id's object goes by ids, or by ids to a hazy id and then through its region.
 abbrev pub ClosuresAreWays : Type 0
@@ -52,3 +52,8 @@ abbrev pub RestrictedStatesFit : Type 0
 RestrictedStatesFit =
     (types : WorldTypes) (whole part : AbstractState) (machine : MachineState) (meaning : Meaning)
     → IsRestricted whole part → Fits types whole machine meaning → Fits types part machine meaning
+
+-- An id that stays when ids are dropped is sized exactly where it was before, with the same pattern.
+abbrev pub DroppedIdsKeepSizes : Type 0
+DroppedIdsKeepSizes =
+    (whole part : AbstractState) (id : ℕ) → IsDropped whole part → HasCell (λ _. true) part id → IsSizedAlike part whole id

@@ -5,6 +5,8 @@ use Rattle.std.specs.Option.{option_and_then}
 use Rattle.jvm_values.specs.Paths.{Steps, Reaches}
 use Rattle.abs_cells.specs.AbstractStates.{AbstractState}
 use Rattle.abs_cells.specs.Sound.{given_ids, ids_of_frame}
+use Rattle.abs_cells.specs.Closures.{IsFiniteId}
+use Rattle.abs_cells.specs.Patterns.{Pattern, IsPattern}
 use Rattle.abs_cells.specs.Cells.{ids_in, cell_at, HasCell, AreEqual, Share}
 
 -- a step goes from a cell to an id that it names, the length of an array of references too
@@ -38,3 +40,8 @@ pub record IsDropped (whole part : AbstractState) : Type 0 where
   pub gone : (id : ℕ) → HasCell (λ _. true) part id → IsReached whole id
   pub eq : (a b : ℕ) → AreEqual part a b ↔ (AreEqual whole a b × (IsReached whole a × IsReached whole b))
   pub share : (a b : ℕ) → Share part a b ↔ (Share whole a b × (IsReached whole a × IsReached whole b))
+
+-- an id is finite in one state exactly where it is in another, and has the same pattern there; so it is sized in both or in none
+pub record IsSizedAlike (one other : AbstractState) (id : ℕ) : Type 0 where
+  pub finite : IsFiniteId one id ↔ IsFiniteId other id
+  pub pattern : (pattern : Pattern) → IsPattern one id pattern ↔ IsPattern other id pattern

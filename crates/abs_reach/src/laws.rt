@@ -1,5 +1,5 @@
 //! Laws about what ids reach, for the proofs of other crates. They run nothing.
-ghost use Rattle.abs_reach.specs.Laws.{ClosuresAreWays, MeetingRegionsMayMeet, KnownIdsInsideMayBeIn, FiniteIdsHaveNoCycles, TreeIdsHaveTrees, RestrictedStatesFit};
+ghost use Rattle.abs_reach.specs.Laws.{ClosuresAreWays, MeetingRegionsMayMeet, KnownIdsInsideMayBeIn, FiniteIdsHaveNoCycles, TreeIdsHaveTrees, RestrictedStatesFit, DroppedIdsKeepSizes};
 
 /// A path of a heap from an id's object ends at the object of a known id that ids lead to, or passes a hazy id that they
 /// lead to and then stays in its region.
@@ -30,4 +30,9 @@ pub fn tree_ids_have_trees()
 /// A state that loses ids, and with them their cells and pairs, still fits.
 pub fn restricted_states_fit()
     ensures { RestrictedStatesFit }
+{}
+
+/// An id that stays when ids are dropped is sized exactly where it was before, with the same pattern.
+pub fn dropped_ids_keep_sizes()
+    ensures { DroppedIdsKeepSizes }
 {}

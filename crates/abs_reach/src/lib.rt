@@ -18,8 +18,9 @@ pub use dropping::drop_unreached;
 pub use find::{cell_of, has_cell, has_reference, is_reference_in, place_of};
 pub use heads::{are_same_heads, is_same_head, is_same_mode};
 pub use laws::{
-    closures_are_ways, finite_ids_have_no_cycles, known_ids_inside_may_be_in,
-    meeting_regions_may_meet, restricted_states_fit, tree_ids_have_trees,
+    closures_are_ways, dropped_ids_keep_sizes, finite_ids_have_no_cycles,
+    known_ids_inside_may_be_in, meeting_regions_may_meet, restricted_states_fit,
+    tree_ids_have_trees,
 };
 pub use marks::{Marks, known_from};
 pub use meeting::{may_be_in, may_meet};

@@ -20,6 +20,7 @@ use Rattle.jvm_values.specs.Kinds.{narrowed}
 use Rattle.jvm_values.specs.States.{MachineFrame, MachineState}
 use Rattle.jvm_values.specs.TypedHeaps.{WorldTypes}
 use Rattle.jvm_values.proofs.Options.{some_is}
+use Rattle.jvm_values.specs.Writes.{AreRenumbered}
 use Rattle.abs_cells.specs.declared.cells.Cell.{Cell}
 use Rattle.abs_cells.specs.declared.cells.Cell.TheVariants as cells
 use Rattle.abs_cells.specs.AbstractStates.{AbstractFrame, AbstractState}
@@ -40,7 +41,6 @@ use Rattle.abs_expand.specs.Plans.{nothing, nowhere, on_stack, item, writes, Tur
 use Rattle.abs_expand.specs.Table.{cell_here, is_null_cell, is_null_here, access_at, length_id, items_length_id, number_store_plan, aaload_plan, aastore_plan}
 use Rattle.abs_expand.specs.Turns.{throws_after, with_stack as stack_at}
 use Rattle.expand_laws.proofs.Cases.{SomeOf}
-use Rattle.turn_fits.specs.Laws.{AreRenumbered}
 use Rattle.turn_fits.proofs.Carry.{described_of}
 use Rattle.turn_fits.proofs.Tops.{stacked}
 use Rattle.access_steps.proofs.Accesses.{access_meets}

@@ -30,12 +30,13 @@ use Rattle.abs_cells.specs.Fits.{Meaning, Fits, Describes}
 use Rattle.abs_cells.specs.Patterns.{Pattern}
 use Rattle.class_world.specs.WorldTypes.{types_of}
 use Rattle.class_program.specs.Programs.{Program, IsClosed}
+use Rattle.class_program.specs.Widths.{HasWidths}
 use Rattle.class_program.proofs.GoodPrograms.{good_program}
 use Rattle.frame_types.specs.Tables.{CodeTypes}
 use Rattle.code_verify.specs.Typings.{IsTypingOf}
 use Rattle.code_verify.specs.TypedStates.{IsTypedState}
 use Rattle.jvm_step.specs.Running.{Ends}
-use Rattle.jvm_run.specs.Laws.{HasInts, GoesTyped, StepsAreTyped, RunsAreNeverStuck}
+use Rattle.jvm_run.specs.Laws.{GoesTyped, StepsAreTyped, RunsAreNeverStuck}
 use Rattle.input_desc.specs.Initial.{initial_of}
 use Rattle.input_root.specs.Roots.{input_values, FittingStatesAreTyped, FittingStatesAreDescribed}
 use Rattle.descent.specs.declared.rules.PathRule.{PathRule}
@@ -100,7 +101,7 @@ slot_at v spot slots n slot are at =
 -- ---- a certified graph
 
 module _ (p : Program) (typing : ℕ → CodeTypes) (nodes : List GraphNode) (cuts : List ℕ) (root : AbstractState) (c : IsCertified p typing nodes cuts root)
-    (closed : IsClosed p) (ints : HasInts p) (typing_is : IsTypingOf p typing) (keeps : ExpansionsHold p typing nodes) (holds : GraphsHoldRuns) (typed_steps : StepsAreTyped) (heaps_closed : TypedHeapsAreClosed) (meets : WalksMeetRules) where
+    (closed : IsClosed p) (widths : HasWidths p) (typing_is : IsTypingOf p typing) (keeps : ExpansionsHold p typing nodes) (holds : GraphsHoldRuns) (typed_steps : StepsAreTyped) (heaps_closed : TypedHeapsAreClosed) (meets : WalksMeetRules) where
   abbrev linked : LinkedGraph
   linked = record { graph = nodes; links = c.links; sizes = c.are.are.sizes }
 
@@ -321,7 +322,7 @@ module _ (p : Program) (typing : ℕ → CodeTypes) (nodes : List GraphNode) (cu
 
   after_typed : (b : Bool) (machine after : MachineState) → IsAfter p b machine after → IsTypedState p typing machine → IsTypedState p typing after
   after_typed false machine after is typed = subst (IsTypedState p typing) (sym is) typed
-  after_typed true machine after is typed = subst (GoesTyped p typing) is (typed_steps p typing closed ints typing_is machine typed)
+  after_typed true machine after is typed = subst (GoesTyped p typing) is (typed_steps p typing closed widths typing_is machine typed)
 
   typed_by : (state : AbstractState) (machine : MachineState) (meaning : Meaning) (by : By) (links : List Link) (to : ℕ) (next : AbstractState) (after : MachineState) (meaning_after : Meaning) → GoesBy p state machine meaning by links to next after meaning_after → IsTypedState p typing machine → IsTypedState p typing after
   typed_by state machine meaning (ways.Expand named) links to next after meaning_after goes typed = after_typed goes.link.step machine after goes.is_after typed
@@ -381,15 +382,15 @@ module _ (p : Program) (typing : ℕ → CodeTypes) (nodes : List GraphNode) (cu
 -- ---- the laws
 
 pub walks_end : TypedHeapsAreClosed → StepsAreTyped → WalksMeetRules → GraphsHoldRuns → CertifiedWalksEnd
-walks_end heaps_closed typed_steps meets holds p typing nodes cuts root closed ints typing_is keeps c spot at =
-    walks_end_at_root p typing nodes cuts root c closed ints typing_is keeps holds typed_steps heaps_closed meets spot at
+walks_end heaps_closed typed_steps meets holds p typing nodes cuts root closed widths typing_is keeps c spot at =
+    walks_end_at_root p typing nodes cuts root c closed widths typing_is keeps holds typed_steps heaps_closed meets spot at
 
 pub last_nodes_end : TypedHeapsAreClosed → StepsAreTyped → WalksMeetRules → GraphsHoldRuns → LastNodesEnd
-last_nodes_end heaps_closed typed_steps meets holds p typing nodes cuts root closed ints typing_is keeps c station at last =
-    last_ends p typing nodes cuts root c closed ints typing_is keeps holds typed_steps heaps_closed meets station at last
+last_nodes_end heaps_closed typed_steps meets holds p typing nodes cuts root closed widths typing_is keeps c station at last =
+    last_ends p typing nodes cuts root c closed widths typing_is keeps holds typed_steps heaps_closed meets station at last
 
 pub runs_end : TypedHeapsAreClosed → StepsAreTyped → RunsAreNeverStuck → FittingStatesAreTyped → FittingStatesAreDescribed → WalksMeetRules → GraphsHoldRuns → CertifiedRunsEnd
-runs_end heaps_closed typed_steps never_stuck are_typed are_described meets holds p typing desc nodes cuts closed ints typing_is own keeps c state fits =
+runs_end heaps_closed typed_steps never_stuck are_typed are_described meets holds p typing desc nodes cuts closed widths typing_is own keeps c state fits =
     let typed = are_typed p desc typing state closed typing_is own fits in
     let spot : Spot = record { machine = state; meaning = input_values (fits.args ++ state.statics) } in
     let rooted = c.graph.rooted in
@@ -399,7 +400,7 @@ runs_end heaps_closed typed_steps never_stuck are_typed are_described meets hold
       fits = subst (λ (s : AbstractState). Fits (types_of p.world) s state spot.meaning) (sym rooted.state_is) (are_described p desc state closed own fits);
       typed = typed;
     } in
-    let walks = walks_end_at_root p typing nodes cuts (initial_of p desc) c closed ints typing_is keeps holds typed_steps heaps_closed meets spot at in (
-      runs_from p typing nodes cuts (initial_of p desc) c closed ints typing_is keeps holds typed_steps heaps_closed meets (record { node = 0; spot = spot }) walks at,
-      never_stuck p typing closed ints typing_is state typed,
+    let walks = walks_end_at_root p typing nodes cuts (initial_of p desc) c closed widths typing_is keeps holds typed_steps heaps_closed meets spot at in (
+      runs_from p typing nodes cuts (initial_of p desc) c closed widths typing_is keeps holds typed_steps heaps_closed meets (record { node = 0; spot = spot }) walks at,
+      never_stuck p typing closed widths typing_is state typed,
     )

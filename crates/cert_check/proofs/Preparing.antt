@@ -11,6 +11,7 @@ use Rattle.abs_cells.specs.AbstractStates.{AbstractState}
 use Rattle.abs_cells.specs.Cells.{is_int, cell_in}
 use Rattle.abs_cells.specs.Sound.{AreIdsRising}
 use Rattle.class_program.specs.Programs.{Program}
+use Rattle.class_program.specs.Widths.{HasWidths}
 use Rattle.frame_types.specs.Tables.{CodeTypes}
 use Rattle.term_graph.specs.declared.links.Link.{Link}
 use Rattle.term_graph.specs.declared.nodes.By.{By}
@@ -21,7 +22,6 @@ use Rattle.abs_expand.specs.IntForms.{HasIntForms, IsIntState}
 use Rattle.graph_check.specs.Conditions.{HasIntStates}
 use Rattle.graph_check.specs.Good.{NamesChild, IsExpanded, IsLeftBy, IsGoodNode, GraphOk}
 use Rattle.graph_check.proofs.Excluding.{good_by}
-use Rattle.expand_laws.specs.Laws.{HasShortIncrements}
 use Rattle.int_links.specs.Laws.{FitsRules, IntLinksFit}
 use Rattle.cert_check.specs.Ready.{AreLinked}
 use Rattle.cert_check.specs.Valid.{Case, AreCuts}
@@ -49,7 +49,7 @@ ints_alone state r ints = All-from_recursion (λ (c : ℕ × Cell). IsTrue (is_i
 
 -- ---- nodes
 
-module _ (fit : IntLinksFit) (p : Program) (typing : ℕ → CodeTypes) (forms : HasIntForms p) (increments : HasShortIncrements p) (nodes : List GraphNode) where
+module _ (fit : IntLinksFit) (p : Program) (typing : ℕ → CodeTypes) (forms : HasIntForms p) (widths : HasWidths p) (nodes : List GraphNode) where
   abbrev IfGood : AbstractState → Type 0
   IfGood state = IsGoodState p typing state → IsIntState state
 
@@ -76,7 +76,7 @@ module _ (fit : IntLinksFit) (p : Program) (typing : ℕ → CodeTypes) (forms :
     expanded_linked : (state : AbstractState) (named : List ℕ) (links : List Link) → IfGood state → IsExpanded p typing nodes state named links → AllZip (IsGoodChild nodes state) named links
     expanded_linked state named links h expanded =
         subst (AllZip (IsGoodChild nodes state) named) (sym expanded.links_are)
-        (children_linked state expanded.children named (fit p typing state expanded.children forms increments expanded.are.0 (h expanded.are.0) expanded.are.1) expanded.names)
+        (children_linked state expanded.children named (fit p typing state expanded.children forms widths expanded.are.0 (h expanded.are.0) expanded.are.1) expanded.names)
 
     left_linked : (node : GraphNode) (links : List Link) → IfGood node.state → IsGoodNode p typing nodes node links → AreLinked nodes node links
     left_linked node links h left named e = expanded_linked node.state named links h (subst (λ (by : By). IsLeftBy p typing nodes node.state by links) e left)

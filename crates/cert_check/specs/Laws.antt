@@ -2,10 +2,10 @@
 use Rattle.std.specs.Prelude.{◌≡◌, ℕ, List}
 use Rattle.jvm_values.specs.States.{MachineState}
 use Rattle.class_program.specs.Programs.{Program, IsClosed}
+use Rattle.class_program.specs.Widths.{HasWidths}
 use Rattle.frame_types.specs.Tables.{CodeTypes}
 use Rattle.code_verify.specs.Typings.{IsTypingOf}
 use Rattle.jvm_step.specs.Running.{Ends, IsNeverStuck}
-use Rattle.jvm_run.specs.Laws.{HasInts}
 use Rattle.input_desc.specs.declared.desc.Desc.{Desc}
 use Rattle.input_desc.specs.Descs.{IsOwnDesc}
 use Rattle.input_desc.specs.Fitting.{FitsDescription}
@@ -18,7 +18,6 @@ use Rattle.path_rules.specs.Walks.{Spot}
 use Rattle.descent.specs.Conditions.{AreRules, AreSteps}
 use Rattle.graph_check.specs.Conditions.{HasIntStates}
 use Rattle.graph_check.specs.Laws.{ExpansionsHold}
-use Rattle.expand_laws.specs.Laws.{HasShortIncrements}
 use Rattle.cert_check.specs.Certified.{IsCertified}
 use Rattle.cert_check.specs.Ready.{IsOverInts}
 use Rattle.cert_check.specs.Valid.{Case, IsValid}
@@ -28,14 +27,14 @@ use Rattle.cert_check.specs.Walks.{Station, IsAt, WalksEnd, IsLast}
 abbrev pub CertifiedWalksEnd : Type 0
 CertifiedWalksEnd =
     (p : Program) (typing : ℕ → CodeTypes) (nodes : List GraphNode) (cuts : List ℕ) (root : AbstractState)
-    → IsClosed p → HasInts p → IsTypingOf p typing → ExpansionsHold p typing nodes
+    → IsClosed p → HasWidths p → IsTypingOf p typing → ExpansionsHold p typing nodes
     → (certified : IsCertified p typing nodes cuts root)
     → (spot : Spot) → IsAt p typing nodes (record { node = 0; spot = spot }) → WalksEnd p typing nodes certified.links (record { node = 0; spot = spot })
 
 abbrev pub LastNodesEnd : Type 0
 LastNodesEnd =
     (p : Program) (typing : ℕ → CodeTypes) (nodes : List GraphNode) (cuts : List ℕ) (root : AbstractState)
-    → IsClosed p → HasInts p → IsTypingOf p typing → ExpansionsHold p typing nodes
+    → IsClosed p → HasWidths p → IsTypingOf p typing → ExpansionsHold p typing nodes
     → (certified : IsCertified p typing nodes cuts root)
     → (station : Station) (at : IsAt p typing nodes station) → IsLast p typing nodes certified.links station → at.node.by ≡ End
 
@@ -43,7 +42,7 @@ LastNodesEnd =
 abbrev pub CertifiedRunsEnd : Type 0
 CertifiedRunsEnd =
     (p : Program) (typing : ℕ → CodeTypes) (desc : Desc) (nodes : List GraphNode) (cuts : List ℕ)
-    → IsClosed p → HasInts p → IsTypingOf p typing → IsOwnDesc p desc → ExpansionsHold p typing nodes
+    → IsClosed p → HasWidths p → IsTypingOf p typing → IsOwnDesc p desc → ExpansionsHold p typing nodes
     → IsCertified p typing nodes cuts (initial_of p desc)
     → (state : MachineState) → FitsDescription p desc state → Ends p state × IsNeverStuck p state
 
@@ -54,14 +53,14 @@ CertifiedRunsEnd =
 abbrev pub IntExpansionsHold : Type 0
 IntExpansionsHold =
     (p : Program) (typing : ℕ → CodeTypes) (nodes : List GraphNode)
-    → IsClosed p → HasInts p → HasIntForms p → HasShortIncrements p → HasIntStates p typing nodes → ExpansionsHold p typing nodes
+    → IsClosed p → HasWidths p → HasIntForms p → HasIntStates p typing nodes → ExpansionsHold p typing nodes
 
 -- There every state that the description fits ends, and none of its runs is stuck.
 abbrev pub CertifiedIntRunsEnd : Type 0
 CertifiedIntRunsEnd =
     (p : Program) (typing : ℕ → CodeTypes) (desc : Desc) (nodes : List GraphNode) (cuts : List ℕ)
-    → IsClosed p → HasInts p → IsTypingOf p typing → IsOwnDesc p desc
-    → HasIntForms p → HasShortIncrements p → HasIntStates p typing nodes
+    → IsClosed p → HasWidths p → IsTypingOf p typing → IsOwnDesc p desc
+    → HasIntForms p → HasIntStates p typing nodes
     → IsCertified p typing nodes cuts (initial_of p desc)
     → (state : MachineState) → FitsDescription p desc state → Ends p state × IsNeverStuck p state
 
@@ -69,7 +68,7 @@ CertifiedIntRunsEnd =
 abbrev pub ValidIntCertificatesEnd : Type 0
 ValidIntCertificatesEnd =
     (case : Case) (valid : IsValid case) (desc : Desc) → case.root ≡ initial_of case.program desc
-    → IsClosed case.program → HasInts case.program → IsTypingOf case.program case.typing → IsOwnDesc case.program desc
-    → HasIntForms case.program → HasShortIncrements case.program → HasIntStates case.program case.typing case.nodes
+    → IsClosed case.program → HasWidths case.program → IsTypingOf case.program case.typing → IsOwnDesc case.program desc
+    → HasIntForms case.program → HasIntStates case.program case.typing case.nodes
     → IsOverInts case valid.links → AreRules valid.rules → AreSteps case.steps
     → (state : MachineState) → FitsDescription case.program desc state → Ends case.program state × IsNeverStuck case.program state

@@ -19,7 +19,7 @@ use class_program::Program;
 use code_verify::Typing;
 use descent::{PathRule, Proof, check_proof};
 use graph_check::check_graph;
-use int_links::{has_short_increments, int_links_fit};
+use int_links::int_links_fit;
 use list_views::Seq;
 use path_rules::paths;
 use std::alloc::Global;
@@ -110,7 +110,7 @@ pub fn check_cert<P: Pairs, S: NodeSource<P>>(
     ensures same { S.graph source.new ≡ S.graph source.old }
 {
     int_links_fit();
-    has_short_increments(program);
+    program.is_good();
     let links = match good_links(alloc, program, typing, source, root) {
         Ok(links) => links,
         Err(refusal) => return Err(refusal),

@@ -18,7 +18,7 @@ use class_program::Program;
 use code_verify::{Typing, verify};
 use descent::PathRule;
 use entry_cases::ProgramAnswers;
-use int_links::{has_short_increments, int_links_fit};
+use int_links::int_links_fit;
 use json_cases::{field, naturals_of};
 use json_view::View;
 use list_views::Seq;
@@ -134,7 +134,7 @@ fn int_rules(
     requires few { length graph.old ≤ most_nodes }
 {
     int_links_fit();
-    has_short_increments(program);
+    program.is_good();
     match good_links(alloc, program, typing, graph, root) {
         Ok(links) => Ok(rules_between(alloc, program, typing, graph, root, &links, cuts)),
         Err(_) => bail!("the graph is not good"),

@@ -10,7 +10,7 @@ use Rattle.descent.specs.Splits.{has, stands_in, stands_once, place_in, is_follo
 use Rattle.number_graphs.specs.Graphs.{Leads, IsWay}
 use Rattle.chain_proofs.specs.declared.proving.LeftRule.{LeftRule}
 use Rattle.chain_proofs.specs.Stuck.{IsLeftRule}
-use Rattle.chain_proofs.specs.Sets.{AreOwn, Follows, AreJoined, AreLeft, HasNoForm, IsStuckAt}
+use Rattle.chain_proofs.specs.Sets.{AreOwn, Follows, AreJoined, AreLeft, IsStuckAt}
 
 abbrev Steps : List PathRule → ℕ → ℕ → Type 0
 Steps own m n = IsTrue (is_followed own m n)
@@ -133,10 +133,10 @@ own_left rules (n ∷ set) (one ∷ left) (rule ∷ own) h g =
     let same : h.0.rule ≡ rule = same_Some h.0.rule rule (sym h.0.is.is ∙ ap (λ (k : ℕ). slice_get rules k) h.0.number_is ∙ g.0) in
     (subst (IsLeftRule rules one) same h.0.is, own_left rules set left own h.1 g.1)
 
-pub stuck_at : (rules : List PathRule) (set : List ℕ) (left : List LeftRule) (own : List PathRule) → AreLeft rules set left → AreOwn rules set own → AreJoined own → HasNoForm own → IsStuckAt rules set left
-stuck_at rules set left own h g joined none = record {
+pub stuck_at : (none : List PathRule → Type 0) (rules : List PathRule) (set : List ℕ) (left : List LeftRule) (own : List PathRule) → AreLeft rules set left → AreOwn rules set own → AreJoined own → none own → IsStuckAt none rules set left
+stuck_at none rules set left own h g joined no_form = record {
   own = own;
   numbers = numbers_left rules set left h;
   are_own = own_left rules set left own h g;
-  stuck = record { some = joined.some; joined = joined.joined; plain = none.plain; stepwise = none.stepwise };
+  stuck = record { some = joined.some; joined = joined.joined; no_form = no_form };
 }

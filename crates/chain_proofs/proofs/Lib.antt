@@ -1,6 +1,6 @@
-mod Dividing
+pub mod Dividing
 mod Joining
 mod Owning
 mod Places
-mod Plainly
+pub mod Plainly
 mod Turning

@@ -8,6 +8,7 @@ use Rattle.descent.specs.declared.rules.PathRule.{PathRule}
 use Rattle.rank_search.specs.Plain.{NoPlainForm}
 use Rattle.rank_search.specs.Stepwise.{NoStepwiseForm}
 use Rattle.rank_forms.specs.RankSteps.{IsRankStep}
+use Rattle.chain_proofs.specs.Stuck.{HasNoForm}
 use Rattle.chain_proofs.specs.Sets.{RanksOwn}
 
 zip_next : {A B : Type 0} (R : A → B → Type 0) (xs : List A) (ys : List B) (i : ℕ) (x : A) (y : B) → slice_get xs i ≡ Some x → AllZip R (take i xs) ys → R x y → AllZip R (take (suc i) xs) (ys ++ y ∷ [])
@@ -24,7 +25,7 @@ zip_more {A} {B} R xs ys more i x y e h r f =
 
 -- ---- forms
 
-pub linear_found : {E : Type 0} (own : List PathRule) (result : Result (Option RankStep) E) → NoPlainForm own → IfOk result (λ found. IfSome found (λ step. IsRankStep own step)) → IfOk result (λ found. found ≡ None → NoStepwiseForm own) → IfOk result (RanksOwn own)
+pub linear_found : {E : Type 0} (own : List PathRule) (result : Result (Option RankStep) E) → NoPlainForm own → IfOk result (λ found. IfSome found (λ step. IsRankStep own step)) → IfOk result (λ found. found ≡ None → NoStepwiseForm own) → IfOk result (RanksOwn HasNoForm own)
 linear_found own (Ok (Some step)) none found missing = found.limits
 linear_found own (Ok None) none found missing = record { plain = none; stepwise = missing refl }
 linear_found own (Err e) none found missing = tt

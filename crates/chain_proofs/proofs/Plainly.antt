@@ -10,7 +10,7 @@ use Rattle.rank_forms.specs.Graphs.{IsPathRule, IsEndAt, IsPlainRule, ArePlainRu
 use Rattle.chain_proofs.specs.Sets.{AreOwn, Rises}
 use Rattle.chain_proofs.proofs.Dividing.{as_long}
 
-all_own : (P : PathRule → Type 0) (rules : List PathRule) (set : List ℕ) (own : List PathRule) → All P rules → AreOwn rules set own → AllByRecursion P own
+pub all_own : (P : PathRule → Type 0) (rules : List PathRule) (set : List ℕ) (own : List PathRule) → All P rules → AreOwn rules set own → AllByRecursion P own
 all_own P rules [] [] are h = tt
 all_own P rules [] (rule ∷ own) are h = absurd h
 all_own P rules (n ∷ set) [] are h = absurd h
@@ -18,13 +18,13 @@ all_own P rules (n ∷ set) (rule ∷ own) are h =
     (subst P (get_or_from_slice_get rules n rule rule h.0) (All-get_or P rules n rule (slice_get_within rules n rule h.0) are), all_own P rules set own are h.1)
 
 -- a rising set is no longer than what it is a set of
-own_within : (rules : List PathRule) (set : List ℕ) (own : List PathRule) (i n : ℕ) → AreOwn rules set own → slice_get set i ≡ Some n → n < length rules
+pub own_within : (rules : List PathRule) (set : List ℕ) (own : List PathRule) (i n : ℕ) → AreOwn rules set own → slice_get set i ≡ Some n → n < length rules
 own_within rules [] own i n h e = absurd (none-some n e)
 own_within rules (m ∷ set) [] i n h e = absurd h
 own_within rules (m ∷ set) (rule ∷ own) zero n h e = subst (λ (k : ℕ). k < length rules) (same_Some m n e) (slice_get_within rules m rule h.0)
 own_within rules (m ∷ set) (rule ∷ own) (suc i) n h e = own_within rules set own i n h.1 e
 
-as_few : (end low : ℕ) (set : List ℕ) → Rises low set → ((i n : ℕ) → slice_get set i ≡ Some n → n < end) → low ≤ end → low + length set ≤ end
+pub as_few : (end low : ℕ) (set : List ℕ) → Rises low set → ((i n : ℕ) → slice_get set i ≡ Some n → n < end) → low ≤ end → low + length set ≤ end
 as_few end low [] r h l = omega (arith, l)
 as_few end low (n ∷ set) r h l =
     let within : n < end = h 0 n refl in

@@ -9,7 +9,7 @@ use Rattle.descent.specs.Conditions.{IsStep, AreSteps}
 use Rattle.descent.specs.Steps.{Given, given_first, set_of, give, weak_ones}
 use Rattle.chain_proofs.specs.declared.proving.LeftRule.{LeftRule}
 use Rattle.chain_proofs.specs.declared.proving.Turn.TheVariants.{Step, Left}
-use Rattle.chain_proofs.specs.Answers.{LeavesStuck}
+use Rattle.chain_proofs.specs.Answers.{LeavesStuckBy}
 use Rattle.chain_proofs.specs.Unfinished.{HoldsAt, HoldFrom}
 use Rattle.chain_proofs.specs.Sets.{IsRankOf, TurnsOr}
 
@@ -37,8 +37,8 @@ pub record IsProof (rules : List PathRule) (below number : ℕ) (steps : List Pr
 pub proof_first : (rules : List PathRule) (below : ℕ) (given : Given) → given ≡ given_first (length rules) below → IsProof rules below 0 [] given
 proof_first rules below given e = record { hold = sym e; count = refl; within = All-nil IsStep }
 
-pub proof_more : (rules : List PathRule) (below number : ℕ) (steps more : List ProofStep) (given after : Given) (step : ProofStep) (set : List ℕ) → IsProof rules below number steps given → TurnsOr rules number set given (Step step) after → more ≡ steps ++ step ∷ [] → IsProof rules below (number + 1) more after
-proof_more rules below number steps more given after step set h turn e =
+pub proof_more : (none : List PathRule → Type 0) (rules : List PathRule) (below number : ℕ) (steps more : List ProofStep) (given after : Given) (step : ProofStep) (set : List ℕ) → IsProof rules below number steps given → TurnsOr none rules number set given (Step step) after → more ≡ steps ++ step ∷ [] → IsProof rules below (number + 1) more after
+proof_more none rules below number steps more given after step set h turn e =
     let same : number ≡ 0 + length steps = let count = h.count in omega (arith, count) in
     subst (λ (ss : List ProofStep). IsProof rules below (number + 1) ss after) (sym e) (record {
       hold = hold_more rules 0 (given_first (length rules) below) given after steps step h.hold (subst (λ (k : ℕ). HoldsAt rules k given step after) same turn.0);
@@ -46,8 +46,8 @@ proof_more rules below number steps more given after step set h turn e =
       within = All-push IsStep steps step h.within turn.1;
     })
 
-pub unproved : (rules : List PathRule) (below number : ℕ) (given after : Given) (steps : List ProofStep) (set : List ℕ) (left : List LeftRule) → IsProof rules below number steps given → Some set ≡ set_of (slice_get given number) → TurnsOr rules number set given (Left left) after → LeavesStuck rules steps left
-unproved rules below number given after steps set left h has_set turn = record {
+pub unproved : (none : List PathRule → Type 0) (rules : List PathRule) (below number : ℕ) (given after : Given) (steps : List ProofStep) (set : List ℕ) (left : List LeftRule) → IsProof rules below number steps given → Some set ≡ set_of (slice_get given number) → TurnsOr none rules number set given (Left left) after → LeavesStuckBy none rules steps left
+unproved none rules below number given after steps set left h has_set turn = record {
   limits = h.within;
   is_left = record {
     below = below;

@@ -7,18 +7,25 @@ use Rattle.descent.specs.Conditions.{AreSteps}
 use Rattle.chain_proofs.specs.declared.proving.LeftRule.{LeftRule}
 use Rattle.chain_proofs.specs.declared.proving.Proved.{Proved}
 use Rattle.chain_proofs.specs.declared.proving.Proved.TheVariants.{Whole, Stuck}
-use Rattle.chain_proofs.specs.Stuck.{AreStuck, IsLeftRule}
+use Rattle.chain_proofs.specs.Stuck.{HasNoForm, AreStuck, IsLeftRule}
 use Rattle.chain_proofs.specs.Unfinished.{IsLeft}
 
 -- the steps so far are within the limits of proofs and hold, and leave these rules to the next one; and the rules are stuck
-pub record LeavesStuck (rules : List PathRule) (steps : List ProofStep) (left : List LeftRule) : Type 0 where
+pub record LeavesStuckBy (none : List PathRule → Type 0) (rules : List PathRule) (steps : List ProofStep) (left : List LeftRule) : Type 0 where
   pub limits : AreSteps steps
   pub is_left : IsLeft rules steps (map (λ (one : LeftRule). one.rule) left)
   pub own : List PathRule
   pub are_own : AllZip (IsLeftRule rules) left own
-  pub stuck : AreStuck own
+  pub stuck : AreStuck none own
 
 -- a proof whose steps are within the limits of proofs, and which is still to be checked; or the steps so far, and rules that are stuck
+abbrev pub ProvesOrBy : (List PathRule → Type 0) → List PathRule → Proved → Type 0
+ProvesOrBy none rules (Whole proof) = AreSteps proof.steps
+ProvesOrBy none rules (Stuck proof left) = LeavesStuckBy none rules proof.steps left
+
+-- the same where neither a plain form nor a stepwise one ranks the rules that are left
+abbrev pub LeavesStuck : List PathRule → List ProofStep → List LeftRule → Type 0
+LeavesStuck rules steps left = LeavesStuckBy HasNoForm rules steps left
+
 abbrev pub ProvesOr : List PathRule → Proved → Type 0
-ProvesOr rules (Whole proof) = AreSteps proof.steps
-ProvesOr rules (Stuck proof left) = LeavesStuck rules proof.steps left
+ProvesOr rules proved = ProvesOrBy HasNoForm rules proved

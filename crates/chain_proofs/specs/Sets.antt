@@ -7,8 +7,6 @@ use Rattle.descent.specs.Conditions.{IsRanked, IsStep}
 use Rattle.descent.specs.Splits.{is_followed}
 use Rattle.descent.specs.Steps.{Given, ranking_of, ranking_fault, give, part_left, same_option}
 use Rattle.number_graphs.specs.Graphs.{Leads}
-use Rattle.rank_search.specs.Plain.{NoPlainForm}
-use Rattle.rank_search.specs.Stepwise.{NoStepwiseForm}
 use Rattle.chain_proofs.specs.declared.proving.LeftRule.{LeftRule}
 use Rattle.chain_proofs.specs.declared.proving.Turn.{Turn}
 use Rattle.chain_proofs.specs.declared.proving.Turn.TheVariants.{Step, Left}
@@ -74,26 +72,26 @@ pub record IsRankOf (rules : List PathRule) (set : List ℕ) (step : RankStep) :
   pub limits : IsRanked step
   pub ranks : RanksAll rules set step
 
-pub record HasNoForm (own : List PathRule) : Type 0 where
-  pub plain : NoPlainForm own
-  pub stepwise : NoStepwiseForm own
-
 -- what is found for rules by their places
-abbrev pub RanksOwn : List PathRule → Option RankStep → Type 0
-RanksOwn own (Some step) = IsRanked step
-RanksOwn own None = HasNoForm own
+abbrev pub RanksOwn : (List PathRule → Type 0) → List PathRule → Option RankStep → Type 0
+RanksOwn none own (Some step) = IsRanked step
+RanksOwn none own None = none own
 
-abbrev pub RanksOr : List PathRule → List ℕ → List PathRule → Option RankStep → Type 0
-RanksOr rules set own (Some step) = IsRankOf rules set step
-RanksOr rules set own None = HasNoForm own
+abbrev pub RanksOr : (List PathRule → Type 0) → List PathRule → List ℕ → List PathRule → Option RankStep → Type 0
+RanksOr none rules set own (Some step) = IsRankOf rules set step
+RanksOr none rules set own None = none own
+
+-- a search may be asked for the rules of each set
+abbrev pub IsAsked : (List PathRule → Type 0) → List PathRule → Type 0
+IsAsked asks rules = (set : List ℕ) (own : List PathRule) → Rises 0 set → AreOwn rules set own → asks own
 
 -- what becomes of a step: it holds for its set and gives sets on, or there is no form
-pub record IsStuckAt (rules : List PathRule) (set : List ℕ) (left : List LeftRule) : Type 0 where
+pub record IsStuckAt (none : List PathRule → Type 0) (rules : List PathRule) (set : List ℕ) (left : List LeftRule) : Type 0 where
   pub own : List PathRule
   pub numbers : map (λ (one : LeftRule). one.rule) left ≡ set
   pub are_own : AllZip (IsLeftRule rules) left own
-  pub stuck : AreStuck own
+  pub stuck : AreStuck none own
 
-abbrev pub TurnsOr : List PathRule → ℕ → List ℕ → Given → Turn → Given → Type 0
-TurnsOr rules number set given (Step step) after = HoldsAt rules number given step after × IsStep step
-TurnsOr rules number set given (Left left) after = (after ≡ given) × IsStuckAt rules set left
+abbrev pub TurnsOr : (List PathRule → Type 0) → List PathRule → ℕ → List ℕ → Given → Turn → Given → Type 0
+TurnsOr none rules number set given (Step step) after = HoldsAt rules number given step after × IsStep step
+TurnsOr none rules number set given (Left left) after = (after ≡ given) × IsStuckAt none rules set left

@@ -1,12 +1,14 @@
 //! Proofs that no chain of rules is infinite, class by class.
 ghost use Rattle.std.specs.Prelude.{◌≡◌, Some, IfOk, IsTrue, slice_get};
 ghost use Rattle.descent.specs.Components.{AreClasses};
+ghost use Rattle.descent.specs.Conditions.{AreRules};
 ghost use Rattle.rank_forms.specs.Graphs.{ArePlainRules};
 ghost use Rattle.descent.specs.Steps.{set_of, weak_ones, if_weak};
-ghost use Rattle.chain_proofs.specs.Answers.{ProvesOr};
-ghost use Rattle.chain_proofs.specs.Sets.{Rises, AreOwn, AreJoined, Follows, TurnsOr};
+ghost use Rattle.chain_proofs.specs.Answers.{ProvesOr, ProvesOrBy};
+ghost use Rattle.chain_proofs.specs.Sets.{Rises, AreOwn, AreJoined, Follows, IsAsked, TurnsOr};
 
 use crate::copying::{left_rules, own_rules};
+use crate::forms::{Forms, PathForms};
 use crate::ranking::rank_step;
 use crate::splitting::{Sets, is_alone, rise, split};
 use descent::{PathRule, Proof, ProofStep, RankRule, components};
@@ -38,7 +40,7 @@ pub(crate) enum Turn {
 pub enum Proved {
     /// A proof whose steps are all there, to be checked as a whole (`check_proof` of `descent`).
     Whole(Proof),
-    /// The steps so far, and the rules that they leave: these reach each other, and no plain and no stepwise form ranks them.
+    /// The steps so far, and the rules that they leave: these reach each other, and the search says that no form ranks them.
     Stuck(Proof, Seq<LeftRule>),
 }
 
@@ -95,22 +97,24 @@ fn follows(own: &[PathRule], class: &[u32]) -> bool
 
 /// What becomes of rules that reach each other.
 #[tactic(auto, using(crate::proofs::Joining::stuck_at, crate::proofs::Turning::rank_holds))]
-fn ranked(
+fn ranked<F: Forms>(
     alloc: Global,
+    forms: &F,
     rules: &[PathRule],
     own: &[PathRule],
     set: &[u32],
     number: u32,
     sets: &mut Sets,
 ) -> Result<Turn, AllocError>
-    requires rules { ArePlainRules rules.now }
+    requires rules { AreRules rules.now }
+    requires asked { IsAsked F.asks rules.now }
     requires own { AreOwn rules.now set.now own.now }
     requires rise { Rises 0 set.now }
     requires joined { AreJoined own.now }
     requires given { set_of (slice_get sets.old.given.items number) ≡ Some set.now }
-    ensures { IfOk result (λ turn. TurnsOr rules.now number set.now sets.old.given.items turn sets.new.given.items) }
+    ensures { IfOk result (λ turn. TurnsOr F.none rules.now number set.now sets.old.given.items turn sets.new.given.items) }
 {
-    match rank_step(alloc, rules, set, own)? {
+    match rank_step(alloc, forms, rules, set, own)? {
         Some(step) => {
             let weak = weak_ones(alloc, step.rules.as_slice())?;
             let rest = sets.hand(number, weak)?;
@@ -121,16 +125,18 @@ fn ranked(
 }
 
 /// What becomes of a step's set.
-fn taken(
+fn taken<F: Forms>(
     alloc: Global,
+    forms: &F,
     rules: &[PathRule],
     set: &[u32],
     number: u32,
     sets: &mut Sets,
 ) -> Result<Turn, AllocError>
-    requires rules { ArePlainRules rules.now }
+    requires rules { AreRules rules.now }
+    requires asked { IsAsked F.asks rules.now }
     requires given { set_of (slice_get sets.old.given.items number) ≡ Some set.now }
-    ensures { IfOk result (λ turn. TurnsOr rules.now number set.now sets.old.given.items turn sets.new.given.items) }
+    ensures { IfOk result (λ turn. TurnsOr F.none rules.now number set.now sets.old.given.items turn sets.new.given.items) }
 {
     if set.is_empty() {
         return Ok(Turn::Step(ProofStep::Empty));
@@ -142,7 +148,7 @@ fn taken(
     let own = copies.as_slice();
     let classes = components(alloc, own)?;
     if are_joined(own, classes.as_slice()) {
-        return ranked(alloc, rules, own, set, number, sets);
+        return ranked(alloc, forms, rules, own, set, number, sets);
     }
     let step = split(alloc, rules, own, set, classes.as_slice(), number, sets)?;
     Ok(Turn::Step(step))
@@ -153,16 +159,21 @@ fn most_steps(rules: u32) -> Option<u32> {
     rules.checked_mul(4)?.checked_add(4)
 }
 
-/// A proof that no chain of the rules is infinite, class by class, which isn't checked as a whole; or the steps up to rules that reach each other, which neither a plain nor
-/// a stepwise form ranks.
+/// A proof that no chain of the rules is infinite, class by class, which isn't checked as a whole; or the steps up to rules that reach
+/// each other, of which the search for forms says that none ranks them.
 ///
 /// # Errors
 ///
 /// Want of memory.
 #[tactic(auto, using(crate::proofs::Turning::proof_first, crate::proofs::Turning::unproved))]
-pub fn prove(alloc: Global, rules: &[PathRule]) -> Result<Proved, AllocError>
-    requires { ArePlainRules rules.now }
-    ensures { IfOk result (ProvesOr rules.now) }
+pub fn prove_by<F: Forms>(
+    alloc: Global,
+    forms: &F,
+    rules: &[PathRule],
+) -> Result<Proved, AllocError>
+    requires rules { AreRules rules.now }
+    requires asked { IsAsked F.asks rules.now }
+    ensures { IfOk result (ProvesOrBy F.none rules.now) }
 {
     let Ok(count) = u32::try_from(rules.len()) else {
         return Err(AllocError);
@@ -179,10 +190,22 @@ pub fn prove(alloc: Global, rules: &[PathRule]) -> Result<Proved, AllocError>
         let Some(set) = sets.of(alloc, number)? else {
             return Ok(Proved::Whole(Proof { steps }));
         };
-        match taken(alloc, rules, set.as_slice(), number, &mut sets)? {
+        match taken(alloc, forms, rules, set.as_slice(), number, &mut sets)? {
             Turn::Step(step) => steps.push(step)?,
             Turn::Left(left) => return Ok(Proved::Stuck(Proof { steps }, left)),
         }
     }
     Err(AllocError)
+}
+
+/// The same by plain forms and by linear ones: where rules are left, neither a plain nor a stepwise form ranks them.
+///
+/// # Errors
+///
+/// Want of memory.
+pub fn prove(alloc: Global, rules: &[PathRule]) -> Result<Proved, AllocError>
+    requires { ArePlainRules rules.now }
+    ensures { IfOk result (ProvesOr rules.now) }
+{
+    prove_by(alloc, &PathForms, rules)
 }

@@ -2,12 +2,11 @@
 ghost use Rattle.std.specs.Prelude.{IfOk};
 ghost use Rattle.std.specs.List.{All};
 ghost use Rattle.descent.specs.Conditions.{AreRules, IsRanked, IsListed};
-ghost use Rattle.rank_forms.specs.Graphs.{ArePlainRules};
-ghost use Rattle.chain_proofs.specs.Sets.{Rises, AreOwn, IsRankOf, RanksOr, RanksOwn};
+ghost use Rattle.chain_proofs.specs.Sets.{Rises, AreOwn, IsAsked, IsRankOf, RanksOr};
 
+use crate::forms::Forms;
 use descent::{PathRule, RankRule, RankStep, Scratch, check_rank_step, most_variables};
 use list_views::Seq;
-use rank_search::{linear, plain};
 use std::alloc::{AllocError, Global};
 
 /// The number at a place of a set. A place that the set doesn't have is answered as want of memory.
@@ -90,35 +89,25 @@ fn checked(
     }
 }
 
-/// A step of a plain form for rules, or else of a linear one.
-#[tactic(auto, using(crate::proofs::Owning::linear_found))]
-fn form_of(alloc: Global, own: &[PathRule]) -> Result<Option<RankStep>, AllocError>
-    requires { ArePlainRules own.now }
-    ensures { IfOk result (RanksOwn own.now) }
-{
-    match plain(alloc, own)? {
-        Some(step) => Ok(Some(step)),
-        None => linear(alloc, own),
-    }
-}
-
-/// A rank step for the rules of a set; None only where neither a plain nor a stepwise form ranks them.
+/// A rank step for the rules of a set; None only where the search says that no form ranks them.
 ///
 /// # Errors
 ///
 /// Want of memory.
-pub(crate) fn rank_step(
+pub(crate) fn rank_step<F: Forms>(
     alloc: Global,
+    forms: &F,
     rules: &[PathRule],
     set: &[u32],
     own: &[PathRule],
 ) -> Result<Option<RankStep>, AllocError>
-    requires rules { ArePlainRules rules.now }
+    requires rules { AreRules rules.now }
+    requires asked { IsAsked F.asks rules.now }
     requires rise { Rises 0 set.now }
     requires own { AreOwn rules.now set.now own.now }
-    ensures { IfOk result (RanksOr rules.now set.now own.now) }
+    ensures { IfOk result (RanksOr F.none rules.now set.now own.now) }
 {
-    match form_of(alloc, own)? {
+    match forms.step(alloc, own)? {
         Some(step) => Ok(Some(checked(alloc, rules, set, step)?)),
         None => Ok(None),
     }

@@ -1,19 +1,15 @@
 -- An answer that a certificate is accepted is enough for the headline, where the class files are lists of bytes.
 use Rattle.std.proofs.Common.{◌≡◌, ◌∙◌, ◌≤◌, ◌+◌, ◌++◌, ℕ, List, [], ◌∷◌, length, length-append, map, None, slice_get, Ok, Err, refl, ap, arith}
-use Rattle.std.specs.Prelude.{All, IfSome}
 use Rattle.std.specs.List.{AllByRecursion}
 use Rattle.std.specs.Option.{option_map_or}
 use Rattle.std.proofs.lemmas.List.{length-map}
-use Rattle.std.proofs.lemmas.List.Elements.{All-from_recursion, recursion_from_All}
+use Rattle.std.proofs.lemmas.List.Elements.{recursion_from_All}
 use Rattle.list_views.specs.ByteLists.{IsBytes}
 use Rattle.list_views.proofs.Options.{both_none}
 use Rattle.list_views.proofs.Quantified.{all_weaker}
-use Rattle.class_program.specs.declared.op.Op.{Op}
 use Rattle.class_program.specs.declared.program.Method.{Method}
 use Rattle.class_program.specs.Programs.{Program, IsClosed}
-use Rattle.op_forms.specs.Forms.{form_of}
-use Rattle.jvm_run.specs.Laws.{HasInts, IsIntForm}
-use Rattle.jvm_run.proofs.Constants.{op_int}
+use Rattle.class_program.specs.Widths.{AreInWidth, HasWidths}
 use Rattle.input_text.specs.declared.fault.DescFault.TheVariants.{ParamCount, StaticCount}
 use Rattle.input_text.specs.declared.texts.DescText.{DescText}
 use Rattle.input_desc.specs.declared.desc.Desc.{Desc}
@@ -21,8 +17,6 @@ use Rattle.input_desc.specs.Descs.{inputs_from, desc_fault, IsDescribed, IsOwnDe
 use Rattle.input_desc.specs.Given.{params_of, statics_of, field_slot, argument_slot, slots_of}
 use Rattle.input_desc.proofs.Faultless.{counted}
 use Rattle.input_desc.proofs.GoodDescs.{found_count, texts_count, few_made, made_is_good}
-use Rattle.expand_laws.specs.Laws.{HasShortIncrements}
-use Rattle.int_links.specs.Increments.{IsShortForm}
 use Rattle.int_links.specs.Laws.{IntLinksFit}
 use Rattle.cert_check.specs.Laws.{CertifiedIntRunsEnd}
 use Rattle.desc_steps.proofs.Answering.{all_end}
@@ -30,23 +24,12 @@ use Rattle.desc_steps.proofs.IntForms.{int_forms}
 use Rattle.check_call.specs.Laws.{AcceptedEnds}
 use Rattle.check_call.proofs.Accepting.{reached, cert_ends}
 use Rattle.check_call.proofs.FileBytes.{world_good}
-use Rattle.check_call.proofs.ProgramNumbers.{IsSmallOp, IsSmallMethod, methods_small}
+use Rattle.check_call.proofs.ProgramNumbers.{IsSmallMethod, methods_small}
 
 -- ---- programs
 
-constants : (p : Program) → AllByRecursion IsSmallMethod p.methods → HasInts p
-constants p all =
-    All-from_recursion (λ (m : Method). All (λ (x : ℕ × Op). IfSome (form_of x.1) IsIntForm) m.insns) p.methods
-    (all_weaker IsSmallMethod (λ (m : Method). All (λ (x : ℕ × Op). IfSome (form_of x.1) IsIntForm) m.insns)
-    (λ m small. All-from_recursion (λ (x : ℕ × Op). IfSome (form_of x.1) IsIntForm) m.insns
-    (all_weaker (λ (x : ℕ × Op). IsSmallOp x.1) (λ (x : ℕ × Op). IfSome (form_of x.1) IsIntForm) (λ x s. op_int x.1 s.0) m.insns small.insns)) p.methods all)
-
-increments : (p : Program) → AllByRecursion IsSmallMethod p.methods → HasShortIncrements p
-increments p all =
-    All-from_recursion (λ (m : Method). All (λ (x : ℕ × Op). IfSome (form_of x.1) IsShortForm) m.insns) p.methods
-    (all_weaker IsSmallMethod (λ (m : Method). All (λ (x : ℕ × Op). IfSome (form_of x.1) IsShortForm) m.insns)
-    (λ m small. All-from_recursion (λ (x : ℕ × Op). IfSome (form_of x.1) IsShortForm) m.insns
-    (all_weaker (λ (x : ℕ × Op). IsSmallOp x.1) (λ (x : ℕ × Op). IfSome (form_of x.1) IsShortForm) (λ x s. s.1) m.insns small.insns)) p.methods all)
+in_width : (p : Program) → AllByRecursion IsSmallMethod p.methods → HasWidths p
+in_width p all = all_weaker IsSmallMethod (λ (m : Method). AreInWidth m.insns) (λ m small. small.insns) p.methods all
 
 few_params : (methods : List Method) → AllByRecursion IsSmallMethod methods → length (option_map_or (λ (m : Method). m.params) (slice_get methods 0) []) ≤ 256
 few_params [] all = omega arith
@@ -93,5 +76,5 @@ accepted_ends fit ended cert desc files (Ok outcome) bytes a accepts =
     let small = methods_small p.world p.entry p.methods world closed.made in
     let own = own_desc p r.named.text r.described closed (few_params p.methods small) r.named.faultless r.named.is_described in
     all_end desc files p r.described r.named
-    (cert_ends fit ended p r.typing r.described closed (constants p small) r.typed own (int_forms p r.ints) (increments p small) cert outcome r.says accepts)
+    (cert_ends fit ended p r.typing r.described closed (in_width p small) r.typed own (int_forms p r.ints) cert outcome r.says accepts)
 accepted_ends fit ended cert desc files (Err refused) bytes a accepts = absurd accepts

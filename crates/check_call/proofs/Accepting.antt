@@ -8,7 +8,7 @@ use Rattle.class_world.specs.declared.world.MethodRef.{MethodRef}
 use Rattle.class_program.specs.Programs.{Program, IsClosed}
 use Rattle.frame_types.specs.Tables.{CodeTypes}
 use Rattle.code_verify.specs.Typings.{IsTypingOf}
-use Rattle.jvm_run.specs.Laws.{HasInts}
+use Rattle.class_program.specs.Widths.{HasWidths}
 use Rattle.input_desc.specs.declared.desc.Desc.{Desc}
 use Rattle.input_desc.specs.Descs.{IsOwnDesc}
 use Rattle.input_desc.specs.Entries.{entry_of}
@@ -20,7 +20,6 @@ use Rattle.desc_steps.specs.Names.{names_of}
 use Rattle.descent.specs.declared.proof.ProofStep.{ProofStep}
 use Rattle.descent.specs.Conditions.{AreSteps}
 use Rattle.descent.proofs.Walked.{closed_ends}
-use Rattle.expand_laws.specs.Laws.{HasShortIncrements}
 use Rattle.term_graph.specs.Graphs.{GraphNode}
 use Rattle.path_rules.specs.Bare.{AreBounded}
 use Rattle.graph_check.specs.Conditions.{HasIntStates}
@@ -81,11 +80,11 @@ reached cert desc files outcome a =
 
 -- ---- what a valid certificate shows
 
-module _ (fit : IntLinksFit) (ended : CertifiedIntRunsEnd) (p : Program) (typing : ℕ → CodeTypes) (desc : Desc) (closed : IsClosed p) (constants : HasInts p) (typed : IsTypingOf p typing) (own : IsOwnDesc p desc) (forms : HasIntForms p) (increments : HasShortIncrements p) where
+module _ (fit : IntLinksFit) (ended : CertifiedIntRunsEnd) (p : Program) (typing : ℕ → CodeTypes) (desc : Desc) (closed : IsClosed p) (widths : HasWidths p) (typed : IsTypingOf p typing) (own : IsOwnDesc p desc) (forms : HasIntForms p) where
   certified : (nodes : List GraphNode) (cuts : List ℕ) (steps : List ProofStep) → HasIntStates p typing nodes → AreSteps steps → IsValid (case_of p typing (initial_of p desc) nodes cuts steps) → IsCertified p typing nodes cuts (initial_of p desc)
   certified nodes cuts steps states are valid =
       let root : AbstractState = initial_of p desc in
-      let is_ready = ready nodes valid.links cuts (prepared fit p typing forms increments nodes root valid.links states valid.graph) (cuts_of (case_of p typing root nodes cuts steps) valid.cuts) in
+      let is_ready = ready nodes valid.links cuts (prepared fit p typing forms widths nodes root valid.links states valid.graph) (cuts_of (case_of p typing root nodes cuts steps) valid.cuts) in
       let bounded = All-from_recursion (λ (n : GraphNode). AreBounded n.state) nodes (all_bounded p typing nodes nodes valid.links valid.graph.each) in
       record {
         links = valid.links;
@@ -99,7 +98,7 @@ module _ (fit : IntLinksFit) (ended : CertifiedIntRunsEnd) (p : Program) (typing
 
   checked_ends : (nodes : List GraphNode) (cuts : List ℕ) (steps : List ProofStep) (outcome : Outcome) → HasIntStates p typing nodes → AreSteps steps → AnswersChecked (case_of p typing (initial_of p desc) nodes cuts steps) (Ok outcome) → outcome.status ≡ 0 → AllFittingEnd p desc
   checked_ends nodes cuts steps outcome states are (inl h) accepted =
-      λ state fits. ended p typing desc nodes cuts closed constants typed own forms increments states (certified nodes cuts steps states are h.0) state fits
+      λ state fits. ended p typing desc nodes cuts closed widths typed own forms states (certified nodes cuts steps states are h.0) state fits
   checked_ends nodes cuts steps outcome states are (inr h) accepted = absurd (omega (arith, ap (λ (o : Outcome). o.status) h.1.1.1, accepted))
 
   content_ends : (cert : List ℕ) (content : CertContent) (outcome : Outcome) → IsCertText p cert content → AnswersContent p typing desc content (Ok outcome) → outcome.status ≡ 0 → AllFittingEnd p desc

@@ -4,7 +4,7 @@ use Rattle.std.specs.Prelude.{OnOk}
 use Rattle.class_program.specs.Programs.{Program, IsClosed}
 use Rattle.frame_types.specs.Tables.{CodeTypes}
 use Rattle.code_verify.specs.Typings.{IsTypingOf}
-use Rattle.jvm_run.specs.Laws.{HasInts}
+use Rattle.class_program.specs.Widths.{HasWidths}
 use Rattle.input_desc.specs.declared.desc.Desc.{Desc}
 use Rattle.input_desc.specs.Descs.{IsOwnDesc}
 use Rattle.input_desc.specs.Initial.{initial_of}
@@ -18,7 +18,6 @@ use Rattle.term_graph.specs.Graphs.{GraphNode}
 use Rattle.abs_expand.specs.IntForms.{HasIntForms}
 use Rattle.graph_check.specs.Conditions.{HasIntStates}
 use Rattle.graph_fill.specs.Answers.{IsRefused, FillsOr}
-use Rattle.expand_laws.specs.Laws.{HasShortIncrements}
 use Rattle.cert_form.specs.declared.fault.CertFault.{CertFault}
 use Rattle.cert_form.specs.declared.fault.CertFault.TheVariants as certs
 use Rattle.cert_form.specs.Certificates.{CertContent, cert_of, AnswersText}
@@ -59,10 +58,10 @@ said_accepts C (Err refusals.Memory) (Ok outcome) on s a = absurd (cc)
 said_accepts C (Err refusals.Memory) (Err refused) on s a = absurd a
 
 pub said_ends : (p : Program) (typing : ℕ → CodeTypes) (desc : Desc) (nodes : List GraphNode) (cuts : List ℕ) (checked : Result (Unit {0}) Refusal) (result : Answer)
-    → CertifiedIntRunsEnd → IsClosed p → HasInts p → HasIntForms p → HasShortIncrements p → IsTypingOf p typing → IsOwnDesc p desc → HasIntStates p typing nodes
+    → CertifiedIntRunsEnd → IsClosed p → HasWidths p → HasIntForms p → IsTypingOf p typing → IsOwnDesc p desc → HasIntStates p typing nodes
     → OnOk checked (IsCertified p typing nodes cuts (initial_of p desc)) → IsSaid checked result → EndsIfAccepted p desc result
-said_ends p typing desc nodes cuts checked result law closed ints forms short typing_is own states on s accepts state fits =
-    law p typing desc nodes cuts closed ints typing_is own forms short states (said_accepts (IsCertified p typing nodes cuts (initial_of p desc)) checked result on s accepts) state fits
+said_ends p typing desc nodes cuts checked result law closed widths forms typing_is own states on s accepts state fits =
+    law p typing desc nodes cuts closed widths typing_is own forms states (said_accepts (IsCertified p typing nodes cuts (initial_of p desc)) checked result on s accepts) state fits
 
 pub text_said : (fault : CertFault) (cause : List ℕ) (result : Answer) → (fault ≡ certs.Memory → ⊥) → cause ≡ fault_text fault → AnswersAs (refused_at 0 cause) result → IsSaidOfText fault result
 text_said (certs.Json fault) cause result other is s = subst (λ (text : List ℕ). AnswersAs (refused_at 0 text) result) is s

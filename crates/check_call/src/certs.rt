@@ -26,8 +26,6 @@ use descent::Proof;
 use graph_fill::{FillFault, fill};
 use input_desc::{Desc, initial};
 use input_steps::Refused;
-use int_links::has_short_increments;
-use jvm_run::has_ints;
 use std::alloc::Global;
 use term_graph::Graph;
 
@@ -66,8 +64,6 @@ fn check_graph(
     ensures checked { AnswersChecked (case_of (program_of program.now) (typing_at typing.now) (initial_of (program_of program.now) desc.now) graph.old cuts.now proof.now.steps) result }
     ensures ends { EndsIfAccepted (program_of program.now) desc.now result }
 {
-    has_ints(program);
-    has_short_increments(program);
     program.is_good();
     certified_int_runs_end();
     let root = initial(alloc, desc, program)?;

@@ -3,10 +3,11 @@ use Rattle.std.proofs.Common.{◌≡◌, ◌++◌, ◌||◌, ◌&&◌, ℕ, zero
 use Rattle.std.specs.Prelude.{flat_map, slice_get, map, position, option_and_then}
 use Rattle.std.specs.List.{list_any, list_all, filter, filter_map, cons_option, range_with_len, position_or_len}
 use Rattle.std.specs.Option.{option_map, option_map_or, option_or}
-use Rattle.std.proofs.lemmas.Bool.{false≢true, and_from, and_parts, or_left, or_right, lt-ltb, cases_lt}
+use Rattle.std.proofs.lemmas.Bool.{false≢true, and_from, and_parts, or_left, or_right, lt-ltb}
 use Rattle.std.proofs.lemmas.List.Folds.{list_any-append, list_all-append}
 use Rattle.std.proofs.lemmas.Option.{slice_get_within, slice_get_read, slice_get_past}
 use Rattle.class_read.specs.Content.{ClassContent, MethodContent}
+use Rattle.class_world.proofs.Counting.{in_range}
 use Rattle.class_program.specs.declared.op.Op.{Op}
 use Rattle.class_program.specs.declared.op.Op.TheVariants.{Plain, Constant, Getstatic, Putstatic, Getfield, Putfield, Invokevirtual, Invokespecial, Invokestatic, Invokeinterface, New, Anewarray, Checkcast, Instanceof}
 use Rattle.class_program.specs.declared.program.Method.{Method}
@@ -251,13 +252,6 @@ made_within world class e = go (slice_get world class) refl e
     go : (o : Option ClassContent) → slice_get world class ≡ o → option_map_or test o false ≡ true → class < length world
     go None s f = absurd (false≢true f)
     go (Some c) s f = slice_get_within world class c s
-
-in_range : (a n x : ℕ) → a ≤ x → x < a + n → IsIn x (range_with_len a n)
-in_range a zero x l m = absurd (omega (arith, l, m))
-in_range a (suc n) x l m = elim (cases_lt a x) [
-  | inl k ↦ inr (in_range (a + 1) n x (omega (arith, k)) (omega (arith, m)))
-  | inr k ↦ inl (omega (arith, k, l))
-]
 
 filter_In : (p : ℕ → Bool) (xs : List ℕ) (x : ℕ) → IsIn x xs → p x ≡ true → IsIn x (filter p xs)
 filter_In p [] x h e = absurd h

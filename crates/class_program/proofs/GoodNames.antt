@@ -20,9 +20,10 @@ use Rattle.class_program.specs.declared.op.Op.TheVariants.{New, Anewarray}
 use Rattle.class_program.specs.declared.op.FieldUse.{FieldUse}
 use Rattle.class_program.specs.Operands.{Member}
 use Rattle.class_program.specs.Refusals.{◌>>=◌, wanted, required}
-use Rattle.class_program.specs.Ops.{type_named, class_number, new_of, anewarray_of, field_use, field_found, field_of}
+use Rattle.class_program.specs.Ops.{type_named, class_number, new_of, anewarray_of, field_use, field_found, field_of, unhidden, new_made}
+use Rattle.class_program.specs.JvmDiffers.{new_differs}
 use Rattle.class_program.specs.Good.{IsGoodField, IsGoodNew}
-use Rattle.class_program.proofs.Got.{got_wanted, got_required}
+use Rattle.class_program.proofs.Got.{got_wanted, got_required, got_asked}
 use Rattle.class_program.proofs.GoodTypes.{named_type, numbered_class}
 use Rattle.class_program.proofs.Closed.{made_within}
 use Rattle.class_world.proofs.Found.{field_below, itself}
@@ -60,18 +61,20 @@ field_good world known m used slots e =
     let class = bind_ok (class_number t.0) _ used t.2 in
     let found = bind_ok (wanted (resolve_field world class.0 m.name m.desc)) _ used class.2 in
     let named = numbered_class (length world) t.0 class.0 (named_type world m.class t.0 t.1) class.1 in
-    found_good world known class.0 m.name m.desc found.0 used named.1 slots (got_wanted (resolve_field world class.0 m.name m.desc) found.0 found.1) found.2
+    found_good world known class.0 m.name m.desc found.0 used named.1 slots (got_wanted (resolve_field world class.0 m.name m.desc) found.0 found.1)
+    (got_asked (field_found world class.0 m.desc found.0) (λ _. unhidden world class.0 m found.0) used found.2)
 
 -- ---- classes
 
 pub new_good : (world : World) (class : ℕ) (op : Op) → new_of world class ≡ Ok op → (op ≡ New (class_type class)) × IsGoodNew world (class_type class)
-unfolding new_of
+unfolding new_of new_made
 new_good world class op e = go (first_static_init world class) e
   where
-    go : (o : Option (List ℕ)) → option_map_or (λ name. Err (refusals.StaticInit name)) o (required (can_be_made world class) >>= λ _. Ok (New (class_type class))) ≡ Ok op → (op ≡ New (class_type class)) × IsGoodNew world (class_type class)
+    go : (o : Option (List ℕ)) → option_map_or (λ name. Err (refusals.StaticInit name)) o (required (can_be_made world class) >>= λ _. required (not (new_differs world class)) >>= λ _. Ok (New (class_type class))) ≡ Ok op → (op ≡ New (class_type class)) × IsGoodNew world (class_type class)
     go (Some name) f = cc
     go None f =
-        let made = bind_ok (required (can_be_made world class)) (λ _. Ok (New (class_type class))) op f in
+        let made = bind_ok (required (can_be_made world class)) _ op f in
+        let alike = bind_ok (required (not (new_differs world class))) (λ _. Ok (New (class_type class))) op made.2 in
         let test = got_required (can_be_made world class) made.0 made.1 in
         (cc, record { class = class; type_is = refl; within = made_within world class test; made = test })
 

@@ -1,5 +1,5 @@
 -- What an instruction is whose names could be resolved, by what it takes from the constant pool.
-use Rattle.std.proofs.Common.{◌≡◌, ℕ, Bool, true, false, cond, List, length, Option, Some, None, Ok, Err, refl}
+use Rattle.std.proofs.Common.{◌≡◌, ℕ, Bool, true, false, not, cond, List, length, Option, Some, None, Ok, Err, refl}
 use Rattle.std.specs.Prelude.{ℤ, is_none}
 use Rattle.std.specs.Option.{option_map_or}
 use Rattle.class_pool.specs.declared.entry.PoolEntry.{PoolEntry}
@@ -20,9 +20,10 @@ use Rattle.class_program.specs.declared.op.Call.{Call}
 use Rattle.class_program.specs.declared.op.FieldUse.{FieldUse}
 use Rattle.class_program.specs.declared.op.StaticUse.{StaticUse}
 use Rattle.class_program.specs.Operands.{Member, operand_of}
-use Rattle.class_program.specs.Refusals.{◌>>=◌, wanted}
-use Rattle.class_program.specs.Ops.{is_other_constant, constant_of, type_named, type_operand, class_op, field_of, field_op, static_of, static_op, static_operand, member_operand, member_tag, call_of, call_op, numbers_op, field_operand, class_operand, call_operand, op_with, pool_of, op_of}
-use Rattle.class_program.proofs.Got.{got_faultless}
+use Rattle.class_program.specs.Refusals.{◌>>=◌, wanted, required}
+use Rattle.class_program.specs.Ops.{is_other_constant, constant_of, type_named, type_operand, class_op, field_of, field_op, static_of, static_op, static_operand, member_operand, member_tag, call_of, call_op, numbers_op, field_operand, class_operand, call_operand, op_with, alike_with, pool_of, op_of}
+use Rattle.class_program.specs.JvmDiffers.{call_differs}
+use Rattle.class_program.proofs.Got.{got_faultless, got_asked}
 use Rattle.class_program.proofs.GoodTypes.{named_type}
 
 abbrev pub Shape : World → ℕ → Insn → Operand → Op → Type 0
@@ -73,7 +74,13 @@ shape_of world current pool insn (operands.Call form entry) op e =
     let call = bind_ok (call_of world current form m.0) _ op m.2 in
     (m.0, call.0, call.1, cc)
 
--- the instruction at a place of a method that a class declares
+-- the instruction at a place of a method that a class declares, as its names are resolved
+pub op_resolved : (world : World) (class : ℕ) (name : MethodName) (pc : ℕ) (insn : Insn) (op : Op) → op_of world class name pc insn ≡ Ok op → op_with world class (pool_of world class) insn (operand_of insn) ≡ Ok op
+unfolding op_of alike_with
+op_resolved world class name pc insn op e =
+    let resolved = op_with world class (pool_of world class) insn (operand_of insn) in
+    got_asked resolved (λ x. required (not (call_differs world x))) op (got_faultless name pc (alike_with world class (pool_of world class) insn (operand_of insn)) op e)
+
+-- and its shape
 pub op_shape : (world : World) (class : ℕ) (name : MethodName) (pc : ℕ) (insn : Insn) (op : Op) → op_of world class name pc insn ≡ Ok op → Shape world class insn (operand_of insn) op
-unfolding op_of
-op_shape world class name pc insn op e = shape_of world class (pool_of world class) insn (operand_of insn) op (got_faultless name pc (op_with world class (pool_of world class) insn (operand_of insn)) op e)
+op_shape world class name pc insn op e = shape_of world class (pool_of world class) insn (operand_of insn) op (op_resolved world class name pc insn op e)

@@ -26,11 +26,11 @@ use Rattle.class_program.specs.declared.program.Method.{Method}
 use Rattle.class_program.specs.declared.program.StaticField.{StaticField}
 use Rattle.class_program.specs.Operands.{Member}
 use Rattle.class_program.specs.Refusals.{◌>>=◌, wanted, required}
-use Rattle.class_program.specs.Ops.{type_named, class_number, static_kind, static_found as static_sought, static_of}
+use Rattle.class_program.specs.Ops.{type_named, class_number, static_kind, static_found as static_sought, static_of, unhidden}
 use Rattle.class_program.specs.Statics.{field_count, same_field, has_field, field_named, fields_in, fields_named, static_ref, static_field, static_at, statics_in, statics_of, is_field, placed_use}
 use Rattle.class_program.specs.Programs.{Program}
 use Rattle.class_program.specs.Good.{IsGoodStaticUse, IsDeclaredStatic}
-use Rattle.class_program.proofs.Got.{got_wanted, got_required}
+use Rattle.class_program.proofs.Got.{got_wanted, got_required, got_asked}
 
 -- ---- what instructions name is among what all of them name
 
@@ -151,7 +151,8 @@ field_declared world m used e =
     let t = bind_ok (type_named world m.class) _ used e in
     let class = bind_ok (class_number t.0) _ used t.2 in
     let found = bind_ok (wanted (resolve_field world class.0 m.name m.desc)) _ used class.2 in
-    sought_declared world m.desc found.0 used (resolved_there world class.0 m.name m.desc found.0 (got_wanted (resolve_field world class.0 m.name m.desc) found.0 found.1)) found.2
+    sought_declared world m.desc found.0 used (resolved_there world class.0 m.name m.desc found.0 (got_wanted (resolve_field world class.0 m.name m.desc) found.0 found.1))
+    (got_asked (static_sought world m.desc found.0) (λ _. unhidden world class.0 m found.0) used found.2)
 
 -- ---- it is one of the static fields of the program
 

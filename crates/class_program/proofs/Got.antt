@@ -1,10 +1,10 @@
 -- What is known of an answer that was given: of each part that it is made of.
-use Rattle.std.proofs.Common.{◌≡◌, ℕ, zero, suc, Bool, true, false, List, [], ◌∷◌, Option, Some, None, Ok, Err, refl, subst}
+use Rattle.std.proofs.Common.{◌≡◌, ℕ, zero, suc, Bool, true, false, List, [], ◌∷◌, Option, Some, None, Ok, Err, refl, subst, ◌∙◌}
 use Rattle.std.specs.Prelude.{Result, map, slice_get}
 use Rattle.std.specs.List.{AllByRecursion}
 use Rattle.class_program.specs.declared.refusal.Refusal.{Refusal}
 use Rattle.class_world.specs.declared.fault.MethodName.{MethodName}
-use Rattle.class_program.specs.Refusals.{wanted, required, together, with_fault}
+use Rattle.class_program.specs.Refusals.{◌>>=◌, wanted, required, together, with_fault}
 use Rattle.class_program.specs.Said.{Said, each}
 use Rattle.list_views.proofs.Steps.{bind_ok}
 
@@ -25,6 +25,13 @@ got_both (Err r) (Err s) x e = cc
 pub got_faultless : {A : Type 0} (name : MethodName) (pc : ℕ) (s : Result A Refusal) (x : A) → with_fault name pc s ≡ Ok x → s ≡ Ok x
 got_faultless name pc (Ok y) x e = cc
 got_faultless name pc (Err r) x e = cc
+
+-- an answer of which something more was asked
+pub got_asked : {A : Type 0} (r : Result A Refusal) (ask : A → Result (Unit {0}) Refusal) (x : A) → (r >>= λ a. ask a >>= λ _. Ok a) ≡ Ok x → r ≡ Ok x
+got_asked r ask x e =
+    let a = bind_ok r (λ y. ask y >>= λ _. Ok y) x e in
+    let b = bind_ok (ask a.0) (λ _. Ok a.0) x a.2 in
+    a.1 ∙ b.2
 
 -- ---- lists
 

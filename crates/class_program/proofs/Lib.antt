@@ -5,6 +5,7 @@ pub mod Saying
 pub mod Reaching
 pub mod Room
 pub mod Rows
+pub mod Differing
 pub mod SlotLists
 pub mod Bodies
 pub mod GoingThrough
@@ -26,3 +27,4 @@ pub mod GoodStatics
 pub mod GoodOps
 pub mod GoodPrograms
 pub mod GoodInstructions
+pub mod InWidth

@@ -12,7 +12,7 @@ use Rattle.code_forms.specs.declared.insn.Insn.{Insn}
 use Rattle.class_program.specs.declared.op.Op.{Op}
 use Rattle.class_world.specs.World.{World}
 use Rattle.class_program.specs.Operands.{operand_of}
-use Rattle.class_program.specs.Ops.{op_with, op_of, pool_of}
+use Rattle.class_program.specs.Ops.{alike_with, op_of, pool_of}
 use Rattle.list_views.specs.Results.{IsDue}
 use Rattle.list_views.proofs.Steps.{is_due}
 use Rattle.class_program.specs.Refusals.{Gives, is_memory, fault_at, with_fault, first_refusal, together}
@@ -84,14 +84,14 @@ pool_at world class c pool e p = ap (λ o. option_map_or (λ x. x.pool) o []) e 
 
 -- the instruction that was resolved with the pool of its class
 pub op_said : (world : World) (class : ℕ) (name : MethodName) (pc : ℕ) (insn : Insn) (pool : List PoolEntry) (op : Op)
-    → pool_of world class ≡ pool → op_with world class pool insn (operand_of insn) ≡ Ok op → op_of world class name pc insn ≡ Ok op
+    → pool_of world class ≡ pool → alike_with world class pool insn (operand_of insn) ≡ Ok op → op_of world class name pc insn ≡ Ok op
 unfolding op_of
-op_said world class name pc insn pool op p e = ap (λ q. with_fault name pc (op_with world class q insn (operand_of insn))) p ∙ ap (with_fault name pc) e
+op_said world class name pc insn pool op p e = ap (λ q. with_fault name pc (alike_with world class q insn (operand_of insn))) p ∙ ap (with_fault name pc) e
 
 pub op_refused : (world : World) (class : ℕ) (name : MethodName) (pc : ℕ) (insn : Insn) (pool : List PoolEntry) (refusal : Refusal) (fault : LinkFault)
-    → pool_of world class ≡ pool → IsDue is_memory refusal (op_with world class pool insn (operand_of insn)) → fault ≡ fault_at name pc refusal
+    → pool_of world class ≡ pool → IsDue is_memory refusal (alike_with world class pool insn (operand_of insn)) → fault ≡ fault_at name pc refusal
     → IsDue is_fault_of_memory fault (op_of world class name pc insn)
 unfolding op_of
 op_refused world class name pc insn pool refusal fault p f e =
-    subst (λ (q : List PoolEntry). IsDue is_fault_of_memory fault (with_fault name pc (op_with world class q insn (operand_of insn)))) (sym p)
-    (fault_said name pc refusal (op_with world class pool insn (operand_of insn)) fault f e)
+    subst (λ (q : List PoolEntry). IsDue is_fault_of_memory fault (with_fault name pc (alike_with world class q insn (operand_of insn)))) (sym p)
+    (fault_said name pc refusal (alike_with world class pool insn (operand_of insn)) fault f e)

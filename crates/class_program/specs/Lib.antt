@@ -1,6 +1,7 @@
 pub mod Refusals
 pub mod Signatures
 pub mod Operands
+pub mod JvmDiffers
 pub mod Ops
 pub mod Runs
 pub mod Said
@@ -12,5 +13,7 @@ pub mod Programs
 pub mod Selected
 pub mod Good
 pub mod Views
+pub mod Widths
+pub mod WidthProps
 pub mod Rows
 pub mod Reads

@@ -53,6 +53,8 @@ use Rattle.class_program.specs.Operands.{Member, operand_of}
 use Rattle.class_program.specs.Refusals.{◌>>=◌, wanted, required, together, with_fault}
 use Rattle.class_world.specs.Resolve.{resolve_field, is_static_field, resolve_method, field_place, method_at, first_static_init}
 use Rattle.class_program.specs.Signatures.{signature_of}
+use Rattle.class_world.specs.Hidden.{is_hidden}
+use Rattle.class_program.specs.JvmDiffers.{call_differs, new_differs}
 
 -- ---- constants (section 6.5, ldc)
 
@@ -98,11 +100,16 @@ base_class (bases.Num kind) = Err Unresolved
 unfoldable pub class_number : Ty → Result ℕ Refusal
 class_number t = if t.dims == 0 then base_class t.base else Err Unresolved
 
--- `new` initialises its class and those above it (section 5.5), and makes no interface and no abstract class.
+-- `new` makes no interface and no abstract class, and no object of which a JVM runs a method on its own.
+unfoldable pub new_made : World → ℕ → Result Op Refusal
+new_made world class = do
+  made ← required (can_be_made world class)
+  alike ← required (not (new_differs world class))
+  Ok (New (class_type class))
+
+-- `new` initialises its class and those above it (section 5.5).
 unfoldable pub new_of : World → ℕ → Result Op Refusal
-new_of world class =
-    option_map_or (λ name. Err (refusals.StaticInit name)) (first_static_init world class)
-    (required (can_be_made world class) >>= λ _. Ok (New (class_type class)))
+new_of world class = option_map_or (λ name. Err (refusals.StaticInit name)) (first_static_init world class) (new_made world class)
 
 -- an array has at most 255 dimensions
 unfoldable pub anewarray_of : Ty → Result Op Refusal
@@ -136,12 +143,18 @@ field_found world class desc found =
     else (required (not (is_interface_class world found.0)) >>= λ _.
     wanted (option_map (field_use class) (field_place world found.0 found.1)))
 
+-- a field that a JVM finds too: no superinterface of a class before the declaring one has a field of that name and descriptor
+unfoldable pub unhidden : World → ℕ → Member → ℕ × ℕ → Result (Unit {0}) Refusal
+unhidden world class m found = required (not (is_hidden world class found.0 m.name m.desc))
+
 unfoldable pub field_of : World → Member → Result FieldUse Refusal
 field_of world m = do
   t ← type_named world m.class
   class ← class_number t
   found ← wanted (resolve_field world class m.name m.desc)
-  field_found world class m.desc found
+  used ← field_found world class m.desc found
+  same ← unhidden world class m found
+  Ok used
 
 abbrev pub field_op : FieldForm → FieldUse → Op
 field_op fields.Getfield use_ = Getfield use_
@@ -166,7 +179,9 @@ static_of world m = do
   t ← type_named world m.class
   class ← class_number t
   found ← wanted (resolve_field world class m.name m.desc)
-  static_found world m.desc found
+  used ← static_found world m.desc found
+  same ← unhidden world class m found
+  Ok used
 
 abbrev pub static_op : StaticForm → StaticUse → Op
 static_op statics.Getstatic used = Getstatic used
@@ -304,10 +319,17 @@ op_with world current pool insn (operands.Field form entry) = field_operand worl
 op_with world current pool insn (operands.Class form entry) = class_operand world pool form entry
 op_with world current pool insn (operands.Call form entry) = call_operand world current pool form entry
 
+-- the same, where a JVM selects the methods that are selected here
+unfoldable pub alike_with : World → ℕ → List PoolEntry → Insn → Operand → Result Op Refusal
+alike_with world current pool insn operand = do
+  op ← op_with world current pool insn operand
+  alike ← required (not (call_differs world op))
+  Ok op
+
 -- the constant pool of a class
 abbrev pub pool_of : World → ℕ → List PoolEntry
 pool_of world class = option_map_or (λ c. c.pool) (slice_get world class) []
 
 -- the instruction at a place of a method that a class declares, or the fault that it has
 unfoldable pub op_of : World → ℕ → MethodName → ℕ → Insn → Result Op LinkFault
-op_of world class method pc insn = with_fault method pc (op_with world class (pool_of world class) insn (operand_of insn))
+op_of world class method pc insn = with_fault method pc (alike_with world class (pool_of world class) insn (operand_of insn))

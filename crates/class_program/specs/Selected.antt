@@ -1,6 +1,6 @@
 -- What a virtual or interface call of a program does once it knows its receiver's class, with the number of the method
 -- that it runs (JVM specification, section 6.5, invokevirtual and invokeinterface).
-use Rattle.std.specs.Prelude.{◌≡◌, ℕ, Bool, false, IsTrue, List, position, Option, Some, None, option_and_then}
+use Rattle.std.specs.Prelude.{◌≡◌, ℕ, Bool, false, if◌then◌else◌, nat_lt, IsTrue, List, length, position, Option, Some, None, option_and_then}
 use Rattle.std.specs.Option.{option_map, option_map_or}
 use Rattle.class_program.specs.declared.op.Op.{Op}
 use Rattle.class_program.specs.declared.op.Op.TheVariants.{Invokevirtual, Invokespecial, Invokestatic, Invokeinterface}
@@ -27,6 +27,11 @@ unfoldable pub selected_in : List MethodRef → Selection → Option Selected
 selected_in refs (Runs ref) = option_map answers.Method (position (same_method ref) refs)
 selected_in refs Lacks = Some answers.Abstract
 selected_in refs Unfit = Some answers.NoInterface
+
+-- the answer of an instruction on an object of a class; none where no class of the world has that number
+unfoldable pub selected_for : Program → Op → ℕ → Option Selected
+selected_for p op class =
+    if nat_lt class (length p.world) then option_and_then (selected_in (refs_of p.methods)) (selection_at p.world op class) else None
 
 -- the answer of the instruction at a place of the method of a number
 unfoldable pub selected_at : Program → ℕ → ℕ → ℕ → Option Selected

@@ -1,8 +1,9 @@
 //! Classes and array types that instructions name (JVM specification, sections 4.4.1 and 5.4.3.1).
 ghost use Rattle.class_world.specs.Worlds.{classes_of};
-ghost use Rattle.class_program.specs.Ops.{meant_type, array_type, class_named, type_named, type_operand, base_class, class_number, new_of, anewarray_of, class_op};
+ghost use Rattle.class_program.specs.Ops.{meant_type, array_type, class_named, type_named, type_operand, base_class, class_number, new_made, new_of, anewarray_of, class_op};
 ghost use Rattle.class_program.specs.Refusals.{Gives};
 
+use crate::jvm_differs::new_differs;
 use crate::op::Op;
 use crate::operand::ClassForm;
 use crate::refusal::Refusal;
@@ -115,6 +116,23 @@ pub(crate) fn type_operand(
     }
 }
 
+/// `new` of a class that can be made, and of whose objects a JVM runs no method on its own.
+#[tactic(auto, unfolding(crate::specs::Ops::new_made))]
+fn new_made(world: &World<'_>, alloc: Global, class: u32) -> Result<Op, Refusal>
+    ensures { Gives (λ op. op) result (new_made (classes_of world.now) class) }
+{
+    if !world.has_instances(class) {
+        return Err(Refusal::Unresolved);
+    }
+    if new_differs(world, alloc, class)? {
+        return Err(Refusal::Unresolved);
+    }
+    Ok(Op::New(Ty {
+        dims: 0,
+        base: Base::Class(class),
+    }))
+}
+
 /// `new`: no class of the chain has a static initialiser, and the class can be made.
 #[tactic(auto, unfolding(crate::specs::Ops::new_of))]
 fn new_of(world: &World<'_>, alloc: Global, class: u32) -> Result<Op, Refusal>
@@ -123,13 +141,7 @@ fn new_of(world: &World<'_>, alloc: Global, class: u32) -> Result<Op, Refusal>
     if let Some(name) = world.first_static_init(class) {
         return Err(Refusal::StaticInit(Seq::from_slice(alloc, name)?));
     }
-    if !world.has_instances(class) {
-        return Err(Refusal::Unresolved);
-    }
-    Ok(Op::New(Ty {
-        dims: 0,
-        base: Base::Class(class),
-    }))
+    new_made(world, alloc, class)
 }
 
 /// An instruction that names a class or an array type.

@@ -9,6 +9,7 @@ ghost use Rattle.class_program.specs.Runs.{runs};
 ghost use Rattle.class_program.specs.Programs.{refs_of};
 ghost use Rattle.class_program.specs.Statics.{fields_named, statics_of, statics_named};
 ghost use Rattle.class_program.specs.Reached.{with_new, reached, methods_of, numbered, op_numbered, insns_numbered, method_numbered, close_of, is_closed};
+ghost use Rattle.class_program.specs.Widths.{AreInWidth, AreMethodsInWidth};
 
 use crate::insns::Instructions;
 use crate::method::method_of;
@@ -76,7 +77,7 @@ fn reach<'a>(
 {
     refs.add(entry)?;
     while let Some(next) = refs.get(methods.len()) {
-        let method = method_of(world, alloc, shared, next)?;
+        let method = method_of(world, alloc, shared, rows, next)?;
         add_runs(world, alloc, method.insns.as_slice(), rows, refs)?;
         methods.push(method)?;
     }
@@ -136,7 +137,8 @@ fn insns_numbered(
     insns: Instructions,
 ) -> Result<Instructions, AllocError>
     requires { length statics.now ≤ 256 }
-    ensures { IfOk result (λ r. r ≡ insns_numbered refs.now statics.now insns) }
+    ensures list { IfOk result (λ r. r ≡ insns_numbered refs.now statics.now insns) }
+    ensures widths { IfOk result (λ r. AreInWidth r) }
 {
     let items = items_numbered(alloc, refs, statics, insns.into_seq())?;
     Ok(Instructions::new(items))
@@ -149,7 +151,8 @@ fn method_numbered<'a>(
     method: Method<'a>,
 ) -> Result<Method<'a>, AllocError>
     requires { length statics.now ≤ 256 }
-    ensures { IfOk result (λ r. r ≡ method_numbered refs.now statics.now method.entry) }
+    ensures method { IfOk result (λ r. r ≡ method_numbered refs.now statics.now method.entry) }
+    ensures widths { IfOk result (λ r. AreInWidth r.insns) }
 {
     Ok(Method {
         class: method.class,
@@ -173,7 +176,8 @@ fn methods_numbered<'a>(
     methods: Seq<Method<'a>>,
 ) -> Result<Seq<Method<'a>>, AllocError>
     requires { length statics.now ≤ 256 }
-    ensures { IfOk result (λ r. r ≡ map (method_numbered refs.now statics.now) methods.entry) }
+    ensures methods { IfOk result (λ r. r ≡ map (method_numbered refs.now statics.now) methods.entry) }
+    ensures widths { IfOk result (λ r. AreMethodsInWidth r) }
 {
     let mut done = Seq::with_capacity(alloc, methods.len())?;
     for method in methods.into_vec() {
@@ -191,6 +195,7 @@ fn placed<'a>(
 ) -> Result<(Seq<Method<'a>>, Seq<StaticField<'a>>), LinkFault>
     ensures statics { Says (λ r. r.1) result (statics_named (classes_of world.now) methods.entry) }
     ensures methods { IfOk result (λ r. r.0 ≡ map (method_numbered refs.now r.1) methods.entry) }
+    ensures widths { IfOk result (λ r. AreMethodsInWidth r.0) }
 {
     let statics = statics_named(world, alloc, methods.as_slice())?;
     let methods = methods_numbered(alloc, refs, statics.as_slice(), methods)?;
@@ -267,6 +272,7 @@ fn closure_of<'a>(
     ensures bodies { IfOk result (λ closure. IsTrue (list_all (has_body (classes_of world.now)) closure.refs)) }
     ensures rows { IfOk result (λ closure. AreRows (classes_of world.now) closure.selections) }
     ensures whole { IfOk result (λ closure. IsTrue (is_closed (classes_of world.now) closure.refs closure.methods)) }
+    ensures widths { IfOk result (λ closure. AreMethodsInWidth closure.methods) }
 {
     let found = match find_reached(alloc, world, entry) {
         Ok(found) => found,

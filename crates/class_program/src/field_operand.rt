@@ -6,7 +6,7 @@ ghost use Rattle.class_program.specs.Reads.{member_seen};
 ghost use Rattle.class_program.specs.Refusals.{Gives};
 
 use crate::class_operand::{class_number, type_named};
-use crate::member_operand::MemberNames;
+use crate::member_operand::{MemberNames, unhidden};
 use crate::op::{FieldUse, Op};
 use crate::operand::FieldForm;
 use crate::refusal::Refusal;
@@ -56,8 +56,10 @@ pub(crate) fn field_of(
 {
     let named = type_named(world, alloc, names.class)?;
     let class = class_number(named)?;
-    match world.resolve_field(class, names.name, names.desc) {
-        Some(found) => field_found(world, class, names.desc, found),
-        None => Err(Refusal::Unresolved),
-    }
+    let Some(found) = world.resolve_field(class, names.name, names.desc) else {
+        return Err(Refusal::Unresolved);
+    };
+    let used = field_found(world, class, names.desc, found)?;
+    unhidden(world, class, names, found)?;
+    Ok(used)
 }

@@ -2,13 +2,14 @@
 ghost use Rattle.std.specs.Prelude.{◌≡◌, IsTrue};
 ghost use Rattle.std.specs.Option.{option_map};
 ghost use Rattle.class_program.specs.Instructions.{instruction_at, is_placed, at_seen, place_of, nth_at};
+ghost use Rattle.class_program.specs.Widths.{AreInWidth};
 
 use crate::op::Op;
 use list_views::Seq;
 use std::marker::Model;
 
 /// The instructions of a method, each with its place in bytes from the code's start. The places rise, and the first is 0.
-/// It is seen as their list.
+/// Each number is of its field's width. It is seen as their list.
 #[derive(Drop)]
 pub struct Instructions {
     items: Seq<(u16, Op)>,
@@ -21,10 +22,11 @@ impl Model for Instructions {
     ghost Value = { List (ℕ × Op) };
 
     ghost use Rattle.class_program.specs.Instructions.{is_placed};
+    ghost use Rattle.class_program.specs.Widths.{AreInWidth};
 
     ghost view = { λ s. s.items };
 
-    ghost invariant = { λ s. IsTrue (is_placed s.items) };
+    ghost invariant = { λ s. IsTrue (is_placed s.items) × AreInWidth s.items };
 }
 
 /// How many instructions stand before a place.
@@ -58,9 +60,10 @@ fn nth_at(insns: &[(u16, Op)], i: usize, pc: u16) -> Option<(&Op, Option<u16>)>
 }
 
 impl Instructions {
-    /// Instructions whose places rise from 0.
+    /// Instructions whose places rise from 0, with numbers of their fields' widths.
     pub(crate) fn new(items: Seq<(u16, Op)>) -> Instructions
-        requires { IsTrue (is_placed items) }
+        requires placed { IsTrue (is_placed items) }
+        requires widths { AreInWidth items }
         ensures { result ≡ items }
     {
         Instructions { items }
@@ -78,6 +81,7 @@ impl Instructions {
     pub(crate) fn into_seq(self) -> Seq<(u16, Op)>
         ensures list { result ≡ self }
         ensures placed { IsTrue (is_placed result) }
+        ensures widths { AreInWidth result }
     {
         self.items
     }

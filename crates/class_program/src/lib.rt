@@ -7,6 +7,7 @@ mod closing;
 mod field_operand;
 mod good;
 mod insns;
+mod jvm_differs;
 mod laws;
 mod member_operand;
 mod method;

@@ -1,10 +1,12 @@
 //! Members that instructions name (JVM specification, section 4.4.2).
-ghost use Rattle.class_program.specs.Ops.{member_operand};
+ghost use Rattle.class_world.specs.Worlds.{classes_of};
+ghost use Rattle.class_program.specs.Ops.{member_operand, unhidden};
 ghost use Rattle.class_program.specs.Reads.{member_seen};
 ghost use Rattle.class_program.specs.Refusals.{Gives};
 
 use crate::refusal::Refusal;
 use class_pool::Pool;
+use class_world::World;
 
 /// What a Fieldref, Methodref or InterfaceMethodref entry names.
 #[derive(Clone, Copy)]
@@ -31,4 +33,20 @@ pub(crate) fn member_operand<'p>(
         return Err(Refusal::Unresolved);
     }
     Ok(MemberNames { class, name, desc })
+}
+
+/// The field that was found for a name is the one that a JVM finds too: no superinterface hides it.
+#[tactic(auto, unfolding(crate::specs::Ops::unhidden))]
+pub(crate) fn unhidden(
+    world: &World<'_>,
+    class: u32,
+    names: MemberNames<'_>,
+    found: (u32, u32),
+) -> Result<(), Refusal>
+    ensures { Gives (λ x. x) result (unhidden (classes_of world.now) class (member_seen names.entry) found) }
+{
+    if world.is_hidden(class, found.0, names.name, names.desc) {
+        return Err(Refusal::Unresolved);
+    }
+    Ok(())
 }

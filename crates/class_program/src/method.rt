@@ -4,19 +4,23 @@ ghost use Rattle.std.specs.Prelude.{◌≡◌, ◌≢◌, ◌⊎◌, ◌<◌, �
 ghost use Rattle.class_world.specs.declared.fault.LinkFault.TheVariants.{Code, Memory};
 ghost use Rattle.code_forms.specs.declared.fault.CodeFault.TheVariants as faults;
 ghost use Rattle.code_decode.specs.Codes.{decode_of};
+ghost use Rattle.code_decode.specs.Encoding.{IsCode};
 ghost use Rattle.class_read.specs.Rules.{name_of};
 ghost use Rattle.class_read.specs.Content.{MethodContent};
 ghost use Rattle.class_read.specs.View.{method_content, code_content};
 ghost use Rattle.class_world.specs.Linking.{Refuses, has_short_code};
 ghost use Rattle.class_program.specs.Said.{Says};
 ghost use Rattle.class_program.specs.Ops.{pool_of};
+ghost use Rattle.class_program.specs.Rows.{AreRows};
 ghost use Rattle.class_world.specs.Resolve.{method_at, has_body};
 ghost use Rattle.class_program.specs.Methods.{method_name, static_init, code_of, synchronized, own_types, in_method, table_said, insns_of, op_said, ops_of, caught, catch_of, range_of, table_of, with_receiver, coded_of, named_of, method_of};
+ghost use Rattle.class_program.specs.Widths.{constant_in, IsConstantInWidth, AreInWidth};
 
 use crate::insns::Instructions;
 use crate::op::Op;
 use crate::ops::{fault_at, op_of};
 use crate::program::{CatchRange, Method};
+use crate::selections::Selections;
 use crate::signature::{Signature, declared_signature};
 use crate::slots::SharedSlots;
 use class_base::{Handler, NATIVE, STATIC, SYNCHRONIZED, has_flag};
@@ -86,7 +90,8 @@ fn code_fault(alloc: Global, name: &MethodName, fault: CodeFault) -> LinkFault
 /// The instructions of a code.
 fn decoded(alloc: Global, name: &MethodName, code: &[u8]) -> Result<Vec<(u16, Insn)>, LinkFault>
     requires { length code.now < 2 ^ 16 }
-    ensures { Says (λ insns. insns.items) result (in_method name.now (decode_of code.now)) }
+    ensures insns { Says (λ insns. insns.items) result (in_method name.now (decode_of code.now)) }
+    ensures code { IfOk result (λ insns. IsCode insns.items) }
 {
     match decode(alloc, code) {
         Ok(insns) => Ok(insns),
@@ -118,7 +123,8 @@ fn insns_of(
     code: &CodeView<'_>,
 ) -> Result<Vec<(u16, Insn)>, LinkFault>
     requires { length code.now.code.now < 2 ^ 16 }
-    ensures { Says (λ insns. insns.items) result (insns_of name.now (code_content code.now)) }
+    ensures insns { Says (λ insns. insns.items) result (insns_of name.now (code_content code.now)) }
+    ensures code { IfOk result (λ insns. IsCode insns.items) }
 {
     let insns = decoded(alloc, name, code.code)?;
     has_good_table(alloc, name, code, &insns)?;
@@ -147,16 +153,21 @@ fn ops_of<'a>(
     world: &World<'a>,
     alloc: Global,
     shared: &mut SharedSlots<'a>,
+    rows: &mut Selections,
     class: u32,
     name: &MethodName,
     insns: Vec<(u16, Insn)>,
 ) -> Result<Seq<(u16, Op)>, LinkFault>
-    requires { class < length (classes_of world.now) }
-    ensures { Says (λ ops. ops) result (ops_of (classes_of world.now) class name.now insns.items) }
+    requires class { class < length (classes_of world.now) }
+    requires rows { AreRows (classes_of world.now) rows.now }
+    requires code { IsCode insns.items }
+    ensures ops { Says (λ ops. ops) result (ops_of (classes_of world.now) class name.now insns.items) }
+    ensures widths { IfOk result (λ ops. AreInWidth ops) }
+    ensures rows { IfOk result (λ _. AreRows (classes_of world.now) rows.new) }
 {
     let mut ops = Seq::with_capacity(alloc, insns.len())?;
     for insn in insns {
-        ops.push(op_said(world, alloc, shared, class, name, insn)?)?;
+        ops.push(op_said(world, alloc, shared, rows, class, name, insn)?)?;
     }
     Ok(ops)
 }
@@ -191,21 +202,47 @@ fn own_types(
     }
 }
 
+/// The int that an instruction pushes, where the pool has it.
+fn constant(op: &Op) -> Option<i32>
+    ensures { result ≡ constant_in op.now }
+{
+    match op {
+        Op::Constant(value) => Some(*value),
+        _ => None,
+    }
+}
+
+/// An int constant is one of 32 bits.
+#[tactic(auto, using(crate::proofs::InWidth::constant_held))]
+fn is_constant_in_width(op: &Op)
+    ensures { IsConstantInWidth op.now }
+{
+    match constant(op) {
+        Some(_) => {}
+        None => {}
+    }
+}
+
 /// An instruction and its place, with its names resolved.
 #[tactic(auto, unfolding(crate::specs::Methods::op_said))]
 fn op_said<'a>(
     world: &World<'a>,
     alloc: Global,
     shared: &mut SharedSlots<'a>,
+    rows: &mut Selections,
     class: u32,
     name: &MethodName,
     insn: (u16, Insn),
 ) -> Result<(u16, Op), LinkFault>
-    requires { class < length (classes_of world.now) }
-    ensures { Says (λ op. op) result (op_said (classes_of world.now) class name.now insn) }
+    requires class { class < length (classes_of world.now) }
+    requires rows { AreRows (classes_of world.now) rows.now }
+    ensures op { Says (λ op. op) result (op_said (classes_of world.now) class name.now insn) }
+    ensures width { IfOk result (λ op. IsConstantInWidth op.1) }
+    ensures rows { IfOk result (λ _. AreRows (classes_of world.now) rows.new) }
 {
     let (pc, insn) = insn;
-    let op = op_of(world, alloc, class, name, pc, insn)?;
+    let op = op_of(world, alloc, rows, class, name, pc, insn)?;
+    is_constant_in_width(&op);
     Ok((pc, shared.shared_op(world, op)?))
 }
 
@@ -287,6 +324,7 @@ fn coded<'a>(
     world: &World<'a>,
     alloc: Global,
     shared: &mut SharedSlots<'a>,
+    rows: &mut Selections,
     method: MethodRef,
     name: &MethodName,
     view: &MethodView<'a>,
@@ -295,11 +333,13 @@ fn coded<'a>(
 ) -> Result<Method<'a>, LinkFault>
     requires class { method.class < length (classes_of world.now) }
     requires short { length code.now.code.now < 2 ^ 16 }
-    ensures { Says (λ m. m) result (coded_of (classes_of world.now) method name.now (method_content view.now) (code_content code.now) types.now) }
+    requires rows { AreRows (classes_of world.now) rows.now }
+    ensures method { Says (λ m. m) result (coded_of (classes_of world.now) method name.now (method_content view.now) (code_content code.now) types.now) }
+    ensures rows { IfOk result (λ _. AreRows (classes_of world.now) rows.new) }
 {
     let class = method.class;
     let insns = insns_of(alloc, name, code)?;
-    let insns = ops_of(world, alloc, shared, class, name, insns)?;
+    let insns = ops_of(world, alloc, shared, rows, class, name, insns)?;
     let table = table_of(world, alloc, pool(world, class), code.table.as_slice())?;
     Ok(Method {
         class,
@@ -321,18 +361,21 @@ fn named<'a>(
     world: &World<'a>,
     alloc: Global,
     shared: &mut SharedSlots<'a>,
+    rows: &mut Selections,
     method: MethodRef,
     name: &MethodName,
     view: &MethodView<'a>,
 ) -> Result<Method<'a>, LinkFault>
     requires class { method.class < length (classes_of world.now) }
     requires short { IsTrue (has_short_code (method_content view.now)) }
-    ensures { Says (λ m. m) result (named_of (classes_of world.now) method name.now (method_content view.now)) }
+    requires rows { AreRows (classes_of world.now) rows.now }
+    ensures method { Says (λ m. m) result (named_of (classes_of world.now) method name.now (method_content view.now)) }
+    ensures rows { IfOk result (λ _. AreRows (classes_of world.now) rows.new) }
 {
     let code = code_of(alloc, name, view)?;
     not_synchronized(alloc, name, view)?;
     let types = own_types(world, alloc, name, view.desc)?;
-    coded(world, alloc, shared, method, name, view, code, &types)
+    coded(world, alloc, shared, rows, method, name, view, code, &types)
 }
 
 /// The method of that class and place, whose calls have no numbers yet, or the first rule that it breaks.
@@ -341,16 +384,19 @@ fn declared<'a>(
     world: &World<'a>,
     alloc: Global,
     shared: &mut SharedSlots<'a>,
+    rows: &mut Selections,
     method: MethodRef,
     view: &MethodView<'a>,
 ) -> Result<Method<'a>, LinkFault>
     requires class { method.class < length (classes_of world.now) }
     requires short { IsTrue (has_short_code (method_content view.now)) }
-    ensures { Says (λ m. m) result (method_of (classes_of world.now) method (method_content view.now)) }
+    requires rows { AreRows (classes_of world.now) rows.now }
+    ensures method { Says (λ m. m) result (method_of (classes_of world.now) method (method_content view.now)) }
+    ensures rows { IfOk result (λ _. AreRows (classes_of world.now) rows.new) }
 {
     keeps_static_init(world, alloc, method.class)?;
     let name = method_name(world, alloc, method.class, view)?;
-    named(world, alloc, shared, method, &name, view)
+    named(world, alloc, shared, rows, method, &name, view)
 }
 
 /// A method of the world, whose calls have no numbers yet, or the first rule that it breaks.
@@ -358,13 +404,16 @@ pub(crate) fn method_of<'a>(
     world: &World<'a>,
     alloc: Global,
     shared: &mut SharedSlots<'a>,
+    rows: &mut Selections,
     method: MethodRef,
 ) -> Result<Method<'a>, LinkFault>
-    requires { IsTrue (has_body (classes_of world.now) method) }
-    ensures { (content : MethodContent) → method_at (classes_of world.now) method ≡ Some content → Says (λ m. m) result (method_of (classes_of world.now) method content) }
+    requires body { IsTrue (has_body (classes_of world.now) method) }
+    requires rows { AreRows (classes_of world.now) rows.now }
+    ensures method { (content : MethodContent) → method_at (classes_of world.now) method ≡ Some content → Says (λ m. m) result (method_of (classes_of world.now) method content) }
+    ensures rows { IfOk result (λ _. AreRows (classes_of world.now) rows.new) }
 {
     match world.method_at(method) {
-        Some(view) => declared(world, alloc, shared, method, view),
+        Some(view) => declared(world, alloc, shared, rows, method, view),
         None => Err(LinkFault::Memory),
     }
 }

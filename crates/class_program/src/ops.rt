@@ -2,17 +2,20 @@
 ghost use Rattle.class_world.specs.Worlds.{classes_of};
 ghost use Rattle.std.specs.Prelude.{◌≡◌, ◌<◌, length, IfOk};
 ghost use Rattle.class_program.specs.Operands.{operand_of};
-ghost use Rattle.class_program.specs.Ops.{is_other_constant, constant_of, numbers_op, field_operand, static_operand, class_operand, call_operand, op_with, op_of};
+ghost use Rattle.class_program.specs.Ops.{is_other_constant, constant_of, numbers_op, field_operand, static_operand, class_operand, call_operand, op_with, alike_with, op_of};
+ghost use Rattle.class_program.specs.Rows.{AreRows};
 ghost use Rattle.class_program.specs.Refusals.{Gives, fault_at};
 ghost use Rattle.class_program.specs.Said.{Says};
 
 use crate::call_operand::{call_of, call_op, member_tag};
 use crate::class_operand::{class_op, type_operand};
 use crate::field_operand::{field_of, field_op};
+use crate::jvm_differs::call_differs;
 use crate::member_operand::member_operand;
 use crate::op::Op;
 use crate::operand::{CallForm, ClassForm, FieldForm, Operand, StaticForm, operand_of};
 use crate::refusal::Refusal;
+use crate::selections::Selections;
 use crate::static_operand::{static_of, static_op};
 use class_pool::Pool;
 use class_world::{LinkFault, MethodName, World};
@@ -173,6 +176,27 @@ fn op_with(
     }
 }
 
+/// The same, where a JVM selects the methods that are selected here; what classes select for a call is put into rows.
+#[tactic(auto, unfolding(crate::specs::Ops::alike_with))]
+fn alike_with(
+    world: &World<'_>,
+    alloc: Global,
+    rows: &mut Selections,
+    current: u32,
+    pool: &Pool<'_>,
+    insn: Insn,
+) -> Result<Op, Refusal>
+    requires { AreRows (classes_of world.now) rows.now }
+    ensures op { Gives (λ op. op) result (alike_with (classes_of world.now) current pool.now insn (operand_of insn)) }
+    ensures rows { IfOk result (λ _. AreRows (classes_of world.now) rows.new) }
+{
+    let op = op_with(world, alloc, current, pool, insn)?;
+    if call_differs(world, alloc, rows, &op)? {
+        return Err(Refusal::Unresolved);
+    }
+    Ok(op)
+}
+
 /// The instruction at a place of a method that a class declares. A call is without the number of its method among
 /// the reached ones.
 ///
@@ -182,16 +206,19 @@ fn op_with(
 pub(crate) fn op_of(
     world: &World<'_>,
     alloc: Global,
+    rows: &mut Selections,
     class: u32,
     name: &MethodName,
     pc: u16,
     insn: Insn,
 ) -> Result<Op, LinkFault>
-    requires { class < length (classes_of world.now) }
-    ensures { Says (λ op. op) result (op_of (classes_of world.now) class name.now pc insn) }
+    requires class { class < length (classes_of world.now) }
+    requires rows { AreRows (classes_of world.now) rows.now }
+    ensures op { Says (λ op. op) result (op_of (classes_of world.now) class name.now pc insn) }
+    ensures rows { IfOk result (λ _. AreRows (classes_of world.now) rows.new) }
 {
     let view = world.view(class);
-    match op_with(world, alloc, class, &view.pool, insn) {
+    match alike_with(world, alloc, rows, class, &view.pool, insn) {
         Ok(op) => Ok(op),
         Err(refusal) => Err(fault_at(alloc, name, pc, refusal)?),
     }

@@ -7,6 +7,8 @@ ghost use Rattle.class_program.specs.Statics.{fields_named, statics_of};
 ghost use Rattle.class_program.specs.Rows.{AreRows};
 ghost use Rattle.class_program.specs.Reached.{reached, close_of, is_closed};
 ghost use Rattle.class_program.specs.Programs.{refs_of};
+ghost use Rattle.class_program.specs.Widths.{AreMethodsInWidth};
+ghost use Rattle.class_program.specs.WidthProps.{AreMethodsInWidth-prop};
 
 use crate::insns::Instructions;
 use crate::reached::MethodRefs;
@@ -89,4 +91,5 @@ pub struct Program<'a> {
     ghost bodies: { IsTrue (list_all (has_body (classes_of world)) refs) },
     ghost rows: { AreRows (classes_of world) selections },
     ghost whole: { IsTrue (is_closed (classes_of world) refs methods) },
+    ghost widths: { AreMethodsInWidth methods } by { AreMethodsInWidth-prop methods },
 }

@@ -9,7 +9,7 @@ ghost use Rattle.class_world.specs.Select.{selected_virtual, selected_interface}
 ghost use Rattle.class_program.specs.Instructions.{instruction_at, at_seen};
 ghost use Rattle.class_program.specs.Programs.{refs_of, insn_at, op_at};
 ghost use Rattle.class_program.specs.Views.{program_of};
-ghost use Rattle.class_program.specs.Selected.{selection_at, selected_in, selected_at, can_receive, can_receive_at};
+ghost use Rattle.class_program.specs.Selected.{selection_at, selected_in, selected_for, selected_at, can_receive, can_receive_at};
 
 use crate::op::{Call, Op};
 use crate::program::{Method, Program};
@@ -120,6 +120,7 @@ impl<'a> Program<'a> {
         }
     }
 
+    /// What an instruction does on an object of a class of the world.
     #[tactic(auto, unfolding(crate::specs::Selected::selection_at))]
     fn selected_by_op(&self, op: &Op, class: u32) -> Option<Selected>
         requires { class < length (classes_of self.now.world) }
@@ -129,6 +130,22 @@ impl<'a> Program<'a> {
             Op::Invokevirtual(call) => self.selected_virtual(call, class),
             Op::Invokeinterface(call) => self.selected_interface(call, class),
             _ => None,
+        }
+    }
+
+    /// What an instruction does on an object of a class, whether or not its receiver can be of that class: the answer of a
+    /// virtual or interface call. None where the instruction is no such call, where no class of the world has that number,
+    /// or where the method that the class selects is none of the program's, which for an instruction of the program and a
+    /// class that [`Program::can_receive`] takes doesn't come (JVM specification, section 6.5, invokevirtual and
+    /// invokeinterface).
+    #[tactic(auto, unfolding(crate::specs::Selected::selected_for))]
+    pub fn selected_for(&self, op: &Op, class: u32) -> Option<Selected>
+        ensures { result ≡ selected_for (program_of self.now) op.now class }
+    {
+        if (class as usize) < self.world.len() {
+            self.selected_by_op(op, class)
+        } else {
+            None
         }
     }
 

@@ -1,9 +1,9 @@
 -- The places of fields in objects, from the tables.
-use Rattle.std.proofs.Common.{◌≡◌, ℕ, zero, suc, ◌+◌, ◌-◌, ◌<◌, ◌≤◌, ◌^◌, Bool, true, false, cond, List, [], ◌∷◌, ◌++◌, length, get_or, take, drop, Option, Some, None, sym, refl, ap, ap₂, ◌∙◌, subst, arith, length-append, append-nil, add-one, zero-add}
+use Rattle.std.proofs.Common.{◌≡◌, ℕ, zero, suc, ◌+◌, ◌-◌, ◌<◌, ◌≤◌, ◌^◌, Bool, true, false, cond, List, [], ◌∷◌, ◌++◌, length, get_or, take, drop, Option, Some, None, sym, refl, ap, ap₂, ◌∙◌, subst, inl, inr, arith, length-append, append-nil, add-one, zero-add}
 use Rattle.std.specs.Prelude.{reverse, slice_get, IfSome}
 use Rattle.std.specs.List.{filter, filter_map, flat_map, cons_option, list_all, range_with_len}
 use Rattle.std.specs.Option.{option_map_or}
-use Rattle.std.proofs.lemmas.Bool.{and_parts, ltb-true}
+use Rattle.std.proofs.lemmas.Bool.{and_parts, ltb-true, cases_lt}
 use Rattle.std.proofs.lemmas.List.{reverse-append, take_all}
 use Rattle.std.proofs.lemmas.List.Concat.{flat_map-append}
 use Rattle.std.proofs.lemmas.Option.{slice_get-get_or}
@@ -14,6 +14,7 @@ use Rattle.class_world.specs.World.{World, super_of, line_from, line_of, built_i
 use Rattle.class_world.specs.Fields.{field_slot, own_slots, fields_of}
 use Rattle.class_world.specs.Resolve.{slots_above, own_slots_before}
 use Rattle.class_world.specs.Tables.{values_to}
+use Rattle.class_world.specs.Walks.{IsIn}
 use Rattle.class_world.specs.Index.{has_places, kept_before, kept_counts, kept_row}
 use Rattle.class_world.proofs.Tables.{length-values, get_or-values}
 
@@ -143,6 +144,14 @@ range_more a n = ap (range_with_len a) (add-one n) ∙ go a n
     go a (suc n) =
         let z : a + 1 + n ≡ a + suc n = omega arith in
         ap (λ xs. a ∷ xs) (go (a + 1) n ∙ ap (λ x. range_with_len (a + 1) n ++ x ∷ []) z)
+
+-- the numbers of a range
+pub in_range : (a n x : ℕ) → a ≤ x → x < a + n → IsIn x (range_with_len a n)
+in_range a zero x l m = absurd (omega (arith, l, m))
+in_range a (suc n) x l m = elim (cases_lt a x) [
+  | inl k ↦ inr (in_range (a + 1) n x (omega (arith, k)) (omega (arith, m)))
+  | inr k ↦ inl (omega (arith, k, l))
+]
 
 pub filter_more : (p : ℕ → Bool) (found more : List ℕ) (i : ℕ) (b : Bool) → found ≡ filter p (range_with_len 0 i) → b ≡ p i → more ≡ cond b (found ++ i ∷ []) found → more ≡ filter p (range_with_len 0 (i + 1))
 filter_more p found more i b e f m =

@@ -11,6 +11,7 @@ pub mod Few
 pub mod Keys
 pub mod Indexes
 pub mod Chain
+pub mod HiddenFields
 pub mod Seeking
 pub mod Counting
 pub mod ShortCodes
@@ -18,5 +19,7 @@ pub mod Below
 pub mod Prefixes
 pub mod Found
 pub mod BuiltInLaws
+pub mod NoInterfaces
+pub mod ArrayNames
 pub mod Onces
 pub mod Gathering

@@ -2,7 +2,7 @@
 use Rattle.std.proofs.Common.{◌≡◌, ℕ, zero, suc, ◌+◌, ◌<◌, ◌≤◌, Bool, true, false, cond, eqb, List, [], ◌∷◌, ◌++◌, length, take, drop, Option, Some, None, sym, refl, ap, ap₂, ◌∙◌, subst, inl, inr, ◌⊎◌, arith, append-nil, append_assoc, zero-add}
 use Rattle.std.specs.Prelude.{option_and_then, slice_get, reverse, is_none}
 use Rattle.std.specs.List.{filter_map, flat_map, cons_option}
-use Rattle.std.specs.Option.{option_map, option_map_or}
+use Rattle.std.specs.Option.{option_map, option_map_or, option_or}
 use Rattle.std.proofs.lemmas.Bool.{eqb-true}
 use Rattle.std.proofs.lemmas.List.{reverse-append}
 use Rattle.std.proofs.lemmas.List.Concat.{flat_map-append}
@@ -45,7 +45,7 @@ super_found (Some s) name e = (s, refl)
 super_there : (world : World) → IsLinked world → (a : ℕ) (c : ClassContent) → slice_get world a ≡ Some c → eqb a 0 ≡ false → (s : ℕ) × (super_of world a ≡ Some s)
 unfolding missing_super
 super_there world h a c e z =
-    let first : first_missing world (c.super_name ∷ c.interfaces) ≡ None = subst (λ (b : Bool). first_missing world (cond b c.interfaces (c.super_name ∷ c.interfaces)) ≡ None) z (h.present a c e) in
+    let first : option_or (missing_name world c.super_name) (first_missing world c.interfaces) ≡ None = subst (λ (b : Bool). option_or (cond b None (missing_name world c.super_name)) (first_missing world c.interfaces) ≡ None) z (h.present a c e) in
     let s = super_found (class_of world c.super_name) c.super_name (or_none (missing_name world c.super_name) (first_missing world c.interfaces) first).0 in
     (s.0, ap (λ b. cond b None (option_and_then (λ x. class_of world x.super_name) (slice_get world a))) z ∙ ap (option_and_then (λ x. class_of world x.super_name)) e ∙ s.1)
 

@@ -1,5 +1,5 @@
 -- Going through the classes rule by rule.
-use Rattle.std.proofs.Common.{◌≡◌, ◌||◌, ℕ, zero, suc, ◌+◌, ◌<◌, ◌≤◌, Bool, true, false, not, cond, eqb, ltb, List, [], ◌∷◌, ◌++◌, length, get_or, take, drop, Option, Some, None, sym, refl, ap, ◌∙◌, subst, inl, inr, arith, add-one, eq-eqb}
+use Rattle.std.proofs.Common.{◌≡◌, ◌||◌, ◌&&◌, ℕ, zero, suc, ◌+◌, ◌<◌, ◌≤◌, Bool, true, false, not, cond, eqb, ltb, List, [], ◌∷◌, ◌++◌, length, get_or, take, drop, Option, Some, None, sym, refl, ap, ◌∙◌, subst, inl, inr, arith, add-one, eq-eqb}
 use Rattle.std.specs.Prelude.{slice_get, map, option_and_then, Result, Ok, Err, IsErrAnd}
 use Rattle.std.specs.Borrow.{Bor}
 use Rattle.std.specs.List.{list_any, position_or_len}
@@ -17,7 +17,7 @@ use Rattle.class_read.specs.Content.{ClassContent}
 use Rattle.class_world.specs.declared.fault.LinkFault.{LinkFault}
 use Rattle.class_world.specs.declared.fault.LinkFault.TheVariants.{DuplicateClass}
 use Rattle.class_world.specs.World.{World, class_of, built_in, is_above}
-use Rattle.class_world.specs.Linking.{Rule, Refuses, is_memory, first_broken, first_missing, missing_name, rule_at, duplicate_class}
+use Rattle.class_world.specs.Linking.{Rule, Refuses, is_memory, first_broken, first_missing, missing_interface, rule_at, duplicate_class, is_array_interface}
 use Rattle.class_world.specs.Tables.{names_of, values_to, above_table}
 use Rattle.class_base.proofs.Maps.{any-map}
 use Rattle.class_world.proofs.Tables.{class_at, get_or-values, length-values}
@@ -65,12 +65,19 @@ none_in_take p (x ∷ xs) zero e k l m = absurd (omega (arith, l))
 none_in_take p (x ∷ xs) (suc i) e zero l m = (or_parts (p x) (list_any p (take i xs)) e).0
 none_in_take p (x ∷ xs) (suc i) e (suc k) l m = none_in_take p xs i (or_parts (p x) (list_any p (take i xs)) e).1 k (omega (arith, l)) (omega (arith, m))
 
+-- a name is taken where it is that of an interface of arrays, or stands among the names
+abbrev pub is_taken : List ℕ → List (List ℕ) → Bool
+is_taken name names = is_array_interface name || list_any (bytes_eq name) names
+
 -- the first of a name is this class exactly where no earlier one has it
-pub duplicate_at : (world : World) (i : ℕ) (c : ClassContent) (there : Bool) → slice_get world i ≡ Some c → list_any (bytes_eq c.name) (names_of (take i world)) ≡ there → rule_at (duplicate_class world) world i ≡ cond there (Some (DuplicateClass c.name)) None
+duplicate_at : (world : World) (i : ℕ) (c : ClassContent) (there : Bool) → slice_get world i ≡ Some c → is_taken c.name (names_of (take i world)) ≡ there → rule_at (duplicate_class world) world i ≡ cond there (Some (DuplicateClass c.name)) None
 unfolding duplicate_class
 duplicate_at world i c there s e =
-    ap (option_and_then (duplicate_class world i)) s ∙ ap (λ b. cond b None (Some (DuplicateClass c.name))) (own there searched) ∙ turned there
+    ap (option_and_then (duplicate_class world i)) s ∙ of_arrays (is_array_interface c.name) refl
   where
+    says : Bool → Bool → Option LinkFault
+    says arrays first = cond (not arrays && first) None (Some (DuplicateClass c.name))
+
     d : ClassContent
     d = built_in [] []
 
@@ -87,9 +94,6 @@ duplicate_at world i c there s e =
     here : p (get_or world i d) ≡ true
     here = ap p (get_or_from_slice_get world i c d s) ∙ (bytes_decides c.name c.name).1 refl
 
-    searched : list_any p (take i world) ≡ there
-    searched = sym (any-map (bytes_eq c.name) (λ x. x.name) (take i world)) ∙ e
-
     own : (b : Bool) → list_any p (take i world) ≡ b → option_map_or (λ first. eqb first i) (class_of world c.name) false ≡ not b
     own false f =
         let at = position_or_len_is p world i d (omega (arith, within)) (λ k l. none_in_take p world i f k l (omega (arith, l, within))) (λ l. here) in
@@ -105,6 +109,16 @@ duplicate_at world i c there s e =
         let first : class_of world c.name ≡ Some n = ap (λ b. cond b (Some n) None) (lt-ltb n (length world) (omega (arith, below, within))) in
         ap (λ o. option_map_or (λ m. eqb m i) o false) first ∙ ne_eqb n i (omega (arith, below))
 
+    of_arrays : (a : Bool) → is_array_interface c.name ≡ a → says (is_array_interface c.name) (option_map_or (λ first. eqb first i) (class_of world c.name) false) ≡ cond there (Some (DuplicateClass c.name)) None
+    of_arrays true f =
+        ap (λ b. says b (option_map_or (λ first. eqb first i) (class_of world c.name) false)) f
+        ∙ ap (λ b. cond b (Some (DuplicateClass c.name)) None) (sym (ap (λ b. b || list_any (bytes_eq c.name) (names_of (take i world))) f) ∙ e)
+    of_arrays false f =
+        let searched : list_any p (take i world) ≡ there = sym (any-map (bytes_eq c.name) (λ x. x.name) (take i world)) ∙ sym (ap (λ b. b || list_any (bytes_eq c.name) (names_of (take i world))) f) ∙ e in
+        ap (λ b. says b (option_map_or (λ first. eqb first i) (class_of world c.name) false)) f
+        ∙ ap (says false) (own there searched)
+        ∙ turned there
+
 names_more_suc : (world : World) (i : ℕ) (c : ClassContent) → slice_get world i ≡ Some c → names_of (take (suc i) world) ≡ names_of (take i world) ++ c.name ∷ []
 names_more_suc [] i c s = cc
 names_more_suc (x ∷ xs) zero c s = let e : x ≡ c = cc in ap (λ y. y.name ∷ []) e
@@ -114,23 +128,23 @@ pub names_more : (world : World) (i : ℕ) (c : ClassContent) → slice_get worl
 names_more world i c s = ap (λ j. names_of (take j world)) (add-one i) ∙ names_more_suc world i c s
 
 -- the names of the classes so far, and one more
-pub enrol_more : (world : World) (i : ℕ) (c : ClassContent) (name : List ℕ) (names more : List (List ℕ)) (added : Bool) → i < length world → c ≡ get_or world i c → name ≡ c.name → names ≡ names_of (take i world) → first_broken (duplicate_class world) i (drop i world) ≡ first_broken (duplicate_class world) 0 world → more ≡ cond added (names ++ name ∷ []) names → list_any (bytes_eq name) names ≡ cond added false true → added ≡ true → (more ≡ names_of (take (i + 1) world)) × (first_broken (duplicate_class world) (i + 1) (drop (i + 1) world) ≡ first_broken (duplicate_class world) 0 world)
+pub enrol_more : (world : World) (i : ℕ) (c : ClassContent) (name : List ℕ) (names more : List (List ℕ)) (added : Bool) → i < length world → c ≡ get_or world i c → name ≡ c.name → names ≡ names_of (take i world) → first_broken (duplicate_class world) i (drop i world) ≡ first_broken (duplicate_class world) 0 world → more ≡ cond added (names ++ name ∷ []) names → is_taken name names ≡ cond added false true → added ≡ true → (more ≡ names_of (take (i + 1) world)) × (first_broken (duplicate_class world) (i + 1) (drop (i + 1) world) ≡ first_broken (duplicate_class world) 0 world)
 enrol_more world i c name names more added l at n e k m t a =
     let s = class_at world i c l at in (
       m ∙ ap (λ b. cond b (names ++ name ∷ []) names) a ∙ ap (λ ys. ys ++ name ∷ []) e ∙ ap (λ x. names_of (take i world) ++ x ∷ []) n ∙ sym (names_more world i c s),
       broken_kept (duplicate_class world) world i l k (duplicate_at world i c false s (searched ∙ ap (λ b. cond b false true) a)),
     )
   where
-    searched : list_any (bytes_eq c.name) (names_of (take i world)) ≡ cond added false true
-    searched = subst (λ (x : List ℕ). list_any (bytes_eq x) (names_of (take i world)) ≡ cond added false true) n (subst (λ (ys : List (List ℕ)). list_any (bytes_eq name) ys ≡ cond added false true) e t)
+    searched : is_taken c.name (names_of (take i world)) ≡ cond added false true
+    searched = subst (λ (x : List ℕ). is_taken x (names_of (take i world)) ≡ cond added false true) n (subst (λ (ys : List (List ℕ)). is_taken name ys ≡ cond added false true) e t)
 
-pub enrol_stop : (world : World) (i : ℕ) (c : ClassContent) (name : List ℕ) (names : List (List ℕ)) (added : Bool) → i < length world → c ≡ get_or world i c → name ≡ c.name → names ≡ names_of (take i world) → first_broken (duplicate_class world) i (drop i world) ≡ first_broken (duplicate_class world) 0 world → list_any (bytes_eq name) names ≡ cond added false true → added ≡ false → first_broken (duplicate_class world) 0 world ≡ Some (DuplicateClass name)
+pub enrol_stop : (world : World) (i : ℕ) (c : ClassContent) (name : List ℕ) (names : List (List ℕ)) (added : Bool) → i < length world → c ≡ get_or world i c → name ≡ c.name → names ≡ names_of (take i world) → first_broken (duplicate_class world) i (drop i world) ≡ first_broken (duplicate_class world) 0 world → is_taken name names ≡ cond added false true → added ≡ false → first_broken (duplicate_class world) 0 world ≡ Some (DuplicateClass name)
 enrol_stop world i c name names added l at n e k t a =
     broken_here (duplicate_class world) world i (DuplicateClass name) l k
     (duplicate_at world i c true (class_at world i c l at) (searched ∙ ap (λ b. cond b false true) a) ∙ ap (λ x. Some (DuplicateClass x)) (sym n))
   where
-    searched : list_any (bytes_eq c.name) (names_of (take i world)) ≡ cond added false true
-    searched = subst (λ (x : List ℕ). list_any (bytes_eq x) (names_of (take i world)) ≡ cond added false true) n (subst (λ (ys : List (List ℕ)). list_any (bytes_eq name) ys ≡ cond added false true) e t)
+    searched : is_taken c.name (names_of (take i world)) ≡ cond added false true
+    searched = subst (λ (x : List ℕ). is_taken x (names_of (take i world)) ≡ cond added false true) n (subst (λ (ys : List (List ℕ)). is_taken name ys ≡ cond added false true) e t)
 
 take_all_of : {A : Type 0} (xs : List A) (i : ℕ) → length xs ≤ i → take i xs ≡ xs
 take_all_of [] zero l = refl
@@ -147,19 +161,19 @@ pub refuses_here : (rule : Rule) (world : World) (i : ℕ) (fault : LinkFault) �
 refuses_here rule world i fault l k h = found_by is_memory fault (rule_at rule world i) (first_broken rule 0 world) (broken_here rule world i fault l k) h
 
 -- one more name that is there
-pub missing_more : (world : World) (names : List (Bor (List ℕ))) (i : ℕ) (d : Bor (List ℕ)) → i < length names → first_missing world (map (λ r. r.now) (drop i names)) ≡ first_missing world (map (λ r. r.now) names) → missing_name world (get_or names i d).now ≡ None → first_missing world (map (λ r. r.now) (drop (i + 1) names)) ≡ first_missing world (map (λ r. r.now) names)
+pub missing_more : (world : World) (names : List (Bor (List ℕ))) (i : ℕ) (d : Bor (List ℕ)) → i < length names → first_missing world (map (λ r. r.now) (drop i names)) ≡ first_missing world (map (λ r. r.now) names) → missing_interface world (get_or names i d).now ≡ None → first_missing world (map (λ r. r.now) (drop (i + 1) names)) ≡ first_missing world (map (λ r. r.now) names)
 missing_more world names i d l e r =
     ap (λ j. first_missing world (map (λ x. x.now) (drop j names))) (add-one i)
     ∙ sym (ap (λ o. option_or o (first_missing world (map (λ x. x.now) (drop (suc i) names)))) r)
     ∙ sym (ap (λ xs. first_missing world (map (λ x. x.now) xs)) (drop-cons names i d l)) ∙ e
 
-missing_here : (world : World) (names : List (Bor (List ℕ))) (i : ℕ) (d : Bor (List ℕ)) (fault : LinkFault) → i < length names → first_missing world (map (λ r. r.now) (drop i names)) ≡ first_missing world (map (λ r. r.now) names) → missing_name world (get_or names i d).now ≡ Some fault → first_missing world (map (λ r. r.now) names) ≡ Some fault
+missing_here : (world : World) (names : List (Bor (List ℕ))) (i : ℕ) (d : Bor (List ℕ)) (fault : LinkFault) → i < length names → first_missing world (map (λ r. r.now) (drop i names)) ≡ first_missing world (map (λ r. r.now) names) → missing_interface world (get_or names i d).now ≡ Some fault → first_missing world (map (λ r. r.now) names) ≡ Some fault
 missing_here world names i d fault l e r =
     sym e ∙ ap (λ xs. first_missing world (map (λ x. x.now) xs)) (drop-cons names i d l)
     ∙ ap (λ o. option_or o (first_missing world (map (λ x. x.now) (drop (suc i) names)))) r
 
-pub refuses_missing : (world : World) (names : List (Bor (List ℕ))) (i : ℕ) (d : Bor (List ℕ)) (fault : LinkFault) → i < length names → first_missing world (map (λ r. r.now) (drop i names)) ≡ first_missing world (map (λ r. r.now) names) → IsFault is_memory fault (missing_name world (get_or names i d).now) → IsFault is_memory fault (first_missing world (map (λ r. r.now) names))
-refuses_missing world names i d fault l e h = found_by is_memory fault (missing_name world (get_or names i d).now) (first_missing world (map (λ r. r.now) names)) (missing_here world names i d fault l e) h
+pub refuses_missing : (world : World) (names : List (Bor (List ℕ))) (i : ℕ) (d : Bor (List ℕ)) (fault : LinkFault) → i < length names → first_missing world (map (λ r. r.now) (drop i names)) ≡ first_missing world (map (λ r. r.now) names) → IsFault is_memory fault (missing_interface world (get_or names i d).now) → IsFault is_memory fault (first_missing world (map (λ r. r.now) names))
+refuses_missing world names i d fault l e h = found_by is_memory fault (missing_interface world (get_or names i d).now) (first_missing world (map (λ r. r.now) names)) (missing_here world names i d fault l e) h
 
 pub above_length : (world : World) (table : List (List Bool)) (a : ℕ) (d : List Bool) → table ≡ above_table world → a < length world → length (get_or table a d) ≡ length world
 above_length world table a d e l =

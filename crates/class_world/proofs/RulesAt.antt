@@ -32,7 +32,7 @@ missing_at world i c super names l e s n =
     ap (option_and_then (missing_super world i)) (class_at world i c l e)
     ∙ by (eqb i 0)
   where
-    by : (z : Bool) → first_missing world (cond z c.interfaces (c.super_name ∷ c.interfaces)) ≡ cond z (first_missing world names) (option_or (missing_name world super) (first_missing world names))
+    by : (z : Bool) → option_or (cond z None (missing_name world c.super_name)) (first_missing world c.interfaces) ≡ cond z (first_missing world names) (option_or (missing_name world super) (first_missing world names))
     by true = ap (first_missing world) (sym n)
     by false = ap (λ x. option_or (missing_name world x) (first_missing world c.interfaces)) (sym s) ∙ ap (λ x. option_or (missing_name world super) (first_missing world x)) (sym n)
 

@@ -1,9 +1,10 @@
 -- What a world is, and what all worlds have in common: the built-in classes, by their numbers, and the order of fields.
 use Rattle.std.specs.Prelude.{◌≡◌, ◌≢◌, ℕ, ◌<◌, false, List, [], ◌++◌, length, take, slice_get, Some, IsTrue}
 use Rattle.jvm_values.specs.declared.types.Slot.{Slot}
-use Rattle.jvm_values.specs.Subtyping.{class_type}
+use Rattle.jvm_values.specs.declared.types.Ty.{Ty}
+use Rattle.jvm_values.specs.Subtyping.{class_type, IsErased}
 use Rattle.class_world.specs.World.{World, built_ins, is_interface_class}
-use Rattle.class_world.specs.Types.{is_class_below, is_sub}
+use Rattle.class_world.specs.Types.{is_class_below, is_sub, erase}
 use Rattle.class_world.specs.Fields.{fields_of, can_be_made}
 use Rattle.class_world.specs.Resolve.{field_place}
 use Rattle.class_world.specs.Linking.{is_linked}
@@ -72,6 +73,13 @@ pub record HasBuiltIns (world : World) : Type 0 where
   pub made : (class : ℕ) → class < built_in_count → IsTrue (can_be_made world class)
   pub without_fields : (class : ℕ) → class < built_in_count → fields_of world class ≡ []
   pub throwables : (class : ℕ) → class < built_in_count → class ≢ object → IsTrue (is_sub world (class_type class) (class_type throwable))
+
+-- Below a class that is no interface, other than Object, stand no interfaces, since an interface extends Object and interfaces alone
+-- (JVM specification, section 5.3.5). So what is below Throwable, as the class of a handler is, stands for itself in assignments.
+pub record HasNoInterfacesBelow (world : World) : Type 0 where
+  pub no_interface : (class above : ℕ) → IsTrue (is_class_below world class above) → above ≢ object → is_interface_class world above ≡ false → is_interface_class world class ≡ false
+  pub throwable_class : (class : ℕ) → IsTrue (is_class_below world class throwable) → is_interface_class world class ≡ false
+  pub throwable_type : (t : Ty) → IsTrue (is_sub world t (class_type throwable)) → IsErased (erase world) t
 
 -- one list begins with another
 abbrev pub StartsWith : List Slot → List Slot → Type 0

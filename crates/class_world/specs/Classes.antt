@@ -88,6 +88,16 @@ module _ (n : ℕ) (super : ℕ → Option ℕ) (up : ℕ → List ℕ) (interfa
       go true e further = further e
       go false e further = at_root p (subst (λ (x : ℕ). Walk up x p a) (h.under c d i w.0 e) w.1)
 
+  -- below a class, no interface and not Object, is no interface
+  pub below_class : (a b : ℕ) → below a b ≡ true → (b ≡ 0 → ⊥) → interface b ≡ false → interface a ≡ false
+  below_class a b e not_root o = go (interface a) refl (below_cases a b e)
+    where
+      go : (i : Bool) → interface a ≡ i → (b ≡ 0) ⊎ ((a ≡ b) ⊎ (leads a b ≡ true)) → interface a ≡ false
+      go false f _ = f
+      go true f (inl z) = absurd (not_root z)
+      go true f (inr (inl s)) = subst (λ (x : ℕ). interface x ≡ false) (sym s) o
+      go true f (inr (inr t)) = let w = Walk-from_leads up n a b t in absurd (not_root (over_interface a b (w.0 ∷ w.1) f w.2 o))
+
   -- a way to a class goes by superclasses, or the class is Object
   pub by_supers : (t c a : ℕ) (p : List ℕ) → Walk up t (c ∷ p) a → interface a ≡ false → (a ≡ 0) ⊎ (climb super (suc (length p)) t ≡ Some a)
   by_supers t c a [] w o = go (interface c) refl

@@ -6,6 +6,7 @@ pub mod Linking
 pub mod Worlds
 pub mod Members
 pub mod Resolve
+pub mod Hidden
 pub mod Select
 pub mod WorldTypes
 pub mod BuiltIns

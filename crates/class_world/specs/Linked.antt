@@ -83,7 +83,7 @@ filter_map-In f (name ∷ names) x h = go (f name) refl h (filter_map-In f names
     go (Some y) e (inl same) rest = (name, e ∙ ap Some (sym same))
     go (Some y) e (inr there) rest = rest there
 
-interface_of_world : (world : World) (a b : ℕ) → IsIn b (interfaces_of world a) → b < length world
+pub interface_of_world : (world : World) (a b : ℕ) → IsIn b (interfaces_of world a) → b < length world
 interface_of_world world a b h = go (slice_get world a) h
   where
     go : (o : Option ClassContent) → IsIn b (option_map_or (λ c. filter_map (class_of world) c.interfaces) o []) → b < length world

@@ -1,8 +1,9 @@
 -- When classes make a world, and else the first rule that they break: rule by rule, and of a rule the first class by
 -- its number (JVM specification, sections 5.3 and 5.3.5).
-use Rattle.std.specs.Prelude.{◌≡◌, ℕ, suc, ◌==◌, ◌||◌, ◌&&◌, not, Bool, true, false, if◌then◌else◌, List, [], ◌∷◌, length, slice_get, Option, Some, None, is_none, nat_lt, Result, option_and_then}
+use Rattle.std.specs.Prelude.{◌≡◌, ℕ, suc, ◌==◌, ◌||◌, ◌&&◌, not, Bool, true, false, if◌then◌else◌, List, [], ◌∷◌, length, slice_get, Option, Some, None, is_none, nat_lt, Result, option_and_then, codes}
 use Rattle.std.specs.List.{list_any, list_all}
 use Rattle.std.specs.Option.{option_map_or, option_or}
+use Rattle.std.specs.Str.{bytes_eq}
 use Rattle.list_views.specs.Results as results
 use Rattle.class_world.specs.declared.fault.LinkFault.{LinkFault}
 use Rattle.class_world.specs.declared.fault.LinkFault.TheVariants.{DuplicateClass, MissingClass, CyclicHierarchy, BadSuper, DefaultMethod, Memory}
@@ -21,27 +22,36 @@ abbrev pub first_broken : Rule → ℕ → List ClassContent → Option LinkFaul
 first_broken rule n [] = None
 first_broken rule n (c ∷ cs) = option_or (rule n c) (first_broken rule (suc n) cs)
 
--- no earlier class has its name
+-- The name is that of an interface that arrays implement (JVM specification, section 4.10.1.2, `isArrayInterface`). In a JVM every
+-- array is below these two, and Throwable below one of them; here nothing is. So no class of a world has one of these names: else
+-- `new int[1] instanceof java.io.Serializable` would answer otherwise than a JVM does (section 6.5, instanceof).
+unfoldable pub is_array_interface : List ℕ → Bool
+is_array_interface name = bytes_eq name (codes "java/lang/Cloneable") || bytes_eq name (codes "java/io/Serializable")
+
+-- its name is none of an interface of arrays, and no earlier class has it
 unfoldable pub duplicate_class : World → Rule
 duplicate_class world n c =
-    if option_map_or (λ first. first == n) (class_of world c.name) false then None else Some (DuplicateClass c.name)
-
--- the names of the superclass, which class 0 has none of, and of the superinterfaces
-abbrev pub named_supers : ℕ → ClassContent → List (List ℕ)
-named_supers n c = if n == 0 then c.interfaces else c.super_name ∷ c.interfaces
+    if not (is_array_interface c.name) && option_map_or (λ first. first == n) (class_of world c.name) false
+    then None else Some (DuplicateClass c.name)
 
 -- no class has the name
 abbrev pub missing_name : World → List ℕ → Option LinkFault
 missing_name world name = if is_none (class_of world name) then Some (MissingClass name) else None
 
--- the first of the names that no class has
+-- No class has the name of an interface, which is none of arrays. Those are passed over: a class that implements them needs no
+-- file of them, and isn't below them, since no class has their names.
+unfoldable pub missing_interface : World → List ℕ → Option LinkFault
+missing_interface world name = if is_array_interface name then None else missing_name world name
+
+-- the first interface of these names that is missing
 abbrev pub first_missing : World → List (List ℕ) → Option LinkFault
 first_missing world [] = None
-first_missing world (name ∷ names) = option_or (missing_name world name) (first_missing world names)
+first_missing world (name ∷ names) = option_or (missing_interface world name) (first_missing world names)
 
--- its superclass and superinterfaces are there
+-- its superclass, which class 0 has none of, and its superinterfaces are there
 unfoldable pub missing_super : World → Rule
-missing_super world n c = first_missing world (named_supers n c)
+missing_super world n c =
+    option_or (if n == 0 then None else missing_name world c.super_name) (first_missing world c.interfaces)
 
 -- it is not above itself
 unfoldable pub cyclic_hierarchy : World → Rule

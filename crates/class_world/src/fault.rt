@@ -33,12 +33,14 @@ impl MethodName {
 /// The first rule that classes break as a world, or that the methods reached from an entry break.
 #[derive(Drop)]
 pub enum LinkFault {
-    /// Two classes have this name, or a given class has the name of a built-in one (JVM specification, section 5.3).
+    /// Two classes have this name, or a given class has the name of a built-in one (JVM specification, section 5.3), or of
+    /// `java/lang/Cloneable` or `java/io/Serializable`, which arrays implement in a JVM (section 4.10.1.2).
     DuplicateClass {
         /// The name.
         name: Seq<u8>,
     },
-    /// A class is needed that is neither built in nor given (section 5.3).
+    /// A class is needed that is neither built in nor given (section 5.3). Among the interfaces of a class
+    /// `java/lang/Cloneable` and `java/io/Serializable` aren't.
     MissingClass {
         /// Its name.
         name: Seq<u8>,
@@ -83,7 +85,7 @@ pub enum LinkFault {
         /// The place of the instruction, or 0 for the method's own descriptor.
         pc: u16,
     },
-    /// An operand of reached code names nothing of the right kind (section 5.4.3).
+    /// An operand of reached code names nothing of the right kind (section 5.4.3), or what a JVM would do otherwise with.
     Unresolved {
         /// The method.
         method: MethodName,

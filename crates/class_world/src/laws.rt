@@ -1,10 +1,11 @@
 //! Laws of worlds: what follows from the definitions. These functions do nothing; their contracts are the laws.
-ghost use Rattle.std.specs.Prelude.{List, IsTrue};
+ghost use Rattle.std.specs.Prelude.{◌≡◌, ℕ, List, None, IsTrue};
 ghost use Rattle.class_read.specs.Content.{ClassContent};
 ghost use Rattle.jvm_values.specs.declared.types.Ty.{Ty};
-ghost use Rattle.class_world.specs.Linking.{is_linked};
+ghost use Rattle.class_world.specs.World.{class_of};
+ghost use Rattle.class_world.specs.Linking.{is_array_interface, is_linked};
 ghost use Rattle.class_world.specs.Types.{Sub, is_sub};
-ghost use Rattle.class_world.specs.BuiltIns.{IsWorld, HasBuiltIns, HasFieldsInOrder};
+ghost use Rattle.class_world.specs.BuiltIns.{IsWorld, HasBuiltIns, HasNoInterfacesBelow, HasFieldsInOrder};
 
 /// In a linked world the test of subtypes answers the least relation that has each type below itself, each class below
 /// what it extends and implements, arrays below arrays as their items are, and each type below `java/lang/Object`.
@@ -17,6 +18,17 @@ pub fn sub_is_least()
 /// `java/lang/Throwable`. Among them are those that instructions throw.
 pub fn built_ins_are_known()
     ensures { (world : List ClassContent) → IsWorld world → HasBuiltIns world }
+{}
+
+/// No class of a world has the name of an interface that arrays implement in a JVM. So nothing is below one.
+pub fn no_class_is_of_arrays()
+    ensures { (world : List ClassContent) → IsWorld world → (name : List ℕ) → IsTrue (is_array_interface name) → class_of world name ≡ None }
+{}
+
+/// Below a class that is no interface, other than `java/lang/Object`, there are no interfaces. So each type below
+/// `java/lang/Throwable`, as the class of a handler is, stands for itself in assignments.
+pub fn no_interface_is_below_a_class()
+    ensures { (world : List ClassContent) → IsWorld world → HasNoInterfacesBelow world }
 {}
 
 /// The fields of a class come first among those of each class below it, so a field has one place, and holds one kind of

@@ -7,6 +7,7 @@ mod classes;
 mod fault;
 mod fault_text;
 mod fields;
+mod hidden;
 mod hierarchy;
 mod index;
 mod interfaces;
@@ -24,6 +25,9 @@ mod types;
 mod world;
 
 pub use fault::{LinkFault, MethodName};
-pub use laws::{built_ins_are_known, fields_keep_their_places, sub_is_least};
+pub use laws::{
+    built_ins_are_known, fields_keep_their_places, no_class_is_of_arrays,
+    no_interface_is_below_a_class, sub_is_least,
+};
 pub use meaning::Meaning;
 pub use world::{MethodRef, World};

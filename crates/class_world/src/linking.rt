@@ -3,11 +3,12 @@ ghost use Rattle.std.specs.Prelude.{◌≡◌, ◌<◌, false, not, length, map}
 ghost use Rattle.std.specs.Option.{option_map_or};
 ghost use Rattle.std.specs.List.{list_any};
 ghost use Rattle.class_world.specs.World.{is_above, is_interface_class, super_of, interfaces_of};
-ghost use Rattle.class_world.specs.Linking.{Refuses, first_broken, first_missing, missing_name, rule_at, missing_super, cyclic_hierarchy, bad_super, default_method, is_default, is_bad_superclass, rule_of};
+ghost use Rattle.class_world.specs.Linking.{Refuses, first_broken, first_missing, missing_interface, missing_name, rule_at, missing_super, cyclic_hierarchy, bad_super, default_method, is_default, is_bad_superclass, rule_of};
 ghost use Rattle.class_read.specs.View.{method_content};
 ghost use Rattle.class_world.specs.Tables.{above_table};
 
 use crate::fault::LinkFault;
+use crate::named::is_array_interface;
 use crate::roster::Roster;
 use class_base::{ABSTRACT, INTERFACE, STATIC, has_flag};
 use class_read::MethodView;
@@ -53,17 +54,28 @@ impl<'w, 'a> Hierarchy<'w, 'a> {
         Ok(())
     }
 
-    /// The names are those of classes.
+    /// The name of an interface is that of a class, or that of an interface of arrays.
+    #[tactic(auto, unfolding(crate::specs::Linking::missing_interface))]
+    fn interface_present(&self, alloc: Global, name: &[u8]) -> Result<(), LinkFault>
+        ensures { Refuses result (missing_interface self.now.roster.now.classes name.now) }
+    {
+        if is_array_interface(name) {
+            return Ok(());
+        }
+        self.present(alloc, name)
+    }
+
+    /// The names of interfaces are those of classes, or of interfaces of arrays.
     fn all_present(&self, alloc: Global, names: &[&[u8]]) -> Result<(), LinkFault>
         ensures { Refuses result (first_missing self.now.roster.now.classes (map (λ r. r.now) names.now)) }
     {
         for name in names {
-            self.present(alloc, *name)?;
+            self.interface_present(alloc, *name)?;
         }
         Ok(())
     }
 
-    /// Its superclass and superinterfaces are there.
+    /// Its superclass and superinterfaces are there. Interfaces of arrays are passed over.
     fn keeps_missing_super(&self, alloc: Global, class: usize) -> Result<(), LinkFault>
         requires { class < length self.now.roster.now.classes }
         ensures { Refuses result (rule_at (missing_super self.now.roster.now.classes) self.now.roster.now.classes class) }

@@ -1,7 +1,9 @@
 //! What classes name, found by name: used once, when the tables of numbers are made.
-ghost use Rattle.std.specs.Prelude.{◌≡◌, ◌<◌, ◌^◌, length, IfOk, filter_map};
+ghost use Rattle.std.specs.Prelude.{◌≡◌, ◌<◌, ◌^◌, ◌++◌, ◌||◌, [], ◌∷◌, length, IfOk, filter_map, true, false, if◌then◌else◌};
+ghost use Rattle.std.specs.List.{list_any};
+ghost use Rattle.std.specs.Str.{bytes_eq};
 ghost use Rattle.class_world.specs.World.{class_of, super_of, interfaces_of};
-ghost use Rattle.class_world.specs.Linking.{Refuses, first_broken, duplicate_class};
+ghost use Rattle.class_world.specs.Linking.{Refuses, first_broken, duplicate_class, is_array_interface};
 ghost use Rattle.class_world.specs.Once.{once, interfaces_once};
 ghost use Rattle.class_world.specs.Tables.{names_of, values_to};
 
@@ -12,7 +14,26 @@ use class_read::ClassView;
 use list_views::Seq;
 use std::alloc::{AllocError, Global};
 
-/// The names of the classes, or the first class whose name an earlier one has.
+/// The name is that of an interface that arrays implement in a JVM, which no class has here.
+#[tactic(auto, unfolding(crate::specs::Linking::is_array_interface))]
+pub(crate) fn is_array_interface(name: &[u8]) -> bool
+    ensures { result ≡ is_array_interface name.now }
+{
+    name == b"java/lang/Cloneable".as_slice() || name == b"java/io/Serializable".as_slice()
+}
+
+/// Puts the name of a class behind those of the earlier ones, or answers false where one of these has it, or no class may have it.
+fn put_name<'a>(names: &mut NameSet<'a>, name: &'a [u8]) -> Result<bool, AllocError>
+    ensures names { IfOk result (λ added. names.new ≡ (if added then names.old ++ name.now ∷ [] else names.old)) }
+    ensures taken { IfOk result (λ added. (is_array_interface name.now || list_any (bytes_eq name.now) names.old) ≡ (if added then false else true)) }
+{
+    if is_array_interface(name) {
+        return Ok(false);
+    }
+    names.add(name)
+}
+
+/// The names of the classes, or the first class whose name an earlier one has, or no class may have.
 pub(crate) fn names_of<'a>(
     alloc: Global,
     classes: &[ClassView<'a>],
@@ -23,7 +44,7 @@ pub(crate) fn names_of<'a>(
     let mut names = NameSet::new(alloc);
     for class in 0..classes.len() {
         let view = &classes[class];
-        if !names.add(view.name)? {
+        if !put_name(&mut names, view.name)? {
             return Err(LinkFault::DuplicateClass {
                 name: Seq::from_slice(alloc, view.name)?,
             });

@@ -1,7 +1,7 @@
 //! Resolution: the members that a class, a name and a descriptor stand for.
 ghost use Rattle.std.specs.Prelude.{◌≡◌, ◌<◌, false, IfSome};
 ghost use Rattle.std.specs.List.{find};
-ghost use Rattle.std.specs.Option.{option_map, option_map_or};
+ghost use Rattle.std.specs.Option.{is_some, option_map, option_map_or};
 ghost use Rattle.class_read.specs.View.{method_content};
 ghost use Rattle.class_world.specs.World.{line_of};
 ghost use Rattle.class_world.specs.Resolve.{first_found, declared_field, is_static_field, found_field, resolve_field, field_at, method_ref, resolve_method, method_at, is_initialised, first_static_init};
@@ -34,6 +34,13 @@ impl<'a> World<'a> {
             Some(names) => names.find(name, desc),
             None => None,
         }
+    }
+
+    /// Whether a class declares a field of that name and descriptor, static or not.
+    pub(crate) fn declares_field(&self, class: u32, name: &[u8], desc: &[u8]) -> bool
+        ensures { result ≡ is_some (declared_field self.now.roster.classes class name.now desc.now) }
+    {
+        self.declared_field(class, name, desc).is_some()
     }
 
     /// Whether the field of that class and place is there, and static.

@@ -1,5 +1,6 @@
-//! `link-52`: the entry method and class files, and the methods that the entry reaches; or the first fault of linking, a cycle of
-//! calls, or the first reached method without a typing.
+//! `link-52`, `jvm-52`, and five tables of what a JVM would run otherwise (`array-interfaces`, `platform-methods`, `packages`,
+//! `hidden-fields`, `methods-beside`): the entry method and class files, and the methods that the entry reaches; or the first fault of
+//! linking, a cycle of calls, or the first reached method without a typing.
 use anyhow::Result;
 use class_program::Program;
 use entry_cases::{Entry, put_method};

@@ -1,5 +1,6 @@
-//! Answers the cases of the tables of commands: `link-52`, `run`, `run-52`, `check-int`, `check-2-int` and `prove-int`: each line of the
-//! input is the name of a table, a tab and the input fields of a case, divided by tabs. The answer to each comes on a line of its own.
+//! Answers the cases of the tables of commands: `link-52`, `jvm-52` and five more of linking, `run`, `run-52`, `check-int`, `check-2-int` and
+//! `prove-int`: each line of the input is the name of a table, a tab and the input fields of a case, divided by tabs. The answer to each comes
+//! on a line of its own.
 #![tactic(auto)]
 
 mod checks;
@@ -18,7 +19,9 @@ impl Answers for Cases {
     /// The answer to the case, as its table writes it.
     fn answer(alloc: Global, case: &Case<'_>) -> Result<String> {
         match case.table() {
-            "link-52" => links::answer(alloc, case),
+            "link-52" | "jvm-52" => links::answer(alloc, case),
+            "array-interfaces" | "platform-methods" | "packages" => links::answer(alloc, case),
+            "hidden-fields" | "methods-beside" => links::answer(alloc, case),
             "run" | "run-52" => runs::answer(alloc, case),
             "check-int" | "check-2-int" => checks::answer(alloc, case),
             "prove-int" => proves::answer(alloc, case),

@@ -1,10 +1,7 @@
 -- The table: at each form about ints the machine's step is as the plan says.
 use Rattle.std.proofs.Common.{◌≡◌, ◌∙◌, inl, ℕ, true, List, Option, Some, None, slice_get, refl, sym, ap, subst}
-use Rattle.std.specs.Prelude.{IfSome}
 use Rattle.std.proofs.lemmas.Bool.{false≢true}
 use Rattle.jvm_values.specs.declared.ints.IntOp.{IntOp}
-use Rattle.jvm_values.specs.declared.types.Kind.TheVariants as kinds
-use Rattle.jvm_values.specs.Kinds.{IsOfKind}
 use Rattle.jvm_values.specs.declared.typing.PlaceType.{PlaceType}
 use Rattle.jvm_values.specs.States.{MachineFrame, MachineState}
 use Rattle.abs_cells.specs.AbstractStates.{AbstractFrame, AbstractState}
@@ -26,7 +23,8 @@ use Rattle.abs_expand.specs.Switches.{table_keys, lookup_keys}
 use Rattle.abs_expand.specs.Table.{row_of}
 use Rattle.abs_expand.specs.Building.{HoldsIds}
 use Rattle.abs_expand.specs.IntForms.{is_total, is_int_form, IsIntState}
-use Rattle.expand_laws.specs.Laws.{increment_of}
+use Rattle.op_forms.specs.Widths.{IsFormInWidth}
+use Rattle.op_forms.proofs.Widths.{increment_int}
 use Rattle.expand_laws.proofs.Cases.{gives_result}
 use Rattle.expand_laws.proofs.Keys.{lookup_target, table_target}
 use Rattle.expand_laws.proofs.TurnFits.{whole_frame}
@@ -40,7 +38,7 @@ local_read (Iload n) = Some n
 local_read (Iinc n by) = Some n
 local_read _ = None
 
-module _ (p : Program) (typing : ℕ → CodeTypes) (state : AbstractState) (machine : MachineState) (meaning : Meaning) (ints_state : IsIntState state) (fits : Fits (types_of p.world) state machine meaning) (bounded : (x : ℕ) → AreInts (interval_of_id state x)) (frame : AbstractFrame) (held : HoldsIds state frame) (running : MachineFrame) (fit : FitsFrame meaning frame (whole_frame machine.statics running)) (places : List PlaceType) (m : Method) (op : Op) (next : Option ℕ) (form : Form) (runs : Runs p machine running m op next form) (goes : GoesTyped p typing (step p machine)) (operators : (o : IntOp) → form ≡ Arith o → is_total o ≡ true → gives_result o ≡ true) (increments : IfSome (increment_of form) (IsOfKind kinds.Int)) (locals : (n : ℕ) → local_read form ≡ Some n → (x : ℕ) × (slice_get frame.locals n ≡ Some (Some x))) where
+module _ (p : Program) (typing : ℕ → CodeTypes) (state : AbstractState) (machine : MachineState) (meaning : Meaning) (ints_state : IsIntState state) (fits : Fits (types_of p.world) state machine meaning) (bounded : (x : ℕ) → AreInts (interval_of_id state x)) (frame : AbstractFrame) (held : HoldsIds state frame) (running : MachineFrame) (fit : FitsFrame meaning frame (whole_frame machine.statics running)) (places : List PlaceType) (m : Method) (op : Op) (next : Option ℕ) (form : Form) (runs : Runs p machine running m op next form) (goes : GoesTyped p typing (step p machine)) (operators : (o : IntOp) → form ≡ Arith o → is_total o ≡ true → gives_result o ≡ true) (widths : IsFormInWidth form) (locals : (n : ℕ) → local_read form ≡ Some n → (x : ℕ) × (slice_get frame.locals n ≡ Some (Some x))) where
   -- a form is the running frame's
   is_effect : (f : Form) → form ≡ f → effect_of p m form (work_of machine running) ≡ effect_of p m f (work_of machine running)
   is_effect f e = ap (λ (g : Form). effect_of p m g (work_of machine running)) e
@@ -53,7 +51,7 @@ module _ (p : Program) (typing : ℕ → CodeTypes) (state : AbstractState) (mac
   covered (Iconst n) e i = inl (constant p typing state machine meaning ints_state fits bounded frame held running fit places m op next form runs goes n (is_effect (Iconst n) e))
   covered (Iload n) e i = let l = local_at n (Iload n) e refl in load p typing state machine meaning ints_state fits bounded frame held running fit places m op next form runs goes n l.0 l.1 (is_effect (Iload n) e)
   covered (Istore n) e i = store p typing state machine meaning ints_state fits bounded frame held running fit places m op next form runs goes n (is_effect (Istore n) e)
-  covered (Iinc n by) e i = let l = local_at n (Iinc n by) e refl in increment p typing state machine meaning ints_state fits bounded frame held running fit places m op next form runs goes n l.0 by l.1 (subst (λ (g : Form). IfSome (increment_of g) (IsOfKind kinds.Int)) e increments) (is_effect (Iinc n by) e)
+  covered (Iinc n by) e i = let l = local_at n (Iinc n by) e refl in increment p typing state machine meaning ints_state fits bounded frame held running fit places m op next form runs goes n l.0 by l.1 (increment_int by (subst IsFormInWidth e widths)) (is_effect (Iinc n by) e)
   covered (Shuffle s) e i = shuffle p typing state machine meaning ints_state fits bounded frame held running fit places m op next form runs goes s (is_effect (Shuffle s) e)
   covered (Arith o) e i = arithmetic p typing state machine meaning ints_state fits bounded frame held running fit places m op next form runs goes o (operators o e i) (is_effect (Arith o) e)
   covered Ineg e i = negation p typing state machine meaning ints_state fits bounded frame held running fit places m op next form runs goes (is_effect Ineg e)

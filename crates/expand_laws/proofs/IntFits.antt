@@ -16,8 +16,6 @@ use Rattle.abs_cells.specs.declared.cells.Cell.TheVariants.{Int, Null, Obj, Nums
 use Rattle.abs_cells.specs.AbstractStates.{AbstractState}
 use Rattle.abs_cells.specs.Cells.{is_int, is_known, is_hazy, shape_of, cell_in, cell_at}
 use Rattle.abs_cells.specs.Fits.{Meaning, FitsFrame, FitsMode, with_statics, Describes, Fits}
-use Rattle.abs_reach.specs.Reached.{IsDropped, IsRestricted}
-use Rattle.abs_reach.proofs.Restricting.{restricted}
 use Rattle.abs_heap.specs.Given.{first_cell, with_cells}
 use Rattle.abs_expand.specs.IntForms.{IsIntState}
 
@@ -120,17 +118,3 @@ made_cells changed acted meaning fresh interval number cells inside is id cell e
 pub map_apart : (meaning : Meaning) (fresh : ℕ) (value : Value) (ids : List ℕ) → AllByRecursion (λ id. eqb fresh id ≡ false) ids → map (put meaning fresh value) ids ≡ map meaning ids
 map_apart meaning fresh value [] a = refl
 map_apart meaning fresh value (id ∷ ids) a = ap (λ (x : Value). x ∷ map (put meaning fresh value) ids) (put_apart meaning fresh value id a.0) ∙ ap (λ (xs : List Value). meaning id ∷ xs) (map_apart meaning fresh value ids a.1)
-
--- ---- dropping
-
-pub dropped_restricted : (whole part : AbstractState) → IsDropped whole part → IsRestricted whole part
-dropped_restricted whole part d = record {
-  frames = d.frames;
-  throwing = d.throwing;
-  cells = λ id h. d.kept id (d.gone id h);
-  eq = λ a b ha hb e. (d.eq a b).1 (e, (d.gone a ha, d.gone b hb));
-  share = λ a b ha hb s. (d.share a b).1 (s, (d.gone a ha, d.gone b hb));
-}
-
-pub dropped_fits : (types : WorldTypes) (whole part : AbstractState) (machine : MachineState) (meaning : Meaning) → IsDropped whole part → Fits types whole machine meaning → Fits types part machine meaning
-dropped_fits types whole part machine meaning d f = restricted types whole part machine meaning (dropped_restricted whole part d) f

@@ -1,21 +1,17 @@
 -- The two laws: a typed state that fits a state of ints ends with its next step, or fits a child.
 use Rattle.std.proofs.Common.{◌≡◌, ◌∙◌, inl, inr, ◌==◌, ℕ, zero, suc, Bool, true, false, if◌then◌else◌, List, [], ◌∷◌, length, take, Option, Some, None, slice_get, refl, sym, ap, subst, arith}
-use Rattle.std.specs.Prelude.{All, IfSome}
 use Rattle.std.specs.List.{AllZip, AllByRecursion}
 use Rattle.std.specs.Option.{option_map_or}
 use Rattle.std.proofs.lemmas.Bool.{false≢true}
 use Rattle.std.proofs.lemmas.Int.{ints}
 use Rattle.std.proofs.lemmas.List.Elements.{recursion_from_All}
 use Rattle.std.proofs.lemmas.Option.{none-some}
-use Rattle.list_views.proofs.Quantified.{all_at}
 use Rattle.list_views.proofs.Options.{then_some}
 use Rattle.list_views.specs.Options.{asked}
 use Rattle.jvm_values.specs.declared.state.Mode.{Mode}
 use Rattle.jvm_values.specs.declared.state.Mode.TheVariants.{Normal, Throwing}
 use Rattle.jvm_values.specs.declared.typing.PlaceType.{PlaceType}
 use Rattle.jvm_values.specs.declared.typing.PlaceType.TheVariants as places
-use Rattle.jvm_values.specs.declared.types.Kind.TheVariants as kinds
-use Rattle.jvm_values.specs.Kinds.{IsOfKind}
 use Rattle.jvm_values.specs.States.{MachineFrame, MachineState, PlaceTypes}
 use Rattle.jvm_values.specs.TypedHeaps.{WorldTypes}
 use Rattle.jvm_values.proofs.Options.{some_is}
@@ -26,18 +22,19 @@ use Rattle.abs_cells.specs.Cells.{cell_in, cell_at}
 use Rattle.abs_cells.specs.Fits.{Meaning, FitsFrame, FitsMode, with_statics}
 use Rattle.abs_cells.specs.Sound.{IsSoundCell}
 use Rattle.abs_ints.proofs.AllCases.{AreInts}
-use Rattle.class_program.specs.declared.op.Op.{Op}
 use Rattle.class_program.specs.declared.program.Method.{Method}
 use Rattle.class_program.specs.Programs.{Program, IsClosed, insn_at}
+use Rattle.class_program.specs.Widths.{HasWidths}
 use Rattle.class_world.specs.WorldTypes.{types_of}
-use Rattle.op_forms.specs.Forms.{Form, form_of}
+use Rattle.op_forms.specs.Forms.{Form}
+use Rattle.op_forms.proofs.Widths.{forms_wide}
 use Rattle.frame_types.specs.Tables.{CodeTypes}
 use Rattle.code_verify.specs.Operands.{is_int}
 use Rattle.code_verify.specs.Rows.{types_after, iload_types, iinc_types}
 use Rattle.jvm_step.specs.Running.{step, IsEnd}
-use Rattle.jvm_run.specs.Laws.{GoesTyped, HasInts, StepsAreTyped}
+use Rattle.jvm_run.specs.Laws.{GoesTyped, StepsAreTyped}
 use Rattle.jvm_run.proofs.Lists.{zip_get}
-use Rattle.jvm_run.proofs.Placed.{Placed, placed, at_has_all, asked_is}
+use Rattle.jvm_run.proofs.Placed.{Placed, placed, asked_is}
 use Rattle.jvm_run.proofs.Stepping.{insn_there}
 use Rattle.term_graph.specs.Graphs.{GraphChild}
 use Rattle.abs_expand.specs.Plans.{Plan, ends, steps, by_null, by_class, by_equal}
@@ -49,16 +46,13 @@ use Rattle.abs_expand.specs.Expansions.{plan_here, plan_of, AreExpanded}
 use Rattle.abs_expand.specs.IntForms.{HasIntForms, IsIntState}
 use Rattle.abs_expand.specs.Laws.{IsAfter, GoesToChild, IsMet}
 use Rattle.abs_expand.proofs.IntStates.{plan_is_row, one_frame, frame_held, form_int, plan_found, op_int}
-use Rattle.expand_laws.specs.Laws.{increment_of, HasShortIncrements, IntEndsEnd, IntStepsFitChildren}
+use Rattle.expand_laws.specs.Laws.{IntEndsEnd, IntStepsFitChildren}
 use Rattle.expand_laws.proofs.Operators.{op_operator}
 use Rattle.expand_laws.proofs.Cases.{SomeOf}
 use Rattle.expand_laws.proofs.TurnFits.{whole_frame}
 use Rattle.expand_laws.proofs.Machine.{Runs}
 use Rattle.expand_laws.proofs.IntSteps.{Fitting, Meets}
 use Rattle.expand_laws.proofs.Covering.{local_read, covered}
-
-abbrev IsShortForm : Form → Type 0
-IsShortForm form = IfSome (increment_of form) (IsOfKind kinds.Int)
 
 -- ---- lists
 
@@ -225,7 +219,7 @@ record IsFollowed (p : Program) (typing : ℕ → CodeTypes) (state : AbstractSt
   plan_is : plan ≡ plan_of p typing state
   meets : Meets p state machine meaning plan
 
-module _ (typed_steps : StepsAreTyped) (p : Program) (typing : ℕ → CodeTypes) (state : AbstractState) (machine : MachineState) (meaning : Meaning) (closed : IsClosed p) (constants : HasInts p) (forms : HasIntForms p) (increments : HasShortIncrements p) (ints_state : IsIntState state) (met : IsMet p typing state machine meaning) where
+module _ (typed_steps : StepsAreTyped) (p : Program) (typing : ℕ → CodeTypes) (state : AbstractState) (machine : MachineState) (meaning : Meaning) (closed : IsClosed p) (widths : HasWidths p) (forms : HasIntForms p) (ints_state : IsIntState state) (met : IsMet p typing state machine meaning) where
   abbrev types : WorldTypes
   types = types_of p.world
 
@@ -233,7 +227,7 @@ module _ (typed_steps : StepsAreTyped) (p : Program) (typing : ℕ → CodeTypes
   bounded x = cell_bounded types state (cell_at state x) (λ cell e. sound_at types state state.cells x cell (recursion_from_All (λ c. IsSoundCell types state c.1) state.cells met.good.sound.cells) e)
 
   goes : GoesTyped p typing (step p machine)
-  goes = typed_steps p typing closed constants met.typing_is machine met.typed
+  goes = typed_steps p typing closed widths met.typing_is machine met.typed
 
   followed_at : (frame : AbstractFrame) → state.frames ≡ frame ∷ [] → (only : OnlyFrame meaning frame machine) (running : IsRunningPlaced p typing state (statics_under p []) frame) → (at : Placed p running.placed.method (typing frame.method) frame.pc running.there) → IsFollowed p typing state machine meaning
   followed_at frame alone only running at =
@@ -248,7 +242,7 @@ module _ (typed_steps : StepsAreTyped) (p : Program) (typing : ℕ → CodeTypes
         is_form = at.form_is;
       } in
       let int_form = form_int at.op at.form (op_int p frame.method frame.pc at.op at.next forms insn) at.form_is in
-      let added : IfSome (form_of at.op) IsShortForm = at_has_all (λ (op : Op). IfSome (form_of op) IsShortForm) m.insns frame.pc (at.op, at.next) (all_at (λ (x : Method). All (λ (y : ℕ × Op). IfSome (form_of y.1) IsShortForm) x.insns) p.methods frame.method m increments running.placed.is_method) at.insn_is in
+      let wide = forms_wide p widths frame.method frame.pc at.op at.next insn at.form at.form_is in
       let here : Here = record { program = p; state = state; frame = frame; below = []; places = running.there.stack; next = option_map_or (λ (place : ℕ). place) at.next frame.pc } in
       let plan : Plan = row_of here at.form in
       record {
@@ -259,7 +253,7 @@ module _ (typed_steps : StepsAreTyped) (p : Program) (typing : ℕ → CodeTypes
             ∙ ap (λ (found : Option Form). plan_here p typing state frame [] found at.next (typing frame.method frame.pc)) (sym at.form_is));
         meets = covered p typing state machine meaning ints_state met.fits bounded frame held only.running only.fit running.there.stack m at.op at.next at.form runs goes
             (λ o e. op_operator at.op o (at.form_is ∙ ap Some e))
-            (subst (λ (found : Option Form). IfSome found IsShortForm) at.form_is added)
+            wide
             (λ n e.
             let int = read_int p m at.form running.there at.after n at.types_are e in
             let beside = zip_get (IsOfPlace state) running.there.locals (take m.max_locals frame.locals) n int.place running.placed.locals int.is in
@@ -287,7 +281,7 @@ module _ (typed_steps : StepsAreTyped) (p : Program) (typing : ℕ → CodeTypes
       to_child p state machine meaning f.plan children f.meets (subst (λ (plan : Plan). AreExpanded types state plan children) (sym f.plan_is) x)
 
 pub ends_end : StepsAreTyped → IntEndsEnd
-ends_end typed_steps p typing state machine meaning closed constants forms increments ints met e = ended typed_steps p typing state machine meaning closed constants forms increments ints met e
+ends_end typed_steps p typing state machine meaning closed widths forms ints met e = ended typed_steps p typing state machine meaning closed widths forms ints met e
 
 pub steps_fit : StepsAreTyped → IntStepsFitChildren
-steps_fit typed_steps p typing state machine meaning children closed constants forms increments ints met x = goes_to_child typed_steps p typing state machine meaning closed constants forms increments ints met children x
+steps_fit typed_steps p typing state machine meaning children closed widths forms ints met x = goes_to_child typed_steps p typing state machine meaning closed widths forms ints met children x

@@ -26,7 +26,8 @@ use Rattle.abs_expand.specs.Children.{IsActed, gone_to}
 use Rattle.abs_expand.specs.Building.{IsChildOf, HoldsIds, frames_to}
 use Rattle.abs_expand.specs.IntForms.{IsIntState}
 use Rattle.abs_expand.proofs.IntTurns.{local_held}
-use Rattle.expand_laws.proofs.IntFits.{IsIntCell, as_int, cells_of, int_fits, narrowed_cells, put, put_here, put_apart, made_cells, map_apart, dropped_fits}
+use Rattle.abs_reach.proofs.Restricting.{dropped_fits}
+use Rattle.expand_laws.proofs.IntFits.{IsIntCell, as_int, cells_of, int_fits, narrowed_cells, put, put_here, put_apart, made_cells, map_apart}
 
 -- a child fits a state of the machine, and the edge to it holds
 pub record FitsChild (types : WorldTypes) (state : AbstractState) (machine : MachineState) (meaning : Meaning) (after : MachineState) (child : GraphChild) : Type 0 where

@@ -1,7 +1,7 @@
 -- The tests of operands and the needs of rows: a typed operand passes, or the state is split and one of the children fits.
 use Rattle.std.proofs.Common.{◌≡◌, ◌≢◌, ◌∙◌, ◌<◌, ℕ, zero, suc, Bool, true, false, not, ◌&&◌, ◌||◌, if◌then◌else◌, List, [], ◌∷◌, map, Option, ◌+◌, Some, None, ◌⊎◌, inl, inr, slice_get, refl, sym, ap, subst, arith, IsTrue}
 use Rattle.std.specs.Prelude.{All}
-use Rattle.std.specs.List.{AllZip, find}
+use Rattle.std.specs.List.{find}
 use Rattle.std.specs.Option.{option_map_or}
 use Rattle.std.proofs.lemmas.Bool.{false≢true, and_parts, or_left, or_right}
 use Rattle.std.proofs.lemmas.List.Elements.{All-head, All-tail}
@@ -28,7 +28,6 @@ use Rattle.abs_cells.specs.Cells.{is_known, is_comparable, is_of_sort, cell_at, 
 use Rattle.abs_cells.specs.PairLists.{has}
 use Rattle.abs_cells.specs.Fits.{Meaning, Describes, Fits}
 use Rattle.abs_cells.proofs.CellLaws.{place_of_cell}
-use Rattle.abs_heap.specs.Refining.{Case, IsCase, cases_of}
 use Rattle.abs_heap.specs.Laws.{plain_link, Goes}
 use Rattle.class_world.specs.WorldTypes.{types_of}
 use Rattle.class_program.specs.Programs.{Program}
@@ -39,8 +38,6 @@ use Rattle.term_graph.specs.declared.links.Link.{Link}
 use Rattle.term_graph.specs.Edges.{Edge}
 use Rattle.abs_expand.specs.Plans.{Plan, by_null, by_class, by_equal}
 use Rattle.abs_expand.specs.Needs.{Passing, passes, fails, splits, is_below_place, is_comparable_place, passes_if, passing, after_test, passing_id, tested, may_be_null, need_null, is_unknown, known_partner, split_unknown, split_below, need_class, need_object}
-use Rattle.abs_expand.specs.Expansions.{stays, IsSplitChild, AreNullChildren, AreClassChildren}
-use Rattle.abs_expand.proofs.ZipLists.{beside}
 use Rattle.form_steps.proofs.Standing.{Rests}
 use Rattle.form_steps.proofs.TurnKinds.{FitsSplit, Meets, sound_at}
 
@@ -71,30 +68,6 @@ mapped_get f [] n x e = absurd (none-some x e)
 mapped_get f (y ∷ xs) zero x e = ap (λ z. Some (f z)) (some_is e)
 mapped_get f (y ∷ xs) (suc n) x e = mapped_get f xs n x e
 
--- what stands at a place of a mapped list
-record Unmapped {A B : Type 0} (f : A → B) (xs : List A) (n : ℕ) (y : B) : Type 0 where
-  from : A
-  there : slice_get xs n ≡ Some from
-  same : f from ≡ y
-
-unmapped : {A B : Type 0} (f : A → B) (xs : List A) (n : ℕ) (y : B) → slice_get (map f xs) n ≡ Some y → Unmapped f xs n y
-unmapped f [] n y e = absurd (none-some y e)
-unmapped f (x ∷ xs) zero y e = record { from = x; there = refl; same = some_is e }
-unmapped f (x ∷ xs) (suc n) y e = let u = unmapped f xs n y e in record { from = u.from; there = u.there; same = u.same }
-
-zip_right : {A B C : Type 0} (R : A → B → Type 0) (S : A → C → Type 0) (f : B → C) → ((a : A) (b : B) → R a b → S a (f b)) → (xs : List A) (ys : List B) → AllZip R xs ys → AllZip S xs (map f ys)
-zip_right R S f h [] [] z = tt
-zip_right R S f h [] (y ∷ ys) z = absurd z
-zip_right R S f h (x ∷ xs) [] z = absurd z
-zip_right R S f h (x ∷ xs) (y ∷ ys) z = (h x y z.0, zip_right R S f h xs ys z.1)
-
-zip_each : {A B : Type 0} (R : A → B → Type 0) (P : B → Type 0) → ((a : A) (b : B) → R a b → P b) → (xs : List A) (ys : List B) → AllZip R xs ys → (n : ℕ) (y : B) → slice_get ys n ≡ Some y → P y
-zip_each R P h [] [] z n y e = absurd (none-some y e)
-zip_each R P h [] (b ∷ ys) z n y e = absurd z
-zip_each R P h (x ∷ xs) [] z n y e = absurd z
-zip_each R P h (x ∷ xs) (b ∷ ys) z zero y e = subst P (some_is e) (h x b z.0)
-zip_each R P h (x ∷ xs) (b ∷ ys) z (suc n) y e = zip_each R P h xs ys z.1 n y e
-
 -- ---- types
 
 -- two erased types above one are comparable
@@ -124,7 +97,10 @@ module _ (p : Program) (state : AbstractState) (machine : MachineState) (meaning
 
   -- ---- null, or not
 
-  goes_split : (merged : Option (ℕ × ℕ)) (wholes : List GraphChild) (n : ℕ) (whole : GraphChild) (child : AbstractState) → slice_get wholes n ≡ Some whole → whole.state ≡ child → whole.link ≡ stays merged → Goes types state machine meaning (plain_link false merged) child machine → FitsSplit types state machine meaning wholes
+  abbrev split_child : Option (ℕ × ℕ) → AbstractState → GraphChild
+  split_child merged child = record { state = child; link = plain_link false merged }
+
+  goes_split : (merged : Option (ℕ × ℕ)) (wholes : List GraphChild) (n : ℕ) (whole : GraphChild) (child : AbstractState) → slice_get wholes n ≡ Some whole → whole.state ≡ child → whole.link ≡ plain_link false merged → Goes types state machine meaning (plain_link false merged) child machine → FitsSplit types state machine meaning wholes
   goes_split merged wholes n whole child at is link goes = record {
     n = n;
     whole = whole;
@@ -138,16 +114,11 @@ module _ (p : Program) (state : AbstractState) (machine : MachineState) (meaning
   }
 
   pub null_meets : (x : ℕ) (bound : Ty) (shape : Shape) → cell_at state x ≡ Some (cells.Unk bound true shape) → Covered (by_null x)
-  null_meets x bound shape e wholes are = at wholes (subst (λ (c : Option Cell). AreNullChildren state x c wholes) e are)
-    where
-      at : (ws : List GraphChild) → AreNullChildren state x (Some (cells.Unk bound true shape)) ws → FitsSplit types state machine meaning ws
-      at [] a = absurd a
-      at (one ∷ []) a = absurd a
-      at (one ∷ two ∷ []) a = elim (s.lows.null types state one.state two.state machine meaning x bound shape s.sound.well_formed s.fits e a.0.is a.1.is) [
-        | inl g ↦ goes_split None (one ∷ two ∷ []) 0 one one.state refl refl a.0.link g
-        | inr g ↦ goes_split None (one ∷ two ∷ []) 1 two two.state refl refl a.1.link g
+  null_meets x bound shape e wholes are =
+      elim (s.lows.null types state are.null are.other machine meaning x are.bound are.shape s.sound.well_formed s.fits are.was are.null_is are.other_is) [
+        | inl g ↦ goes_split None wholes 0 (split_child None are.null) are.null (ap (λ (children : List GraphChild). slice_get children 0) are.are) refl refl g
+        | inr g ↦ goes_split None wholes 1 (split_child None are.other) are.other (ap (λ (children : List GraphChild). slice_get children 1) are.are) refl refl g
       ]
-      at (one ∷ two ∷ three ∷ rest) a = absurd a
 
   record IsNullable (x : ℕ) : Type 0 where
     bound : Ty
@@ -223,13 +194,10 @@ module _ (p : Program) (state : AbstractState) (machine : MachineState) (meaning
 
   class_meets : (x : ℕ) (bound wanted : Ty) (shape : Shape) → cell_at state x ≡ Some (cells.Unk bound false shape) → HasType types machine.heap (meaning x) wanted → types.erase wanted ≡ wanted → known_partner state x ≡ None → Covered (by_class x wanted)
   class_meets x bound wanted shape e typed erased none wholes are =
-      let n = named x bound shape e in
+      let n = named x are.bound are.shape are.was in
       let below = typed_below (meaning x) n.place n.object wanted n.names n.stands typed in
-      let given : AllZip (λ (case : Case) (child : GraphChild). IsSplitChild (IsCase types state x shape case) None child) (cases_of types bound wanted) wholes = subst (λ (c : Option Cell). AreClassChildren types state x wanted c wholes) e are in
-      let states = zip_right (λ (case : Case) (child : GraphChild). IsSplitChild (IsCase types state x shape case) None child) (IsCase types state x shape) (λ (c : GraphChild). c.state) (λ case child a. a.is) (cases_of types bound wanted) wholes given in
-      let goes = s.lows.classes types state (map (λ (c : GraphChild). c.state) wholes) machine meaning x bound wanted shape s.laws s.sound s.heap s.closed s.fits e (comparable types s.laws (type_of n.object) bound wanted n.below below (bound_erased x bound false shape e) erased) typed apart states in
-      let u = unmapped (λ (c : GraphChild). c.state) wholes goes.n goes.child goes.is in
-      goes_split None wholes goes.n u.from goes.child u.there u.same (zip_each (λ (case : Case) (child : GraphChild). IsSplitChild (IsCase types state x shape case) None child) (λ (child : GraphChild). child.link ≡ stays None) (λ case child a. a.link) (cases_of types bound wanted) wholes given goes.n u.from u.there) goes.goes
+      let goes = s.lows.classes types state are.states machine meaning x are.bound wanted are.shape s.laws s.sound s.heap s.closed s.fits are.was (comparable types s.laws (type_of n.object) are.bound wanted n.below below (bound_erased x are.bound false are.shape are.was) erased) typed apart are.are in
+      goes_split None wholes goes.n (split_child None goes.child) goes.child (ap (λ (children : List GraphChild). slice_get children goes.n) are.is ∙ mapped_get (split_child None) are.states goes.n goes.child goes.is) refl refl goes.goes
     where
       apart : (k : ℕ) → HasCell is_known state k → AreEqual state x k → ⊥
       apart k h q =
@@ -239,9 +207,8 @@ module _ (p : Program) (state : AbstractState) (machine : MachineState) (meaning
 
   pub equal_meets : (x y : ℕ) → AreEqual state x y → x ≢ y → Covered (by_equal x y)
   equal_meets x y q apart wholes are =
-      let goes = s.lows.equal types state are.merged machine meaning x y s.laws s.sound s.heap s.closed s.fits q apart are.are in
-      let whole = beside (λ (m : Option (ℕ × ℕ) × AbstractState) (child : GraphChild). (child.state ≡ m.1) × (child.link ≡ stays m.0)) are.merged wholes goes.n (goes.merged, goes.child) are.each goes.is in
-      goes_split goes.merged wholes goes.n whole.other goes.child whole.there whole.alike.0 whole.alike.1 goes.goes
+      let goes = s.lows.equal types state are.pairs machine meaning x y s.laws s.sound s.heap s.closed s.fits q apart are.are in
+      goes_split goes.merged wholes goes.n (split_child goes.merged goes.child) goes.child (ap (λ (children : List GraphChild). slice_get children goes.n) are.is ∙ mapped_get (λ (pair : Option (ℕ × ℕ) × AbstractState). split_child pair.0 pair.1) are.pairs goes.n (goes.merged, goes.child) goes.is) refl refl goes.goes
 
   split_meets : (x : ℕ) (place : PlaceType) → TypedId place x → is_unknown (cell_at state x) ≡ true → Covered (split_below state x place)
   split_meets x place t e = at place t.typed t.of_world t.set

@@ -12,8 +12,7 @@ use Rattle.jvm_values.specs.States.{MachineFrame, MachineState, PlaceTypes}
 use Rattle.jvm_values.specs.TypedHeaps.{WorldTypes, AreLawful, Holds, IsTypedHeap}
 use Rattle.abs_cells.specs.AbstractStates.{AbstractFrame, AbstractState}
 use Rattle.abs_cells.specs.Sound.{IsSound}
-use Rattle.abs_cells.specs.Fits.{Meaning, Fits}
-use Rattle.abs_heap.specs.Laws.{IsClosedState}
+use Rattle.abs_cells.specs.Fits.{Meaning, Fits, IsClosedState}
 use Rattle.class_world.specs.BuiltIns.{HasBuiltIns}
 use Rattle.class_world.specs.Linking.{is_linked}
 use Rattle.class_world.specs.WorldTypes.{types_of}

@@ -27,9 +27,9 @@ use Rattle.abs_cells.specs.AbstractStates.{AbstractFrame, AbstractState}
 use Rattle.abs_cells.specs.Cells.{is_int, ids_in, cell_in, cell_at, HasCell}
 use Rattle.abs_cells.specs.Sound.{IsOfSlot, IsSoundCell}
 use Rattle.abs_cells.proofs.CellLaws.{place_of_cell}
-use Rattle.abs_cells.specs.Fits.{Meaning, FitsFrame, with_statics, Describes}
+use Rattle.abs_cells.specs.Fits.{Meaning, FitsFrame, with_statics, Describes, IsClosedState}
 use Rattle.abs_heap.specs.Given.{first_cell, with_cells}
-use Rattle.abs_heap.specs.Laws.{IsClosedState, IsWriteOf, heap_with, zeros_of, IsItemSlot}
+use Rattle.abs_heap.specs.Laws.{AreSoundReferences, IsWriteOf, heap_with, zeros_of, IsItemSlot}
 use Rattle.abs_heap.specs.Writing.{Write, IsObjectChild}
 use Rattle.class_world.specs.BuiltIns.{built_in_count}
 use Rattle.class_world.specs.WorldTypes.{types_of}
@@ -45,7 +45,7 @@ use Rattle.abs_expand.specs.Building.{HoldsIds}
 use Rattle.abs_expand.specs.Children.{IsTurnChild, IsLean, gone_to, top_with}
 use Rattle.abs_expand.specs.Expansions.{AreChildren}
 use Rattle.abs_expand.specs.Turns.{emptied, throws_after}
-use Rattle.turn_fits.specs.Laws.{IsPlainCell, AreSoundReferences, Moved}
+use Rattle.turn_fits.specs.Laws.{IsPlainCell, Moved}
 use Rattle.turn_fits.proofs.Carry.{in_list, IsAlike, alike_of, sort_stays}
 use Rattle.turn_fits.proofs.Steps.{FitsChild, formed, ints_stay, mid_fits, moved_goes, kept_goes, written_goes, made_goes}
 use Rattle.turn_fits.proofs.Tops.{FitFrames, tops, from_tops, pushed_id, local_set}

@@ -2,11 +2,12 @@
 use Rattle.std.specs.Prelude.{IsTrue}
 use Rattle.jvm_values.specs.declared.types.Ty.{Ty}
 use Rattle.jvm_values.specs.Subtyping.{class_type, IsErased}
-use Rattle.abs_heap.specs.Laws.{NullSplits, ClassesSplit, EqualSplits, WritesGoOn}
+use Rattle.jvm_values.specs.Writes.{IntWritesKeep, NumberWritesKeep}
+use Rattle.abs_heap.specs.Laws.{NullSplits, ClassesSplit, EqualSplits, WritesGoOn, ObjectsGoOn, ArraysGoOn, ItemsGoOn, IntWritesGoOn, NumberWritesGoOn}
 use Rattle.class_world.specs.BuiltIns.{throwable}
 use Rattle.class_world.specs.WorldTypes.{types_of}
 use Rattle.class_program.specs.Programs.{Program}
-use Rattle.turn_fits.specs.Laws.{FreshIdsGoOn, NewObjectsGoOn, NewArraysGoOn, ReadItemsGoOn, IntWritesGoOn, IntWritesKeep, NumberWritesGoOn, NumberWritesKeep, DroppedKeepSized}
+use Rattle.turn_fits.specs.Laws.{FreshIdsGoOn, DroppedKeepSized}
 
 -- the laws of heaps and of dropping that steps rest on
 pub record Lows : Type 0 where
@@ -15,9 +16,9 @@ pub record Lows : Type 0 where
   pub equal : EqualSplits
   pub writes : WritesGoOn
   pub fresh : FreshIdsGoOn
-  pub objects : NewObjectsGoOn
-  pub arrays : NewArraysGoOn
-  pub items : ReadItemsGoOn
+  pub objects : ObjectsGoOn
+  pub arrays : ArraysGoOn
+  pub items : ItemsGoOn
   pub int_writes : IntWritesGoOn
   pub ints_keep : IntWritesKeep
   pub number_writes : NumberWritesGoOn

@@ -1,4 +1,3 @@
 pub mod Links
 pub mod RowedTurns
-pub mod ShortIncrements
 pub mod SmallRows

@@ -17,7 +17,9 @@ use Rattle.abs_reach.specs.Reached.{IsReached}
 use Rattle.class_world.specs.WorldTypes.{types_of}
 use Rattle.class_program.specs.declared.op.Op.{Op}
 use Rattle.class_program.specs.Programs.{Program}
-use Rattle.op_forms.specs.Forms.{Form, form_of}
+use Rattle.class_program.specs.Widths.{HasWidths}
+use Rattle.op_forms.specs.Forms.{Form}
+use Rattle.op_forms.proofs.Widths.{forms_wide}
 use Rattle.frame_types.specs.Tables.{CodeTypes}
 use Rattle.term_graph.specs.declared.links.Side.{Side}
 use Rattle.term_graph.specs.declared.links.Side.TheVariants.{Before, After}
@@ -33,10 +35,7 @@ use Rattle.abs_expand.specs.IntForms.{HasIntForms, IsIntState}
 use Rattle.abs_expand.specs.Plans.{Act, makes, Goal, nowhere, on_stack, in_local, in_bottom, in_field, is_thrown, Turn, Plan, ends, steps, by_null, by_class, by_equal}
 use Rattle.abs_expand.specs.Turns.{interval_in, interval_of_id}
 use Rattle.int_plans.proofs.EachTurn.{EachTurn, here_in, in_plan}
-use Rattle.expand_laws.specs.Laws.{HasShortIncrements}
-use Rattle.int_links.specs.Increments.{IsShortOp, IsShortForm}
 use Rattle.int_links.specs.Laws.{FitsRules, IntLinksFit}
-use Rattle.int_links.proofs.ShortIncrements.{found_short}
 use Rattle.int_links.proofs.SmallRows.{HasIntEnds}
 use Rattle.int_links.proofs.RowedTurns.{Keeps, IsKept, IsTermOf, IsRowFor, IsRowed, row_rowed}
 
@@ -193,15 +192,12 @@ int_ends types state sound x =
     let each = recursion_from_All (λ (c : ℕ × Cell). IsSoundCell types state c.1) state.cells sound.cells in
     interval_ends types state (cell_at state x) (λ cell e. sound_in types state state.cells x cell each e)
 
-short_form : (op : Op) (form : Form) → IsShortOp op → form_of op ≡ Some form → IsShortForm form
-short_form op form h e = subst (λ (found : Option Form). IfSome found IsShortForm) e h
-
-plan_rowed : (p : Program) (typing : ℕ → CodeTypes) (state : AbstractState) → HasIntForms p → HasShortIncrements p → IsGoodState p typing state → IsIntState state → EachTurn (IsRowed state) (plan_of p typing state)
-plan_rowed p typing state forms increments good ints_state =
+plan_rowed : (p : Program) (typing : ℕ → CodeTypes) (state : AbstractState) → HasIntForms p → HasWidths p → IsGoodState p typing state → IsIntState state → EachTurn (IsRowed state) (plan_of p typing state)
+plan_rowed p typing state forms widths good ints_state =
     in_plan p typing state forms good ints_state (EachTurn (IsRowed state)) tt (λ frame places next op after form held at is int.
-    let short = short_form op form (found_short p frame.method frame.pc (op, after) increments at) is in
-    row_rowed (here_in p state frame places next) ints_state (int_ends (types_of p.world) state good.sound) held refl form int short)
+    let wide = forms_wide p widths frame.method frame.pc op after at form is in
+    row_rowed (here_in p state frame places next) ints_state (int_ends (types_of p.world) state good.sound) held refl form int wide)
 
 pub links_fit : IntLinksFit
-links_fit p typing state children forms increments good ints_state expanded =
-    planned_fit (types_of p.world) state (plan_of p typing state) expanded.wholes children ints_state (plan_rowed p typing state forms increments good ints_state) expanded.are expanded.lean
+links_fit p typing state children forms widths good ints_state expanded =
+    planned_fit (types_of p.world) state (plan_of p typing state) expanded.wholes children ints_state (plan_rowed p typing state forms widths good ints_state) expanded.are expanded.lean

@@ -23,6 +23,8 @@ use Rattle.abs_ints.specs.declared.cases.ShortRow.{ShortRow}
 use Rattle.abs_ints.specs.declared.cases.Way.{Way}
 use Rattle.abs_ints.proofs.OperatorCases.{if_either}
 use Rattle.op_forms.specs.Forms.{Form}
+use Rattle.op_forms.specs.Widths.{IsFormInWidth}
+use Rattle.op_forms.proofs.Widths.{increment_int}
 use Rattle.term_graph.specs.declared.links.Side.{Side}
 use Rattle.term_graph.specs.declared.links.Side.TheVariants.{Before, After}
 use Rattle.term_graph.specs.declared.links.LinkRow.{LinkRow}
@@ -35,7 +37,6 @@ use Rattle.abs_expand.proofs.IntTurns.{local_held}
 use Rattle.abs_expand.proofs.OptionLists.{filtered}
 use Rattle.int_plans.proofs.EachRow.{IsFine, AreFine, each_sum, each_difference}
 use Rattle.int_plans.proofs.EachTurn.{EachTurn, HoldsOfInts, each_turn}
-use Rattle.int_links.specs.Increments.{IsShortForm}
 use Rattle.int_links.proofs.SmallRows.{IsSmall, IsInt, HasIntEnds, IsSmallRow, IsPlainRow, sum_small, difference_small, turn_small, operated_small, compared_plain}
 
 -- ---- lists
@@ -223,12 +224,12 @@ module _ (here : Here) (ints_state : IsIntState here.state) (int_ends : (x : ℕ
   taken : (stack : List ℕ) → here.frame.stack ≡ stack → AllByRecursion Holds stack
   taken stack e = subst (AllByRecursion Holds) e held.stack
 
-  ints_rowed : (form : Form) → IsShortForm form → HoldsOfInts here Rowed form
-  ints_rowed form short = record {
+  ints_rowed : (form : Form) → IsFormInWidth form → HoldsOfInts here Rowed form
+  ints_rowed form wide = record {
     still = still_rowed;
     increments = λ n by x is at.
         let l = found_local n x at in
-        let b : IsInt by = subst IsShortForm is short in
+        let b : IsInt by = increment_int by (subst IsFormInWidth is wide) in
         operator_rowed Add (id x) (known by) (with_stack here here.next here.frame.stack) (in_local n) l.0 tt l.1 (each_sum (IsOver (id x) (known by)) (sum_over x by b) (interval_of_id here.state x) (interval_at here.state (known by)));
     negates = λ a rest e.
         operator_rowed Sub (known (pos 0)) (id a) (with_stack here here.next rest) on_stack tt (taken (a ∷ rest) e).0 tt (each_difference (IsOver (known (pos 0)) (id a)) (difference_over a) (interval_at here.state (known (pos 0))) (interval_of_id here.state a));
@@ -237,5 +238,5 @@ module _ (here : Here) (ints_state : IsIntState here.state) (int_ends : (x : ℕ
   }
 
   -- the rows of every step of an instruction that is about ints, in a state with one frame
-  pub row_rowed : here.below ≡ [] → (form : Form) → is_int_form form ≡ true → IsShortForm form → EachTurn Rowed (row_of here form)
-  row_rowed alone form int short = each_turn here Rowed form (ints_rowed form short) alone int
+  pub row_rowed : here.below ≡ [] → (form : Form) → is_int_form form ≡ true → IsFormInWidth form → EachTurn Rowed (row_of here form)
+  row_rowed alone form int wide = each_turn here Rowed form (ints_rowed form wide) alone int

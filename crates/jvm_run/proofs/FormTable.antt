@@ -7,11 +7,11 @@ use Rattle.jvm_values.specs.States.{PlaceTypes}
 use Rattle.jvm_values.proofs.Options.{some_is}
 use Rattle.op_forms.specs.Forms.{Form}
 use Rattle.op_forms.specs.Forms.Form.{Nop, AconstNull, Iconst, Iload, Aload, Istore, Astore, Iinc, Shuffle, Arith, Ineg, Narrow, If, IfIcmp, IfAcmpeq, IfAcmpne, Ifnull, Ifnonnull, Goto, Tableswitch, Lookupswitch, Ireturn, Areturn, Return, Getstatic, Putstatic, Getfield, Putfield, Invokevirtual, Invokespecial, Invokestatic, Invokeinterface, New, Newarray, Anewarray, Arraylength, NumberLoad, Aaload, NumberStore, Aastore, Athrow, Checkcast, Instanceof}
+use Rattle.op_forms.specs.Widths.{IsFormInWidth}
 use Rattle.code_verify.specs.Rows.{types_after}
 use Rattle.code_verify.specs.Flows.{falls, jumps}
 use Rattle.jvm_step.specs.Effects.{Effect}
 use Rattle.jvm_step.specs.Table.{effect_of}
-use Rattle.jvm_run.specs.Laws.{IsIntForm}
 use Rattle.jvm_run.proofs.Forms.{Here, Stands, Well, WorkGood, left, well_frame, well_heap, well_statics}
 use Rattle.jvm_run.proofs.Named.{IsNamed}
 use Rattle.jvm_run.proofs.IntForms.{constant_well, arith_well, ineg_well, narrow_well, if_int_well, if_icmp_well, goto_well, first_among, target_among, case_among, tableswitch_well, lookupswitch_well}
@@ -31,7 +31,7 @@ leading : (here : Here) (form : Form) (place : ℕ) → here.form ≡ form → l
 leading here form place p j = subst (λ (f : Form). list_any (eqb place) (jumps f) ≡ true) (sym p) j
 
 -- There is an effect, and what it makes has the types after the form.
-pub effect_well : (here : Here) → Stands here → (form : Form) → here.form ≡ form → IsNamed here.program here.method.class here.op form → IsIntForm form → (after : PlaceTypes) → types_after here.program here.method form here.before ≡ Some after → Well here (WorkGood here after) (effect_of here.program here.method form here.work)
+pub effect_well : (here : Here) → Stands here → (form : Form) → here.form ≡ form → IsNamed here.program here.method.class here.op form → IsFormInWidth form → (after : PlaceTypes) → types_after here.program here.method form here.before ≡ Some after → Well here (WorkGood here after) (effect_of here.program here.method form here.work)
 effect_well here s Nop p n i after e = well_frame here s after (Some (Effect.Next here.work.frame)) ((falling here Nop p refl), left here s after here.before.stack here.work.frame.stack (sym (some_is e)) s.stack)
 effect_well here s AconstNull p n i after e = well_frame here s after _ (constant_well here s (falling here AconstNull p refl) places.Null values.Null after tt e)
 effect_well here s (Iconst c) p n i after e = well_frame here s after _ (constant_well here s (falling here (Iconst c) p refl) places.Int (values.Int c) after i e)

@@ -1,6 +1,5 @@
 pub mod ArrayForms
 pub mod CallForms
-pub mod Constants
 pub mod FieldForms
 pub mod FormTable
 pub mod Forms

@@ -1,12 +1,11 @@
 -- A step from a typed state of a program with typings is not stuck, and goes on to a typed state.
 use Rattle.std.proofs.Common.{◌≡◌, ◌≢◌, ℕ, zero, suc, ◌+◌, ◌<◌, ◌≤◌, Bool, true, false, cond, ◌&&◌, List, [], ◌∷◌, ◌++◌, length, map, drop, take, reverse, Option, Some, None, IsTrue, refl, sym, ap, ◌∙◌, subst, arith}
-use Rattle.std.specs.Prelude.{slice_get, All, IfSome, unwrap_or, nat_le, nat_lt, find}
+use Rattle.std.specs.Prelude.{slice_get, unwrap_or, nat_le, nat_lt, find}
 use Rattle.std.specs.List.{AllZip}
 use Rattle.std.specs.Option.{option_map, option_map_or, option_and_then, is_some}
 use Rattle.std.proofs.lemmas.Bool.{false≢true, and_parts}
 use Rattle.std.proofs.lemmas.List.Elements.{All-nil, All-drop}
 use Rattle.std.proofs.lemmas.Option.{none-some}
-use Rattle.list_views.proofs.Quantified.{all_at as all_get}
 use Rattle.list_views.proofs.Items.{get_last}
 use Rattle.jvm_values.specs.declared.heap.Value.{Value}
 use Rattle.jvm_values.specs.declared.heap.Value.TheVariants as values
@@ -32,10 +31,11 @@ use Rattle.class_program.specs.declared.program.CatchRange.{CatchRange}
 use Rattle.class_program.specs.declared.program.Method.{Method}
 use Rattle.class_program.specs.Instructions.{instruction_at}
 use Rattle.class_program.specs.Programs.{Program, insn_at, op_at}
+use Rattle.class_program.specs.Widths.{HasWidths}
 use Rattle.class_program.specs.Good.{IsGood, IsGoodOp, IsGoodMethod}
 use Rattle.class_program.proofs.Got.{all_at}
 use Rattle.class_program.specs.Selected.{CanRun}
-use Rattle.op_forms.specs.Forms.{form_of}
+use Rattle.op_forms.proofs.Widths.{forms_wide}
 use Rattle.frame_types.specs.Tables.{CodeTypes, Takes}
 use Rattle.code_verify.specs.Operands.{place_of}
 use Rattle.code_verify.specs.Rows.{with_result as types_with_result}
@@ -46,14 +46,14 @@ use Rattle.jvm_step.specs.Effects.{Effect, new_instance}
 use Rattle.jvm_step.specs.Operands.{object_at}
 use Rattle.jvm_step.specs.Table.{Work, effect_of}
 use Rattle.jvm_step.specs.Running.{Step, goes_on, throws, with_object, entered, invokes, with_result, returns, applied, normal_step, takes, handled, throwing_step, step_in}
-use Rattle.jvm_run.specs.Laws.{GoesTyped, HasInts, IsIntForm}
+use Rattle.jvm_run.specs.Laws.{GoesTyped}
 use Rattle.jvm_run.proofs.Lists.{zip_map}
 use Rattle.jvm_run.proofs.Values.{Grows, grows_same, grows_by, holds_grown, heap_with, own_type}
 use Rattle.jvm_run.proofs.Forms.{Here, Stands, Well, WorkGood, IsCalling, IsResult}
 use Rattle.jvm_run.proofs.Objects.{defaults_held}
-use Rattle.jvm_run.proofs.Named.{named_of, some_then}
+use Rattle.jvm_run.proofs.Named.{named_of}
 use Rattle.jvm_run.proofs.FormTable.{effect_well}
-use Rattle.jvm_run.proofs.Placed.{Placed, placed, jump_taken, next_taken, handler_taken, at_has, at_has_all}
+use Rattle.jvm_run.proofs.Placed.{Placed, placed, jump_taken, next_taken, handler_taken, at_has}
 use Rattle.jvm_run.proofs.Frames.{running_at, frame_grown, callers_grown, emptied_frame, entered_running}
 use Rattle.jvm_run.proofs.Returning.{call_after}
 
@@ -63,7 +63,7 @@ pub record Known (p : Program) (typing : ℕ → CodeTypes) : Type 0 where
   pub laws : AreLawful (types_of p.world)
   pub built_ins : HasBuiltIns p.world
   pub good : IsGood p
-  pub ints : HasInts p
+  pub widths : HasWidths p
   pub typings : (number : ℕ) (m : Method) → slice_get p.methods number ≡ Some m → IsTyping p m (typing number)
 
 abbrev AreStatics : Program → Heap → List Value → Type 0
@@ -86,10 +86,6 @@ op_good : (p : Program) (typing : ℕ → CodeTypes) → Known p typing → (num
 op_good p typing k number pc m op next e i =
     let good : IsGoodMethod p m = all_at (IsGoodMethod p) p.methods number m k.good.methods e in
     at_has (IsGoodOp p m) m.insns pc (op, next) good.insns i
-
-op_ints : (p : Program) (typing : ℕ → CodeTypes) → Known p typing → (number pc : ℕ) (m : Method) (op : Op) (next : Option ℕ) → slice_get p.methods number ≡ Some m → instruction_at m.insns pc ≡ Some (op, next) → IfSome (form_of op) IsIntForm
-op_ints p typing k number pc m op next e i =
-    at_has_all (λ (x : Op). IfSome (form_of x) IsIntForm) m.insns pc (op, next) (all_get (λ (x : Method). All (λ (y : ℕ × Op). IfSome (form_of y.1) IsIntForm) x.insns) p.methods number m k.ints e) i
 
 -- ---- what an effect makes of a typed state
 
@@ -266,9 +262,9 @@ normal_typed p typing k frame below heap statics r =
     let m : Method = r.typed.method in
     let at = r.place in
     let good = op_good p typing k frame.method frame.pc m at.op at.next r.typed.is_method at.insn_is in
-    let ints = some_then (form_of at.op) IsIntForm at.form (op_ints p typing k frame.method frame.pc m at.op at.next r.typed.is_method at.insn_is) at.form_is in
-    let well = effect_well (here_of r) (stands_here p typing k frame below heap statics r) at.form refl (named_of p m.class at.op at.form good.named at.form_is) ints at.after at.types_are in
     let there = insn_there p frame.method frame.pc m at.op at.next r.typed.is_method at.insn_is in
+    let wide = forms_wide p k.widths frame.method frame.pc at.op at.next there at.form at.form_is in
+    let well = effect_well (here_of r) (stands_here p typing k frame below heap statics r) at.form refl (named_of p m.class at.op at.form good.named at.form_is) wide at.after at.types_are in
     rw (r.typed.is_method, there, at.form_is) (effect_typed p typing k frame below heap statics r (effect_of p m at.form (record { frame = frame; statics = statics; heap = heap })) well)
 
 -- ---- throwing mode

@@ -10,29 +10,30 @@ use Rattle.class_world.specs.WorldLaws.{world_laws}
 use Rattle.class_world.proofs.BuiltInLaws.{built_ins_known}
 use Rattle.class_program.specs.declared.program.Method.{Method}
 use Rattle.class_program.specs.Programs.{Program, IsClosed}
+use Rattle.class_program.specs.Widths.{HasWidths}
 use Rattle.class_program.proofs.GoodPrograms.{good_program}
 use Rattle.frame_types.specs.Tables.{CodeTypes}
 use Rattle.code_verify.specs.Typings.{IsTypingOf}
 use Rattle.code_verify.specs.TypedStates.{IsTypedState}
 use Rattle.jvm_step.specs.Running.{Step, new_frame, entered, step, step_on, run, start}
-use Rattle.jvm_run.specs.Laws.{GoesTyped, HasInts, StepsAreTyped, RunsAreTyped, RunsAreNeverStuck, StartsAreTyped}
+use Rattle.jvm_run.specs.Laws.{GoesTyped, StepsAreTyped, RunsAreTyped, RunsAreNeverStuck, StartsAreTyped}
 use Rattle.jvm_run.proofs.Frames.{entered_running}
 use Rattle.jvm_run.proofs.Stepping.{Known, step_typed}
 
 -- what is known of a closed program with typings
-pub known : (p : Program) (typing : ℕ → CodeTypes) → IsClosed p → HasInts p → IsTypingOf p typing → Known p typing
-known p typing closed ints t = record {
+pub known : (p : Program) (typing : ℕ → CodeTypes) → IsClosed p → HasWidths p → IsTypingOf p typing → Known p typing
+known p typing closed widths t = record {
   linked = closed.known.linked;
   laws = world_laws p.world closed.known.linked;
   built_ins = built_ins_known p.world closed.known;
   good = good_program p closed;
-  ints = ints;
+  widths = widths;
   typings = λ number m e. (t.each number m e).is_typing;
 }
 
 pub steps_typed : StepsAreTyped
 unfolding step
-steps_typed p typing closed ints t state h = step_typed p typing (known p typing closed ints t) state.frames state.heap state.mode state.statics h
+steps_typed p typing closed widths t state h = step_typed p typing (known p typing closed widths t) state.frames state.heap state.mode state.statics h
 
 goes_on_typed : (p : Program) (typing : ℕ → CodeTypes) → ((state : MachineState) → IsTypedState p typing state → GoesTyped p typing (step p state)) → (s : Step) → GoesTyped p typing s → GoesTyped p typing (step_on p s)
 unfolding step_on
@@ -42,11 +43,11 @@ goes_on_typed p typing f (Step.Threw r) h = tt
 goes_on_typed p typing f Step.Stuck h = absurd h
 
 pub runs_typed : RunsAreTyped
-runs_typed p typing closed ints t state h zero = h
-runs_typed p typing closed ints t state h (suc count) = goes_on_typed p typing (steps_typed p typing closed ints t) (run p count state) (runs_typed p typing closed ints t state h count)
+runs_typed p typing closed widths t state h zero = h
+runs_typed p typing closed widths t state h (suc count) = goes_on_typed p typing (steps_typed p typing closed widths t) (run p count state) (runs_typed p typing closed widths t state h count)
 
 pub never_stuck : RunsAreNeverStuck
-never_stuck p typing closed ints t state h count e = subst (GoesTyped p typing) e (runs_typed p typing closed ints t state h count)
+never_stuck p typing closed widths t state h count e = subst (GoesTyped p typing) e (runs_typed p typing closed widths t state h count)
 
 -- ---- starts
 

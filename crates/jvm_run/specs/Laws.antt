@@ -1,33 +1,19 @@
 -- What holds of runs from states that have the types of a program's least typing (JVM specification, section 4.10).
-use Rattle.std.specs.Prelude.{◌≡◌, ℕ, List, slice_get, Some, All, IfSome}
+use Rattle.std.specs.Prelude.{◌≡◌, ℕ, List, slice_get, Some}
 use Rattle.std.specs.List.{AllZip}
 use Rattle.jvm_values.specs.declared.heap.Value.{Value}
 use Rattle.jvm_values.specs.declared.heap.Heap.{Heap}
-use Rattle.jvm_values.specs.declared.types.Kind.TheVariants.{Int}
-use Rattle.jvm_values.specs.Kinds.{IsOfKind}
 use Rattle.jvm_values.specs.States.{MachineState}
 use Rattle.jvm_values.specs.TypedHeaps.{Holds, IsTypedHeap}
 use Rattle.class_world.specs.WorldTypes.{types_of}
-use Rattle.class_program.specs.declared.op.Op.{Op}
 use Rattle.class_program.specs.declared.program.Method.{Method}
 use Rattle.class_program.specs.Programs.{Program, IsClosed}
-use Rattle.op_forms.specs.Forms.{Form, form_of}
-use Rattle.op_forms.specs.Forms.Form.{Iconst}
+use Rattle.class_program.specs.Widths.{HasWidths}
 use Rattle.frame_types.specs.Tables.{CodeTypes}
 use Rattle.code_verify.specs.Typings.{IsTypingOf}
 use Rattle.code_verify.specs.Operands.{place_of}
 use Rattle.code_verify.specs.TypedStates.{HasPlaceType, IsTypedState}
 use Rattle.jvm_step.specs.Running.{Step, step, run, start, IsNeverStuck}
-
--- the int that a form pushes as a constant is one of 32 bits
-abbrev pub IsIntForm : Form → Type 0
-IsIntForm (Iconst n) = IsOfKind Int n
-IsIntForm _ = Unit {0}
-
--- The constants of a program's instructions are ints. Instructions of the code have numbers of at most 32 bits; those of the
--- definitions' lists can be any.
-abbrev pub HasInts : Program → Type 0
-HasInts p = All (λ (m : Method). All (λ (x : ℕ × Op). IfSome (form_of x.1) IsIntForm) m.insns) p.methods
 
 -- a step is not stuck, and where the run goes on, the state is typed
 abbrev pub GoesTyped : Program → (ℕ → CodeTypes) → Step → Type 0
@@ -36,22 +22,23 @@ GoesTyped p typing (Step.Returned value) = Unit {0}
 GoesTyped p typing (Step.Threw r) = Unit {0}
 GoesTyped p typing Step.Stuck = ⊥
 
--- One step from a typed state of a closed program whose methods have typings.
+-- One step from a typed state of a closed program whose methods have typings, and whose numbers are of their fields' widths:
+-- instructions are lists here, in which a number can be any.
 abbrev pub StepsAreTyped : Type 0
 StepsAreTyped =
-    (p : Program) (typing : ℕ → CodeTypes) → IsClosed p → HasInts p → IsTypingOf p typing
+    (p : Program) (typing : ℕ → CodeTypes) → IsClosed p → HasWidths p → IsTypingOf p typing
     → (state : MachineState) → IsTypedState p typing state → GoesTyped p typing (step p state)
 
 -- So many steps from such a state.
 abbrev pub RunsAreTyped : Type 0
 RunsAreTyped =
-    (p : Program) (typing : ℕ → CodeTypes) → IsClosed p → HasInts p → IsTypingOf p typing
+    (p : Program) (typing : ℕ → CodeTypes) → IsClosed p → HasWidths p → IsTypingOf p typing
     → (state : MachineState) → IsTypedState p typing state → (count : ℕ) → GoesTyped p typing (run p count state)
 
 -- No number of steps makes it stuck.
 abbrev pub RunsAreNeverStuck : Type 0
 RunsAreNeverStuck =
-    (p : Program) (typing : ℕ → CodeTypes) → IsClosed p → HasInts p → IsTypingOf p typing
+    (p : Program) (typing : ℕ → CodeTypes) → IsClosed p → HasWidths p → IsTypingOf p typing
     → (state : MachineState) → IsTypedState p typing state → IsNeverStuck p state
 
 -- the values that the entry of a program takes, and those of its static fields

@@ -5,10 +5,8 @@
 
 mod ended;
 mod laws;
-mod program_ints;
 mod runs;
 
 pub use ended::Ended;
 pub use laws::{runs_are_never_stuck, runs_are_typed, starts_are_typed, steps_are_typed};
-pub use program_ints::has_ints;
 pub use runs::run;

@@ -17,7 +17,7 @@ use Rattle.jvm_values.specs.Heaps.{target, values_of, value_at, heap_steps, Regi
 use Rattle.jvm_values.specs.Terms.{HeapTerm, HeapTerms, term_within, term_of_object, terms_by}
 use Rattle.jvm_values.specs.Terms.HeapTerm.{null, node}
 use Rattle.jvm_values.specs.Terms.HeapTerms.{more}
-use Rattle.jvm_values.specs.Writes.{IsWritten, with_value, WriteKeeps, PathSplits, WriteGains, WriteMakesNoCycle, NullKeepsShapes}
+use Rattle.jvm_values.specs.Writes.{IsWritten, with_value, IsKept, WriteKeeps, PathSplits, WriteGains, WriteMakesNoCycle, NullKeepsShapes}
 use Rattle.jvm_values.proofs.Lists.{get_set_cases, get_set_other}
 use Rattle.jvm_values.proofs.PathLaws.{one_more, here, joined, onward, rest_of}
 
@@ -25,6 +25,20 @@ value_cases : (place : ℕ) (value : Value) (object : Object) (j : ℕ) (y : Val
 value_cases place value (Instance class fields) j y e = elim (get_set_cases fields place value j y e) [ inl h ↦ inl h | inr h ↦ inr h.1 ]
 value_cases place value (Nums kind items) j y e = inl e
 value_cases place value (Refs element items) j y e = elim (get_set_cases items place value j y e) [ inl h ↦ inl h | inr h ↦ inr h.1 ]
+
+-- terms of references that are the same by two maps
+same_terms : (fields : List Value) (f g : Value → Option HeapTerm) → ((k : ℕ) (x : Value) → slice_get fields k ≡ Some x → f x ≡ g x) → terms_by f fields ≡ terms_by g fields
+same_terms [] f g h = refl
+same_terms (values.Int n ∷ rest) f g h = same_terms rest f g (λ k x e. h (suc k) x e)
+same_terms (values.Null ∷ rest) f g h = ap (option_map (more null)) (same_terms rest f g (λ k x e. h (suc k) x e))
+same_terms (values.Ref r ∷ rest) f g h =
+    let tail = same_terms rest f g (λ k x e. h (suc k) x e) in
+    ap (λ (x : Option HeapTerm). option_and_then (λ (first : HeapTerm). option_map (more first) (terms_by f rest)) x) (h 0 (values.Ref r) refl) ∙ ap (λ (ts : Option HeapTerms). option_and_then (λ (first : HeapTerm). option_map (more first) ts) (g (values.Ref r))) tail
+
+pub same_object_term : (object : Object) (f g : Value → Option HeapTerm) → ((k : ℕ) (x : Value) → slice_get (values_of object) k ≡ Some x → f x ≡ g x) → term_of_object f object ≡ term_of_object g object
+same_object_term (Instance class fields) f g h = ap (option_map (node class)) (same_terms fields f g h)
+same_object_term (Nums kind items) f g h = refl
+same_object_term (Refs element items) f g h = refl
 
 module _ (old new : Heap) (o place : ℕ) (value : Value) (w : IsWritten old o place value new) where
   -- an object of the new heap is one of the old heap, or the one that is written
@@ -102,19 +116,6 @@ module _ (old new : Heap) (o place : ℕ) (value : Value) (w : IsWritten old o p
 
   -- ---- terms
 
-  same_terms : (fields : List Value) (f g : Value → Option HeapTerm) → ((k : ℕ) (x : Value) → slice_get fields k ≡ Some x → f x ≡ g x) → terms_by f fields ≡ terms_by g fields
-  same_terms [] f g h = refl
-  same_terms (values.Int n ∷ rest) f g h = same_terms rest f g (λ k x e. h (suc k) x e)
-  same_terms (values.Null ∷ rest) f g h = ap (option_map (more null)) (same_terms rest f g (λ k x e. h (suc k) x e))
-  same_terms (values.Ref r ∷ rest) f g h =
-      let tail = same_terms rest f g (λ k x e. h (suc k) x e) in
-      ap (λ (x : Option HeapTerm). option_and_then (λ (first : HeapTerm). option_map (more first) (terms_by f rest)) x) (h 0 (values.Ref r) refl) ∙ ap (λ (ts : Option HeapTerms). option_and_then (λ (first : HeapTerm). option_map (more first) ts) (g (values.Ref r))) tail
-
-  same_object_term : (object : Object) (f g : Value → Option HeapTerm) → ((k : ℕ) (x : Value) → slice_get (values_of object) k ≡ Some x → f x ≡ g x) → term_of_object f object ≡ term_of_object g object
-  same_object_term (Instance class fields) f g h = ap (option_map (node class)) (same_terms fields f g h)
-  same_object_term (Nums kind items) f g h = refl
-  same_object_term (Refs element items) f g h = refl
-
   pub same_term : (depth : ℕ) (x : Value) → ((a : ℕ) → target x ≡ Some a → Reaches (heap_steps old) a o → ⊥) → term_within depth new x ≡ term_within depth old x
   same_term depth (values.Int n) lacks = refl
   same_term depth values.Null lacks = refl
@@ -135,25 +136,27 @@ same_shape one two x back Dag h = λ a t p b e q f.
     h a t p b start q (rest_of (heap_steps one) p q a b b start (back a t (p ++ q) b (joined (heap_steps two) p q a b b e f)))
 same_shape one two x back Any h = tt
 
+-- the same paths and terms keep all of a value
+pub kept : (old new : Heap) (x : Value) → ((a : ℕ) → target x ≡ Some a → (path : List ℕ) → follow (heap_steps new) path a ≡ follow (heap_steps old) path a) → ((depth : ℕ) → term_within depth new x ≡ term_within depth old x) → IsKept old new x
+kept old new x same terms = record {
+  region = λ b. (
+    λ r. record { start = r.start; names = r.names; reaches = record { path = r.reaches.path; leads = sym (same r.start r.names r.reaches.path) ∙ r.reaches.leads } },
+    λ r. record { start = r.start; names = r.names; reaches = record { path = r.reaches.path; leads = same r.start r.names r.reaches.path ∙ r.reaches.leads } },
+  );
+  paths = same;
+  shape = λ shape. (
+    same_shape new old x (λ a t p b e. same a t p ∙ e) shape,
+    same_shape old new x (λ a t p b e. sym (same a t p) ∙ e) shape,
+  );
+  term = λ term. (
+    λ t. record { acyclic = same_shape new old x (λ a t p b e. same a t p ∙ e) Dag t.acyclic; depth = t.depth; is = sym (terms t.depth) ∙ t.is },
+    λ t. record { acyclic = same_shape old new x (λ a t p b e. sym (same a t p) ∙ e) Dag t.acyclic; depth = t.depth; is = terms t.depth ∙ t.is },
+  );
+}
+
 pub keeps : WriteKeeps
 keeps old new o place value w x lacks =
-    let same : (path : List ℕ) (a : ℕ) → target x ≡ Some a → follow (heap_steps new) path a ≡ follow (heap_steps old) path a = λ path a t. same_paths old new o place value w path a (from_region old x o lacks a t) in
-    let terms : (depth : ℕ) → term_within depth new x ≡ term_within depth old x = λ depth. same_term old new o place value w depth x (from_region old x o lacks) in
-    record {
-      region = λ b. (
-        λ r. record { start = r.start; names = r.names; reaches = record { path = r.reaches.path; leads = sym (same r.reaches.path r.start r.names) ∙ r.reaches.leads } },
-        λ r. record { start = r.start; names = r.names; reaches = record { path = r.reaches.path; leads = same r.reaches.path r.start r.names ∙ r.reaches.leads } },
-      );
-      paths = λ a t path. same path a t;
-      shape = λ shape. (
-        same_shape new old x (λ a t p b e. same p a t ∙ e) shape,
-        same_shape old new x (λ a t p b e. sym (same p a t) ∙ e) shape,
-      );
-      term = λ term. (
-        λ t. record { acyclic = same_shape new old x (λ a t p b e. same p a t ∙ e) Dag t.acyclic; depth = t.depth; is = sym (terms t.depth) ∙ t.is },
-        λ t. record { acyclic = same_shape old new x (λ a t p b e. sym (same p a t) ∙ e) Dag t.acyclic; depth = t.depth; is = terms t.depth ∙ t.is },
-      );
-    }
+    kept old new x (λ a t path. same_paths old new o place value w path a (from_region old x o lacks a t)) (λ depth. same_term old new o place value w depth x (from_region old x o lacks))
 
 pub splits : PathSplits
 splits old new o place value w path a b e = split old new o place value w path a b e

@@ -1,5 +1,6 @@
 pub mod AfterWrites
 pub mod IntLaws
+pub mod IntWrites
 pub mod Joining
 pub mod Lists
 pub mod Options

@@ -1,13 +1,16 @@
 -- What a write does to regions: three facts about a heap in which one field or item of an object is set to a value, and
--- nothing else changes. "Old" is before the write, "new" after it.
-use Rattle.std.specs.Prelude.{◌≡◌, ℕ, List, ◌⊎◌, ◌↔◌, Some, None, slice_get, slice_set}
+-- nothing else changes; and two about writes of numbers, which change no reference. "Old" is before the write, "new"
+-- after it.
+use Rattle.std.specs.Prelude.{◌≡◌, ℕ, ℤ, List, ◌⊎◌, ◌↔◌, Some, None, slice_get, slice_set}
+use Rattle.jvm_values.specs.declared.types.Kind.{Kind}
 use Rattle.jvm_values.specs.declared.heap.Value.{Value}
+use Rattle.jvm_values.specs.declared.heap.Value.TheVariants as values
 use Rattle.jvm_values.specs.declared.heap.Object.{Object}
 use Rattle.jvm_values.specs.declared.heap.Object.TheVariants.{Instance, Nums, Refs}
 use Rattle.jvm_values.specs.declared.heap.Heap.{Heap}
 use Rattle.jvm_values.specs.declared.shape.Shape.{Shape}
 use Rattle.jvm_values.specs.Paths.{follow, Reaches}
-use Rattle.jvm_values.specs.Heaps.{target, heap_steps, Region, IsDag, HasShape}
+use Rattle.jvm_values.specs.Heaps.{target, value_at, heap_steps, Region, IsDag, HasShape}
 use Rattle.jvm_values.specs.Terms.{HeapTerm, IsTerm}
 
 -- an object with another value in one field or item
@@ -66,3 +69,22 @@ abbrev pub NullKeepsShapes : Type 0
 NullKeepsShapes =
     (old new : Heap) (o place : ℕ) (value : Value) → IsWritten old o place value new
     → target value ≡ None → (shape : Shape) (x : Value) → HasShape shape old x → HasShape shape new x
+
+-- An int that is written over an int: every value keeps its region, the paths in it, its shapes and its term, also one
+-- whose region has the object.
+abbrev pub IntWritesKeep : Type 0
+IntWritesKeep =
+    (old new : Heap) (o place : ℕ) (before after : ℤ) → IsWritten old o place (values.Int after) new
+    → value_at old o place ≡ Some (values.Int before) → (x : Value) → IsKept old new x
+
+-- the new heap is the old one with other items in the array of numbers `o`
+pub record AreRenumbered (old : Heap) (o : ℕ) (new : Heap) : Type 0 where
+  pub kind : Kind
+  pub before : List ℤ
+  pub after : List ℤ
+  pub stands : slice_get old.objects o ≡ Some (Nums kind before)
+  pub objects : new.objects ≡ slice_set old.objects o (Nums kind after)
+
+-- And where items of an array of numbers change, every value keeps the same.
+abbrev pub NumberWritesKeep : Type 0
+NumberWritesKeep = (old new : Heap) (o : ℕ) → AreRenumbered old o new → (x : Value) → IsKept old new x

@@ -27,4 +27,7 @@ pub use state::{Frame, Mode, State};
 pub use types::{Base, Kind, Slot, Ty, array_of, array_of_numbers, class_type};
 pub use typing::{FrameType, PlaceType};
 pub use world_types::Types;
-pub use writes::{null_keeps_shapes, path_splits, write_gains, write_keeps, write_makes_no_cycle};
+pub use writes::{
+    int_writes_keep, null_keeps_shapes, number_writes_keep, path_splits, write_gains, write_keeps,
+    write_makes_no_cycle,
+};

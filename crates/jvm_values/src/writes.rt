@@ -1,7 +1,7 @@
 //! Laws about a heap in which one field or item of an object is set to a value. They run nothing.
 //!
-//! The three facts on which writing in abstract heaps rests, over concrete heaps alone.
-ghost use Rattle.jvm_values.specs.Writes.{WriteKeeps, PathSplits, WriteGains, WriteMakesNoCycle, NullKeepsShapes};
+//! The three facts on which writing in abstract heaps rests, over concrete heaps alone; and what writes of numbers keep.
+ghost use Rattle.jvm_values.specs.Writes.{WriteKeeps, PathSplits, WriteGains, WriteMakesNoCycle, NullKeepsShapes, IntWritesKeep, NumberWritesKeep};
 
 /// A value whose region lacks the object keeps its region, the paths in it, its shapes and its term.
 pub fn write_keeps()
@@ -26,4 +26,14 @@ pub fn write_makes_no_cycle()
 /// Where null is written, each value that had the shape of a tree or of a dag keeps it.
 pub fn null_keeps_shapes()
     ensures { NullKeepsShapes }
+{}
+
+/// Where an int is written over an int, each value keeps its region, the paths in it, its shapes and its term.
+pub fn int_writes_keep()
+    ensures { IntWritesKeep }
+{}
+
+/// Where items of an array of numbers change, each value keeps its region, the paths in it, its shapes and its term.
+pub fn number_writes_keep()
+    ensures { NumberWritesKeep }
 {}

@@ -124,3 +124,26 @@ fn a_state_whose_pairs_break_a_rule_is_not(rt: HostRuntime) -> Result<(), Fail> 
     assert!(rt; !both_known);
     Ok(())
 }
+
+#[test]
+fn a_state_taken_apart_and_put_together_is_as_before(rt: HostRuntime) -> Result<(), Fail> {
+    let alloc = rt.alloc();
+    let frames = frames_of(alloc, &[Some(0), None])?;
+    let cells = cells_of(alloc, &[0, 1, 2, 3])?;
+    let share = pairs(alloc, &[(0, 3), (1, 3)])?;
+    let state = AbsState::new(frames, Some(1), cells, pairs(alloc, &[(1, 3)])?, share);
+    let parts = state.into_parts();
+    let again = AbsState::new(
+        parts.frames,
+        parts.throwing,
+        parts.cells,
+        parts.eq,
+        parts.share,
+    );
+    assert!(rt; well_formed(&again));
+    assert!(rt; again.throwing() == Some(1));
+    assert!(rt; again.cells().len() == 4);
+    assert!(rt; again.eq().has(1, 3) && !again.eq().has(0, 3));
+    assert!(rt; again.share().has(0, 3) && again.share().has(1, 3));
+    Ok(())
+}

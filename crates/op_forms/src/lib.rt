@@ -7,4 +7,4 @@ mod form;
 mod laws;
 
 pub use form::{Form, ItemKind, Shuffle, form_of};
-pub use laws::good_ops_have_forms;
+pub use laws::{forms_are_in_width, good_ops_have_forms};

@@ -1,15 +1,12 @@
 -- Walks of machine states along a path, and what they say of its rule.
-use Rattle.std.specs.Prelude.{◌≡◌, ℕ, ℤ, pos, ◌+ℤ◌, Bool, true, false, List, [], ◌∷◌, All, length, Some}
+use Rattle.std.specs.Prelude.{◌≡◌, ℕ, ℤ, pos, ◌+ℤ◌, Bool, true, false, List, [], ◌∷◌, All, Some}
 use Rattle.descent.specs.declared.rules.PathRule.{PathRule}
 use Rattle.descent.specs.declared.rules.SlotForm.{SlotForm}
 use Rattle.descent.specs.Valuations.{Valuation, IsWeighing, Meets, slot_value}
 use Rattle.jvm_values.specs.States.{MachineState}
 use Rattle.jvm_values.specs.TypedHeaps.{WorldTypes}
 use Rattle.jvm_values.specs.Terms.{HeapTerm, HeapTerms, null, leaf, node, none, more, IsTerm}
-use Rattle.jvm_values.specs.Heaps.{IsClosed, IsInHeap}
-use Rattle.abs_cells.specs.AbstractStates.{AbstractState}
-use Rattle.abs_cells.specs.Cells.{HasCell}
-use Rattle.abs_cells.specs.Fits.{Meaning, Fits}
+use Rattle.abs_cells.specs.Fits.{Meaning, Fits, IsClosedState}
 use Rattle.term_graph.specs.Edges.{Edge, InstanceEdge, number_of}
 use Rattle.path_rules.specs.Paths.{Path}
 use Rattle.path_rules.specs.Stops.{Stop, Leg, child, instance, LinkedGraph, AreSized, stop_at, rides_from}
@@ -21,15 +18,10 @@ pub record Spot : Type 0 where
   pub machine : MachineState
   pub meaning : Meaning
 
--- no reference that an object holds, or that an id stands for, leads past the heap's end
-pub record IsClosedSpot (state : AbstractState) (spot : Spot) : Type 0 where
-  pub heap : IsClosed spot.machine.heap
-  pub ids : (id : ℕ) → HasCell (λ _. true) state id → IsInHeap (length spot.machine.heap.objects) (spot.meaning id)
-
 -- a state of the machine that fits a stop
 pub record FitsStop (types : WorldTypes) (stop : Stop) (spot : Spot) : Type 0 where
   pub fits : Fits types stop.state spot.machine spot.meaning
-  pub closed : IsClosedSpot stop.state spot
+  pub closed : IsClosedState spot.machine stop.state spot.meaning
 
 -- what is said of the machine's states at the two ends of an edge
 abbrev pub Crosses : Stop → Spot → Leg → Stop → Spot → Type 0

@@ -17,8 +17,6 @@ use crate::answer::{Answer, told};
 use cert_check::certified_int_runs_end;
 use desc_steps::{DescribedProgram, class_names, described_program};
 use input_steps::Refused;
-use int_links::has_short_increments;
-use jvm_run::has_ints;
 use prove_core::{SearchFault, search};
 use std::alloc::Global;
 
@@ -31,8 +29,6 @@ fn prove_given(alloc: Global, given: &DescribedProgram<'_>, nodes: u32) -> Resul
     ensures says { SaysOf nodes (program_of given.now.program) (typing_at given.now.typing) given.now.desc result }
     ensures ends { IsProved result → AllFittingEnd (program_of given.now.program) given.now.desc }
 {
-    has_ints(&given.program);
-    has_short_increments(&given.program);
     given.program.is_good();
     certified_int_runs_end();
     let names = class_names(alloc, &given.program.world)?;

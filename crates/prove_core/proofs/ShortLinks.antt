@@ -1,5 +1,5 @@
 -- The links of expansions have short equations.
-use Rattle.std.proofs.Common.{◌≡◌, ℕ, List, [], ◌∷◌, Option, Some, None, sym, subst}
+use Rattle.std.proofs.Common.{ℕ, List, [], ◌∷◌, Option, Some, None, sym, subst, map}
 use Rattle.std.specs.Prelude.{filter, slice_get}
 use Rattle.std.specs.List.{AllByRecursion, AllZip, find}
 use Rattle.std.specs.Option.{option_map_or}
@@ -10,10 +10,8 @@ use Rattle.jvm_values.specs.declared.typing.PlaceType.TheVariants as places
 use Rattle.jvm_values.specs.States.{PlaceTypes}
 use Rattle.jvm_values.specs.Subtyping.{class_type}
 use Rattle.jvm_values.specs.TypedHeaps.{WorldTypes}
-use Rattle.abs_cells.specs.declared.cells.Cell.{Cell}
 use Rattle.abs_cells.specs.declared.cells.Cell.TheVariants as cells
 use Rattle.abs_cells.specs.AbstractStates.{AbstractFrame, AbstractState}
-use Rattle.abs_cells.specs.Cells.{cell_at}
 use Rattle.class_world.specs.BuiltIns.{throwable}
 use Rattle.class_world.specs.WorldTypes.{types_of}
 use Rattle.class_program.specs.declared.program.CatchRange.{CatchRange}
@@ -23,11 +21,11 @@ use Rattle.class_program.specs.Programs.{Program, insn_at}
 use Rattle.code_verify.specs.Flows.{covers}
 use Rattle.op_forms.specs.Forms.{Form, form_of}
 use Rattle.frame_types.specs.Tables.{CodeTypes}
-use Rattle.term_graph.specs.declared.links.Link.{Link}
 use Rattle.term_graph.specs.Graphs.{GraphChild}
-use Rattle.abs_heap.specs.Refining.{IsCase, cases_of}
+use Rattle.abs_heap.specs.Answers.{AreNullChildren, AreClassChildren, AreEqualAnswers}
+use Rattle.abs_heap.specs.Laws.{plain_link}
 use Rattle.abs_expand.specs.Children.{IsTurnChild, IsLean}
-use Rattle.abs_expand.specs.Expansions.{plan_here, plan_in, plan_of, stays, IsSplitChild, AreNullChildren, AreClassChildren, AreChildren}
+use Rattle.abs_expand.specs.Expansions.{plan_here, plan_in, plan_of, AreChildren}
 use Rattle.abs_expand.specs.Needs.{Passing, passes, fails, splits, passing_id, split_below}
 use Rattle.abs_expand.specs.Plans.{Turn, Plan, ends, steps, by_null, by_class, by_equal}
 use Rattle.abs_expand.specs.Throwing.{takes, handled, is_open, caught_plan, if_passes, throwing_plan}
@@ -73,8 +71,12 @@ in_short p typing state None (frame ∷ below) =
 abbrev AreShort : List GraphChild → Type 0
 AreShort children = AllByRecursion (λ (child : GraphChild). IsShortLink child.link) children
 
-stays_short : (merged : Option (ℕ × ℕ)) (link : Link) → link ≡ stays merged → IsShortLink link
-stays_short merged link e = subst IsShortLink (sym e) (All-from_recursion IsShortRow [] tt)
+plain_short : (merged : Option (ℕ × ℕ)) → IsShortLink (plain_link false merged)
+plain_short merged = All-from_recursion IsShortRow [] tt
+
+mapped_short : {A : Type 0} (f : A → GraphChild) → ((x : A) → IsShortLink (f x).link) → (xs : List A) → AreShort (map f xs)
+mapped_short f h [] = tt
+mapped_short f h (x ∷ xs) = (h x, mapped_short f h xs)
 
 turns_short : (types : WorldTypes) (state : AbstractState) (turns : List Turn) (children : List GraphChild) → AllByRecursion IsShortTurn turns → AllZip (IsTurnChild types state) turns children → AreShort children
 turns_short types state [] [] short are = tt
@@ -85,39 +87,23 @@ turns_short types state (turn ∷ turns) (child ∷ children) short are = (
   turns_short types state turns children short.1 are.1,
 )
 
-null_short : (state : AbstractState) (x : ℕ) (cell : Option Cell) (children : List GraphChild) → AreNullChildren state x cell children → AreShort children
-null_short state x None children are = absurd are
-null_short state x (Some (cells.Int interval)) children are = absurd are
-null_short state x (Some cells.Null) children are = absurd are
-null_short state x (Some (cells.Obj class ids)) children are = absurd are
-null_short state x (Some (cells.Nums kind len)) children are = absurd are
-null_short state x (Some (cells.Refs element len shape)) children are = absurd are
-null_short state x (Some (cells.Unk bound nullable shape)) [] are = absurd are
-null_short state x (Some (cells.Unk bound nullable shape)) (first ∷ []) are = absurd are
-null_short state x (Some (cells.Unk bound nullable shape)) (first ∷ second ∷ []) are = (stays_short None first.link are.0.link, (stays_short None second.link are.1.link, tt))
-null_short state x (Some (cells.Unk bound nullable shape)) (first ∷ second ∷ third ∷ rest) are = absurd are
+null_short : (state : AbstractState) (x : ℕ) (children : List GraphChild) → AreNullChildren state x children → AreShort children
+null_short state x children are = subst (λ (cs : List GraphChild). AreShort cs) (sym are.are) (plain_short None, (plain_short None, tt))
 
-zip_short : {A : Type 0} (R : A → GraphChild → Type 0) (xs : List A) (children : List GraphChild) → ((x : A) (child : GraphChild) → R x child → IsShortLink child.link) → AllZip R xs children → AreShort children
-zip_short R [] [] h are = tt
-zip_short R [] (child ∷ children) h are = absurd are
-zip_short R (x ∷ xs) [] h are = absurd are
-zip_short R (x ∷ xs) (child ∷ children) h are = (h x child are.0, zip_short R xs children h are.1)
+class_short : (types : WorldTypes) (state : AbstractState) (x : ℕ) (wanted : Ty) (children : List GraphChild) → AreClassChildren types state x wanted children → AreShort children
+class_short types state x wanted children are =
+    subst (λ (cs : List GraphChild). AreShort cs) (sym are.is) (mapped_short (λ (s : AbstractState). record { state = s; link = plain_link false None }) (λ s. plain_short None) are.states)
 
-class_short : (types : WorldTypes) (state : AbstractState) (x : ℕ) (wanted : Ty) (cell : Option Cell) (children : List GraphChild) → AreClassChildren types state x wanted cell children → AreShort children
-class_short types state x wanted None children are = absurd are
-class_short types state x wanted (Some (cells.Int interval)) children are = absurd are
-class_short types state x wanted (Some cells.Null) children are = absurd are
-class_short types state x wanted (Some (cells.Obj class ids)) children are = absurd are
-class_short types state x wanted (Some (cells.Nums kind len)) children are = absurd are
-class_short types state x wanted (Some (cells.Refs element len shape)) children are = absurd are
-class_short types state x wanted (Some (cells.Unk bound nullable shape)) children are = zip_short (λ case (child : GraphChild). IsSplitChild (IsCase types state x shape case) None child) (cases_of types bound wanted) children (λ case child is. stays_short None child.link is.link) are
+equal_short : (types : WorldTypes) (state : AbstractState) (x y : ℕ) (children : List GraphChild) → AreEqualAnswers types.sub state x y children → AreShort children
+equal_short types state x y children are =
+    subst (λ (cs : List GraphChild). AreShort cs) (sym are.is) (mapped_short (λ (p : Option (ℕ × ℕ) × AbstractState). record { state = p.1; link = plain_link false p.0 }) (λ p. plain_short p.0) are.pairs)
 
 whole_short : (types : WorldTypes) (state : AbstractState) (plan : Plan) (children : List GraphChild) → IsShortPlan plan → AreChildren types state plan children → AreShort children
 whole_short types state ends children short are = absurd are
 whole_short types state (steps turns) children short are = turns_short types state turns children short are
-whole_short types state (by_null x) children short are = null_short state x (cell_at state x) children are
-whole_short types state (by_class x wanted) children short are = class_short types state x wanted (cell_at state x) children are
-whole_short types state (by_equal x y) children short are = zip_short (λ (m : Option (ℕ × ℕ) × AbstractState) (child : GraphChild). (child.state ≡ m.1) × (child.link ≡ stays m.0)) are.merged children (λ m child is. stays_short m.0 child.link is.1) are.each
+whole_short types state (by_null x) children short are = null_short state x children are
+whole_short types state (by_class x wanted) children short are = class_short types state x wanted children are
+whole_short types state (by_equal x y) children short are = equal_short types state x y children are
 
 lean_short : (wholes children : List GraphChild) → AreShort wholes → AllZip IsLean wholes children → AreShort children
 lean_short [] [] short lean = tt

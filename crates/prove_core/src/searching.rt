@@ -37,7 +37,7 @@ use descent::PathRule;
 use graph_build::{BuildFault, Built, build};
 use graph_check::check_graph;
 use input_desc::{Desc, initial};
-use int_links::{has_short_increments, int_links_fit};
+use int_links::int_links_fit;
 use list_views::Seq;
 use path_rules::{PathFault, paths};
 use std::alloc::Global;
@@ -110,7 +110,7 @@ fn of_links<P: Pairs>(
     ensures { (limit : ℕ) → length graph ≤ limit → SearchesOr (aim_of (program_of program.now) (typing_at typing.now) root.now) names.now limit result }
 {
     int_links_fit();
-    has_short_increments(program);
+    program.is_good();
     good_graph_rules_are_plain();
     let cuts = cuts_of(alloc, &graph)?;
     let mut graph = graph;

@@ -13,10 +13,11 @@ use Rattle.jvm_values.specs.TypedHeaps.{WorldTypes, Holds}
 use Rattle.class_world.specs.WorldTypes.{types_of}
 use Rattle.class_program.specs.declared.program.Method.{Method}
 use Rattle.class_program.specs.Programs.{Program, IsClosed}
+use Rattle.class_program.specs.Widths.{HasWidths}
 use Rattle.code_verify.specs.Operands.{place_of}
 use Rattle.code_verify.specs.TypedStates.{HasPlaceType}
 use Rattle.jvm_step.specs.Running.{entered, start, IsNeverStuck}
-use Rattle.jvm_run.specs.Laws.{HasInts, AreInputs}
+use Rattle.jvm_run.specs.Laws.{AreInputs}
 use Rattle.jvm_run.proofs.TypedRuns.{never_stuck, starts_typed}
 use Rattle.input_desc.specs.declared.states.StateInput.{StateInput}
 use Rattle.input_desc.specs.Given.{params_of, field_slot, argument_slot}
@@ -70,6 +71,6 @@ inputs_are p given state typed e =
     }
 
 -- the run never gets stuck
-pub input_never_stuck : (p : Program) (given : StateInput) (state : MachineState) → IsClosed p → HasInts p → HasTypings p → IsTypedInput p given → start p given.args given.statics given.heap ≡ Some state → IsNeverStuck p state
-input_never_stuck p given state closed ints typings typed e =
-    never_stuck p typings.0 closed ints typings.1 state (starts_typed p typings.0 closed typings.1 given.args given.statics given.heap (inputs_are p given state typed e) state e)
+pub input_never_stuck : (p : Program) (given : StateInput) (state : MachineState) → IsClosed p → HasWidths p → HasTypings p → IsTypedInput p given → start p given.args given.statics given.heap ≡ Some state → IsNeverStuck p state
+input_never_stuck p given state closed widths typings typed e =
+    never_stuck p typings.0 closed widths typings.1 state (starts_typed p typings.0 closed typings.1 given.args given.statics given.heap (inputs_are p given state typed e) state e)

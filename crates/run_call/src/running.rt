@@ -10,7 +10,7 @@ use crate::lines::ended_line;
 use class_program::Program;
 use input_desc::StateInput;
 use input_steps::Refused;
-use jvm_run::{Ended, has_ints, run};
+use jvm_run::{Ended, run};
 use jvm_step::start;
 use jvm_values::State;
 use list_views::Seq;
@@ -27,7 +27,6 @@ fn run_input(
     requires typings { HasTypings (program_of program.now) }
     ensures { IfOk result (λ r. Runs (program_of program.now) input fuel r.0 (state_of r.1)) }
 {
-    has_ints(program);
     program.is_good();
     let StateInput {
         args,

@@ -1,7 +1,7 @@
 //! The calls of the heap, each with its arguments as words.
 ghost use Rattle.abs_cells.specs.Sound.{IsWellFormed};
 
-use crate::heap_words::{array, equals, nullable, object, slot, told, told_fault, told_with};
+use crate::heap_words::{array, equals, nullable, object, slot, told, told_split_fault, told_with};
 use crate::ids::id;
 use abs_cells::{AbsState, Pairs, well_formed};
 use abs_heap::{
@@ -101,7 +101,7 @@ fn split_by_class<P: Pairs>(
     let wanted = ty(world, wanted)?;
     match refine_class(alloc, world, state, x, wanted) {
         Ok(list) => Ok(children(alloc, world, list.as_slice())?),
-        Err(fault) => told_fault(alloc, fault),
+        Err(fault) => told_split_fault(alloc, fault),
     }
 }
 

@@ -6,7 +6,7 @@ ghost use Rattle.abs_heap.specs.Answers.{IsNullable, IsObjectBelow};
 ghost use Rattle.abs_heap.specs.Writing.{is_array_of_references};
 
 use abs_cells::{AbsState, Cell, Id, Pairs};
-use abs_heap::HeapFault;
+use abs_heap::{HeapFault, SplitFault};
 use abs_reach::cell_of;
 use anyhow::{Result, bail};
 use class_world::World;
@@ -127,6 +127,14 @@ fn child_line<P: Pairs>(
     let mut line = numbered(alloc, word, i64::from(number))?;
     put_child(&mut line, world, child)?;
     Ok(line)
+}
+
+/// The words of a fault of a split by class. Which child it is the table doesn't tell.
+pub fn told_split_fault(alloc: Global, fault: SplitFault) -> Result<String> {
+    match fault {
+        SplitFault::TooManyIds { .. } => said(alloc, "TooManyIds"),
+        SplitFault::Memory => bail!("memory is wanted"),
+    }
 }
 
 /// The word of a fault.

@@ -1,11 +1,8 @@
 -- The table: at each form that is built the machine's step is as the plan says.
 use Rattle.std.proofs.Common.{◌≡◌, ◌∙◌, ℕ, true, false, Option, Some, refl, sym, ap, subst}
-use Rattle.std.specs.Prelude.{IfSome}
 use Rattle.std.specs.Option.{option_map_or}
 use Rattle.jvm_values.specs.declared.ints.IntOp.{IntOp}
 use Rattle.jvm_values.specs.declared.ints.IntOp.TheVariants as operators
-use Rattle.jvm_values.specs.declared.types.Kind.TheVariants as kinds
-use Rattle.jvm_values.specs.Kinds.{IsOfKind}
 use Rattle.jvm_values.specs.States.{MachineState}
 use Rattle.abs_cells.specs.AbstractStates.{AbstractState}
 use Rattle.abs_cells.specs.Fits.{Meaning}
@@ -14,12 +11,13 @@ use Rattle.class_program.specs.declared.op.Op.TheVariants as ops
 use Rattle.class_program.specs.Programs.{Program}
 use Rattle.op_forms.specs.Forms.{Form, form_of}
 use Rattle.op_forms.specs.Forms.Form.{Nop, AconstNull, Iconst, Iload, Aload, Istore, Astore, Iinc, Shuffle, Arith, Ineg, Narrow, If, IfIcmp, IfAcmpeq, IfAcmpne, Ifnull, Ifnonnull, Goto, Tableswitch, Lookupswitch, Ireturn, Areturn, Return, Getstatic, Putstatic, Getfield, Putfield, Invokevirtual, Invokespecial, Invokestatic, Invokeinterface, New, Newarray, Anewarray, Arraylength, NumberLoad, Aaload, NumberStore, Aastore, Athrow, Checkcast, Instanceof}
+use Rattle.op_forms.specs.Widths.{IsFormInWidth}
+use Rattle.op_forms.proofs.Widths.{increment_int}
 use Rattle.op_forms.proofs.Plain.{is_of_two, is_plain, plain_forms}
 use Rattle.frame_types.specs.Tables.{CodeTypes}
 use Rattle.code_verify.specs.Rows.{types_after}
 use Rattle.jvm_step.specs.Table.{effect_of}
 use Rattle.abs_expand.specs.Table.{row_of}
-use Rattle.expand_laws.specs.Laws.{increment_of}
 use Rattle.jvm_run.proofs.Named.{IsNamed}
 use Rattle.access_steps.proofs.Arrays.{numbers_made, references_made, number_read}
 use Rattle.object_steps.proofs.Calls.{static_called, special_called, selecting_called}
@@ -66,7 +64,7 @@ op_of_two (ops.Anewarray x) operator e = absurd cc
 op_of_two (ops.Checkcast x) operator e = absurd cc
 op_of_two (ops.Instanceof x) operator e = absurd cc
 
-module _ (p : Program) (typing : ℕ → CodeTypes) (state : AbstractState) (machine : MachineState) (meaning : Meaning) (s : Stands p typing state machine meaning) (increments : IfSome (increment_of s.form) (IsOfKind kinds.Int)) where
+module _ (p : Program) (typing : ℕ → CodeTypes) (state : AbstractState) (machine : MachineState) (meaning : Meaning) (s : Stands p typing state machine meaning) (widths : IsFormInWidth s.form) where
   is_effect : (f : Form) → s.form ≡ f → effect_of p s.method s.form (Work_ p typing state machine meaning s) ≡ effect_of p s.method f (Work_ p typing state machine meaning s)
   is_effect f e = ap (λ (g : Form). effect_of p s.method g (Work_ p typing state machine meaning s)) e
 
@@ -84,7 +82,7 @@ module _ (p : Program) (typing : ℕ → CodeTypes) (state : AbstractState) (mac
   covered (Aload n) e = load_reference p typing state machine meaning s n (types_of_form (Aload n) e) (is_effect (Aload n) e)
   covered (Istore n) e = store_int p typing state machine meaning s n (is_effect (Istore n) e)
   covered (Astore n) e = store_reference p typing state machine meaning s n (is_effect (Astore n) e)
-  covered (Iinc n by) e = increment p typing state machine meaning s n by (subst (λ (g : Form). IfSome (increment_of g) (IsOfKind kinds.Int)) e increments) (types_of_form (Iinc n by) e) (is_effect (Iinc n by) e)
+  covered (Iinc n by) e = increment p typing state machine meaning s n by (increment_int by (subst IsFormInWidth e widths)) (types_of_form (Iinc n by) e) (is_effect (Iinc n by) e)
   covered (Shuffle shuffle_) e = shuffle p typing state machine meaning s shuffle_ (is_effect (Shuffle shuffle_) e)
   covered (Arith o) e = arithmetic p typing state machine meaning s o (op_of_two s.op o (s.runs.is_form ∙ ap Some e)) (is_effect (Arith o) e)
   covered Ineg e = negation p typing state machine meaning s (is_effect Ineg e)

@@ -1,14 +1,11 @@
 -- Where a good state and a typed state of the machine that fits it stand, in normal mode: the plan is the row of the form, after the test of its operands.
 use Rattle.std.proofs.Common.{◌≡◌, ◌∙◌, ◌<◌, inl, inr, ℕ, zero, suc, Bool, true, List, [], ◌∷◌, length, map, Option, Some, None, slice_get, refl, sym, ap, subst}
-use Rattle.std.specs.Prelude.{All, IfSome, zip, take, reverse}
+use Rattle.std.specs.Prelude.{All, zip, take, reverse}
 use Rattle.std.specs.List.{AllZip, AllByRecursion}
 use Rattle.std.specs.Option.{option_map_or}
 use Rattle.std.proofs.lemmas.List.{reverse-append}
 use Rattle.std.proofs.lemmas.List.Elements.{All-nil, All-cons, All-head, All-tail, All-take, All-push}
 use Rattle.std.proofs.lemmas.Option.{none-some, slice_get_within}
-use Rattle.list_views.proofs.Quantified.{all_at}
-use Rattle.jvm_values.specs.declared.types.Kind.TheVariants as kinds
-use Rattle.jvm_values.specs.Kinds.{IsOfKind}
 use Rattle.jvm_values.specs.declared.heap.Value.{Value}
 use Rattle.jvm_values.specs.declared.state.Mode.{Mode}
 use Rattle.jvm_values.specs.declared.state.Mode.TheVariants.{Normal, Throwing}
@@ -23,8 +20,7 @@ use Rattle.abs_cells.specs.declared.cells.Cell.{Cell}
 use Rattle.abs_cells.specs.declared.cells.Cell.TheVariants as cells
 use Rattle.abs_cells.specs.AbstractStates.{AbstractFrame, AbstractState}
 use Rattle.abs_cells.specs.Cells.{is_int, HasCell}
-use Rattle.abs_cells.specs.Fits.{Meaning, FitsFrame, FitsMode, with_statics, Describes, Fits}
-use Rattle.abs_heap.specs.Laws.{IsClosedState}
+use Rattle.abs_cells.specs.Fits.{Meaning, FitsFrame, FitsMode, with_statics, Describes, Fits, IsClosedState}
 use Rattle.class_world.specs.WorldLaws.{world_laws}
 use Rattle.class_world.specs.WorldTypes.{types_of}
 use Rattle.class_world.proofs.BuiltInLaws.{built_ins_known}
@@ -32,16 +28,19 @@ use Rattle.class_program.specs.declared.op.Op.{Op}
 use Rattle.class_program.specs.declared.program.Method.{Method}
 use Rattle.class_program.specs.Good.{IsGoodOp, IsGoodMethod}
 use Rattle.class_program.specs.Programs.{Program, IsClosed, insn_at}
+use Rattle.class_program.specs.Widths.{HasWidths}
 use Rattle.class_program.proofs.Got.{all_at as good_at}
 use Rattle.op_forms.specs.Forms.{Form, form_of}
+use Rattle.op_forms.specs.Widths.{IsFormInWidth}
+use Rattle.op_forms.proofs.Widths.{forms_wide}
 use Rattle.frame_types.specs.Places.{IsOfWorld, IsSet, IsFrame}
 use Rattle.frame_types.specs.Tables.{CodeTypes}
 use Rattle.code_verify.specs.TypedStates.{HasPlaceType, HasStack, IsRunning, AreCallers, AreTypedFrames}
 use Rattle.jvm_step.specs.Running.{step}
-use Rattle.jvm_run.specs.Laws.{HasInts, StepsAreTyped}
+use Rattle.jvm_run.specs.Laws.{StepsAreTyped}
 use Rattle.jvm_run.proofs.Lists.{zip_get}
 use Rattle.jvm_run.proofs.Named.{IsNamed, named_of}
-use Rattle.jvm_run.proofs.Placed.{Placed, placed, at_has, at_has_all}
+use Rattle.jvm_run.proofs.Placed.{Placed, placed, at_has}
 use Rattle.jvm_run.proofs.Stepping.{insn_there}
 use Rattle.term_graph.specs.Graphs.{GraphChild}
 use Rattle.term_graph.specs.declared.links.Link.{Link}
@@ -54,7 +53,6 @@ use Rattle.abs_expand.specs.Children.{IsTurnChild, IsLean}
 use Rattle.abs_expand.specs.Expansions.{plan_here, plan_in, plan_of, AreExpanded}
 use Rattle.abs_expand.specs.Laws.{IsAfter, GoesToChild, IsMet}
 use Rattle.abs_expand.proofs.ZipLists.{beside}
-use Rattle.expand_laws.specs.Laws.{increment_of, HasShortIncrements}
 use Rattle.expand_laws.proofs.Cases.{SomeOf}
 use Rattle.turn_fits.specs.Laws.{DroppedKeepSized}
 use Rattle.turn_fits.proofs.Steps.{FitsChild, dropped_fits, dropped_sort, sized_there}
@@ -184,7 +182,7 @@ running_typed p typing machine running below f n h =
 
 -- ---- where they stand
 
-module _ (lows : Lows) (typed_steps : StepsAreTyped) (p : Program) (typing : ℕ → CodeTypes) (state : AbstractState) (machine : MachineState) (meaning : Meaning) (closed : IsClosed p) (constants : HasInts p) (increments : HasShortIncrements p) (met : IsMet p typing state machine meaning) (unthrown : state.throwing ≡ None) (frame : AbstractFrame) (lower : List AbstractFrame) (frames_are : state.frames ≡ frame ∷ lower) where
+module _ (lows : Lows) (typed_steps : StepsAreTyped) (p : Program) (typing : ℕ → CodeTypes) (state : AbstractState) (machine : MachineState) (meaning : Meaning) (closed : IsClosed p) (widths : HasWidths p) (met : IsMet p typing state machine meaning) (unthrown : state.throwing ≡ None) (frame : AbstractFrame) (lower : List AbstractFrame) (frames_are : state.frames ≡ frame ∷ lower) where
   abbrev types : WorldTypes
   types = types_of p.world
 
@@ -261,7 +259,7 @@ module _ (lows : Lows) (typed_steps : StepsAreTyped) (p : Program) (typing : ℕ
       insn = ap (λ (number : ℕ). insn_at p.methods number top.running.pc) top.fit.top.method ∙ ap (insn_at p.methods frame.method) top.fit.top.pc ∙ insn;
       is_form = at.form_is;
     };
-    goes = typed_steps p typing closed constants met.typing_is machine met.typed;
+    goes = typed_steps p typing closed widths met.typing_is machine met.typed;
   }
 
   -- the instruction there
@@ -269,12 +267,10 @@ module _ (lows : Lows) (typed_steps : StepsAreTyped) (p : Program) (typing : ℕ
   unfolding stands
   stands_insn = insn
 
-  -- an increment is an int of 32 bits
-  pub increment : IfSome (increment_of stands.form) (IsOfKind kinds.Int)
+  -- the numbers of the form are of their fields' widths
+  pub wide : IsFormInWidth stands.form
   unfolding stands
-  increment =
-      let added : IfSome (form_of at.op) (λ (form : Form). IfSome (increment_of form) (IsOfKind kinds.Int)) = at_has_all (λ (op : Op). IfSome (form_of op) (λ (form : Form). IfSome (increment_of form) (IsOfKind kinds.Int))) running.placed.method.insns frame.pc (at.op, at.next) (all_at (λ (x : Method). All (λ (y : ℕ × Op). IfSome (form_of y.1) (λ (form : Form). IfSome (increment_of form) (IsOfKind kinds.Int))) x.insns) p.methods frame.method running.placed.method increments running.placed.is_method) at.insn_is in
-      subst (λ (found : Option Form). IfSome found (λ (form : Form). IfSome (increment_of form) (IsOfKind kinds.Int))) at.form_is added
+  wide = forms_wide p widths frame.method frame.pc at.op at.next insn at.form at.form_is
 
   -- the plan is that of the form
   plan_is : plan_of p typing state ≡ plan_of_form (here p typing state machine meaning stands) at.form

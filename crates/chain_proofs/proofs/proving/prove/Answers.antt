@@ -1,11 +1,5 @@
-use Rattle.std.proofs.Common.{subst}
-use Rattle.chain_proofs.specs.declared.proving.Turn.{Turn}
-use Rattle.chain_proofs.specs.Sets.{TurnsOr}
-use Rattle.chain_proofs.proofs.Turning.{proof_more}
+use Rattle.chain_proofs.proofs.Plainly.{own_are_plain}
 use Rattle.chain_proofs.proofs.proving.prove.Goals as goal
 
-pub loop-number-preserved : goal.loop-number-preserved
-loop-number-preserved c =
-    proof_more c.args.rules.now c.in-Some.below c.loop-number.number c.loop-number.steps _ c.loop-number.sets.given.items c.taken.new.sets.given.items c.in-Step.step c.as_slice.result.now c.loop-number.invariant
-    (subst (λ (turn : Turn). TurnsOr c.args.rules.now c.loop-number.number c.as_slice.result.now c.loop-number.sets.given.items turn c.taken.new.sets.given.items) c.in-Step.is c.in_ok-step.ensures)
-    c.in_ok-push-in-Step.ensures.items
+pub prove_by-requires-clause-asked : goal.prove_by-requires-clause-asked
+prove_by-requires-clause-asked c = λ set own rise are. own_are_plain c.args.rules.now set own c.requires rise are

@@ -15,8 +15,8 @@ loop-next-init c = (
   c.requires.rows,
 )
 
-pub method_of-requires : goal.method_of-requires
-method_of-requires c =
+pub method_of-requires-clause-body : goal.method_of-requires-clause-body
+method_of-requires-clause-body c =
     let at : slice_get c.loop-next.refs (length c.loop-next.methods) ≡ Some c.in-Some.next = ap (slice_get c.loop-next.refs) (sym c.len.ensures) ∙ sym c.in-Some.ensures in
     next_body (classes_of c.args.world.now) c.args.entry c.loop-next.refs c.loop-next.methods c.in-Some.next c.loop-next.invariant.0 at
 
@@ -26,7 +26,7 @@ returns-in_err-method-clause-methods c =
     let at : slice_get c.loop-next.refs (length c.loop-next.methods) ≡ Some c.in-Some.next = ap (slice_get c.loop-next.refs) (sym c.len.ensures) ∙ sym c.in-Some.ensures in
     let content = body_at world c.in-Some.next (next_body world c.args.entry c.loop-next.refs c.loop-next.methods c.in-Some.next c.loop-next.invariant.0 at) in
     answered _ _ _ _ c.from_residual-in_err-method.ensures.1
-    (reach_broken world c.args.entry c.loop-next.refs c.loop-next.methods c.in-Some.next content.0 _ c.loop-next.invariant.0 at content.1 (c.in_err-method.ensures content.0 content.1))
+    (reach_broken world c.args.entry c.loop-next.refs c.loop-next.methods c.in-Some.next content.0 _ c.loop-next.invariant.0 at content.1 (c.in_err-method.ensures.method content.0 content.1))
 
 pub loop-next-smaller : goal.loop-next-smaller
 loop-next-smaller c =
@@ -40,7 +40,7 @@ loop-next-preserved c =
     let at : slice_get c.loop-next.refs (length c.loop-next.methods) ≡ Some c.in-Some.next = ap (slice_get c.loop-next.refs) (sym c.len.ensures) ∙ sym c.in-Some.ensures in
     let content = body_at world c.in-Some.next (next_body world c.args.entry c.loop-next.refs c.loop-next.methods c.in-Some.next c.loop-next.invariant.0 at) in (
       reach_more world c.args.entry c.loop-next.refs _ c.loop-next.methods _ c.in-Some.next content.0 c.in_ok-method.method c.loop-next.invariant.0 at content.1
-          (c.in_ok-method.ensures content.0 content.1) (rw (← c.as_slice.ensures.list) c.in_ok-add_runs.ensures.refs) c.in_ok-push.ensures.items,
+          (c.in_ok-method.ensures.method content.0 content.1) (rw (← c.as_slice.ensures.list) c.in_ok-add_runs.ensures.refs) c.in_ok-push.ensures.items,
       c.in_ok-add_runs.ensures.rows,
     )
 

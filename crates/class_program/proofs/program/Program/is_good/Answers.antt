@@ -21,4 +21,4 @@ returns c =
       few = p.few;
       whole = subst (λ (refs : List MethodRef). is_closed (classes_of p.world) refs p.methods ≡ true) p.numbers p.whole;
     } in
-    record { closed = closed; good = good_program (program_of p) closed }
+    record { closed = closed; good = good_program (program_of p) closed; widths = p.widths }

@@ -1,0 +1,47 @@
+//! Which forms are looked for.
+ghost use Rattle.std.specs.Prelude.{List, IfOk};
+ghost use Rattle.descent.specs.declared.rules.PathRule.{PathRule};
+ghost use Rattle.chain_proofs.specs.Sets.{RanksOwn};
+
+use descent::{PathRule, RankStep};
+use rank_search::{linear, plain};
+use std::alloc::{AllocError, Global};
+
+/// A search for forms that rank rules.
+pub trait Forms {
+    /// What the search asks of rules.
+    ghost asks: { List PathRule → Type 0 };
+
+    /// What it says of rules that none ranks them.
+    ghost none: { List PathRule → Type 0 };
+
+    /// A rank step for the rules, which names them by their places, and which is still to be checked; None only where no form ranks the
+    /// rules, as the search says it.
+    ///
+    /// # Errors
+    ///
+    /// Want of memory.
+    fn step(&self, alloc: Global, rules: &[PathRule]) -> Result<Option<RankStep>, AllocError>
+        requires { asks rules.now }
+        ensures { IfOk result (RanksOwn none rules.now) };
+}
+
+/// Plain forms, and where none ranks the rules, linear ones.
+#[derive(Clone, Copy)]
+pub struct PathForms;
+
+impl Forms for PathForms {
+    ghost use Rattle.rank_forms.specs.Graphs.{ArePlainRules};
+    ghost use Rattle.chain_proofs.specs.Stuck.{HasNoForm};
+
+    ghost asks = { λ rules. ArePlainRules rules };
+
+    ghost none = { λ rules. HasNoForm rules };
+
+    fn step(&self, alloc: Global, rules: &[PathRule]) -> Result<Option<RankStep>, AllocError> {
+        match plain(alloc, rules)? {
+            Some(step) => Ok(Some(step)),
+            None => linear(alloc, rules),
+        }
+    }
+}

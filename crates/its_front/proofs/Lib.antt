@@ -1,0 +1,5 @@
+pub mod Gathered
+pub mod Placing
+pub mod SaidRows
+pub mod Sound
+pub mod Walking

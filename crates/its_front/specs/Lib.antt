@@ -1,0 +1,8 @@
+pub mod Faults
+pub mod Names
+pub mod Words
+pub mod Terms
+pub mod Rows
+pub mod Reading
+pub mod Systems
+pub mod Steps

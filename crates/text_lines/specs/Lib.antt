@@ -1,0 +1,2 @@
+pub mod LinesAndWords
+pub mod Numbers
