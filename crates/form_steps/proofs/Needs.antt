@@ -210,7 +210,7 @@ module _ (p : Program) (state : AbstractState) (machine : MachineState) (meaning
       let goes = s.lows.equal types state are.pairs machine meaning x y s.laws s.sound s.heap s.closed s.fits q apart are.are in
       goes_split goes.merged wholes goes.n (split_child goes.merged goes.child) goes.child (ap (λ (children : List GraphChild). slice_get children goes.n) are.is ∙ mapped_get (λ (pair : Option (ℕ × ℕ) × AbstractState). split_child pair.0 pair.1) are.pairs goes.n (goes.merged, goes.child) goes.is) refl refl goes.goes
 
-  split_meets : (x : ℕ) (place : PlaceType) → TypedId place x → is_unknown (cell_at state x) ≡ true → Covered (split_below state x place)
+  pub split_meets : (x : ℕ) (place : PlaceType) → TypedId place x → is_unknown (cell_at state x) ≡ true → Covered (split_below state x place)
   split_meets x place t e = at place t.typed t.of_world t.set
     where
       u : IsUnknownObject x

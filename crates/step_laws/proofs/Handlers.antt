@@ -118,7 +118,7 @@ module _ (p : Program) (state : AbstractState) (machine : MachineState) (meaning
       ]
 
       turned : (b : Bool) → b ≡ false → not b ≡ true
-      turned true f = f
+      turned true f = sym f
       turned false f = refl
 
       by_catch : (catch : Option ℕ) → IsTrue (types.sub (option_map_or class_type catch (class_type throwable)) (class_type throwable)) → option_map_or (λ (class : ℕ). types.sub (type_of object) (class_type class)) catch true ≡ true → option_map_or (λ (class : ℕ). types.sub bound (class_type class)) catch true ≡ false → option_map_or (λ (class : ℕ). types.sub (class_type class) bound) catch false ≡ true
@@ -143,7 +143,7 @@ module _ (p : Program) (state : AbstractState) (machine : MachineState) (meaning
       let typed : IsTypedObject types machine.heap (objects.Refs item items) = all_at (IsTypedObject types machine.heap) machine.heap.objects r (objects.Refs item items) s.heap (stands ∙ ap Some e) in
       elim (s.laws.array_below item (class_type throwable) typed.1.1.0 (subst (λ (o : Object). IsTrue (types.sub (type_of o) (class_type throwable))) e below)) [
         | inl f ↦ no_object f
-        | inr f ↦ no_array f.0 f.1.1.1
+        | inr f ↦ no_array f.0 f.3
       ]
 
   pub finds_same : (pc : ℕ) (table : List CatchRange) → All (CanCatch p.world) table → HasCell is_object state x → IsSame pc table

@@ -152,7 +152,7 @@ inside_heap types machine meaning (cells.Refs element len shape) value d = λ a 
 inside_heap types machine meaning (cells.Unk bound nullable shape) value (inl d) = λ a e. absurd (none-some a (sym (ap target d.1) ∙ e))
 inside_heap types machine meaning (cells.Unk bound nullable shape) value (inr d) = λ a e. subst (λ (r : ℕ). r < length machine.heap.objects) (some_is (sym (ap target d.names) ∙ e)) (slice_get_within machine.heap.objects d.place d.object d.stands)
 
-closed_state : (types : WorldTypes) (state : AbstractState) (machine : MachineState) (meaning : Meaning) → IsTypedHeap types machine.heap → Fits types state machine meaning → IsClosedState machine state meaning
+pub closed_state : (types : WorldTypes) (state : AbstractState) (machine : MachineState) (meaning : Meaning) → IsTypedHeap types machine.heap → Fits types state machine meaning → IsClosedState machine state meaning
 closed_state types state machine meaning heap fits = record {
   heap = closed_heap types machine.heap heap;
   ids = λ id h. inside_heap types machine meaning h.cell (meaning id) (fits.cells id h.cell h.is);
@@ -160,13 +160,13 @@ closed_state types state machine meaning heap fits = record {
 
 -- ---- frames
 
-record TopFrames (meaning : Meaning) (frame : AbstractFrame) (lower : List AbstractFrame) (machine : MachineState) : Type 0 where
-  running : MachineFrame
-  below : List MachineFrame
-  frames_are : machine.frames ≡ running ∷ below
-  fit : FitFrames meaning frame lower machine.statics running below
+pub record TopFrames (meaning : Meaning) (frame : AbstractFrame) (lower : List AbstractFrame) (machine : MachineState) : Type 0 where
+  pub running : MachineFrame
+  pub below : List MachineFrame
+  pub frames_are : machine.frames ≡ running ∷ below
+  pub fit : FitFrames meaning frame lower machine.statics running below
 
-top_frames : (meaning : Meaning) (frame : AbstractFrame) (lower : List AbstractFrame) (machine : MachineState) (frames : List MachineFrame) → machine.frames ≡ frames → AllZip (FitsFrame meaning) (frame ∷ lower) (with_statics machine.statics frames) → TopFrames meaning frame lower machine
+pub top_frames : (meaning : Meaning) (frame : AbstractFrame) (lower : List AbstractFrame) (machine : MachineState) (frames : List MachineFrame) → machine.frames ≡ frames → AllZip (FitsFrame meaning) (frame ∷ lower) (with_statics machine.statics frames) → TopFrames meaning frame lower machine
 top_frames meaning frame lower machine [] e h = absurd h
 top_frames meaning frame lower machine (running ∷ below) e h = record { running = running; below = below; frames_are = e; fit = tops meaning frame lower machine.statics running below h }
 
