@@ -3,14 +3,16 @@ use Rattle.std.proofs.Common.{◌≡◌, ℕ, List, [], ◌∷◌, Option, Some,
 use Rattle.jvm_values.specs.States.{MachineState}
 use Rattle.abs_cells.specs.AbstractStates.{AbstractFrame, AbstractState}
 use Rattle.abs_cells.specs.Fits.{Meaning}
+use Rattle.class_world.specs.World.{World}
+use Rattle.class_world.specs.BuiltIns.{IsWorld, HasNoInterfacesBelow}
 use Rattle.class_program.specs.Programs.{Program, IsClosed}
 use Rattle.class_program.specs.Widths.{HasWidths}
 use Rattle.frame_types.specs.Tables.{CodeTypes}
 use Rattle.jvm_run.specs.Laws.{StepsAreTyped}
-use Rattle.abs_expand.specs.Laws.{IsMet}
+use Rattle.abs_expand.specs.Laws.{IsMet, EndsEnd, StepsFitChildren}
 use Rattle.abs_expand.specs.Expansions.{plan_of}
 use Rattle.form_steps.specs.Laws.{Lows, AreThrowablesErased}
-use Rattle.step_laws.specs.Laws.{StepsGoOn}
+use Rattle.step_laws.proofs.Premises.{throwables_erased}
 use Rattle.step_laws.proofs.Covering.{covered}
 use Rattle.step_laws.proofs.Meeting.{to_child, stands, wide, plan_meets}
 use Rattle.step_laws.proofs.Throwing.{throwing_meets}
@@ -28,8 +30,8 @@ module _ (typed_steps : StepsAreTyped) (p : Program) (typing : ℕ → CodeTypes
   pub met_plan : Meets p state machine meaning (plan_of p typing state)
   met_plan = plan_met state.throwing refl state.frames refl
 
-pub goes_on : StepsAreTyped → StepsGoOn
-goes_on typed_steps p typing state machine meaning lows closed widths erased met = (
-  λ e. subst (Meets p state machine meaning) e (met_plan typed_steps p typing state machine meaning lows closed widths erased met),
-  λ children x. to_child lows.drop p state machine meaning (plan_of p typing state) children (met_plan typed_steps p typing state machine meaning lows closed widths erased met) x,
-)
+pub ended : StepsAreTyped → Lows → ((world : World) → IsWorld world → HasNoInterfacesBelow world) → EndsEnd
+ended typed_steps lows erased p typing state machine meaning closed widths met e = subst (Meets p state machine meaning) e (met_plan typed_steps p typing state machine meaning lows closed widths (throwables_erased erased p closed) met)
+
+pub gone_on : StepsAreTyped → Lows → ((world : World) → IsWorld world → HasNoInterfacesBelow world) → StepsFitChildren
+gone_on typed_steps lows erased p typing state machine meaning children closed widths met x = to_child lows.drop p state machine meaning (plan_of p typing state) children (met_plan typed_steps p typing state machine meaning lows closed widths (throwables_erased erased p closed) met) x

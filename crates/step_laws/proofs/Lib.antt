@@ -2,4 +2,5 @@ pub mod Covering
 pub mod Going
 pub mod Handlers
 pub mod Meeting
+pub mod Premises
 pub mod Throwing

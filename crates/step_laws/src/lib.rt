@@ -3,4 +3,4 @@
 
 mod laws;
 
-pub use laws::steps_go_on;
+pub use laws::{ends_end, steps_fit_children};
