@@ -1,0 +1,4 @@
+pub mod Accesses
+pub mod Arrays
+pub mod Fields
+pub mod Writes

@@ -1,0 +1,3 @@
+pub mod Calls
+pub mod Casts
+pub mod Objects
