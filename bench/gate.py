@@ -41,12 +41,12 @@ TESTS_OF = {
 # The layers of docs/MAP.md.
 LAYER = {
     crate: layer for layer, crates_of in {
-        'base': 'list_views io_ports json_view input_text number_graphs lin_core',
+        'base': 'list_views io_ports json_view input_text text_lines number_graphs lin_core',
         'class files': 'class_base class_pool code_forms code_decode class_read class_world class_program input_desc call_graph op_forms '
                        'asm_lines asm_codes asm_pool class_asm',
         'machine': 'jvm_values jvm_heaps frame_types jvm_step code_verify jvm_run',
         'abstract states': 'abs_cells abs_reach abs_sound abs_equal abs_heap abs_match abs_widen term_graph abs_ints abs_expand',
-        'certificates': 'input_root descent expand_laws int_plans graph_check graph_fill int_links cert_check '
+        'certificates': 'input_root descent expand_laws turn_fits form_steps frame_steps object_steps access_steps step_laws its_front int_plans graph_check graph_fill int_links cert_check '
                         'cert_form cert_write path_rules graph_build rule_links rank_forms rank_search chain_proofs prove_core',
         'program': 'input_steps run_call describe desc_steps prove_call check_call jterm',
     }.items() for crate in crates_of.split()
