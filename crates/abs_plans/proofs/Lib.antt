@@ -1,0 +1,14 @@
+pub mod FirstCases
+pub mod GoodPlans
+pub mod GoodRows
+pub mod GoodTurns
+pub mod Holding
+pub mod OptionLists
+pub mod Placing
+pub mod RangesTaken
+pub mod RisingPairs
+pub mod ShortRows
+pub mod SoundCells
+pub mod SwitchLists
+pub mod Taking
+pub mod WellFormed
