@@ -15,8 +15,7 @@ use Rattle.abs_cells.specs.Sound.{AreIdsRising}
 use Rattle.abs_cells.specs.declared.cells.Cell.TheVariants as cells
 use Rattle.abs_reach.proofs.Finding.{stands, none}
 use Rattle.abs_heap.specs.Given.{first_cell}
-use Rattle.abs_expand.specs.Making.{IsLeastFree, changed_cell, changed_cells}
-use Rattle.abs_plans.specs.GoodPlans.{IsChange}
+use Rattle.abs_expand.specs.Building.{IsLeastFree, changed_cell, changed_cells, IsNarrowed}
 
 -- ---- cells that become others
 
@@ -34,16 +33,16 @@ both_options (Some x) None h = absurd (none-some x (sym (h refl)))
 both_options None (Some c) h = refl
 both_options (Some x) (Some c) h = refl
 
-none_changed : (state : AbstractState) (changed : List (ℕ × Cell)) (id : ℕ) → AllByRecursion (IsChange state) changed → cell_in state.cells id ≡ None → cell_in changed id ≡ None
+none_changed : (state : AbstractState) (changed : List (ℕ × Cell)) (id : ℕ) → AllByRecursion (IsNarrowed state) changed → cell_in state.cells id ≡ None → cell_in changed id ≡ None
 none_changed state [] id h e = refl
 none_changed state (c ∷ changed) id h e = at (c.0 == id) refl (none_changed state changed id h.1 e)
   where
     at : (b : Bool) → eqb c.0 id ≡ b → cell_in changed id ≡ None → (if b then Some c.1 else cell_in changed id) ≡ None
-    at true f rest = absurd (none-some h.0.old.cell (sym e ∙ ap (cell_in state.cells) (sym (eqb-true c.0 id f)) ∙ h.0.old.is))
+    at true f rest = absurd (none-some h.0.0.cell (sym e ∙ ap (cell_in state.cells) (sym (eqb-true c.0 id f)) ∙ h.0.0.is))
     at false f rest = rest
 
 -- the cell of each id: the changed one, where it is one of these
-pub changed_at : (state : AbstractState) (changed : List (ℕ × Cell)) (id : ℕ) → AllByRecursion (IsChange state) changed → cell_in (changed_cells changed state.cells) id ≡ first_cell (cell_in changed id) (cell_in state.cells id)
+pub changed_at : (state : AbstractState) (changed : List (ℕ × Cell)) (id : ℕ) → AllByRecursion (IsNarrowed state) changed → cell_in (changed_cells changed state.cells) id ≡ first_cell (cell_in changed id) (cell_in state.cells id)
 changed_at state changed id h = changed_in changed state.cells id ∙ both_options (cell_in changed id) (cell_in state.cells id) (none_changed state changed id h)
 
 pub changed_rising : (low : ℕ) (changed listed : List (ℕ × Cell)) → AreIdsRising low listed → AreIdsRising low (changed_cells changed listed)

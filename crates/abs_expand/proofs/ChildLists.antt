@@ -1,26 +1,27 @@
 -- The children of steps, counted and made.
-use Rattle.std.proofs.Common.{◌≡◌, ◌∙◌, ◌<◌, ◌≤◌, ◌+◌, ℕ, List, [], ◌∷◌, ◌++◌, length, map, take, Option, Some, None, get_or, sym, ap, subst, append_assoc, arith}
+use Rattle.std.proofs.Common.{◌≡◌, ◌∙◌, ◌<◌, ◌≤◌, ◌+◌, ◌==◌, ℕ, false, List, [], ◌∷◌, ◌++◌, length, map, take, Option, Some, None, get_or, sym, ap, subst, append_assoc, arith}
 use Rattle.std.specs.Prelude.{Result, Ok, Err}
 use Rattle.std.specs.List.{AllByRecursion, AllZip}
+use Rattle.std.proofs.lemmas.Bool.{false≢true}
 use Rattle.std.proofs.lemmas.List.{length-map, get_or-map, take_all}
 use Rattle.std.proofs.lemmas.Option.{slice_get-get_or}
-use Rattle.std.proofs.lemmas.List.Elements.{All-more, All-same}
+use Rattle.std.proofs.lemmas.List.Elements.{All-more, All-same, recursion_from_All}
 use Rattle.jvm_values.specs.TypedHeaps.{WorldTypes}
 use Rattle.abs_cells.specs.AbstractStates.{AbstractState}
 use Rattle.term_graph.specs.Graphs.{GraphChild}
 use Rattle.class_world.specs.WorldTypes.{types_of}
 use Rattle.class_program.specs.Programs.{Program}
 use Rattle.frame_types.specs.Tables.{CodeTypes}
-use Rattle.abs_plans.specs.Plans.{Turn, Plan, steps, ids_made}
+use Rattle.abs_expand.specs.Plans.{Turn, Plan, steps, ids_made}
 use Rattle.abs_expand.specs.BadStates.{IsGoodState}
-use Rattle.abs_expand.specs.Answers.{Answers, HasPlanChildren}
+use Rattle.abs_expand.specs.Answers.{Answers, HasChildren}
 use Rattle.abs_expand.specs.declared.fault.ExpandFault.{ExpandFault}
 use Rattle.abs_expand.specs.declared.fault.ExpandFault.TheVariants.{BadState, TooManyIds, Memory}
 use Rattle.abs_expand.specs.Children.{IsTurnChild, IsLean}
 use Rattle.abs_expand.specs.Expansions.{plan_of, counts_of, AreFew, IsFirstTooMany, AreExpanded}
 use Rattle.abs_expand.specs.Building.{IsChildOf, turn_counts}
-use Rattle.abs_plans.specs.declared.plans.Turn.{Turn as TurnSeen}
-use Rattle.abs_plans.specs.PlansSeen.{turn_seen}
+use Rattle.abs_expand.specs.declared.plans.Turn.{Turn as TurnSeen}
+use Rattle.abs_expand.specs.PlansSeen.{turn_seen}
 
 -- ---- lists
 
@@ -54,6 +55,15 @@ expanded types state turns children few h =
 
 -- ---- counts
 
+pub few_cells : (types : WorldTypes) (count : ℕ) (turn : Turn) (turns : List Turn) → AreFew (turn_counts types count (turn ∷ turns)) → count ≤ 512
+few_cells types count turn turns few =
+    let first = (recursion_from_All (λ (n : ℕ). n ≤ 512) (turn_counts types count (turn ∷ turns)) few).0 in
+    omega (arith, first)
+
+pub few_all_cells : (types : WorldTypes) (count : ℕ) (turns : List TurnSeen) → (length turns == 0) ≡ false → AreFew (turn_counts types count (map turn_seen turns)) → count ≤ 512
+few_all_cells types count [] e few = absurd (false≢true (sym e))
+few_all_cells types count (turn ∷ turns) e few = few_cells types count (turn_seen turn) (map turn_seen turns) few
+
 module _ (types : WorldTypes) (count : ℕ) (turns : List TurnSeen) where
   abbrev Counts : List ℕ
   Counts = turn_counts types count (map turn_seen turns)
@@ -85,10 +95,10 @@ module _ (types : WorldTypes) (count : ℕ) (turns : List TurnSeen) where
 
 -- ---- the answer
 
--- what is answered of a plan is the state's answer
-pub plan_answer : (p : Program) (typing : ℕ → CodeTypes) (state : AbstractState) (plan : Plan) (result : Result (Option (List GraphChild)) ExpandFault) → IsGoodState p typing state → plan ≡ plan_of p typing state → HasPlanChildren (types_of p.world) state plan result → Answers p typing state result
-plan_answer p typing state plan (Ok None) good e h = absurd h
-plan_answer p typing state plan (Ok (Some children)) good e h = (good, subst (λ (plan : Plan). AreExpanded (types_of p.world) state plan children) e h)
-plan_answer p typing state plan (Err (BadState clause)) good e h = absurd h
-plan_answer p typing state plan (Err (TooManyIds child)) good e h = (good, subst (λ (plan : Plan). IsFirstTooMany (counts_of (types_of p.world) state plan) child) e h)
-plan_answer p typing state plan (Err Memory) good e h = tt
+-- what is answered of a plan's steps is the state's answer
+pub steps_answer : (p : Program) (typing : ℕ → CodeTypes) (state : AbstractState) (turns : List Turn) (result : Result (Option (List GraphChild)) ExpandFault) → IsGoodState p typing state → steps turns ≡ plan_of p typing state → HasChildren (types_of p.world) state turns result → Answers p typing state result
+steps_answer p typing state turns (Ok None) good e h = absurd h
+steps_answer p typing state turns (Ok (Some children)) good e h = (good, subst (λ (plan : Plan). AreExpanded (types_of p.world) state plan children) e h)
+steps_answer p typing state turns (Err (BadState clause)) good e h = absurd h
+steps_answer p typing state turns (Err (TooManyIds child)) good e h = (good, subst (λ (plan : Plan). IsFirstTooMany (counts_of (types_of p.world) state plan) child) e h)
+steps_answer p typing state turns (Err Memory) good e h = tt

@@ -7,7 +7,6 @@ ghost use Rattle.class_world.specs.Resolve.{method_at};
 ghost use Rattle.class_world.specs.Select.Selection.{Runs, Lacks};
 ghost use Rattle.class_world.specs.Select.{selected_virtual, selected_interface};
 ghost use Rattle.class_program.specs.Instructions.{instruction_at, at_seen};
-ghost use Rattle.class_program.specs.declared.op.Op.TheVariants.{Invokevirtual, Invokeinterface};
 ghost use Rattle.class_program.specs.Programs.{refs_of, insn_at, op_at};
 ghost use Rattle.class_program.specs.Views.{program_of};
 ghost use Rattle.class_program.specs.Selected.{selection_at, selected_in, selected_for, selected_at, can_receive, can_receive_at};
@@ -148,25 +147,6 @@ impl<'a> Program<'a> {
         } else {
             None
         }
-    }
-
-    /// What an `invokevirtual` does on an object of a class, whether or not an object of the class can be its receiver. None
-    /// where the method that it would run isn't reached.
-    #[tactic(auto, unfolding(crate::specs::Selected::selection_at))]
-    pub fn virtual_answer(&self, call: &Call, class: u32) -> Option<Selected>
-        ensures { result ≡ option_and_then (selected_in (refs_of self.now.methods)) (selection_at (classes_of self.now.world) (Invokevirtual call.now) class) }
-    {
-        self.selected_virtual(call, class)
-    }
-
-    /// What an `invokeinterface` does on an object of a class, whether or not an object of the class can be its receiver. None
-    /// where the method that it would run isn't reached.
-    #[tactic(auto, unfolding(crate::specs::Selected::selection_at))]
-    pub fn interface_answer(&self, call: &Call, class: u32) -> Option<Selected>
-        requires { class < length (classes_of self.now.world) }
-        ensures { result ≡ option_and_then (selected_in (refs_of self.now.methods)) (selection_at (classes_of self.now.world) (Invokeinterface call.now) class) }
-    {
-        self.selected_interface(call, class)
     }
 
     #[tactic(auto, unfolding(crate::specs::Selected::selected_at))]
