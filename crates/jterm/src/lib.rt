@@ -7,7 +7,6 @@ mod inputs;
 mod laws;
 mod lines;
 mod listing;
-mod rules;
 mod top;
 mod verdict;
 

@@ -1,6 +1,5 @@
 //! What is asked, and what is answered.
 use abs_cells::PackedPairs;
-use its_call::ItsFound;
 use list_views::Seq;
 use prove_core::Reason;
 
@@ -21,8 +20,6 @@ pub enum Request {
     },
     /// To write the class file that a listing says.
     Asm,
-    /// To prove that the steps of a system of integer transition rules end.
-    Its,
 }
 
 /// The answer of a command whose input is not refused.
@@ -34,6 +31,4 @@ pub struct Verdict {
     pub out: Seq<u8>,
     /// Why `prove` gives no certificate, where it gives none.
     pub reason: Option<Reason<PackedPairs>>,
-    /// What `its` leaves, where it gives no proof.
-    pub its: Option<ItsFound>,
 }

@@ -9,5 +9,3 @@ mod checking;
 mod proving;
 #[cfg(test)]
 mod rows;
-#[cfg(test)]
-mod ruling;

@@ -1,4 +1,0 @@
-pub mod Plain
-pub mod Trying
-pub mod Asked
-pub mod Shown

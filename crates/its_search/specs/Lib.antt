@@ -1,5 +1,0 @@
-pub mod Changes
-pub mod Forms
-pub mod Following
-pub mod Tried
-pub mod Found
