@@ -1,5 +1,5 @@
 -- The links of expansions have short equations.
-use Rattle.std.proofs.Common.{ℕ, List, [], ◌∷◌, Option, Some, None, sym, subst, map}
+use Rattle.std.proofs.Common.{ℕ, false, List, [], ◌∷◌, Option, Some, None, sym, subst, map}
 use Rattle.std.specs.Prelude.{filter, slice_get}
 use Rattle.std.specs.List.{AllByRecursion, AllZip, find}
 use Rattle.std.specs.Option.{option_map_or}
