@@ -45,7 +45,7 @@ use Rattle.term_graph.specs.declared.links.LinkRow.{LinkRow}
 use Rattle.abs_expand.specs.Plans.{makes as makes_act, on_stack, Turn, Plan, no_child, no_rows}
 use Rattle.abs_expand.specs.Table.{cell_here, natural, negative, array_turn, array_plan, length_id, access_at, of_kind, number_load_plan}
 use Rattle.abs_expand.specs.Turns.{throws_after, with_stack as stack_at, interval_of_id}
-use Rattle.expand_laws.proofs.Cases.{SomeOf}
+use Rattle.turn_fits.proofs.SomeOf.{SomeOf}
 use Rattle.turn_fits.proofs.Tops.{stacked}
 use Rattle.access_steps.proofs.Accesses.{access_meets}
 use Rattle.object_steps.proofs.Casts.{some_later}

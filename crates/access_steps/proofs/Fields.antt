@@ -58,7 +58,7 @@ use Rattle.abs_expand.specs.Children.{set_field, field_with}
 use Rattle.abs_expand.specs.Building.{HoldsIds}
 use Rattle.abs_expand.specs.Table.{cell_here as cell_of, on_instance, put_slot, putfield_plan}
 use Rattle.abs_expand.specs.Turns.{moves, turn_narrowing, turns_narrowing, interval_of_id, with_stack as stack_at}
-use Rattle.expand_laws.proofs.Cases.{SomeOf, some_one, some_of_map}
+use Rattle.turn_fits.proofs.SomeOf.{SomeOf, some_one, some_of_map}
 use Rattle.abs_heap.specs.Laws.{HasOtherCells}
 use Rattle.turn_fits.proofs.Formed.{changed_formed, frames_held, thrown_held}
 use Rattle.turn_fits.proofs.Steps.{formed, mid_fits, field_goes}

@@ -40,7 +40,7 @@ use Rattle.term_graph.specs.declared.links.LinkRow.{LinkRow}
 use Rattle.abs_expand.specs.Plans.{nothing, nowhere, on_stack, item, writes, Turn, Plan, no_child}
 use Rattle.abs_expand.specs.Table.{cell_here, is_null_cell, is_null_here, access_at, length_id, items_length_id, number_store_plan, aaload_plan, aastore_plan}
 use Rattle.abs_expand.specs.Turns.{throws_after, with_stack as stack_at}
-use Rattle.expand_laws.proofs.Cases.{SomeOf}
+use Rattle.turn_fits.proofs.SomeOf.{SomeOf}
 use Rattle.turn_fits.proofs.Carry.{described_of}
 use Rattle.turn_fits.proofs.Tops.{stacked}
 use Rattle.access_steps.proofs.Accesses.{access_meets}

@@ -55,7 +55,7 @@ use Rattle.path_rules.specs.Conditions.{HasIntsAlone}
 use Rattle.path_rules.specs.Walks.{Spot, FitsStop, Crosses, IsWalk, last_of, weight_of, SlotIs, SlotsAre, WalksMeetRules}
 use Rattle.abs_expand.specs.Laws.{IsAfter, IsMet}
 use Rattle.graph_check.specs.Good.{IsGoodNode}
-use Rattle.graph_check.specs.Laws.{GoesBy, EndsHere, ExpansionsHold, GraphsHoldRuns}
+use Rattle.graph_check.specs.Laws.{GoesBy, EndsHere, GraphsHoldRuns}
 use Rattle.abs_expand.proofs.ZipLists.{beside}
 use Rattle.graph_check.proofs.Excluding.{good_by}
 use Rattle.cert_check.specs.Certified.{IsCertified}
@@ -101,7 +101,7 @@ slot_at v spot slots n slot are at =
 -- ---- a certified graph
 
 module _ (p : Program) (typing : ℕ → CodeTypes) (nodes : List GraphNode) (cuts : List ℕ) (root : AbstractState) (c : IsCertified p typing nodes cuts root)
-    (closed : IsClosed p) (widths : HasWidths p) (typing_is : IsTypingOf p typing) (keeps : ExpansionsHold p typing nodes) (holds : GraphsHoldRuns) (typed_steps : StepsAreTyped) (heaps_closed : TypedHeapsAreClosed) (meets : WalksMeetRules) where
+    (closed : IsClosed p) (widths : HasWidths p) (typing_is : IsTypingOf p typing) (holds : GraphsHoldRuns) (typed_steps : StepsAreTyped) (heaps_closed : TypedHeapsAreClosed) (meets : WalksMeetRules) where
   abbrev linked : LinkedGraph
   linked = record { graph = nodes; links = c.links; sizes = c.are.are.sizes }
 
@@ -347,7 +347,7 @@ module _ (p : Program) (typing : ℕ → CodeTypes) (nodes : List GraphNode) (cu
       let found = beside (IsGoodNode p typing nodes) nodes c.links s.node at.node c.graph.each at.is in
       let met : IsMet p typing at.node.state s.spot.machine s.spot.meaning =
       record { program = good_program p closed; typing_is = typing_is; good = good_by p typing nodes at.node.state at.node.by found.other found.alike; typed = at.typed; fits = at.fits } in
-      elim (holds p typing nodes root c.links closed keeps c.graph s.node at.node found.other at.is found.there s.spot.machine s.spot.meaning met) [
+      elim (holds p typing nodes root c.links closed widths c.graph s.node at.node found.other at.is found.there s.spot.machine s.spot.meaning met) [
         | inl e ↦ inl e
         | inr on ↦ inr (record {
           to = record { node = on.to; spot = record { machine = on.after; meaning = on.meaning_after } };
@@ -382,15 +382,15 @@ module _ (p : Program) (typing : ℕ → CodeTypes) (nodes : List GraphNode) (cu
 -- ---- the laws
 
 pub walks_end : TypedHeapsAreClosed → StepsAreTyped → WalksMeetRules → GraphsHoldRuns → CertifiedWalksEnd
-walks_end heaps_closed typed_steps meets holds p typing nodes cuts root closed widths typing_is keeps c spot at =
-    walks_end_at_root p typing nodes cuts root c closed widths typing_is keeps holds typed_steps heaps_closed meets spot at
+walks_end heaps_closed typed_steps meets holds p typing nodes cuts root closed widths typing_is c spot at =
+    walks_end_at_root p typing nodes cuts root c closed widths typing_is holds typed_steps heaps_closed meets spot at
 
 pub last_nodes_end : TypedHeapsAreClosed → StepsAreTyped → WalksMeetRules → GraphsHoldRuns → LastNodesEnd
-last_nodes_end heaps_closed typed_steps meets holds p typing nodes cuts root closed widths typing_is keeps c station at last =
-    last_ends p typing nodes cuts root c closed widths typing_is keeps holds typed_steps heaps_closed meets station at last
+last_nodes_end heaps_closed typed_steps meets holds p typing nodes cuts root closed widths typing_is c station at last =
+    last_ends p typing nodes cuts root c closed widths typing_is holds typed_steps heaps_closed meets station at last
 
 pub runs_end : TypedHeapsAreClosed → StepsAreTyped → RunsAreNeverStuck → FittingStatesAreTyped → FittingStatesAreDescribed → WalksMeetRules → GraphsHoldRuns → CertifiedRunsEnd
-runs_end heaps_closed typed_steps never_stuck are_typed are_described meets holds p typing desc nodes cuts closed widths typing_is own keeps c state fits =
+runs_end heaps_closed typed_steps never_stuck are_typed are_described meets holds p typing desc nodes cuts closed widths typing_is own c state fits =
     let typed = are_typed p desc typing state closed typing_is own fits in
     let spot : Spot = record { machine = state; meaning = input_values (fits.args ++ state.statics) } in
     let rooted = c.graph.rooted in
@@ -400,7 +400,7 @@ runs_end heaps_closed typed_steps never_stuck are_typed are_described meets hold
       fits = subst (λ (s : AbstractState). Fits (types_of p.world) s state spot.meaning) (sym rooted.state_is) (are_described p desc state closed own fits);
       typed = typed;
     } in
-    let walks = walks_end_at_root p typing nodes cuts (initial_of p desc) c closed widths typing_is keeps holds typed_steps heaps_closed meets spot at in (
-      runs_from p typing nodes cuts (initial_of p desc) c closed widths typing_is keeps holds typed_steps heaps_closed meets (record { node = 0; spot = spot }) walks at,
+    let walks = walks_end_at_root p typing nodes cuts (initial_of p desc) c closed widths typing_is holds typed_steps heaps_closed meets spot at in (
+      runs_from p typing nodes cuts (initial_of p desc) c closed widths typing_is holds typed_steps heaps_closed meets (record { node = 0; spot = spot }) walks at,
       never_stuck p typing closed widths typing_is state typed,
     )

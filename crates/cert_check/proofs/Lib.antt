@@ -1,6 +1,6 @@
 pub mod Bounded
 pub mod Ending
-pub mod IntRuns
+pub mod Linking
 pub mod Running
 pub mod Showing
 pub mod Terms

@@ -1,10 +1,9 @@
--- Good graphs over ints have links such as rules take.
-use Rattle.std.proofs.Common.{◌≡◌, ◌==◌, ◌<◌, ℕ, suc, Bool, true, false, eqb, if◌then◌else◌, IsTrue, List, [], ◌∷◌, map, length, Some, slice_get, refl, sym, ap, subst, arith, eq-eqb}
+-- Good graphs over ints are such as rules take.
+use Rattle.std.proofs.Common.{◌≡◌, ◌==◌, ◌<◌, ℕ, suc, Bool, true, false, eqb, if◌then◌else◌, IsTrue, List, [], ◌∷◌, length, Some, slice_get, inr, refl, ap, arith, eq-eqb}
 use Rattle.std.specs.Prelude.{All}
 use Rattle.std.specs.List.{AllByRecursion, AllZip}
 use Rattle.std.proofs.lemmas.Bool.{eqb-true}
-use Rattle.std.proofs.lemmas.Option.{slice_get_within, get_or_from_slice_get}
-use Rattle.std.proofs.lemmas.List.Elements.{All-get_or, All-from_recursion, recursion_from_All}
+use Rattle.std.proofs.lemmas.List.Elements.{All-from_recursion, recursion_from_All}
 use Rattle.abs_cells.proofs.CellLaws.{low_of_cell}
 use Rattle.abs_cells.specs.declared.cells.Cell.{Cell}
 use Rattle.abs_cells.specs.AbstractStates.{AbstractState}
@@ -14,16 +13,15 @@ use Rattle.class_program.specs.Programs.{Program}
 use Rattle.class_program.specs.Widths.{HasWidths}
 use Rattle.frame_types.specs.Tables.{CodeTypes}
 use Rattle.term_graph.specs.declared.links.Link.{Link}
-use Rattle.term_graph.specs.declared.nodes.By.{By}
-use Rattle.term_graph.specs.Graphs.{GraphNode, GraphChild}
-use Rattle.path_rules.specs.Conditions.{HasIntsAlone, IsLinkBetween, IsGoodChild, CutsRise, IsReady}
+use Rattle.term_graph.specs.Graphs.{GraphNode}
+use Rattle.path_rules.specs.Conditions.{HasIntsAlone, CutsRise, IsReady}
 use Rattle.abs_expand.specs.BadStates.{IsGoodState}
-use Rattle.abs_expand.specs.IntForms.{HasIntForms, IsIntState}
+use Rattle.abs_expand.specs.IntForms.{IsIntState}
 use Rattle.graph_check.specs.Conditions.{HasIntStates}
-use Rattle.graph_check.specs.Good.{NamesChild, IsExpanded, IsLeftBy, IsGoodNode, GraphOk}
+use Rattle.graph_check.specs.Good.{IsGoodNode, GraphOk}
 use Rattle.graph_check.proofs.Excluding.{good_by}
-use Rattle.int_links.specs.Laws.{FitsRules, IntLinksFit}
-use Rattle.cert_check.specs.Ready.{AreLinked}
+use Rattle.plan_links.specs.Laws.{LinksFit}
+use Rattle.cert_check.proofs.Linking.{all_linked}
 use Rattle.cert_check.specs.Valid.{Case, AreCuts}
 use Rattle.cert_check.proofs.Showing.{well_formed, all_good}
 use Rattle.cert_check.specs.Parts.{AreCutsFrom, AreCutsOf, IsPrepared}
@@ -49,43 +47,13 @@ ints_alone state r ints = All-from_recursion (λ (c : ℕ × Cell). IsTrue (is_i
 
 -- ---- nodes
 
-module _ (fit : IntLinksFit) (p : Program) (typing : ℕ → CodeTypes) (forms : HasIntForms p) (widths : HasWidths p) (nodes : List GraphNode) where
-  abbrev IfGood : AbstractState → Type 0
-  IfGood state = IsGoodState p typing state → IsIntState state
-
-  node_ints : (list : List GraphNode) (links : List (List Link)) → ((n : ℕ) (node : GraphNode) → slice_get list n ≡ Some node → IfGood node.state) → AllZip (IsGoodNode p typing nodes) list links → AllByRecursion (λ (n : GraphNode). HasIntsAlone n.state) list
+module _ (fit : LinksFit) (p : Program) (typing : ℕ → CodeTypes) (widths : HasWidths p) (nodes : List GraphNode) where
+  node_ints : (list : List GraphNode) (links : List (List Link)) → ((n : ℕ) (node : GraphNode) → slice_get list n ≡ Some node → IsGoodState p typing node.state → IsIntState node.state) → AllZip (IsGoodNode p typing nodes) list links → AllByRecursion (λ (n : GraphNode). HasIntsAlone n.state) list
   node_ints [] links h each = tt
   node_ints (node ∷ list) [] h each = absurd each
   node_ints (node ∷ list) (own ∷ links) h each =
       let good = good_by p typing nodes node.state node.by own each.0 in
       (ints_alone node.state good.sound.well_formed.rising (h 0 node refl good), node_ints list links (λ n later e. h (suc n) later e) each.1)
-
-  module _ (ints : All (λ (n : GraphNode). HasIntsAlone n.state) nodes) where
-    ints_at : (n : ℕ) (node : GraphNode) → slice_get nodes n ≡ Some node → HasIntsAlone node.state
-    ints_at n node is = subst (λ (m : GraphNode). HasIntsAlone m.state) (get_or_from_slice_get nodes n node node is) (All-get_or (λ (m : GraphNode). HasIntsAlone m.state) nodes n node (slice_get_within nodes n node is) ints)
-
-    children_linked : (state : AbstractState) (children : List GraphChild) (named : List ℕ) → AllByRecursion (FitsRules state) children → AllZip (NamesChild nodes) children named → AllZip (IsGoodChild nodes state) named (map (λ (child : GraphChild). child.link) children)
-    children_linked state [] [] fits names = tt
-    children_linked state [] (n ∷ named) fits names = absurd names
-    children_linked state (child ∷ children) [] fits names = absurd names
-    children_linked state (child ∷ children) (n ∷ named) fits names =
-        let at = names.0 in
-        let alone = subst HasIntsAlone at.state_is (ints_at n at.node at.is) in
-        ((at.node, (at.is, subst (λ (s : AbstractState). IsLinkBetween state s child.link) (sym at.state_is) (fits.0 alone))), children_linked state children named fits.1 names.1)
-
-    expanded_linked : (state : AbstractState) (named : List ℕ) (links : List Link) → IfGood state → IsExpanded p typing nodes state named links → AllZip (IsGoodChild nodes state) named links
-    expanded_linked state named links h expanded =
-        subst (AllZip (IsGoodChild nodes state) named) (sym expanded.links_are)
-        (children_linked state expanded.children named (fit p typing state expanded.children forms widths expanded.are.0 (h expanded.are.0) expanded.are.1) expanded.names)
-
-    left_linked : (node : GraphNode) (links : List Link) → IfGood node.state → IsGoodNode p typing nodes node links → AreLinked nodes node links
-    left_linked node links h left named e = expanded_linked node.state named links h (subst (λ (by : By). IsLeftBy p typing nodes node.state by links) e left)
-
-    all_linked : (list : List GraphNode) (links : List (List Link)) → ((n : ℕ) (node : GraphNode) → slice_get list n ≡ Some node → IfGood node.state) → AllZip (IsGoodNode p typing nodes) list links → AllZip (AreLinked nodes) list links
-    all_linked [] [] h each = tt
-    all_linked [] (own ∷ links) h each = absurd each
-    all_linked (node ∷ list) [] h each = absurd each
-    all_linked (node ∷ list) (own ∷ links) h each = (left_linked node own (h 0 node refl) each.0, all_linked list links (λ n later e. h (suc n) later e) each.1)
 
   pub prepared : (root : AbstractState) (links : List (List Link)) → HasIntStates p typing nodes → GraphOk p typing nodes root links → IsPrepared nodes links
   prepared root links states graph =
@@ -93,7 +61,7 @@ module _ (fit : IntLinksFit) (p : Program) (typing : ℕ → CodeTypes) (forms :
       record {
         states = well_formed p typing nodes ints links graph.each;
         ints = ints;
-        ways = all_good p typing nodes ints links graph.each (all_linked ints nodes links states graph.each);
+        ways = all_good p typing nodes ints links graph.each (all_linked fit p typing widths nodes nodes links (λ n node at good. inr (states n node at good)) graph.each);
       }
 
 -- ---- cuts

@@ -1,11 +1,12 @@
--- What a valid certificate over ints shows.
-use Rattle.std.proofs.Common.{◌≡◌, ℕ, Bool, true, false, not, List, [], ◌∷◌, Some, slice_get, refl, ap, subst}
+-- What a valid certificate shows, and that runs end where it does.
+use Rattle.std.proofs.Common.{◌≡◌, ℕ, Bool, true, false, List, [], ◌∷◌, Some, slice_get, inl, refl, ap, subst}
 use Rattle.std.specs.Prelude.{All}
 use Rattle.std.specs.List.{AllZip, AllByRecursion}
 use Rattle.std.proofs.lemmas.Bool.{false≢true}
 use Rattle.std.proofs.lemmas.Option.{slice_get_within, get_or_from_slice_get}
 use Rattle.std.proofs.lemmas.List.Elements.{All-get_or, All-from_recursion}
-use Rattle.int_links.proofs.Links.{no_and_int}
+use Rattle.plan_links.proofs.Links.{no_and_int}
+use Rattle.plan_links.specs.Laws.{LinksFit}
 use Rattle.descent.specs.Steps.{ClosedProofsEnd}
 use Rattle.abs_cells.specs.declared.cells.Cell.{Cell}
 use Rattle.abs_cells.specs.declared.cells.Cell.TheVariants.{Int, Null, Obj, Nums, Refs, Unk}
@@ -24,7 +25,10 @@ use Rattle.term_graph.specs.Graphs.{GraphNode}
 use Rattle.path_rules.specs.Conditions.{HasIntsAlone, IsMapBetween, IsGoodBy}
 use Rattle.graph_check.specs.Good.{IsLeftBy, IsGoodNode}
 use Rattle.graph_check.proofs.Excluding.{good_by}
-use Rattle.cert_check.specs.Ready.{AreLinked, ValidIsCertified}
+use Rattle.cert_check.specs.Certified.{IsCertified}
+use Rattle.cert_check.specs.Laws.{CertifiedRunsEnd, ValidCertificatesEnd}
+use Rattle.cert_check.specs.Ready.{ValidIsCertified}
+use Rattle.cert_check.proofs.Linking.{AreLinked, all_linked}
 use Rattle.cert_check.proofs.Ending.{found_int}
 
 -- ---- lists
@@ -81,16 +85,16 @@ module _ (p : Program) (typing : ℕ → CodeTypes) (nodes : List GraphNode) (in
   all_good links each linked =
       zip_both (IsGoodNode p typing nodes) (AreLinked nodes) (λ (n : GraphNode) (l : List Link). IsGoodBy nodes n.state n.by l) (λ n l good are. left_good n.state n.by l good are) nodes links each linked
 
--- ---- the law
+-- ---- the laws
 
-pub shows : ClosedProofsEnd → ValidIsCertified
-shows closed case valid over rules steps = record {
+pub shows : ClosedProofsEnd → LinksFit → ValidIsCertified
+shows closed fit case valid widths typing_is ints rules steps = record {
   links = valid.links;
   graph = valid.graph;
   ready = record {
-    states = well_formed case.program case.typing case.nodes over.ints valid.links valid.graph.each;
-    ints = over.ints;
-    nodes = all_good case.program case.typing case.nodes over.ints valid.links valid.graph.each over.linked;
+    states = well_formed case.program case.typing case.nodes ints valid.links valid.graph.each;
+    ints = ints;
+    nodes = all_good case.program case.typing case.nodes ints valid.links valid.graph.each (all_linked fit case.program case.typing widths case.nodes case.nodes valid.links (λ n node at good. inl typing_is) valid.graph.each);
     first = valid.cuts.first;
     rise = valid.cuts.rise;
     cut_nodes = valid.cuts.nodes;
@@ -100,3 +104,8 @@ shows closed case valid over rules steps = record {
   are = valid.paths.1;
   ends = closed valid.rules (record { steps = case.steps }) rules steps valid.proof;
 }
+
+pub valid_runs_end : ValidIsCertified → CertifiedRunsEnd → ValidCertificatesEnd
+valid_runs_end shown ended case valid desc root closed widths typing_is own ints rules steps state fits =
+    ended case.program case.typing desc case.nodes case.cuts closed widths typing_is own
+    (subst (IsCertified case.program case.typing case.nodes case.cuts) root (shown case valid widths typing_is ints rules steps)) state fits

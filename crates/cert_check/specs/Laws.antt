@@ -1,4 +1,4 @@
--- Walks and runs end where a certificate shows it, and the expansions of its nodes' states are true of the machine.
+-- Walks and runs end where a certificate shows it.
 use Rattle.std.specs.Prelude.{◌≡◌, ℕ, List}
 use Rattle.jvm_values.specs.States.{MachineState}
 use Rattle.class_program.specs.Programs.{Program, IsClosed}
@@ -11,15 +11,12 @@ use Rattle.input_desc.specs.Descs.{IsOwnDesc}
 use Rattle.input_desc.specs.Fitting.{FitsDescription}
 use Rattle.input_desc.specs.Initial.{initial_of}
 use Rattle.abs_cells.specs.AbstractStates.{AbstractState}
-use Rattle.abs_expand.specs.IntForms.{HasIntForms}
 use Rattle.term_graph.specs.declared.nodes.By.TheVariants.{End}
 use Rattle.term_graph.specs.Graphs.{GraphNode}
 use Rattle.path_rules.specs.Walks.{Spot}
 use Rattle.descent.specs.Conditions.{AreRules, AreSteps}
-use Rattle.graph_check.specs.Conditions.{HasIntStates}
-use Rattle.graph_check.specs.Laws.{ExpansionsHold}
 use Rattle.cert_check.specs.Certified.{IsCertified}
-use Rattle.cert_check.specs.Ready.{IsOverInts}
+use Rattle.cert_check.specs.Ready.{AreOfInts}
 use Rattle.cert_check.specs.Valid.{Case, IsValid}
 use Rattle.cert_check.specs.Walks.{Station, IsAt, WalksEnd, IsLast}
 
@@ -27,14 +24,14 @@ use Rattle.cert_check.specs.Walks.{Station, IsAt, WalksEnd, IsLast}
 abbrev pub CertifiedWalksEnd : Type 0
 CertifiedWalksEnd =
     (p : Program) (typing : ℕ → CodeTypes) (nodes : List GraphNode) (cuts : List ℕ) (root : AbstractState)
-    → IsClosed p → HasWidths p → IsTypingOf p typing → ExpansionsHold p typing nodes
+    → IsClosed p → HasWidths p → IsTypingOf p typing
     → (certified : IsCertified p typing nodes cuts root)
     → (spot : Spot) → IsAt p typing nodes (record { node = 0; spot = spot }) → WalksEnd p typing nodes certified.links (record { node = 0; spot = spot })
 
 abbrev pub LastNodesEnd : Type 0
 LastNodesEnd =
     (p : Program) (typing : ℕ → CodeTypes) (nodes : List GraphNode) (cuts : List ℕ) (root : AbstractState)
-    → IsClosed p → HasWidths p → IsTypingOf p typing → ExpansionsHold p typing nodes
+    → IsClosed p → HasWidths p → IsTypingOf p typing
     → (certified : IsCertified p typing nodes cuts root)
     → (station : Station) (at : IsAt p typing nodes station) → IsLast p typing nodes certified.links station → at.node.by ≡ End
 
@@ -42,33 +39,14 @@ LastNodesEnd =
 abbrev pub CertifiedRunsEnd : Type 0
 CertifiedRunsEnd =
     (p : Program) (typing : ℕ → CodeTypes) (desc : Desc) (nodes : List GraphNode) (cuts : List ℕ)
-    → IsClosed p → HasWidths p → IsTypingOf p typing → IsOwnDesc p desc → ExpansionsHold p typing nodes
-    → IsCertified p typing nodes cuts (initial_of p desc)
-    → (state : MachineState) → FitsDescription p desc state → Ends p state × IsNeverStuck p state
-
--- ---- over ints, without that premise
-
--- The expansions of a graph's states are true of the machine, where the program's instructions are about ints alone and each state that
--- has an expansion is one of ints.
-abbrev pub IntExpansionsHold : Type 0
-IntExpansionsHold =
-    (p : Program) (typing : ℕ → CodeTypes) (nodes : List GraphNode)
-    → IsClosed p → HasWidths p → HasIntForms p → HasIntStates p typing nodes → ExpansionsHold p typing nodes
-
--- There every state that the description fits ends, and none of its runs is stuck.
-abbrev pub CertifiedIntRunsEnd : Type 0
-CertifiedIntRunsEnd =
-    (p : Program) (typing : ℕ → CodeTypes) (desc : Desc) (nodes : List GraphNode) (cuts : List ℕ)
     → IsClosed p → HasWidths p → IsTypingOf p typing → IsOwnDesc p desc
-    → HasIntForms p → HasIntStates p typing nodes
     → IsCertified p typing nodes cuts (initial_of p desc)
     → (state : MachineState) → FitsDescription p desc state → Ends p state × IsNeverStuck p state
 
--- So it is where a valid certificate begins with the description's initial state.
-abbrev pub ValidIntCertificatesEnd : Type 0
-ValidIntCertificatesEnd =
+-- So it is where a valid certificate begins with the description's initial state, and its states are such as rules take.
+abbrev pub ValidCertificatesEnd : Type 0
+ValidCertificatesEnd =
     (case : Case) (valid : IsValid case) (desc : Desc) → case.root ≡ initial_of case.program desc
     → IsClosed case.program → HasWidths case.program → IsTypingOf case.program case.typing → IsOwnDesc case.program desc
-    → HasIntForms case.program → HasIntStates case.program case.typing case.nodes
-    → IsOverInts case valid.links → AreRules valid.rules → AreSteps case.steps
+    → AreOfInts case.nodes → AreRules valid.rules → AreSteps case.steps
     → (state : MachineState) → FitsDescription case.program desc state → Ends case.program state × IsNeverStuck case.program state

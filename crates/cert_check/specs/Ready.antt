@@ -1,25 +1,21 @@
--- Valid certificates over ints show what is asked of them.
-use Rattle.std.specs.Prelude.{◌≡◌, ℕ, List, All}
-use Rattle.std.specs.List.{AllZip}
+-- Valid certificates show what is asked of them, where their states are such as the rules of paths take.
+use Rattle.std.specs.Prelude.{List, All}
+use Rattle.class_program.specs.Widths.{HasWidths}
+use Rattle.code_verify.specs.Typings.{IsTypingOf}
 use Rattle.descent.specs.Conditions.{AreRules, AreSteps}
-use Rattle.term_graph.specs.declared.links.Link.{Link}
-use Rattle.term_graph.specs.declared.nodes.By.TheVariants.{Expand}
 use Rattle.term_graph.specs.Graphs.{GraphNode}
-use Rattle.path_rules.specs.Conditions.{HasIntsAlone, IsGoodChild}
+use Rattle.path_rules.specs.Conditions.{HasIntsAlone}
 use Rattle.cert_check.specs.Certified.{IsCertified}
 use Rattle.cert_check.specs.Valid.{Case, IsValid}
 
--- each link of an expanded node leads from its state to the named node's, and is such as rules take
-abbrev pub AreLinked : List GraphNode → GraphNode → List Link → Type 0
-AreLinked nodes node links = (named : List ℕ) → node.by ≡ Expand named → AllZip (IsGoodChild nodes node.state) named links
+-- every state has ints alone: that is asked of certificates for the rules of their paths, so far, and for nothing else
+abbrev pub AreOfInts : List GraphNode → Type 0
+AreOfInts nodes = All (λ (n : GraphNode). HasIntsAlone n.state) nodes
 
--- states have ints alone, and links are such
-pub record IsOverInts (case : Case) (links : List (List Link)) : Type 0 where
-  pub ints : All (λ (n : GraphNode). HasIntsAlone n.state) case.nodes
-  pub linked : AllZip (AreLinked case.nodes) case.nodes links
-
--- A valid certificate over ints, whose rules and steps are within the limits of proofs, shows that walks and runs end.
+-- A valid certificate of such states, in a program whose numbers are of their fields' widths, with the program's typing, shows that walks and
+-- runs end where its rules and steps are within the limits of proofs.
 abbrev pub ValidIsCertified : Type 0
 ValidIsCertified =
-    (case : Case) (valid : IsValid case) → IsOverInts case valid.links → AreRules valid.rules → AreSteps case.steps
+    (case : Case) (valid : IsValid case) → HasWidths case.program → IsTypingOf case.program case.typing
+    → AreOfInts case.nodes → AreRules valid.rules → AreSteps case.steps
     → IsCertified case.program case.typing case.nodes case.cuts case.root

@@ -19,9 +19,9 @@ use class_program::Program;
 use code_verify::Typing;
 use descent::{PathRule, Proof, check_proof};
 use graph_check::check_graph;
-use int_links::int_links_fit;
 use list_views::Seq;
 use path_rules::paths;
+use plan_links::links_fit;
 use std::alloc::Global;
 use term_graph::{Links, NodeSource};
 
@@ -109,7 +109,7 @@ pub fn check_cert<P: Pairs, S: NodeSource<P>>(
     ensures certified { OnOk result (IsCertified (program_of program.now) (typing_at typing.now) (S.graph source.old) cuts.now root.now) }
     ensures same { S.graph source.new ≡ S.graph source.old }
 {
-    int_links_fit();
+    links_fit();
     program.is_good();
     let links = match good_links(alloc, program, typing, source, root) {
         Ok(links) => links,

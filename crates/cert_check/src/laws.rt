@@ -1,18 +1,18 @@
 //! That walks and runs end where a certificate shows it. The laws are calls that do nothing when they run.
-ghost use Rattle.cert_check.specs.Laws.{CertifiedWalksEnd, LastNodesEnd, CertifiedRunsEnd, IntExpansionsHold, CertifiedIntRunsEnd, ValidIntCertificatesEnd};
+ghost use Rattle.cert_check.specs.Laws.{CertifiedWalksEnd, LastNodesEnd, CertifiedRunsEnd, ValidCertificatesEnd};
 ghost use Rattle.cert_check.specs.Ready.{ValidIsCertified};
 
 use descent::closed_proofs_end;
-use expand_laws::{int_ends_end, int_steps_fit_children};
 use graph_check::graphs_hold_runs;
 use input_root::{fitting_states_are_described, fitting_states_are_typed};
 use jvm_run::{runs_are_never_stuck, steps_are_typed};
 use jvm_values::typed_heaps_are_closed;
 use path_rules::walks_meet_rules;
+use plan_links::links_fit;
 
 /// Every walk of typed states that fit is finite, if it begins at node 0 and a certificate shows it: a good graph, cuts on all its
 /// cycles, and rules of the paths between them of which no chain is infinite. Where a walk can't be continued, its node says that the
-/// run ends. Both hold wherever the expansions of the nodes' states are true of the machine.
+/// run ends.
 pub fn certified_walks_end()
     ensures finite { CertifiedWalksEnd }
     ensures last { LastNodesEnd }
@@ -23,9 +23,8 @@ pub fn certified_walks_end()
     graphs_hold_runs();
 }
 
-/// Every state that a description fits ends, and none of its runs is stuck, wherever the expansions of the nodes' states are true of
-/// the machine and a certificate shows it: a good graph with the description's initial state at node 0, cuts on all its cycles, and rules of the
-/// paths between them of which no chain is infinite.
+/// Every state that a description fits ends, and none of its runs is stuck, if a certificate shows it: a good graph with the
+/// description's initial state at node 0, cuts on all its cycles, and rules of the paths between them of which no chain is infinite.
 pub fn certified_runs_end()
     ensures { CertifiedRunsEnd }
 {
@@ -38,36 +37,20 @@ pub fn certified_runs_end()
     graphs_hold_runs();
 }
 
-/// A valid certificate over ints shows that walks and runs end, where the links of its graph are such as rules take, and its rules and
-/// steps are within the limits of proofs.
+/// A valid certificate shows that walks and runs end, where the states of its graph are such as rules take, and its rules and steps are
+/// within the limits of proofs.
 pub fn valid_is_certified()
     ensures { ValidIsCertified }
 {
     closed_proofs_end();
+    links_fit();
 }
 
-/// The expansions of a graph's states are true of the machine, where the program's instructions are about ints alone and each state that
-/// has an expansion is one of ints.
-pub fn int_expansions_hold()
-    ensures { IntExpansionsHold }
-{
-    int_ends_end();
-    int_steps_fit_children();
-}
-
-/// There every state that the description fits ends, and none of its runs is stuck, if a certificate shows it.
-pub fn certified_int_runs_end()
-    ensures { CertifiedIntRunsEnd }
-{
-    certified_runs_end();
-    int_expansions_hold();
-}
-
-/// So it is where a valid certificate over ints begins with the description's initial state, the links of its graph are such as rules
-/// take, and its rules and steps are within the limits of proofs.
-pub fn valid_int_certificates_end()
-    ensures { ValidIntCertificatesEnd }
+/// Every state that a description fits ends, and none of its runs is stuck, if a valid certificate begins with the description's initial
+/// state, the states of its graph are such as rules take, and its rules and steps are within the limits of proofs.
+pub fn valid_certificates_end()
+    ensures { ValidCertificatesEnd }
 {
     valid_is_certified();
-    certified_int_runs_end();
+    certified_runs_end();
 }

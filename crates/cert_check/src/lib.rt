@@ -9,7 +9,6 @@ mod refusal;
 
 pub use checking::{check_cert, good_links, rules_between};
 pub use laws::{
-    certified_int_runs_end, certified_runs_end, certified_walks_end, int_expansions_hold,
-    valid_int_certificates_end, valid_is_certified,
+    certified_runs_end, certified_walks_end, valid_certificates_end, valid_is_certified,
 };
 pub use refusal::{Cause, Refusal};

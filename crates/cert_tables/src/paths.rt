@@ -18,10 +18,10 @@ use class_program::Program;
 use code_verify::{Typing, verify};
 use descent::PathRule;
 use entry_cases::ProgramAnswers;
-use int_links::int_links_fit;
 use json_cases::{field, naturals_of};
 use json_view::View;
 use list_views::Seq;
+use plan_links::links_fit;
 use std::alloc::Global;
 use table_cases::Case;
 use term_graph::{Graph, copied_state};
@@ -133,7 +133,7 @@ fn int_rules(
     requires ints { HaveIntStates graph.old (length graph.old) }
     requires few { length graph.old ≤ most_nodes }
 {
-    int_links_fit();
+    links_fit();
     program.is_good();
     match good_links(alloc, program, typing, graph, root) {
         Ok(links) => Ok(rules_between(alloc, program, typing, graph, root, &links, cuts)),

@@ -2,7 +2,6 @@
 use Rattle.std.proofs.Common.{◌≡◌, ℕ, List, Ok, inl, inr, sym, ap, subst, arith}
 use Rattle.std.proofs.lemmas.List.Elements.{All-from_recursion}
 use Rattle.abs_cells.specs.AbstractStates.{AbstractState}
-use Rattle.abs_expand.specs.IntForms.{HasIntForms}
 use Rattle.class_world.specs.World.{World}
 use Rattle.class_world.specs.declared.world.MethodRef.{MethodRef}
 use Rattle.class_program.specs.Programs.{Program, IsClosed}
@@ -15,7 +14,6 @@ use Rattle.input_desc.specs.Entries.{entry_of}
 use Rattle.input_desc.specs.Initial.{initial_of}
 use Rattle.input_steps.specs.Classes.{IsWorldOf}
 use Rattle.desc_steps.specs.Headline.{NameProgram, AllFittingEnd}
-use Rattle.desc_steps.specs.Ints.{IsIntProgram}
 use Rattle.desc_steps.specs.Names.{names_of}
 use Rattle.descent.specs.declared.proof.ProofStep.{ProofStep}
 use Rattle.descent.specs.Conditions.{AreSteps}
@@ -23,12 +21,12 @@ use Rattle.descent.proofs.Walked.{closed_ends}
 use Rattle.term_graph.specs.Graphs.{GraphNode}
 use Rattle.path_rules.specs.Bare.{AreBounded}
 use Rattle.graph_check.specs.Conditions.{HasIntStates}
-use Rattle.int_links.specs.Laws.{IntLinksFit}
+use Rattle.plan_links.specs.Laws.{LinksFit}
 use Rattle.json_view.specs.Located.{root_of}
 use Rattle.cert_form.specs.Certificates.{CertContent}
 use Rattle.cert_form.proofs.Lacking.{good_steps}
 use Rattle.cert_check.specs.Certified.{IsCertified}
-use Rattle.cert_check.specs.Laws.{CertifiedIntRunsEnd}
+use Rattle.cert_check.specs.Laws.{CertifiedRunsEnd}
 use Rattle.cert_check.specs.Parts.{case_of}
 use Rattle.cert_check.specs.Valid.{IsValid}
 use Rattle.cert_check.proofs.Preparing.{prepared, cuts_of, ready}
@@ -45,7 +43,6 @@ pub record IsReached (cert desc : List ℕ) (files : List (List ℕ)) (outcome :
   pub described : Desc
   pub named : NameProgram files desc program described
   pub typed : IsTypingOf program typing
-  pub ints : IsIntProgram program
   pub says : AnswersCert cert program typing described (Ok outcome)
 
 pub reached : (cert desc : List ℕ) (files : List (List ℕ)) (outcome : Outcome) → Answers cert desc files (Ok outcome) → IsReached cert desc files outcome
@@ -74,17 +71,16 @@ reached cert desc files outcome a =
         is_described = described.1.0.1;
       };
       typed = typing.1.0;
-      ints = described.1.1.1.0;
       says = described.1.1.1.1;
     }
 
 -- ---- what a valid certificate shows
 
-module _ (fit : IntLinksFit) (ended : CertifiedIntRunsEnd) (p : Program) (typing : ℕ → CodeTypes) (desc : Desc) (closed : IsClosed p) (widths : HasWidths p) (typed : IsTypingOf p typing) (own : IsOwnDesc p desc) (forms : HasIntForms p) where
+module _ (fit : LinksFit) (ended : CertifiedRunsEnd) (p : Program) (typing : ℕ → CodeTypes) (desc : Desc) (closed : IsClosed p) (widths : HasWidths p) (typed : IsTypingOf p typing) (own : IsOwnDesc p desc) where
   certified : (nodes : List GraphNode) (cuts : List ℕ) (steps : List ProofStep) → HasIntStates p typing nodes → AreSteps steps → IsValid (case_of p typing (initial_of p desc) nodes cuts steps) → IsCertified p typing nodes cuts (initial_of p desc)
   certified nodes cuts steps states are valid =
       let root : AbstractState = initial_of p desc in
-      let is_ready = ready nodes valid.links cuts (prepared fit p typing forms widths nodes root valid.links states valid.graph) (cuts_of (case_of p typing root nodes cuts steps) valid.cuts) in
+      let is_ready = ready nodes valid.links cuts (prepared fit p typing widths nodes root valid.links states valid.graph) (cuts_of (case_of p typing root nodes cuts steps) valid.cuts) in
       let bounded = All-from_recursion (λ (n : GraphNode). AreBounded n.state) nodes (all_bounded p typing nodes nodes valid.links valid.graph.each) in
       record {
         links = valid.links;
@@ -98,7 +94,7 @@ module _ (fit : IntLinksFit) (ended : CertifiedIntRunsEnd) (p : Program) (typing
 
   checked_ends : (nodes : List GraphNode) (cuts : List ℕ) (steps : List ProofStep) (outcome : Outcome) → HasIntStates p typing nodes → AreSteps steps → AnswersChecked (case_of p typing (initial_of p desc) nodes cuts steps) (Ok outcome) → outcome.status ≡ 0 → AllFittingEnd p desc
   checked_ends nodes cuts steps outcome states are (inl h) accepted =
-      λ state fits. ended p typing desc nodes cuts closed widths typed own forms states (certified nodes cuts steps states are h.0) state fits
+      λ state fits. ended p typing desc nodes cuts closed widths typed own (certified nodes cuts steps states are h.0) state fits
   checked_ends nodes cuts steps outcome states are (inr h) accepted = absurd (omega (arith, ap (λ (o : Outcome). o.status) h.1.1.1, accepted))
 
   content_ends : (cert : List ℕ) (content : CertContent) (outcome : Outcome) → IsCertText p cert content → AnswersContent p typing desc content (Ok outcome) → outcome.status ≡ 0 → AllFittingEnd p desc

@@ -15,8 +15,6 @@ use Rattle.desc_steps.specs.Answers.{AnswersAs}
 use Rattle.desc_steps.specs.Ints.{not_built}
 use Rattle.desc_steps.specs.Names.{names_of}
 use Rattle.term_graph.specs.Graphs.{GraphNode}
-use Rattle.abs_expand.specs.IntForms.{HasIntForms}
-use Rattle.graph_check.specs.Conditions.{HasIntStates}
 use Rattle.graph_fill.specs.Answers.{IsRefused, FillsOr}
 use Rattle.cert_form.specs.declared.fault.CertFault.{CertFault}
 use Rattle.cert_form.specs.declared.fault.CertFault.TheVariants as certs
@@ -25,7 +23,7 @@ use Rattle.cert_form.specs.Faults.{fault_text}
 use Rattle.cert_check.specs.declared.refusal.Refusal.{Refusal}
 use Rattle.cert_check.specs.declared.refusal.Refusal.TheVariants as refusals
 use Rattle.cert_check.specs.Certified.{IsCertified}
-use Rattle.cert_check.specs.Laws.{CertifiedIntRunsEnd}
+use Rattle.cert_check.specs.Laws.{CertifiedRunsEnd}
 use Rattle.cert_check.specs.Valid.{Case, Tells}
 use Rattle.cert_check.specs.Parts.{case_of}
 use Rattle.check_call.specs.declared.outcome.Outcome.{Outcome}
@@ -58,10 +56,10 @@ said_accepts C (Err refusals.Memory) (Ok outcome) on s a = absurd (cc)
 said_accepts C (Err refusals.Memory) (Err refused) on s a = absurd a
 
 pub said_ends : (p : Program) (typing : ℕ → CodeTypes) (desc : Desc) (nodes : List GraphNode) (cuts : List ℕ) (checked : Result (Unit {0}) Refusal) (result : Answer)
-    → CertifiedIntRunsEnd → IsClosed p → HasWidths p → HasIntForms p → IsTypingOf p typing → IsOwnDesc p desc → HasIntStates p typing nodes
+    → CertifiedRunsEnd → IsClosed p → HasWidths p → IsTypingOf p typing → IsOwnDesc p desc
     → OnOk checked (IsCertified p typing nodes cuts (initial_of p desc)) → IsSaid checked result → EndsIfAccepted p desc result
-said_ends p typing desc nodes cuts checked result law closed widths forms typing_is own states on s accepts state fits =
-    law p typing desc nodes cuts closed widths typing_is own forms states (said_accepts (IsCertified p typing nodes cuts (initial_of p desc)) checked result on s accepts) state fits
+said_ends p typing desc nodes cuts checked result law closed widths typing_is own on s accepts state fits =
+    law p typing desc nodes cuts closed widths typing_is own (said_accepts (IsCertified p typing nodes cuts (initial_of p desc)) checked result on s accepts) state fits
 
 pub text_said : (fault : CertFault) (cause : List ℕ) (result : Answer) → (fault ≡ certs.Memory → ⊥) → cause ≡ fault_text fault → AnswersAs (refused_at 0 cause) result → IsSaidOfText fault result
 text_said (certs.Json fault) cause result other is s = subst (λ (text : List ℕ). AnswersAs (refused_at 0 text) result) is s

@@ -28,7 +28,7 @@ use Rattle.abs_expand.specs.Plans.{nothing, makes, Goal, on_stack, in_local, Tur
 use Rattle.abs_expand.specs.Turns.{Here, Operand, known, id, with_stack, interval_at, are_one, narrowings, term_of, terms_of, constant_of, row_over, rows_over, turn_of_result, turn_of_case, turns_of, narrows, place_of_way, branch_of_case, branches}
 use Rattle.abs_expand.proofs.OptionLists.{filtered}
 use Rattle.int_plans.proofs.EachTurn.{EachTurn, HoldsOfInts, here_in, each_turn, in_plan}
-use Rattle.int_links.proofs.SmallRows.{IsPlainRow, compared_plain}
+use Rattle.plan_links.proofs.SmallRows.{IsPlainRow, compared_plain}
 
 abbrev pub IsSteady : Turn → Type 0
 IsSteady turn = turn.act ≡ nothing → (a b : ℕ) → turn.rows a ≡ turn.rows b

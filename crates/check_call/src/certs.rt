@@ -17,7 +17,7 @@ ghost use Rattle.check_call.specs.Said.{IsSaid, IsSaidOfText};
 use crate::causes::cause_text;
 use crate::outcome::{Outcome, accepted, refused};
 use abs_cells::PackedPairs;
-use cert_check::{Refusal, certified_int_runs_end, check_cert};
+use cert_check::{Refusal, certified_runs_end, check_cert};
 use cert_form::{CertFault, CertText};
 use class_program::Program;
 use code_verify::Typing;
@@ -65,7 +65,7 @@ fn check_graph(
     ensures ends { EndsIfAccepted (program_of program.now) desc.now result }
 {
     program.is_good();
-    certified_int_runs_end();
+    certified_runs_end();
     let root = initial(alloc, desc, program)?;
     let checked = check_cert(alloc, program, typing, graph, &root, cuts, proof);
     said(alloc, checked)

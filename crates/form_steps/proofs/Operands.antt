@@ -25,7 +25,7 @@ use Rattle.jvm_step.specs.Operands.{top_int}
 use Rattle.term_graph.specs.Edges.{number_of}
 use Rattle.abs_expand.specs.Plans.{Plan}
 use Rattle.abs_expand.specs.Turns.{Operand, known, id, interval_in, interval_of_id, narrowings}
-use Rattle.expand_laws.proofs.RowsHold.{OperandIs}
+use Rattle.form_steps.proofs.RowsHold.{OperandIs}
 use Rattle.form_steps.proofs.Standing.{Stands, held}
 use Rattle.form_steps.proofs.TurnKinds.{sound_at, Meets, IsChange, int_change}
 

@@ -49,7 +49,7 @@ use Rattle.turn_fits.specs.Laws.{IsPlainCell, Moved}
 use Rattle.turn_fits.proofs.Carry.{in_list, IsAlike, alike_of, sort_stays}
 use Rattle.turn_fits.proofs.Steps.{FitsChild, formed, ints_stay, mid_fits, moved_goes, kept_goes, written_goes, made_goes}
 use Rattle.turn_fits.proofs.Tops.{FitFrames, tops, from_tops, pushed_id, local_set}
-use Rattle.expand_laws.proofs.Cases.{SomeOf}
+use Rattle.turn_fits.proofs.SomeOf.{SomeOf}
 use Rattle.form_steps.proofs.Standing.{Stands, types, here, held, lower_held, going, raised}
 
 -- a step of the machine leads to a state that each child of the turn fits

@@ -44,9 +44,10 @@ use Rattle.term_graph.specs.declared.links.LinkRow.{LinkRow}
 use Rattle.abs_expand.specs.Plans.{Goal, Turn, Plan, no_rows, makes}
 use Rattle.abs_expand.specs.Turns.{with_stack as stack_at, narrows, turn_of_result, Operand, known, id, interval_of_id, interval_at, are_one, rows_over, turn_of_case, turns_of, rows_if, place_of_way, branch_of_case, branches, switch_turn}
 use Rattle.abs_expand.specs.Switches.{parts_of}
-use Rattle.expand_laws.proofs.Cases.{SomeOf, some_of, some_mapped, gives_result, HasResult, results, NamesNone, rows_of_two}
-use Rattle.expand_laws.proofs.Keys.{Leads, key_target, parts_cover}
-use Rattle.expand_laws.proofs.RowsHold.{rows_hold, rows_hold_without}
+use Rattle.turn_fits.proofs.SomeOf.{SomeOf, some_of, some_mapped}
+use Rattle.turn_fits.proofs.Results.{gives_result, HasResult, results, NamesNone, rows_of_two}
+use Rattle.turn_fits.proofs.Keys.{Leads, key_target, parts_cover}
+use Rattle.form_steps.proofs.RowsHold.{rows_hold, rows_hold_without}
 use Rattle.form_steps.proofs.Standing.{Stands, here, onward, held, going, raised}
 use Rattle.form_steps.proofs.TurnKinds.{Fitting, Meets, IsChange, RowsHold, top_turn, throwing_turn}
 use Rattle.form_steps.proofs.Operands.{IntAt, Numbered, operand_is, narrow_both, narrow_to, bounded}

@@ -23,6 +23,7 @@ use Rattle.abs_match.specs.Laws.{HasArraysOfWorld, MatchesCarryFitting, value_of
 use Rattle.class_world.specs.WorldTypes.{types_of}
 use Rattle.class_world.specs.WorldLaws.{world_laws}
 use Rattle.class_program.specs.Programs.{Program, IsClosed}
+use Rattle.class_program.specs.Widths.{HasWidths}
 use Rattle.frame_types.specs.Tables.{CodeTypes}
 use Rattle.jvm_step.specs.Running.{step}
 use Rattle.term_graph.specs.declared.links.Link.{Link}
@@ -30,10 +31,10 @@ use Rattle.term_graph.specs.declared.nodes.By.{By}
 use Rattle.term_graph.specs.declared.nodes.By.TheVariants.{Expand, Instance, End, Todo}
 use Rattle.term_graph.specs.Graphs.{GraphNode, GraphChild}
 use Rattle.term_graph.specs.Edges.{Edge}
-use Rattle.abs_expand.specs.Laws.{IsMet}
+use Rattle.abs_expand.specs.Laws.{IsMet, EndsEnd, StepsFitChildren}
 use Rattle.abs_expand.proofs.ZipLists.{beside}
 use Rattle.graph_check.specs.Good.{NamesChild, IsExpanded, IsInstance, IsLeftBy, IsGoodNode, GraphOk}
-use Rattle.graph_check.specs.Laws.{GoesOn, EndsHere, KeepsPromise, GraphsHoldRuns}
+use Rattle.graph_check.specs.Laws.{GoesOn, EndsHere, GraphsHoldRuns}
 
 -- ---- lists
 
@@ -89,10 +90,10 @@ all_images meaning state target entries lists =
 
 -- ---- one node
 
-module _ (p : Program) (typing : ℕ → CodeTypes) (nodes : List GraphNode) (machine : MachineState) (meaning : Meaning) where
-  by_child : (state : AbstractState) (named : List ℕ) (links : List Link) → KeepsPromise p typing state → IsMet p typing state machine meaning → IsExpanded p typing nodes state named links → GoesOn p nodes (record { state = state; by = Expand named }) links machine meaning
+module _ (p : Program) (typing : ℕ → CodeTypes) (nodes : List GraphNode) (machine : MachineState) (meaning : Meaning) (closed : IsClosed p) (widths : HasWidths p) where
+  by_child : (state : AbstractState) (named : List ℕ) (links : List Link) → StepsFitChildren → IsMet p typing state machine meaning → IsExpanded p typing nodes state named links → GoesOn p nodes (record { state = state; by = Expand named }) links machine meaning
   by_child state named links law met expanded =
-      let goes = law.goes machine meaning expanded.children met expanded.are.1 in
+      let goes = law p typing state machine meaning expanded.children closed widths met expanded.are.1 in
       let to = beside (NamesChild nodes) expanded.children named goes.n goes.child expanded.names goes.is in
       let same : goes.child.state ≡ to.alike.node.state = sym to.alike.state_is in
       record {
@@ -112,8 +113,8 @@ module _ (p : Program) (typing : ℕ → CodeTypes) (nodes : List GraphNode) (ma
         };
       }
 
-  by_instance : (state : AbstractState) (target : ℕ) (entries : List (ℕ × ℕ)) (links : List Link) → MatchesCarryFitting → IsClosed p → IsMet p typing state machine meaning → IsInstance p typing nodes state target entries → GoesOn p nodes (record { state = state; by = Instance target entries }) links machine meaning
-  by_instance state target entries links law closed met matched =
+  by_instance : (state : AbstractState) (target : ℕ) (entries : List (ℕ × ℕ)) (links : List Link) → MatchesCarryFitting → IsMet p typing state machine meaning → IsInstance p typing nodes state target entries → GoesOn p nodes (record { state = state; by = Instance target entries }) links machine meaning
+  by_instance state target entries links law met matched =
       record {
         to = target;
         successor = matched.node;
@@ -124,11 +125,11 @@ module _ (p : Program) (typing : ℕ → CodeTypes) (nodes : List GraphNode) (ma
         by = record { is_target = refl; edge = record { same = refl; images = all_images meaning state matched.node.state entries (matched.instance whole_map).0 } };
       }
 
-  from_node : (state : AbstractState) (by : By) (links : List Link) → KeepsPromise p typing state → MatchesCarryFitting → IsClosed p → IsMet p typing state machine meaning → IsLeftBy p typing nodes state by links → EndsHere p (record { state = state; by = by }) machine ⊎ GoesOn p nodes (record { state = state; by = by }) links machine meaning
-  from_node state (Expand named) links keeps matches closed met left = inr (by_child state named links keeps met left)
-  from_node state (Instance target entries) links keeps matches closed met left = inr (by_instance state target entries links matches closed met left.0)
-  from_node state End links keeps matches closed met left = inl (refl, keeps.ended machine meaning met left.0.1)
-  from_node state Todo links keeps matches closed met left = absurd left
+  from_node : (state : AbstractState) (by : By) (links : List Link) → EndsEnd → StepsFitChildren → MatchesCarryFitting → IsMet p typing state machine meaning → IsLeftBy p typing nodes state by links → EndsHere p (record { state = state; by = by }) machine ⊎ GoesOn p nodes (record { state = state; by = by }) links machine meaning
+  from_node state (Expand named) links ended goes matches met left = inr (by_child state named links goes met left)
+  from_node state (Instance target entries) links ended goes matches met left = inr (by_instance state target entries links matches met left.0)
+  from_node state End links ended goes matches met left = inl (refl, ended p typing state machine meaning closed widths met left.0.1)
+  from_node state Todo links ended goes matches met left = absurd left
 
 -- ---- the law
 
@@ -137,6 +138,6 @@ both_there p typing nodes root links n node node_links ok at there =
     let found = beside (IsGoodNode p typing nodes) nodes links n node ok.each at in
     subst (λ (ls : List Link). IsGoodNode p typing nodes node ls) (some_is (sym found.there ∙ there)) found.alike
 
-pub hold_runs : MatchesCarryFitting → GraphsHoldRuns
-hold_runs matches p typing nodes root links closed keeps ok n node node_links at there machine meaning met =
-    from_node p typing nodes machine meaning node.state node.by node_links (keeps n node at) matches closed met (both_there p typing nodes root links n node node_links ok at there)
+pub hold_runs : EndsEnd → StepsFitChildren → MatchesCarryFitting → GraphsHoldRuns
+hold_runs ended goes matches p typing nodes root links closed widths ok n node node_links at there machine meaning met =
+    from_node p typing nodes machine meaning closed widths node.state node.by node_links ended goes matches met (both_there p typing nodes root links n node node_links ok at there)

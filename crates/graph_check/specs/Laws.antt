@@ -6,16 +6,15 @@ use Rattle.abs_cells.specs.AbstractStates.{AbstractState}
 use Rattle.abs_cells.specs.Fits.{Meaning, Fits}
 use Rattle.class_world.specs.WorldTypes.{types_of}
 use Rattle.class_program.specs.Programs.{Program, IsClosed}
+use Rattle.class_program.specs.Widths.{HasWidths}
 use Rattle.frame_types.specs.Tables.{CodeTypes}
 use Rattle.jvm_step.specs.Running.{step, IsEnd}
 use Rattle.term_graph.specs.declared.links.Link.{Link}
 use Rattle.term_graph.specs.declared.nodes.By.{By}
 use Rattle.term_graph.specs.declared.nodes.By.TheVariants.{Expand, Instance, End, Todo}
-use Rattle.term_graph.specs.Graphs.{GraphNode, GraphChild}
+use Rattle.term_graph.specs.Graphs.{GraphNode}
 use Rattle.term_graph.specs.Edges.{Edge, InstanceEdge}
-use Rattle.abs_expand.specs.Plans.{ends}
-use Rattle.abs_expand.specs.Expansions.{plan_of, AreExpanded}
-use Rattle.abs_expand.specs.Laws.{IsAfter, GoesToChild, IsMet}
+use Rattle.abs_expand.specs.Laws.{IsAfter, IsMet}
 use Rattle.graph_check.specs.Good.{GraphOk}
 
 -- the n-th of the named nodes is reached by the n-th link
@@ -51,19 +50,9 @@ pub record GoesOn (p : Program) (nodes : List GraphNode) (node : GraphNode) (lin
 abbrev pub EndsHere : Program → GraphNode → MachineState → Type 0
 EndsHere p node machine = (node.by ≡ End) × IsEnd (step p machine)
 
--- the expansion of a state is true of the machine: a typed state that fits ends with its next step where the plan says so, and else fits a
--- child, by an edge
-pub record KeepsPromise (p : Program) (typing : ℕ → CodeTypes) (state : AbstractState) : Type 0 where
-  pub ended : (machine : MachineState) (meaning : Meaning) → IsMet p typing state machine meaning → plan_of p typing state ≡ ends → IsEnd (step p machine)
-  pub goes : (machine : MachineState) (meaning : Meaning) (children : List GraphChild) → IsMet p typing state machine meaning → AreExpanded (types_of p.world) state (plan_of p typing state) children → GoesToChild p state machine meaning children
-
--- those of all nodes' states are
-abbrev pub ExpansionsHold : Program → (ℕ → CodeTypes) → List GraphNode → Type 0
-ExpansionsHold p typing nodes = (n : ℕ) (node : GraphNode) → slice_get nodes n ≡ Some node → KeepsPromise p typing node.state
-
 abbrev pub GraphsHoldRuns : Type 0
 GraphsHoldRuns =
-    (p : Program) (typing : ℕ → CodeTypes) (nodes : List GraphNode) (root : AbstractState) (links : List (List Link)) → IsClosed p → ExpansionsHold p typing nodes → GraphOk p typing nodes root links
+    (p : Program) (typing : ℕ → CodeTypes) (nodes : List GraphNode) (root : AbstractState) (links : List (List Link)) → IsClosed p → HasWidths p → GraphOk p typing nodes root links
     → (n : ℕ) (node : GraphNode) (node_links : List Link) → slice_get nodes n ≡ Some node → slice_get links n ≡ Some node_links
     → (machine : MachineState) (meaning : Meaning) → IsMet p typing node.state machine meaning
     → EndsHere p node machine ⊎ GoesOn p nodes node node_links machine meaning

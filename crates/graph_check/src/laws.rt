@@ -3,12 +3,15 @@ ghost use Rattle.graph_check.specs.Laws.{GraphsHoldRuns};
 ghost use Rattle.graph_check.specs.Exclusion.{GoodGraphsHaveNoFault};
 
 use abs_match::matches_carry_fitting;
+use step_laws::{ends_end, steps_fit_children};
 
 /// A typed state of the machine that fits a node of a good graph ends with its next step, or goes on to a node that this one names,
-/// by an edge, wherever the expansions of the nodes' states are true of the machine.
+/// by an edge.
 pub fn graphs_hold_runs()
     ensures { GraphsHoldRuns }
 {
+    ends_end();
+    steps_fit_children();
     matches_carry_fitting();
 }
 

@@ -34,7 +34,7 @@ use Rattle.abs_expand.specs.Needs.{may_be_null, need_null}
 use Rattle.abs_expand.specs.Plans.{makes, on_stack, Turn, Plan, steps, no_rows}
 use Rattle.abs_expand.specs.Table.{cell_here, is_null_cell, one_step, number_cell, Cast, checkcast_of, instanceof_of, bounded, with_bound, cell_bound, is_bound_below, may_be_below, is_known_cell, undecided, cast_plan, checkcast_plan, instanceof_plan}
 use Rattle.abs_expand.specs.Turns.{narrows, with_stack as stack_at}
-use Rattle.expand_laws.proofs.Cases.{SomeOf}
+use Rattle.turn_fits.proofs.SomeOf.{SomeOf}
 use Rattle.form_steps.proofs.Standing.{rests, Stands, here, onward, Work_, no_frame_effect, goes_next, raises_frame}
 use Rattle.form_steps.proofs.TurnKinds.{sound_at, Fitting, Meets, IsChange, throwing_turn}
 use Rattle.form_steps.proofs.Needs.{need_null_meets, comparable, array_reference}

@@ -38,7 +38,7 @@ use Rattle.term_graph.specs.Edges.{HoldsBetween}
 use Rattle.abs_expand.specs.Plans.{Turn, Plan, steps, no_rows}
 use Rattle.abs_expand.specs.Table.{cell_here, is_null_here, unless_null, step_if, one_step, field_id, getfield_plan, length_id, length_plan, athrow_plan, new_of_base, new_plan}
 use Rattle.abs_expand.specs.Turns.{goes_on, moves, emptied, throws}
-use Rattle.expand_laws.proofs.Cases.{SomeOf}
+use Rattle.turn_fits.proofs.SomeOf.{SomeOf}
 use Rattle.turn_fits.proofs.Tops.{stacked}
 use Rattle.form_steps.proofs.Standing.{rests, Stands, here, onward, Work_, held, raised, by_effect, no_frame_effect, no_heap_effect, goes_after, goes_next, raises_frame}
 use Rattle.form_steps.proofs.TurnKinds.{Fitting, Meets, throwing_turn, throws_turn, object_turn}

@@ -9,8 +9,7 @@ use Rattle.input_desc.specs.declared.desc.Desc.{Desc}
 use Rattle.input_desc.specs.Descs.{IsOwnDesc}
 use Rattle.input_steps.specs.declared.refused.Refused.{Refused}
 use Rattle.input_steps.specs.declared.refused.Refused.TheVariants.{At, Memory}
-use Rattle.abs_expand.specs.IntForms.{HasIntForms}
-use Rattle.cert_check.specs.Laws.{CertifiedIntRunsEnd}
+use Rattle.cert_check.specs.Laws.{CertifiedRunsEnd}
 use Rattle.desc_steps.specs.Answers.{AnswersAs}
 use Rattle.desc_steps.specs.Headline.{AllFittingEnd}
 use Rattle.desc_steps.specs.Names.{names_of}
@@ -55,11 +54,11 @@ module _ (nodes : ℕ) (p : Program) (typing : ℕ → CodeTypes) (desc : Desc) 
 
 -- where there is a certificate every fitting state ends
 certificate_ends : (p : Program) (typing : ℕ → CodeTypes) (desc : Desc) (names : List (List ℕ)) (cert : List ℕ)
-    → CertifiedIntRunsEnd → IsClosed p → HasWidths p → HasIntForms p → IsTypingOf p typing → IsOwnDesc p desc
+    → CertifiedRunsEnd → IsClosed p → HasWidths p → IsTypingOf p typing → IsOwnDesc p desc
     → IsCertificate (aim_at p typing desc) names cert → AllFittingEnd p desc
-certificate_ends p typing desc names cert law closed widths forms typing_is own is =
+certificate_ends p typing desc names cert law closed widths typing_is own is =
     let says = is.says in
-    law p typing desc says.nodes says.content.cuts closed widths typing_is own forms says.ints says.certified
+    law p typing desc says.nodes says.content.cuts closed widths typing_is own says.certified
 
 -- maybe isn't yes
 maybe_ends : (p : Program) (desc : Desc) (reason : Reason PackedPairs) (result : Result Answer Refused) → AnswersAs (maybe_with p reason) result → IsProved result → AllFittingEnd p desc
@@ -68,7 +67,7 @@ maybe_ends p desc reason (Err refused) s proved = absurd proved
 
 -- so yes is said only where every fitting state ends
 pub found_ends : (nodes : ℕ) (p : Program) (typing : ℕ → CodeTypes) (desc : Desc) (names : List (List ℕ)) (found : Found PackedPairs) (result : Result Answer Refused)
-    → CertifiedIntRunsEnd → IsClosed p → HasWidths p → HasIntForms p → IsTypingOf p typing → IsOwnDesc p desc
+    → CertifiedRunsEnd → IsClosed p → HasWidths p → IsTypingOf p typing → IsOwnDesc p desc
     → SearchesOr (aim_at p typing desc) names nodes (Ok found) → Tells p found result → IsProved result → AllFittingEnd p desc
-found_ends nodes p typing desc names (Certificate cert) result law closed widths forms typing_is own is s proved = certificate_ends p typing desc names cert law closed widths forms typing_is own is
-found_ends nodes p typing desc names (Maybe reason) result law closed widths forms typing_is own is s proved = maybe_ends p desc reason result s proved
+found_ends nodes p typing desc names (Certificate cert) result law closed widths typing_is own is s proved = certificate_ends p typing desc names cert law closed widths typing_is own is
+found_ends nodes p typing desc names (Maybe reason) result law closed widths typing_is own is s proved = maybe_ends p desc reason result s proved

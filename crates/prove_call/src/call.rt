@@ -14,7 +14,7 @@ ghost use Rattle.prove_call.specs.Answers.{SaysOf, Answers};
 ghost use Rattle.prove_call.specs.Headline.{IsProved, AllEndIfYes};
 
 use crate::answer::{Answer, told};
-use cert_check::certified_int_runs_end;
+use cert_check::certified_runs_end;
 use desc_steps::{DescribedProgram, class_names, described_program};
 use input_steps::Refused;
 use prove_core::{SearchFault, search};
@@ -30,7 +30,7 @@ fn prove_given(alloc: Global, given: &DescribedProgram<'_>, nodes: u32) -> Resul
     ensures ends { IsProved result → AllFittingEnd (program_of given.now.program) given.now.desc }
 {
     given.program.is_good();
-    certified_int_runs_end();
+    certified_runs_end();
     let names = class_names(alloc, &given.program.world)?;
     match search(
         alloc,

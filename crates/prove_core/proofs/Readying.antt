@@ -8,10 +8,9 @@ use Rattle.class_program.specs.Widths.{HasWidths}
 use Rattle.frame_types.specs.Tables.{CodeTypes}
 use Rattle.term_graph.specs.declared.links.Link.{Link}
 use Rattle.term_graph.specs.Graphs.{GraphNode}
-use Rattle.abs_expand.specs.IntForms.{HasIntForms}
 use Rattle.graph_check.specs.Conditions.{HasIntStates}
 use Rattle.graph_check.specs.Good.{GraphOk}
-use Rattle.int_links.specs.Laws.{IntLinksFit}
+use Rattle.plan_links.specs.Laws.{LinksFit}
 use Rattle.path_rules.specs.Conditions.{CutsRise, IsReady}
 use Rattle.path_rules.specs.Paths.{is_cut}
 use Rattle.cert_check.proofs.Preparing.{prepared}
@@ -42,9 +41,9 @@ first_is_0 (cut ∷ cuts) r h = elim (or_cases (cut == 0) (is_cut cuts 0) h) as 
   | inr more ↦ absurd (above_0 (suc cut) cuts (omega arith) r.1 more)
 ]
 
-pub ready : (fit : IntLinksFit) (p : Program) (typing : ℕ → CodeTypes) (nodes : List GraphNode) (root : AbstractState) (links : List (List Link)) (cuts : List ℕ) → HasIntForms p → HasWidths p → HasIntStates p typing nodes → GraphOk p typing nodes root links → AreTargets nodes cuts → IsReady nodes links cuts
-ready fit p typing nodes root links cuts forms widths states graph are =
-    let is = prepared fit p typing forms widths nodes root links states graph in
+pub ready : (fit : LinksFit) (p : Program) (typing : ℕ → CodeTypes) (nodes : List GraphNode) (root : AbstractState) (links : List (List Link)) (cuts : List ℕ) → HasWidths p → HasIntStates p typing nodes → GraphOk p typing nodes root links → AreTargets nodes cuts → IsReady nodes links cuts
+ready fit p typing nodes root links cuts widths states graph are =
+    let is = prepared fit p typing widths nodes root links states graph in
     let some : 0 < length nodes = slice_get_within nodes 0 graph.rooted.node graph.rooted.is in
     record {
       states = is.states;
@@ -55,9 +54,9 @@ ready fit p typing nodes root links cuts forms widths states graph are =
       cut_nodes = are.within;
     }
 
-pub plain : (law : GoodGraphRulesArePlain) (fit : IntLinksFit) (p : Program) (typing : ℕ → CodeTypes) (nodes : List GraphNode) (root : AbstractState) (links : List (List Link)) (cuts : List ℕ) (rules : List PathRule) → HasIntForms p → HasWidths p → HasIntStates p typing nodes → GraphOk p typing nodes root links → AreTargets nodes cuts → PathAnswers nodes links cuts (Ok rules) → AreRules rules → ArePlainRules rules
-plain law fit p typing nodes root links cuts rules forms widths states graph are answers limits =
-    law p typing nodes root links cuts rules graph (ready fit p typing nodes root links cuts forms widths states graph are) answers limits
+pub plain : (law : GoodGraphRulesArePlain) (fit : LinksFit) (p : Program) (typing : ℕ → CodeTypes) (nodes : List GraphNode) (root : AbstractState) (links : List (List Link)) (cuts : List ℕ) (rules : List PathRule) → HasWidths p → HasIntStates p typing nodes → GraphOk p typing nodes root links → AreTargets nodes cuts → PathAnswers nodes links cuts (Ok rules) → AreRules rules → ArePlainRules rules
+plain law fit p typing nodes root links cuts rules widths states graph are answers limits =
+    law p typing nodes root links cuts rules graph (ready fit p typing nodes root links cuts widths states graph are) answers limits
 
 pub whole : (p : Program) (typing : ℕ → CodeTypes) (root : AbstractState) (nodes : List GraphNode) (links : List (List Link)) (cuts : List ℕ) → IsGrownGraph (aim_of p typing root) nodes → GraphOk p typing nodes root links → AreTargets nodes cuts → IsWhole (aim_of p typing root) nodes links cuts
 whole p typing root nodes links cuts grown graph are = record { disciplined = grown.0; closed = grown.1; good = graph; targets = are }

@@ -37,9 +37,9 @@ use descent::PathRule;
 use graph_build::{BuildFault, Built, build};
 use graph_check::check_graph;
 use input_desc::{Desc, initial};
-use int_links::int_links_fit;
 use list_views::Seq;
 use path_rules::{PathFault, paths};
+use plan_links::links_fit;
 use std::alloc::Global;
 use term_graph::{Graph, Links};
 
@@ -109,7 +109,7 @@ fn of_links<P: Pairs>(
     requires good { GraphOk (program_of program.now) (typing_at typing.now) graph root.now links.now.nodes }
     ensures { (limit : ℕ) → length graph ≤ limit → SearchesOr (aim_of (program_of program.now) (typing_at typing.now) root.now) names.now limit result }
 {
-    int_links_fit();
+    links_fit();
     program.is_good();
     good_graph_rules_are_plain();
     let cuts = cuts_of(alloc, &graph)?;

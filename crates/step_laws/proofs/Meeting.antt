@@ -53,7 +53,7 @@ use Rattle.abs_expand.specs.Children.{IsTurnChild, IsLean}
 use Rattle.abs_expand.specs.Expansions.{plan_here, plan_in, plan_of, AreExpanded}
 use Rattle.abs_expand.specs.Laws.{IsAfter, GoesToChild, IsMet}
 use Rattle.abs_expand.proofs.ZipLists.{beside}
-use Rattle.expand_laws.proofs.Cases.{SomeOf}
+use Rattle.turn_fits.proofs.SomeOf.{SomeOf}
 use Rattle.turn_fits.specs.Laws.{DroppedKeepSized}
 use Rattle.turn_fits.proofs.Steps.{FitsChild, dropped_fits, dropped_sort, sized_there}
 use Rattle.turn_fits.proofs.Tops.{FitFrames, tops, from_tops}

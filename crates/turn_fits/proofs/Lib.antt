@@ -1,7 +1,10 @@
 pub mod Carry
 pub mod Fitted
 pub mod Formed
+pub mod Keys
+pub mod Results
 pub mod SameTerms
 pub mod Sized
+pub mod SomeOf
 pub mod Steps
 pub mod Tops

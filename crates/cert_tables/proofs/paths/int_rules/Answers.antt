@@ -20,4 +20,4 @@ rules_between-requires-clause-prepared c =
     let p = program_of c.args.program.now in
     let typing = typing_at c.args.typing.now in
     subst (λ (ns : List GraphNode). IsPrepared ns c.in-Ok.links.nodes) (sym c.in-Ok.ensures.same)
-    (prepared c.int_links_fit.ensures p typing c.requires.forms c.is_good.ensures.widths c.args.graph.now c.args.root.now c.in-Ok.links.nodes (all p typing c.args.graph.now c.requires.ints) (c.in-Ok.ensures.graph [] []))
+    (prepared c.links_fit.ensures p typing c.is_good.ensures.widths c.args.graph.now c.args.root.now c.in-Ok.links.nodes (all p typing c.args.graph.now c.requires.ints) (c.in-Ok.ensures.graph [] []))

@@ -22,4 +22,4 @@ returns-clause-ends c =
     let p = program_of c.args.program.now in
     let typing = typing_at c.args.typing.now in
     let certified = subst (λ (root : AbstractState). OnOk c.check_cert-checked.result (IsCertified p typing c.args.graph.now c.args.cuts.now root)) c.in_ok-root.ensures c.check_cert-checked.ensures.certified in
-    said_ends p typing c.args.desc.now c.args.graph.now c.args.cuts.now c.check_cert-checked.result c.said.result c.certified_int_runs_end.ensures c.is_good.ensures.closed c.is_good.ensures.widths c.requires.forms c.requires.typing c.requires.own c.requires.ints certified c.said.ensures
+    said_ends p typing c.args.desc.now c.args.graph.now c.args.cuts.now c.check_cert-checked.result c.said.result c.certified_runs_end.ensures c.is_good.ensures.closed c.is_good.ensures.widths c.requires.typing c.requires.own certified c.said.ensures

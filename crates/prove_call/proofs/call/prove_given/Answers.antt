@@ -18,4 +18,4 @@ pub returns-in-Ok-clause-ends : goal.returns-in-Ok-clause-ends
 returns-in-Ok-clause-ends c = λ proved.
     let p = program_of c.args.given.now.program in
     let ready = c.requires.ready in
-    found_ends c.args.nodes p (typing_at c.args.given.now.typing) c.args.given.now.desc c.in_ok-names.names c.in-Ok.found c.told.result c.certified_int_runs_end.ensures c.is_good.ensures.closed c.is_good.ensures.widths ready.forms ready.typing ready.own c.in-Ok.ensures c.told.ensures proved
+    found_ends c.args.nodes p (typing_at c.args.given.now.typing) c.args.given.now.desc c.in_ok-names.names c.in-Ok.found c.told.result c.certified_runs_end.ensures c.is_good.ensures.closed c.is_good.ensures.widths ready.typing ready.own c.in-Ok.ensures c.told.ensures proved

@@ -15,7 +15,7 @@ pub paths-requires-clause-ready : goal.paths-requires-clause-ready
 paths-requires-clause-ready g c =
     let cuts = c.as_slice.result.now in
     let targets = subst (λ (cs : List ℕ). AreTargets c.args.graph cs) (sym c.as_slice.ensures) c.in_ok-cuts.ensures in
-    ready c.int_links_fit.ensures (program_of c.args.program.now) (typing_at c.args.typing.now) c.args.graph c.args.root.now c.args.links.now.nodes cuts c.requires.forms c.is_good.ensures.widths c.requires.ints c.requires.good targets
+    ready c.links_fit.ensures (program_of c.args.program.now) (typing_at c.args.typing.now) c.args.graph c.args.root.now c.args.links.now.nodes cuts c.is_good.ensures.widths c.requires.ints c.requires.good targets
 
 pub of_rules-requires-clause-paths : goal.of_rules-requires-clause-paths
 of_rules-requires-clause-paths g c =
@@ -26,7 +26,7 @@ of_rules-requires-clause-plain g c =
     let cuts = c.as_slice.result.now in
     let targets = subst (λ (cs : List ℕ). AreTargets c.args.graph cs) (sym c.as_slice.ensures) c.in_ok-cuts.ensures in
     subst ArePlainRules (sym c.as_slice-rules.ensures)
-    (plain c.good_graph_rules_are_plain.ensures c.int_links_fit.ensures (program_of c.args.program.now) (typing_at c.args.typing.now) c.args.graph c.args.root.now c.args.links.now.nodes cuts c.in-Ok.rules c.requires.forms c.is_good.ensures.widths c.requires.ints c.requires.good targets c.in-Ok.ensures.answers c.in-Ok.ensures.fit)
+    (plain c.good_graph_rules_are_plain.ensures c.links_fit.ensures (program_of c.args.program.now) (typing_at c.args.typing.now) c.args.graph c.args.root.now c.args.links.now.nodes cuts c.in-Ok.rules c.is_good.ensures.widths c.requires.ints c.requires.good targets c.in-Ok.ensures.answers c.in-Ok.ensures.fit)
 
 pub returns-in-Ok : goal.returns-in-Ok
 returns-in-Ok g c = λ limit few. c.of_rules.ensures limit (subst (λ (nodes : List GraphNode). length nodes ≤ limit) (sym c.paths.ensures.same) few)

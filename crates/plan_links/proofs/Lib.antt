@@ -1,0 +1,9 @@
+pub mod Children
+pub mod FitTurns
+pub mod Forms
+pub mod Links
+pub mod Operands
+pub mod Plans
+pub mod Rows
+pub mod SmallRows
+pub mod Sorts

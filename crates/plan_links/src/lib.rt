@@ -1,0 +1,6 @@
+//! What the links of expansions are: such as the rules of paths take.
+#![tactic(auto)]
+
+mod laws;
+
+pub use laws::links_fit;
