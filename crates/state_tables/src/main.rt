@@ -1,4 +1,4 @@
-//! Answers the cases of the tables of abstract states: what ids reach, `widen`, the calls of the heap, `instance` and `find`, and `expand`.
+//! Answers the cases of the tables of abstract states: what ids reach, patterns, `widen`, the calls of the heap, `instance` and `find`, and `expand`.
 //! Each line of the input is the name of a table or a call with its arguments, a tab and the input fields of a case, divided by tabs. The
 //! answer to each comes on a line of its own. Each state is held with its pairs as a list and as bits, and both give one answer.
 #![tactic(auto)]
@@ -8,6 +8,7 @@ mod heap_calls;
 mod heap_words;
 mod ids;
 mod matching;
+mod patterns;
 mod reaching;
 mod widenings;
 
@@ -26,6 +27,7 @@ impl Answers for Cases {
             "expand" => expansions::answer(alloc, case),
             "widen" => answer_by_both::<widenings::Widenings>(alloc, case, 2),
             "instance" | "find" => answer_by_both::<matching::Matches>(alloc, case, 3),
+            "term" => answer_by_both::<patterns::Patterns>(alloc, case, 2),
             "known" | "meet" | "in" | "tree" | "finite" => {
                 answer_by_both::<reaching::Reaching>(alloc, case, 2)
             }

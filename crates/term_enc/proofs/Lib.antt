@@ -1,0 +1,12 @@
+pub mod Counted
+pub mod Levels
+pub mod Shallow
+pub mod Built
+pub mod Encoded
+pub mod OneTerm
+pub mod Fillings
+pub mod Unfolded
+pub mod Variables
+pub mod Summed
+pub mod Weighed
+pub mod Described

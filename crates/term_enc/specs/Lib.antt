@@ -1,0 +1,5 @@
+pub mod Encoding
+pub mod Filling
+pub mod Sizes
+pub mod Laws
+pub mod Counting
