@@ -4,3 +4,4 @@ mod Owning
 mod Places
 pub mod Plainly
 mod Turning
+mod Closing

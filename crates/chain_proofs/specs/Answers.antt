@@ -4,6 +4,7 @@ use Rattle.std.specs.List.{AllZip}
 use Rattle.descent.specs.declared.proof.ProofStep.{ProofStep}
 use Rattle.descent.specs.declared.rules.PathRule.{PathRule}
 use Rattle.descent.specs.Conditions.{AreSteps}
+use Rattle.descent.specs.Steps.{Closed}
 use Rattle.chain_proofs.specs.declared.proving.LeftRule.{LeftRule}
 use Rattle.chain_proofs.specs.declared.proving.Proved.{Proved}
 use Rattle.chain_proofs.specs.declared.proving.Proved.TheVariants.{Whole, Stuck}
@@ -18,10 +19,15 @@ pub record LeavesStuckBy (none : List PathRule → Type 0) (rules : List PathRul
   pub are_own : AllZip (IsLeftRule rules) left own
   pub stuck : AreStuck none own
 
--- a proof whose steps are within the limits of proofs, and which is still to be checked; or the steps so far, and rules that are stuck
+-- a proof whose steps are within the limits of proofs; or the steps so far, and rules that are stuck
 abbrev pub ProvesOrBy : (List PathRule → Type 0) → List PathRule → Proved → Type 0
 ProvesOrBy none rules (Whole proof) = AreSteps proof.steps
 ProvesOrBy none rules (Stuck proof left) = LeavesStuckBy none rules proof.steps left
+
+-- a proof whose steps are all there is closed
+abbrev pub IsClosed : List PathRule → Proved → Type 0
+IsClosed rules (Whole proof) = Closed rules proof
+IsClosed rules (Stuck proof left) = Unit {0}
 
 -- the same where neither a plain form nor a stepwise one ranks the rules that are left
 abbrev pub LeavesStuck : List PathRule → List ProofStep → List LeftRule → Type 0

@@ -1,10 +1,10 @@
 //! Proofs that no chain of rules is infinite, class by class.
-ghost use Rattle.std.specs.Prelude.{◌≡◌, Some, IfOk, IsTrue, slice_get};
+ghost use Rattle.std.specs.Prelude.{◌≡◌, ◌≤◌, Some, IfOk, IfSome, IsTrue, slice_get};
 ghost use Rattle.descent.specs.Components.{AreClasses};
 ghost use Rattle.descent.specs.Conditions.{AreRules};
 ghost use Rattle.rank_forms.specs.Graphs.{ArePlainRules};
 ghost use Rattle.descent.specs.Steps.{set_of, weak_ones, if_weak};
-ghost use Rattle.chain_proofs.specs.Answers.{ProvesOr, ProvesOrBy};
+ghost use Rattle.chain_proofs.specs.Answers.{ProvesOr, ProvesOrBy, IsClosed};
 ghost use Rattle.chain_proofs.specs.Sets.{Rises, AreOwn, AreJoined, Follows, IsAsked, TurnsOr};
 
 use crate::copying::{left_rules, own_rules};
@@ -38,7 +38,7 @@ pub(crate) enum Turn {
 /// What becomes of all rules.
 #[derive(Drop)]
 pub enum Proved {
-    /// A proof whose steps are all there, to be checked as a whole (`check_proof` of `descent`).
+    /// A proof whose steps are all there: it is closed.
     Whole(Proof),
     /// The steps so far, and the rules that they leave: these reach each other, and the search says that no form ranks them.
     Stuck(Proof, Seq<LeftRule>),
@@ -155,17 +155,19 @@ fn taken<F: Forms>(
 }
 
 /// How many steps a proof for so many rules has at most, with room to spare: each divides a set or takes a rule away.
-fn most_steps(rules: u32) -> Option<u32> {
+fn most_steps(rules: u32) -> Option<u32>
+    ensures { IfSome result (λ steps. 1 ≤ steps) }
+{
     rules.checked_mul(4)?.checked_add(4)
 }
 
-/// A proof that no chain of the rules is infinite, class by class, which isn't checked as a whole; or the steps up to rules that reach
-/// each other, of which the search for forms says that none ranks them.
+/// A closed proof that no chain of the rules is infinite, class by class; or the steps up to rules that reach each other, of which the search
+/// for forms says that none ranks them.
 ///
 /// # Errors
 ///
 /// Want of memory.
-#[tactic(auto, using(crate::proofs::Turning::proof_first, crate::proofs::Turning::unproved))]
+#[tactic(auto, using(crate::proofs::Turning::proof_first, crate::proofs::Turning::unproved, crate::proofs::Closing::closed))]
 pub fn prove_by<F: Forms>(
     alloc: Global,
     forms: &F,
@@ -173,7 +175,8 @@ pub fn prove_by<F: Forms>(
 ) -> Result<Proved, AllocError>
     requires rules { AreRules rules.now }
     requires asked { IsAsked F.asks rules.now }
-    ensures { IfOk result (ProvesOrBy F.none rules.now) }
+    ensures found { IfOk result (ProvesOrBy F.none rules.now) }
+    ensures closed { IfOk result (IsClosed rules.now) }
 {
     let Ok(count) = u32::try_from(rules.len()) else {
         return Err(AllocError);
@@ -181,9 +184,6 @@ pub fn prove_by<F: Forms>(
     let Some(below) = most_steps(count) else {
         return Err(AllocError);
     };
-    if below == 0 {
-        return Err(AllocError);
-    }
     let mut sets = Sets::first(alloc, count, below as usize)?;
     let mut steps = Seq::new(alloc);
     for number in 0..below {

@@ -2,23 +2,36 @@
 ghost use Rattle.std.specs.Prelude.{◌≡◌, ◌≤◌, ◌∷◌, [], true, Some, IfOk, IsTrue, slice_get};
 ghost use Rattle.descent.specs.Components.{AreClasses};
 ghost use Rattle.descent.specs.Conditions.{IsStep};
-ghost use Rattle.descent.specs.Steps.{give, given_first, set_of};
+ghost use Rattle.descent.specs.Steps.{give, given_first, is_free, set_of};
 ghost use Rattle.chain_proofs.specs.Unfinished.{HoldsAt};
+ghost use Rattle.chain_proofs.specs.Dealt.{is_dealt};
 ghost use Rattle.chain_proofs.specs.Sets.{Rises, AreAt, AreOwn, IsHanded, is_alone};
 
 use descent::{PathRule, ProofStep, given_first, set_of, within};
 use list_views::Seq;
 use std::alloc::{AllocError, Global};
 
-/// The sets that steps are given, by the steps' numbers, and the first step that has none yet.
+/// The sets that steps are given, by the steps' numbers, and the first step that has none yet: they are dealt out in the steps' order.
 #[derive(Drop)]
 pub(crate) struct Sets {
     pub(crate) given: Vec<Option<Seq<u32>>>,
     pub(crate) next: u32,
+    ghost dealt: { IsTrue (is_dealt given.items next) },
+}
+
+/// Whether a step is there and has no set yet.
+fn is_free(given: &[Option<Seq<u32>>], step: u32) -> bool
+    ensures { result ≡ is_free (slice_get given.now step) }
+{
+    match given.get(step as usize) {
+        Some(None) => true,
+        _ => false,
+    }
 }
 
 impl Sets {
     /// Step 0 has all rules, and the others, below a number, have no set yet.
+    #[tactic(auto, using(crate::proofs::Closing::dealt_first))]
     pub(crate) fn first(alloc: Global, rules: u32, below: usize) -> Result<Sets, AllocError>
         requires { 1 ≤ below }
         ensures { IfOk result (λ sets. sets.given.items ≡ given_first rules below) }
@@ -37,6 +50,7 @@ impl Sets {
     }
 
     /// Gives a set to the next step that has none, and says which it is. Where no step is left it is answered as want of memory.
+    #[tactic(auto, using(crate::proofs::Closing::dealt_more))]
     pub(crate) fn hand(&mut self, number: u32, set: Seq<u32>) -> Result<u32, AllocError>
         ensures { IfOk result (λ step. give number ((step, set) ∷ []) self.old.given.items ≡ Some self.new.given.items) }
     {
@@ -44,9 +58,8 @@ impl Sets {
         if step <= number || step == u32::MAX {
             return Err(AllocError);
         }
-        match self.given.get(step as usize) {
-            Some(None) => {}
-            _ => return Err(AllocError),
+        if !is_free(&self.given, step) {
+            return Err(AllocError);
         }
         self.given[step as usize] = Some(set);
         self.next = step + 1;

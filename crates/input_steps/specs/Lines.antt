@@ -3,13 +3,14 @@ use Rattle.std.specs.Prelude.{ℕ, List, [], ◌∷◌, ◌++◌, codes}
 use Rattle.std.specs.Fmt.{decimal}
 use Rattle.list_views.specs.FaultWords.{joined}
 use Rattle.asm_lines.specs.Faults.{fault_text as listing_fault_text}
+use Rattle.its_front.specs.Faults.{fault_text as its_fault_text}
 use Rattle.class_read.specs.Faults.{fault_text as class_fault_text}
 use Rattle.class_world.specs.Faults.{method_pieces, fault_text as link_fault_text}
 use Rattle.class_world.specs.declared.fault.MethodName.{MethodName}
 use Rattle.input_text.specs.Faults.{fault_text as desc_fault_text}
 use Rattle.call_graph.specs.Faults.{fault_text as call_fault_text}
 use Rattle.input_steps.specs.declared.refused.Place.{Place}
-use Rattle.input_steps.specs.declared.refused.Place.TheVariants.{Class, Listing, Description, State, Link, Recursion, Verify}
+use Rattle.input_steps.specs.declared.refused.Place.TheVariants.{Class, Listing, Its, Description, State, Link, Recursion, Verify}
 use Rattle.input_steps.specs.declared.refused.Fault.{Fault}
 use Rattle.input_steps.specs.declared.refused.Fault.TheVariants as faults
 
@@ -17,6 +18,7 @@ use Rattle.input_steps.specs.declared.refused.Fault.TheVariants as faults
 abbrev pub place_text : Place → List ℕ
 place_text (Class number) = codes "class " ++ decimal number
 place_text Listing = codes "listing"
+place_text Its = codes "its"
 place_text Description = codes "description"
 place_text State = codes "state"
 place_text Link = codes "link"
@@ -31,6 +33,7 @@ untyped_text method = joined (codes "NoTyping method=" ∷ method_pieces method.
 abbrev pub fault_text : Fault → List ℕ
 fault_text (faults.Class fault) = class_fault_text fault
 fault_text (faults.Listing fault) = listing_fault_text fault
+fault_text (faults.Its fault) = its_fault_text fault
 fault_text (faults.Desc fault) = desc_fault_text fault
 fault_text (faults.Link fault) = link_fault_text fault
 fault_text (faults.Call fault) = call_fault_text fault

@@ -36,6 +36,7 @@ impl Fault {
         match self {
             Fault::Class(fault) => fault.text(alloc),
             Fault::Listing(fault) => fault.text(alloc),
+            Fault::Its(fault) => fault.text(alloc),
             Fault::Desc(fault) => fault.text(alloc),
             Fault::Link(fault) => fault.text(alloc),
             Fault::Call(fault) => fault.text(alloc),
@@ -51,6 +52,7 @@ fn place_text(alloc: Global, place: Place) -> Result<String, AllocError>
     match place {
         Place::Class(number) => format!(in alloc; "class {number}"),
         Place::Listing => String::from_str(alloc, "listing"),
+        Place::Its => String::from_str(alloc, "its"),
         Place::Description => String::from_str(alloc, "description"),
         Place::State => String::from_str(alloc, "state"),
         Place::Link => String::from_str(alloc, "link"),

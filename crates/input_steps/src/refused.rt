@@ -8,6 +8,7 @@ use call_graph::CallFault;
 use class_read::ClassFault;
 use class_world::{LinkFault, MethodName};
 use input_text::DescFault;
+use its_front::ItsFault;
 use std::alloc::{AllocError, AllocFailed};
 
 /// Why there is no answer.
@@ -31,6 +32,8 @@ pub enum Place {
     Class(u32),
     /// The listing.
     Listing,
+    /// The text of integer transition rules.
+    Its,
     /// The description.
     Description,
     /// The state.
@@ -50,6 +53,8 @@ pub enum Fault {
     Class(ClassFault),
     /// The first rule that a listing breaks.
     Listing(AsmFault),
+    /// The first rule that a text of integer transition rules breaks.
+    Its(ItsFault),
     /// The first rule that a description or a state breaks.
     Desc(DescFault),
     /// The first rule that the classes break as a world, or the entry's program.

@@ -7,14 +7,15 @@ use Rattle.input_steps.specs.declared.refused.Place.{Place}
 use Rattle.input_steps.specs.declared.refused.Fault.{Fault}
 use Rattle.input_steps.specs.declared.refused.Refused.TheVariants.{At}
 use Rattle.jterm.specs.declared.inputs.Failure.TheVariants.{Broken}
-use Rattle.jterm.specs.declared.verdict.Request.TheVariants.{Prove, Check, Run, Asm}
+use Rattle.jterm.specs.declared.verdict.Request.TheVariants.{Prove, Check, Run, Asm, Its}
 use Rattle.jterm.specs.Decision.{Takes, IsAnswer}
 use Rattle.jterm.specs.Outside.{AreContents}
 use Rattle.jterm.specs.Words.{Limits, IsCommand}
-use Rattle.jterm.specs.Failure.{AreOfCommand, IsTrueProof, IsTrueCheck, IsAnswered, HasCause}
+use Rattle.jterm.specs.Failure.{AreOfCommand, IsTrueProof, IsTrueCheck, IsTrueSystem, IsAnswered, HasCause}
 use Rattle.jterm.proofs.ReadingOrder.{contents_length}
 use Rattle.jterm.proofs.Checking.{judged_low}
 use Rattle.jterm.proofs.Proving.{proved_low}
+use Rattle.jterm.proofs.Ruling.{ruled_low}
 
 -- a limit on nodes is in its range
 nodes_low : (options : List (List ℕ)) (nodes : ℕ) → Limits options nodes → (1 ≤ nodes) × (nodes ≤ 20000)
@@ -41,7 +42,10 @@ takes_as_many words request names given many (inr (inr (inl row))) =
     let some = row.is_run.files.some in
     let few = row.is_run.files.few in
     subst (λ (r : Request). Takes r given) (sym row.asked) (row.is_run.is_fuel.few, omega arith, omega arith)
-takes_as_many words request names given many (inr (inr (inr row))) =
+takes_as_many words request names given many (inr (inr (inr (inl row)))) =
+    let one : length names ≡ 1 = ap length row.named in
+    subst (λ (r : Request). Takes r given) (sym row.asked) (many ∙ one)
+takes_as_many words request names given many (inr (inr (inr (inr row)))) =
     let one : length names ≡ 1 = ap length row.named in
     subst (λ (r : Request). Takes r given) (sym row.asked) (many ∙ one)
 
@@ -61,10 +65,13 @@ status_low (Run fuel) (state ∷ classes) verdict answer = let none = answer.0 i
 status_low Asm [] verdict answer = absurd answer
 status_low Asm (listing ∷ []) verdict answer = let none = answer.0 in omega (arith, none)
 status_low Asm (listing ∷ more ∷ files) verdict answer = absurd answer
+status_low Its [] verdict answer = absurd answer
+status_low Its (text ∷ []) verdict answer = let low = ruled_low text verdict answer in omega (arith, low)
+status_low Its (text ∷ more ∷ files) verdict answer = absurd answer
 
 pub is_answered : (limits : ℕ → ℕ) (request : Request) (names : List (List ℕ)) (held : List ℕ → Told) (contents given : List (List ℕ)) (verdict : Verdict) → given ≡ contents
-    → AreContents limits held names contents → IsAnswer request given (Ok verdict) → IsTrueProof request given verdict → IsTrueCheck request given verdict → IsAnswered limits request names held verdict
-is_answered limits request names held contents given verdict same are answer true_proof true_check =
+    → AreContents limits held names contents → IsAnswer request given (Ok verdict) → IsTrueProof request given verdict → IsTrueCheck request given verdict → IsTrueSystem request given verdict → IsAnswered limits request names held verdict
+is_answered limits request names held contents given verdict same are answer true_proof true_check true_its =
     record {
       contents = given;
       read = subst (AreContents limits held names) (sym same) are;
@@ -72,6 +79,7 @@ is_answered limits request names held contents given verdict same are answer tru
       low = status_low request given verdict answer;
       true_proof = true_proof;
       true_check = true_check;
+      true_its = true_its;
     }
 
 pub is_broken : {F : Type 0} (held : F → List ℕ → Told) (faults : F → ℕ) (leaves : F → List ℕ → F → Type 0) (limits : ℕ → ℕ) (request : Request) (names : List (List ℕ)) (old new : F) (contents given : List (List ℕ)) (place : Place) (fault : Fault) → given ≡ contents

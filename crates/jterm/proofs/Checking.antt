@@ -46,7 +46,7 @@ module _ (cert desc : List ℕ) (files : List (List ℕ)) (verdict : Verdict) (a
   own = record { status = verdict.status; out = verdict.out }
 
   judged : IsOutcome own
-  judged = is_outcome cert desc files own answer.1
+  judged = is_outcome cert desc files own answer.2
 
   -- its status is at most 2
   pub judged_low : verdict.status ≤ 2
@@ -81,21 +81,21 @@ module _ (cert desc : List ℕ) (files : List (List ℕ)) (verdict : Verdict) (a
     | inr h ↦
         let status : verdict.status ≡ 2 = two in
         let out : verdict.out ≡ lines.refused_line h.0 h.1.0 = ap (λ (o : Outcome). o.out) h.1.1 in
-        (h.0, (h.1.0, λ i. record { status = status i; out = out i; reason = answer.0 i }))
+        (h.0, (h.1.0, λ i. record { status = status i; out = out i; reason = answer.0 i; its = answer.1 i }))
   ]
 
 -- ---- decisions
 
 -- an outcome of which something holds is a verdict of which it does
 pub judged_with : (P : Result Outcome Refused → Type 0) (checked : Result Outcome Refused) (result : Result Verdict Refused) → result ≡ verdict_of checked → P checked → Judged P result
-judged_with P (Ok outcome) result e h = subst (Judged P) (sym e) (refl, h)
+judged_with P (Ok outcome) result e h = subst (Judged P) (sym e) (refl, refl, h)
 judged_with P (Err refused) result e h = subst (Judged P) (sym e) h
 
 -- what `ACCEPTED` says
 pub accepted_true : (cert desc : List ℕ) (files : List (List ℕ)) (checked : Result Outcome Refused) (result : Result Verdict Refused) → result ≡ verdict_of checked → check.Answers cert desc files checked → AllEndIfAccepted files desc checked
     → IfOk result (λ verdict. Says lines.accepted_line verdict → AllEnd files desc)
 accepted_true cert desc files (Ok outcome) result e a ends =
-    let verdict : Verdict = record { status = outcome.status; out = outcome.out; reason = None } in
-    subst (λ (r : Result Verdict Refused). IfOk r (λ v. Says lines.accepted_line v → AllEnd files desc)) (sym e) (λ says. ends (judged_accepts cert desc files verdict (refl, a) says))
+    let verdict : Verdict = record { status = outcome.status; out = outcome.out; reason = None; its = None } in
+    subst (λ (r : Result Verdict Refused). IfOk r (λ v. Says lines.accepted_line v → AllEnd files desc)) (sym e) (λ says. ends (judged_accepts cert desc files verdict (refl, refl, a) says))
 accepted_true cert desc files (Err refused) result e a ends =
     subst (λ (r : Result Verdict Refused). IfOk r (λ v. Says lines.accepted_line v → AllEnd files desc)) (sym e) tt

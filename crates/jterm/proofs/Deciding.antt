@@ -7,15 +7,17 @@ use Rattle.prove_call.specs.declared.answer.Answer.{Answer}
 use Rattle.prove_call.specs.Headline.{AllEndIfYes}
 use Rattle.prove_call.specs.Lines.{yes_line}
 use Rattle.desc_steps.specs.Headline.{AllEnd}
+use Rattle.its_call.specs.Answers.{IsEnding}
+use Rattle.its_call.specs.Lines as its
 use Rattle.run_call.specs.Answers as run
 use Rattle.check_call.specs.declared.outcome.Outcome.{Outcome}
 use Rattle.check_call.specs.Answers as check
 use Rattle.check_call.specs.Headline.{AllEndIfAccepted}
 use Rattle.check_call.specs.Lines.{accepted_line}
 use Rattle.jterm.specs.declared.verdict.Request.{Request}
-use Rattle.jterm.specs.declared.verdict.Request.TheVariants.{Prove, Check, Run, Asm}
+use Rattle.jterm.specs.declared.verdict.Request.TheVariants.{Prove, Check, Run, Asm, Its}
 use Rattle.jterm.specs.declared.verdict.Verdict.{Verdict}
-use Rattle.jterm.specs.Decision.{Takes, Says, Proved, done_of, DoneWith, verdict_of, IsAnswer}
+use Rattle.jterm.specs.Decision.{Takes, Says, Ruled, Proved, done_of, DoneWith, verdict_of, IsAnswer}
 use Rattle.jterm.proofs.Proving.{verdict_of_prove, proved_true}
 use Rattle.jterm.proofs.Checking.{judged_with, accepted_true}
 
@@ -23,12 +25,12 @@ use Rattle.jterm.proofs.Checking.{judged_with, accepted_true}
 
 -- an output of which something holds is that of a verdict of which it does
 pub done_with : (P : Result (List ℕ) Refused → Type 0) (out : Result (List ℕ) Refused) (result : Result Verdict Refused) → result ≡ done_of out → P out → DoneWith P result
-done_with P (Ok out) result e h = subst (DoneWith P) (sym e) (refl, refl, h)
+done_with P (Ok out) result e h = subst (DoneWith P) (sym e) (refl, refl, refl, h)
 done_with P (Err refused) result e h = subst (DoneWith P) (sym e) h
 
 -- an answer of which something holds is that of a verdict of which it does
 pub proved_with : (P : Result Answer Refused → Type 0) (answer : Result Answer Refused) (result : Result Verdict Refused) → result ≡ verdict_of_prove answer → P answer → Proved P result
-proved_with P (Ok answer) result e h = subst (Proved P) (sym e) h
+proved_with P (Ok answer) result e h = subst (Proved P) (sym e) (refl, h)
 proved_with P (Err refused) result e h = subst (Proved P) (sym e) h
 
 -- ---- inputs
@@ -39,6 +41,7 @@ some_inputs (Prove nodes) given t = let some = t.2 in omega (arith, some)
 some_inputs Check given t = let some = t.0 in omega (arith, some)
 some_inputs (Run fuel) given t = let some = t.1 in omega (arith, some)
 some_inputs Asm given t = omega (arith, t)
+some_inputs Its given t = omega (arith, t)
 
 -- the first input and the others, as they are handed on
 pub inputs_are : {A : Type 0} (f : A → List ℕ) (inputs : List A) (one : A) (first : List ℕ) → 1 ≤ length (map f inputs) → one ≡ get_or inputs 0 one → first ≡ f one
@@ -106,3 +109,25 @@ accepted_at given first second others cert desc classes out result e f d a ends 
     let here = accepted_true first second others out result d a ends in
     subst (λ (xs : List (List ℕ)). IfOk result (λ verdict. Says accepted_line verdict → AllEnd xs desc)) rest
     (subst (λ (x : List ℕ). IfOk result (λ verdict. Says accepted_line verdict → AllEnd others x)) two here)
+
+-- ---- rules
+
+-- a single input is all of them
+pub one_input : {A : Type 0} (f : A → List ℕ) (inputs : List A) (request : Request) (one : A) (first : List ℕ) → request ≡ Its → Takes request (map f inputs) → one ≡ get_or inputs 0 one → first ≡ f one → map f inputs ≡ first ∷ []
+one_input {A} f inputs request one first asked t at is = by inputs (subst (λ (r : Request). Takes r (map f inputs)) asked t) at
+  where
+    by : (xs : List A) → length (map f xs) ≡ 1 → one ≡ get_or xs 0 one → map f xs ≡ first ∷ []
+    by [] e at = absurd (omega (arith, e))
+    by (x ∷ []) e at = ap (λ (w : List ℕ). w ∷ []) (sym (is ∙ ap f at))
+    by (x ∷ y ∷ xs) e at = absurd (omega (arith, e))
+
+pub its_answer : (request : Request) (given : List (List ℕ)) (text : List ℕ) (result : Result Verdict Refused) → request ≡ Its → given ≡ text ∷ [] → Ruled text result → IsAnswer request given result
+its_answer request given text result asked e a =
+    let here : IsAnswer Its given result = subst (λ (fs : List (List ℕ)). IsAnswer Its fs result) (sym e) a in
+    subst (λ (r : Request). IsAnswer r given result) (sym asked) here
+
+pub ended_at : (given : List (List ℕ)) (first text : List ℕ) (result : Result Verdict Refused) → given ≡ first ∷ [] → given ≡ text ∷ [] → IfOk result (λ verdict. Says its.yes_line verdict → IsEnding first) → IfOk result (λ verdict. Says its.yes_line verdict → IsEnding text)
+ended_at given first text result e f h =
+    let same : (first ∷ []) ≡ (text ∷ []) = sym e ∙ f in
+    let one : first ≡ text = cc in
+    subst (λ (x : List ℕ). IfOk result (λ verdict. Says its.yes_line verdict → IsEnding x)) one h

@@ -11,27 +11,31 @@ use Rattle.io_ports.specs.declared.files.FileFault.TheVariants.{Failed, TooLong,
 use Rattle.jterm.specs.declared.inputs.Failure.{Failure}
 use Rattle.jterm.specs.declared.inputs.Failure.TheVariants.{Unread, Broken, NoMemory}
 use Rattle.jterm.specs.declared.verdict.Request.{Request}
-use Rattle.jterm.specs.declared.verdict.Request.TheVariants.{Prove, Check, Run, Asm}
+use Rattle.jterm.specs.declared.verdict.Request.TheVariants.{Prove, Check, Run, Asm, Its}
 use Rattle.jterm.specs.declared.verdict.Verdict.{Verdict}
 use Rattle.input_steps.specs.declared.refused.Place.{Place}
 use Rattle.input_steps.specs.declared.refused.Fault.{Fault}
 use Rattle.input_steps.specs.declared.refused.Refused.{Refused}
 use Rattle.input_steps.specs.declared.refused.Refused.TheVariants as answers
 use Rattle.input_steps.specs.declared.refused.Refused.TheVariants.{At}
-use Rattle.jterm.specs.Words.{IsProve, IsCheck, IsCommand}
+use Rattle.jterm.specs.Words.{IsProve, IsCheck, IsIts, IsCommand}
 use Rattle.input_steps.specs.Lines.{refusal_line}
 use Rattle.jterm.specs.Lines.{memory_line, read_line}
 use Rattle.abs_cells.specs.declared.packed.PackedPairs.{PackedPairs}
 use Rattle.prove_core.specs.declared.found.Reason.{Reason}
 use Rattle.prove_call.specs.Lines.{yes_line, yes_text}
 use Rattle.check_call.specs.Lines.{accepted_line, refused_line}
-use Rattle.jterm.specs.Decision.{Says, not_proved_for, accepted, refused_at, IsAnswer, IsUnrefused}
-use Rattle.jterm.specs.Laws.{AreAlike}
+use Rattle.jterm.specs.Decision.{Says, not_proved_for, left_for, accepted, refused_at, IsAnswer, IsUnrefused}
+use Rattle.jterm.specs.Laws.{AreAlike, HasReason}
 use Rattle.desc_steps.specs.Headline.{AllEnd}
+use Rattle.its_call.specs.Answers.{IsEnding}
+use Rattle.its_call.specs.Lines as its
+use Rattle.its_search.specs.declared.searching.ItsFound.{ItsFound}
 use Rattle.jterm.specs.Outside.{AreTold, AreContents, AreWithin, AreHanded, IsUnread, ReadFails, Decided, Claims, IsWritten, file_limits, behind}
 use Rattle.jterm.specs.Failure.{IsAnswered, HasCause, HasLine, status_of, line_of}
 use Rattle.jterm.proofs.OneAnswer.{answers_one}
 use Rattle.jterm.proofs.Checking.{judged_refused, judged_not_one}
+use Rattle.jterm.proofs.Ruling.{ruled_low, ruled_left, ruled_reason}
 use Rattle.jterm.proofs.Proving.{proved_low, unproved, reason_kept, certifies}
 use Rattle.jterm.proofs.WordsLemmas.{commands_one}
 
@@ -176,7 +180,7 @@ certificate faults taken old new words request names held verdict status d cs de
     let answer : IsAnswer (Prove prove.nodes) (desc ∷ classes) (Ok verdict) =
     told_answer words held request (Prove prove.nodes) names (d ∷ cs) answered.contents (desc ∷ classes) (Ok verdict) command there answered.read tells answered.answer in
     let is = certifies prove.nodes desc classes verdict answer (sym put.0 ∙ none) in
-    (is.cert, is.short, (refl, is.accepted), subst (λ (out : List ℕ). Appends (taken old) (taken new) out) is.out_is put.1)
+    (is.cert, is.short, (refl, refl, is.accepted), subst (λ (out : List ℕ). Appends (taken old) (taken new) out) is.out_is put.1)
 certificate faults taken old new words request names held verdict status d cs desc classes command answered (inr failed) prove tells none = absurd (omega (arith, failed.0, none))
 
 -- what ACCEPTED says of the contents of a `check`
@@ -188,6 +192,19 @@ headline_of_check faults taken old new words request names held verdict status c
     let one = commands_one words request Check names (c ∷ d ∷ cs) command there in
     let same = told_same words held request Check names (c ∷ d ∷ cs) answered.contents (cert ∷ desc ∷ classes) command there answered.read tells in
     answered.true_check cert desc classes one.0 same (claimed_says accepted_line faults taken old new verdict status written claims)
+
+its_is_command : (words : List (List ℕ)) (r : List ℕ) → IsIts words r → IsCommand words Its (r ∷ [])
+its_is_command words r is = inr (inr (inr (inr (record { rules = r; is_its = is; asked = refl; named = refl }))))
+
+-- what YES says of a text of rules
+pub headline_of_its : {S : Type 0} (faults : S → ℕ) (taken : S → Option (List ℕ)) (old new : S) (words : List (List ℕ)) (request : Request) (names : List (List ℕ)) (held : List ℕ → Told) (verdict : Verdict) (status : ℕ) (r text : List ℕ)
+    → IsCommand words request names → IsAnswered (file_limits request) request names held verdict → IsWritten faults taken old new verdict status → IsIts words r → AreTold held (r ∷ []) (text ∷ [])
+    → Claims its.yes_line taken old new status → IsEnding text
+headline_of_its faults taken old new words request names held verdict status r text command answered written is tells claims =
+    let there = its_is_command words r is in
+    let one = commands_one words request Its names (r ∷ []) command there in
+    let same = told_same words held request Its names (r ∷ []) answered.contents (text ∷ []) command there answered.read tells in
+    answered.true_its text one.0 same (claimed_says its.yes_line faults taken old new verdict status written claims)
 
 -- ---- completeness
 
@@ -336,6 +353,9 @@ refused_verdict (Run fuel) (state ∷ classes) verdict answer two = let none = a
 refused_verdict Asm [] verdict answer two = absurd answer
 refused_verdict Asm (listing ∷ []) verdict answer two = let none = answer.0 in absurd (omega (arith, none, two))
 refused_verdict Asm (listing ∷ more ∷ files) verdict answer two = absurd answer
+refused_verdict Its [] verdict answer two = absurd answer
+refused_verdict Its (text ∷ []) verdict answer two = let low = ruled_low text verdict answer in absurd (omega (arith, low, two))
+refused_verdict Its (text ∷ more ∷ files) verdict answer two = absurd answer
 
 -- status 2 comes where the certificate is refused
 pub not_accepted : {S : Type 0} (faults : S → ℕ) (taken : S → Option (List ℕ)) (old new : S) (words : List (List ℕ)) (request : Request) (names : List (List ℕ)) (held : List ℕ → Told) (verdict : Verdict) (status : ℕ)
@@ -351,10 +371,13 @@ not_accepted faults taken old new words request names held verdict status comman
     )
 not_accepted faults taken old new words request names held verdict status command answered (inr failed) two = absurd (omega (arith, failed.0, two))
 
--- a verdict of status 1 is that no certificate is given, for a reason
-unproved_verdict : (request : Request) (files : List (List ℕ)) (verdict : Verdict) → IsAnswer request files (Ok verdict) → verdict.status ≡ 1 → (reason : Reason PackedPairs) × ((text : List ℕ) × (verdict ≡ not_proved_for reason text))
+-- a verdict of status 1 is that no certificate is given, for a reason; or that rules are left
+abbrev IsMaybe : Verdict → Type 0
+IsMaybe verdict = ((reason : Reason PackedPairs) × ((text : List ℕ) × (verdict ≡ not_proved_for reason text))) ⊎ ((left : ItsFound) × ((text : List ℕ) × (verdict ≡ left_for left text)))
+
+unproved_verdict : (request : Request) (files : List (List ℕ)) (verdict : Verdict) → IsAnswer request files (Ok verdict) → verdict.status ≡ 1 → IsMaybe verdict
 unproved_verdict (Prove nodes) [] verdict answer one = absurd answer
-unproved_verdict (Prove nodes) (desc ∷ classes) verdict answer one = unproved nodes desc classes verdict answer one
+unproved_verdict (Prove nodes) (desc ∷ classes) verdict answer one = inl (unproved nodes desc classes verdict answer one)
 unproved_verdict Check [] verdict answer one = absurd answer
 unproved_verdict Check (cert ∷ []) verdict answer one = absurd answer
 unproved_verdict Check (cert ∷ desc ∷ classes) verdict answer one = absurd (judged_not_one cert desc classes verdict answer one)
@@ -363,37 +386,66 @@ unproved_verdict (Run fuel) (state ∷ classes) verdict answer one = let none = 
 unproved_verdict Asm [] verdict answer one = absurd answer
 unproved_verdict Asm (listing ∷ []) verdict answer one = let none = answer.0 in absurd (omega (arith, none, one))
 unproved_verdict Asm (listing ∷ more ∷ files) verdict answer one = absurd answer
+unproved_verdict Its [] verdict answer one = absurd answer
+unproved_verdict Its (text ∷ []) verdict answer one = inr (ruled_left text verdict answer one)
+unproved_verdict Its (text ∷ more ∷ files) verdict answer one = absurd answer
 
--- status 1 comes where no certificate is given
-pub not_proved : {S : Type 0} (faults : S → ℕ) (taken : S → Option (List ℕ)) (old new : S) (words : List (List ℕ)) (request : Request) (names : List (List ℕ)) (held : List ℕ → Told) (verdict : Verdict) (told : Option Verdict) (status : ℕ)
-    → IsCommand words request names → IsAnswered (file_limits request) request names held verdict → told ≡ Some verdict → IsWritten faults taken old new verdict status
-    → status ≡ 1 → (reason : Reason PackedPairs) × (text : List ℕ) × (told ≡ Some (not_proved_for reason text)) × Decided words held (Ok (not_proved_for reason text)) × Appends (taken old) (taken new) text
-not_proved faults taken old new words request names held verdict told status command answered tells (inl put) one =
-    let is = unproved_verdict request answered.contents verdict answered.answer (sym put.0 ∙ one) in
-    let same : verdict ≡ not_proved_for is.0 is.1.0 = is.1.1 in
-    let answer : IsAnswer request answered.contents (Ok (not_proved_for is.0 is.1.0)) = subst (λ (v : Verdict). IsAnswer request answered.contents (Ok v)) same answered.answer in (
-      is.0,
-      is.1.0,
+-- a verdict that is this one is told, decided and written
+abbrev IsTold : {S : Type 0} (taken : S → Option (List ℕ)) (old new : S) (words : List (List ℕ)) (held : List ℕ → Told) (told : Option Verdict) → (List ℕ → Verdict) → List ℕ → Type 0
+IsTold taken old new words held told verdict_for text = (told ≡ Some (verdict_for text)) × Decided words held (Ok (verdict_for text)) × Appends (taken old) (taken new) text
+
+told_so : {S : Type 0} (taken : S → Option (List ℕ)) (old new : S) (words : List (List ℕ)) (request : Request) (names : List (List ℕ)) (held : List ℕ → Told) (verdict : Verdict) (told : Option Verdict) (verdict_for : List ℕ → Verdict) (text : List ℕ)
+    → IsCommand words request names → IsAnswered (file_limits request) request names held verdict → told ≡ Some verdict → Appends (taken old) (taken new) verdict.out → verdict ≡ verdict_for text → (verdict_for text).out ≡ text
+    → IsTold taken old new words held told verdict_for text
+told_so taken old new words request names held verdict told verdict_for text command answered tells put same out =
+    let answer : IsAnswer request answered.contents (Ok (verdict_for text)) = subst (λ (v : Verdict). IsAnswer request answered.contents (Ok v)) same answered.answer in (
       tells ∙ ap (λ (v : Verdict). Some v) same,
       record { request = request; names = names; is_command = command; contents = answered.contents; read = answered.read; answer = answer },
-      subst (λ (v : Verdict). Appends (taken old) (taken new) v.out) same put.1,
+      subst (λ (line : List ℕ). Appends (taken old) (taken new) line) (ap (λ (v : Verdict). v.out) same ∙ out) put,
     )
+
+-- status 1 comes where no certificate is given, or no proof
+pub not_proved : {S : Type 0} (faults : S → ℕ) (taken : S → Option (List ℕ)) (old new : S) (words : List (List ℕ)) (request : Request) (names : List (List ℕ)) (held : List ℕ → Told) (verdict : Verdict) (told : Option Verdict) (status : ℕ)
+    → IsCommand words request names → IsAnswered (file_limits request) request names held verdict → told ≡ Some verdict → IsWritten faults taken old new verdict status
+    → status ≡ 1 → ((reason : Reason PackedPairs) × (text : List ℕ) × (told ≡ Some (not_proved_for reason text)) × Decided words held (Ok (not_proved_for reason text)) × Appends (taken old) (taken new) text)
+    ⊎ ((left : ItsFound) × (text : List ℕ) × (told ≡ Some (left_for left text)) × Decided words held (Ok (left_for left text)) × Appends (taken old) (taken new) text)
+not_proved faults taken old new words request names held verdict told status command answered tells (inl put) one = by (unproved_verdict request answered.contents verdict answered.answer (sym put.0 ∙ one))
+  where
+    by : IsMaybe verdict → ((reason : Reason PackedPairs) × (text : List ℕ) × (told ≡ Some (not_proved_for reason text)) × Decided words held (Ok (not_proved_for reason text)) × Appends (taken old) (taken new) text)
+        ⊎ ((left : ItsFound) × (text : List ℕ) × (told ≡ Some (left_for left text)) × Decided words held (Ok (left_for left text)) × Appends (taken old) (taken new) text)
+    by (inl is) = let all = told_so taken old new words request names held verdict told (not_proved_for is.0) is.1.0 command answered tells put.1 is.1.1 refl in inl (is.0, is.1.0, all.0, all.1, all.2)
+    by (inr is) = let all = told_so taken old new words request names held verdict told (left_for is.0) is.1.0 command answered tells put.1 is.1.1 refl in inr (is.0, is.1.0, all.0, all.1, all.2)
 not_proved faults taken old new words request names held verdict told status command answered tells (inr failed) one = absurd (omega (arith, failed.0, one))
 
 -- ---- reasons
 
--- where there is no reason, and the status is another
-no_reason : (verdict : Verdict) → (verdict.status ≡ 1 → ⊥) → verdict.reason ≡ None → (verdict.status ≡ 1) ↔ ((reason : Reason PackedPairs) × (verdict.reason ≡ Some reason))
-no_reason verdict other none = (λ one. absurd (other one), λ h. absurd (let e : (let o : Option (Reason PackedPairs) = None in o) ≡ Some h.0 = sym none ∙ h.1 in cc))
+-- where nothing is kept, and the status is another
+no_reason : (verdict : Verdict) → (verdict.status ≡ 1 → ⊥) → verdict.reason ≡ None → verdict.its ≡ None → (verdict.status ≡ 1) ↔ HasReason verdict
+no_reason verdict other none without = (λ one. absurd (other one), λ h. absurd (by h))
+  where
+    by : HasReason verdict → ⊥
+    by (inl h) = let e : (let o : Option (Reason PackedPairs) = None in o) ≡ Some h.0 = sym none ∙ h.1 in cc
+    by (inr h) = let e : (let o : Option ItsFound = None in o) ≡ Some h.0 = sym without ∙ h.1 in cc
 
-pub reasons_kept : (request : Request) (contents : List (List ℕ)) (verdict : Verdict) → IsAnswer request contents (Ok verdict) → (verdict.status ≡ 1) ↔ ((reason : Reason PackedPairs) × (verdict.reason ≡ Some reason))
+-- a `prove` keeps nothing of rules
+of_prove : (verdict : Verdict) → verdict.its ≡ None → (verdict.status ≡ 1) ↔ ((reason : Reason PackedPairs) × (verdict.reason ≡ Some reason)) → (verdict.status ≡ 1) ↔ HasReason verdict
+of_prove verdict without kept = (λ one. inl (kept.0 one), by)
+  where
+    by : HasReason verdict → verdict.status ≡ 1
+    by (inl h) = kept.1 h
+    by (inr h) = absurd (let e : (let o : Option ItsFound = None in o) ≡ Some h.0 = sym without ∙ h.1 in cc)
+
+pub reasons_kept : (request : Request) (contents : List (List ℕ)) (verdict : Verdict) → IsAnswer request contents (Ok verdict) → (verdict.status ≡ 1) ↔ HasReason verdict
 reasons_kept (Prove nodes) [] verdict answer = absurd answer
-reasons_kept (Prove nodes) (desc ∷ classes) verdict answer = reason_kept nodes desc classes verdict answer
+reasons_kept (Prove nodes) (desc ∷ classes) verdict answer = of_prove verdict answer.0 (reason_kept nodes desc classes verdict answer)
 reasons_kept Check [] verdict answer = absurd answer
 reasons_kept Check (cert ∷ []) verdict answer = absurd answer
-reasons_kept Check (cert ∷ desc ∷ classes) verdict answer = no_reason verdict (judged_not_one cert desc classes verdict answer) answer.0
+reasons_kept Check (cert ∷ desc ∷ classes) verdict answer = no_reason verdict (judged_not_one cert desc classes verdict answer) answer.0 answer.1
 reasons_kept (Run fuel) [] verdict answer = absurd answer
-reasons_kept (Run fuel) (state ∷ classes) verdict answer = no_reason verdict (λ one. let none = answer.0 in omega (arith, none, one)) answer.1
+reasons_kept (Run fuel) (state ∷ classes) verdict answer = no_reason verdict (λ one. let none = answer.0 in omega (arith, none, one)) answer.1 answer.2
 reasons_kept Asm [] verdict answer = absurd answer
-reasons_kept Asm (listing ∷ []) verdict answer = no_reason verdict (λ one. let none = answer.0 in omega (arith, none, one)) answer.1
+reasons_kept Asm (listing ∷ []) verdict answer = no_reason verdict (λ one. let none = answer.0 in omega (arith, none, one)) answer.1 answer.2
 reasons_kept Asm (listing ∷ more ∷ files) verdict answer = absurd answer
+reasons_kept Its [] verdict answer = absurd answer
+reasons_kept Its (text ∷ []) verdict answer = ruled_reason text verdict answer
+reasons_kept Its (text ∷ more ∷ files) verdict answer = absurd answer

@@ -2,6 +2,7 @@ pub mod WordsLemmas
 pub mod Numbers
 pub mod ReadingOrder
 pub mod Proving
+pub mod Ruling
 pub mod Checking
 pub mod Answering
 pub mod OneAnswer

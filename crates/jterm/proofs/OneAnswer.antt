@@ -3,6 +3,9 @@ use Rattle.std.proofs.Common.{◌≡◌, ℕ, List, [], ◌∷◌, Option, Some,
 use Rattle.std.specs.Prelude.{◌≢◌}
 use Rattle.asm_lines.specs.declared.fault.AsmFault.{AsmFault}
 use Rattle.class_asm.specs.Classes.{assembled}
+use Rattle.its_front.specs.declared.fault.ItsFault.{ItsFault}
+use Rattle.its_front.specs.declared.reading.Its as systems
+use Rattle.its_front.specs.Reading.{rules_of}
 use Rattle.input_steps.specs.declared.refused.Refused.{Refused}
 use Rattle.input_steps.specs.declared.refused.Refused.TheVariants.{At, Memory}
 use Rattle.input_steps.specs.declared.refused.Place.TheVariants as places
@@ -18,9 +21,9 @@ use Rattle.check_call.proofs.OneAnswer as checking
 use Rattle.run_call.specs.Answers as run
 use Rattle.run_call.proofs.OneAnswer as running
 use Rattle.jterm.specs.declared.verdict.Request.{Request}
-use Rattle.jterm.specs.declared.verdict.Request.TheVariants.{Prove, Check, Run, Asm}
+use Rattle.jterm.specs.declared.verdict.Request.TheVariants.{Prove, Check, Run, Asm, Its}
 use Rattle.jterm.specs.declared.verdict.Verdict.{Verdict}
-use Rattle.jterm.specs.Decision.{Assembles, Proved, DoneWith, Judged, IsAnswer}
+use Rattle.jterm.specs.Decision.{Assembles, Ruled, Proved, DoneWith, Judged, IsAnswer}
 use Rattle.jterm.specs.Laws.{AreAlike, AreOne}
 
 -- ---- verdicts
@@ -54,10 +57,10 @@ module _ {X : Type 0} (verdict_of : X → Verdict) (P : Result X Refused → Typ
   verdict_one (Err Memory) s h k nr ns = absurd (nr refl)
 
 done_one : (P : Result (List ℕ) Refused → Type 0) → IsOne P → IsOne (DoneWith P)
-done_one P = verdict_one (λ (out : List ℕ). record { status = 0; out = out; reason = None }) P (DoneWith P) (λ v h. (v.out, (h.2, λ i. record { status = h.0 i; out = v.out; reason = h.1 i }))) (λ r h. h)
+done_one P = verdict_one (λ (out : List ℕ). record { status = 0; out = out; reason = None; its = None }) P (DoneWith P) (λ v h. (v.out, (h.3, λ i. record { status = h.0 i; out = v.out; reason = h.1 i; its = h.2 i }))) (λ r h. h)
 
 judged_one : (P : Result Outcome Refused → Type 0) → IsOne P → IsOne (Judged P)
-judged_one P = verdict_one (λ (outcome : Outcome). record { status = outcome.status; out = outcome.out; reason = None }) P (Judged P) (λ v h. (record { status = v.status; out = v.out }, (h.1, λ i. record { status = v.status; out = v.out; reason = h.0 i }))) (λ r h. h)
+judged_one P = verdict_one (λ (outcome : Outcome). record { status = outcome.status; out = outcome.out; reason = None; its = None }) P (Judged P) (λ v h. (record { status = v.status; out = v.out }, (h.2, λ i. record { status = v.status; out = v.out; reason = h.0 i; its = h.1 i }))) (λ r h. h)
 
 -- ---- listings
 
@@ -98,9 +101,27 @@ known Memory some e = some refl
 proved_one : (nodes : ℕ) (P : Result Answer Refused → Type 0) → ((a b : Result Answer Refused) → P a → P b → a ≢ Err Memory → b ≢ Err Memory → refusal_of a ≡ refusal_of b)
     → (a b : Result Verdict Refused) → Proved P a → Proved P b → a ≢ Err Memory → b ≢ Err Memory → AreOne (Prove nodes) a b
 proved_one nodes P one (Ok x) (Ok y) h k nr ns = tt
-proved_one nodes P one (Ok x) (Err s) h k nr ns = let e : (let n : Option Refused = None in n) ≡ Some s = one _ _ h k (some_said _) (known s ns) in absurd (cc)
-proved_one nodes P one (Err r) (Ok y) h k nr ns = let e : Some r ≡ None = one _ _ h k (known r nr) (some_said _) in absurd (cc)
+proved_one nodes P one (Ok x) (Err s) h k nr ns = let e : (let n : Option Refused = None in n) ≡ Some s = one _ _ h.1 k (some_said _) (known s ns) in absurd (cc)
+proved_one nodes P one (Err r) (Ok y) h k nr ns = let e : Some r ≡ None = one _ _ h k.1 (known r nr) (some_said _) in absurd (cc)
 proved_one nodes P one (Err r) (Err s) h k nr ns = let e : Some r ≡ Some s = one _ _ h k (known r nr) (known s ns) in let same : r ≡ s = cc in same
+
+-- where an `its` is refused it is so for one place and fault
+abbrev Read : Type 0
+Read = Result systems.Its ItsFault
+
+rules_fault_one : (text : List ℕ) (f g : ItsFault) → rules_of text ≡ Err f → rules_of text ≡ Err g → f ≡ g
+rules_fault_one text f g h k = let e : (let r : Read = Err f in r) ≡ Err g = sym h ∙ k in cc
+
+ruled_one : (text : List ℕ) (a b : Result Verdict Refused) → Ruled text a → Ruled text b → a ≢ Err Memory → b ≢ Err Memory → AreOne Its a b
+ruled_one text (Ok x) (Ok y) h k nr ns = tt
+ruled_one text (Ok x) (Err (At place fault)) h k nr ns = let e : (let r : Read = Ok h.1.its in r) ≡ Err k.cause = sym h.1.said ∙ k.holds in absurd (cc)
+ruled_one text (Ok x) (Err Memory) h k nr ns = absurd (ns refl)
+ruled_one text (Err (At place fault)) (Ok y) h k nr ns = let e : (let r : Read = Ok k.1.its in r) ≡ Err h.cause = sym k.1.said ∙ h.holds in absurd (cc)
+ruled_one text (Err (At p f)) (Err (At q g)) h k nr ns =
+    let e = at_one {C = ItsFault} (λ fault. places.Its) faults.Its (λ fault. rules_of text ≡ Err fault) (rules_fault_one text) p q f g h k in
+    λ i. At (e.0 i) (e.1 i)
+ruled_one text (Err (At place fault)) (Err Memory) h k nr ns = absurd (ns refl)
+ruled_one text (Err Memory) s h k nr ns = absurd (nr refl)
 
 pub answers_one : (request : Request) (contents : List (List ℕ)) (a b : Result Verdict Refused) → IsAnswer request contents a → IsAnswer request contents b → a ≢ Err Memory → b ≢ Err Memory → AreOne request a b
 answers_one (Prove nodes) [] a b x y some more = absurd x
@@ -113,3 +134,6 @@ answers_one (Run fuel) (state ∷ files) a b x y some more = one_is (Run fuel) a
 answers_one Asm [] a b x y some more = absurd x
 answers_one Asm (listing ∷ []) a b x y some more = one_is Asm a b (λ v w e. e) (done_one (Assembles listing) (assembles_one listing) a b x y some more)
 answers_one Asm (listing ∷ other ∷ files) a b x y some more = absurd x
+answers_one Its [] a b x y some more = absurd x
+answers_one Its (text ∷ []) a b x y some more = ruled_one text a b x y some more
+answers_one Its (text ∷ other ∷ files) a b x y some more = absurd x

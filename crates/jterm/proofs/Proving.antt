@@ -82,14 +82,14 @@ module _ (nodes : ℕ) (desc : List ℕ) (files : List (List ℕ)) (verdict : Ve
   abbrev own : Answer
   own = record { status = verdict.status; out = verdict.out; reason = verdict.reason }
 
-  abbrev its : Given (prove.SaysOf nodes) own
-  its = given (prove.SaysOf nodes) desc files own answer
+  abbrev here : Given (prove.SaysOf nodes) own
+  here = given (prove.SaysOf nodes) desc files own answer.1
 
   abbrev Said : Type 0
-  Said = prove.IsYes its.program its.typing its.described own ⊎ prove.IsMaybe nodes its.program its.typing its.described own
+  Said = prove.IsYes here.program here.typing here.described own ⊎ prove.IsMaybe nodes here.program here.typing here.described own
 
   said : Said
-  said = its.said
+  said = here.said
 
   -- its status is at most 1
   low : Said → verdict.status ≤ 1
@@ -102,7 +102,7 @@ module _ (nodes : ℕ) (desc : List ℕ) (files : List (List ℕ)) (verdict : Ve
   -- where it is 1 there is a reason
   has_reason : Said → verdict.status ≡ 1 → (reason : Reason PackedPairs) × ((text : List ℕ) × (verdict ≡ not_proved_for reason text))
   has_reason (inl sure) one = let none = sure.status in absurd (omega (arith, none, one))
-  has_reason (inr maybe) one = (maybe.reason, (verdict.out, λ i. record { status = one i; out = verdict.out; reason = maybe.kept i }))
+  has_reason (inr maybe) one = (maybe.reason, (verdict.out, λ i. record { status = one i; out = verdict.out; reason = maybe.kept i; its = answer.0 i }))
 
   pub unproved : verdict.status ≡ 1 → (reason : Reason PackedPairs) × ((text : List ℕ) × (verdict ≡ not_proved_for reason text))
   unproved one = has_reason said one
@@ -120,8 +120,8 @@ module _ (nodes : ℕ) (desc : List ℕ) (files : List (List ℕ)) (verdict : Ve
   is_yes is (inl none) = none
   is_yes (inl sure) (inr begins) = sure.status
   is_yes (inr maybe) (inr begins) =
-      let out : verdict.out ≡ reason_text its.program maybe.reason = maybe.out in
-      let first : 77 ≡ 89 = sym (maybe_first its.program maybe.reason) ∙ ap (λ (line : List ℕ). get_or line 0 0) (sym out ∙ begins.1) in
+      let out : verdict.out ≡ reason_text here.program maybe.reason = maybe.out in
+      let first : 77 ≡ 89 = sym (maybe_first here.program maybe.reason) ∙ ap (λ (line : List ℕ). get_or line 0 0) (sym out ∙ begins.1) in
       absurd (omega (arith, first))
 
   pub proves : Says yes_line verdict → verdict.status ≡ 0
@@ -132,12 +132,12 @@ module _ (nodes : ℕ) (desc : List ℕ) (files : List (List ℕ)) (verdict : Ve
   has_certificate (inr maybe) none = let one = maybe.status in absurd (omega (arith, none, one))
   has_certificate (inl sure) none =
       let valid = sure.is.says in
-      let built : check.AnswersCert sure.cert its.program its.typing its.described (Ok lines.accepted) =
+      let built : check.AnswersCert sure.cert here.program here.typing here.described (Ok lines.accepted) =
       inr (valid.content, (valid.says, (valid.nodes, ((valid.filled, valid.ints), inl (valid.valid, refl))))) in
       record {
         cert = sure.cert;
         short = sure.is.short;
-        accepted = said_of_files (prove.SaysOf nodes) (check.AnswersCert sure.cert) desc files own lines.accepted answer built;
+        accepted = said_of_files (prove.SaysOf nodes) (check.AnswersCert sure.cert) desc files own lines.accepted answer.1 built;
         out_is = sure.out;
       }
 
@@ -148,18 +148,18 @@ module _ (nodes : ℕ) (desc : List ℕ) (files : List (List ℕ)) (verdict : Ve
 pub certificate_accepted : CertificatesAreAccepted
 certificate_accepted nodes desc files verdict answer none =
     let is = certifies nodes desc files verdict answer none in
-    (is.cert, is.out_is, (refl, is.accepted))
+    (is.cert, is.out_is, (refl, refl, is.accepted))
 
 -- the answer of `prove` as a verdict; or its refusal
 abbrev pub verdict_of_prove : Result Answer Refused → Result Verdict Refused
-verdict_of_prove (Ok answer) = Ok (record { status = answer.status; out = answer.out; reason = answer.reason })
+verdict_of_prove (Ok answer) = Ok (record { status = answer.status; out = answer.out; reason = answer.reason; its = None })
 verdict_of_prove (Err refused) = Err refused
 
 -- what YES says
 pub proved_true : (nodes : ℕ) (desc : List ℕ) (files : List (List ℕ)) (answer : Result Answer Refused) (result : Result Verdict Refused) → result ≡ verdict_of_prove answer → prove.Answers nodes desc files answer → AllEndIfYes files desc answer
     → IfOk result (λ verdict. Says yes_line verdict → AllEnd files desc)
 proved_true nodes desc files (Ok answer) result e a ends =
-    let verdict : Verdict = record { status = answer.status; out = answer.out; reason = answer.reason } in
-    subst (λ (r : Result Verdict Refused). IfOk r (λ v. Says yes_line v → AllEnd files desc)) (sym e) (λ says. ends (proves nodes desc files verdict a says))
+    let verdict : Verdict = record { status = answer.status; out = answer.out; reason = answer.reason; its = None } in
+    subst (λ (r : Result Verdict Refused). IfOk r (λ v. Says yes_line v → AllEnd files desc)) (sym e) (λ says. ends (proves nodes desc files verdict (refl, a) says))
 proved_true nodes desc files (Err refused) result e a ends =
     subst (λ (r : Result Verdict Refused). IfOk r (λ v. Says yes_line v → AllEnd files desc)) (sym e) tt

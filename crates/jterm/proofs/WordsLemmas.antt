@@ -4,9 +4,9 @@ use Rattle.std.proofs.lemmas.List.{length-map}
 use Rattle.std.specs.Prelude.{◌↔◌, not, codes, Option, Some, None, MatchOption}
 use Rattle.std.specs.List.{list_all}
 use Rattle.jterm.specs.declared.verdict.Request.{Request}
-use Rattle.jterm.specs.declared.verdict.Request.TheVariants.{Prove, Check, Run, Asm}
+use Rattle.jterm.specs.declared.verdict.Request.TheVariants.{Prove, Check, Run, Asm, Its}
 use Rattle.jterm.specs.Failure.{NamesLimit}
-use Rattle.jterm.specs.Words.{is_file_word, AreFiles, AreCheckFiles, IsListing, IsNumber, IsLimit, Limits, IsFuel, IsProveRow, IsCheckRow, IsRunRow, IsAsmRow, IsCommand}
+use Rattle.jterm.specs.Words.{is_file_word, AreFiles, AreCheckFiles, IsOneFile, IsNumber, IsLimit, Limits, IsFuel, IsProveRow, IsCheckRow, IsRunRow, IsAsmRow, IsItsRow, IsCommand}
 use Rattle.std.specs.Cmp.Lexicographic.{bytes_decides}
 use Rattle.std.specs.Str.{bytes_eq}
 use Rattle.std.proofs.lemmas.Fmt.{decimal_injective}
@@ -24,8 +24,8 @@ are_files f words answer e some few = (
 )
 
 -- when words name a listing
-pub is_listing : {A : Type 0} (f : A → List ℕ) (words : List A) (answer : Bool) → answer ≡ list_all (λ x. is_file_word (f x)) words → length words ≡ 1 → IsTrue answer ↔ IsListing (map f words)
-is_listing f words answer e one = (
+pub is_one_file : {A : Type 0} (f : A → List ℕ) (words : List A) (answer : Bool) → answer ≡ list_all (λ x. is_file_word (f x)) words → length words ≡ 1 → IsTrue answer ↔ IsOneFile (map f words)
+is_one_file f words answer e one = (
   λ t. record { one = length-map words f ∙ one; each = sym (all-map f is_file_word words) ∙ sym e ∙ t },
   λ r. e ∙ all-map f is_file_word words ∙ r.each,
 )
@@ -115,17 +115,29 @@ of_check_row verb names request files row =
     let rest : names ≡ row.cert ∷ row.desc ∷ row.classes = cc in
     (first, subst AreCheckFiles (sym rest) row.is_check.files, row.asked, row.named ∙ sym rest)
 
-pub asm_row : (verb : List ℕ) (names : List (List ℕ)) → verb ≡ codes "asm" → IsListing names → IsAsmRow (verb ∷ names) Asm names
+pub asm_row : (verb : List ℕ) (names : List (List ℕ)) → verb ≡ codes "asm" → IsOneFile names → IsAsmRow (verb ∷ names) Asm names
 asm_row verb [] v r = absurd (let one = r.one in omega arith)
 asm_row verb (l ∷ []) v r = record { listing = l; is_asm = record { spelled = ap (λ (w : List ℕ). w ∷ l ∷ []) v; file = r }; asked = refl; named = refl }
 asm_row verb (l ∷ m ∷ names) v r = absurd (let one = r.one in omega arith)
 
-pub of_asm_row : (verb : List ℕ) (names : List (List ℕ)) (request : Request) (files : List (List ℕ)) → IsAsmRow (verb ∷ names) request files → (verb ≡ codes "asm") × IsListing names × (request ≡ Asm) × (files ≡ names)
+pub of_asm_row : (verb : List ℕ) (names : List (List ℕ)) (request : Request) (files : List (List ℕ)) → IsAsmRow (verb ∷ names) request files → (verb ≡ codes "asm") × IsOneFile names × (request ≡ Asm) × (files ≡ names)
 of_asm_row verb names request files row =
     let same : verb ∷ names ≡ codes "asm" ∷ row.listing ∷ [] = row.is_asm.spelled in
     let first : verb ≡ codes "asm" = cc in
     let rest : names ≡ row.listing ∷ [] = cc in
-    (first, subst IsListing (sym rest) row.is_asm.file, row.asked, row.named ∙ sym rest)
+    (first, subst IsOneFile (sym rest) row.is_asm.file, row.asked, row.named ∙ sym rest)
+
+pub its_row : (verb : List ℕ) (names : List (List ℕ)) → verb ≡ codes "its" → IsOneFile names → IsItsRow (verb ∷ names) Its names
+its_row verb [] v r = absurd (let one = r.one in omega arith)
+its_row verb (l ∷ []) v r = record { rules = l; is_its = record { spelled = ap (λ (w : List ℕ). w ∷ l ∷ []) v; file = r }; asked = refl; named = refl }
+its_row verb (l ∷ m ∷ names) v r = absurd (let one = r.one in omega arith)
+
+pub of_its_row : (verb : List ℕ) (names : List (List ℕ)) (request : Request) (files : List (List ℕ)) → IsItsRow (verb ∷ names) request files → (verb ≡ codes "its") × IsOneFile names × (request ≡ Its) × (files ≡ names)
+of_its_row verb names request files row =
+    let same : verb ∷ names ≡ codes "its" ∷ row.rules ∷ [] = row.is_its.spelled in
+    let first : verb ≡ codes "its" = cc in
+    let rest : names ≡ row.rules ∷ [] = cc in
+    (first, subst IsOneFile (sym rest) row.is_its.file, row.asked, row.named ∙ sym rest)
 
 -- of a `run` and what follows it
 pub of_run_row : (verb : List ℕ) (names : List (List ℕ)) (request : Request) (files : List (List ℕ)) → IsRunRow (verb ∷ names) request files → (verb ≡ codes "run") × ((word : List ℕ) × ((fuel : ℕ) × ((names ≡ word ∷ files) × IsFuel word fuel × AreFiles files × (request ≡ Run fuel))))
@@ -148,20 +160,21 @@ run_row verb word (state ∷ classes) fuel v f r = record {
 }
 
 -- where no row is there, the words are no command
-pub no_row : (verb : List ℕ) (names : List (List ℕ)) → (verb ≡ codes "prove" → ⊥) → (IsCheckRow (verb ∷ names) Check names → ⊥) → (IsAsmRow (verb ∷ names) Asm names → ⊥)
+pub no_row : (verb : List ℕ) (names : List (List ℕ)) → (verb ≡ codes "prove" → ⊥) → (IsCheckRow (verb ∷ names) Check names → ⊥) → (IsAsmRow (verb ∷ names) Asm names → ⊥) → (IsItsRow (verb ∷ names) Its names → ⊥)
     → ((request : Request) (files : List (List ℕ)) → IsRunRow (verb ∷ names) request files → ⊥) → (request : Request) (files : List (List ℕ)) → IsCommand (verb ∷ names) request files → ⊥
-no_row verb names p c a run request files (inl row) = let r = of_prove_row verb names request files row in p r.is_verb
-no_row verb names p c a run request files (inr (inl row)) = let r = of_check_row verb names request files row in c (check_row verb names r.0 r.1)
-no_row verb names p c a run request files (inr (inr (inl row))) = run request files row
-no_row verb names p c a run request files (inr (inr (inr row))) = let r = of_asm_row verb names request files row in a (asm_row verb names r.0 r.1)
+no_row verb names p c a i run request files (inl row) = let r = of_prove_row verb names request files row in p r.is_verb
+no_row verb names p c a i run request files (inr (inl row)) = let r = of_check_row verb names request files row in c (check_row verb names r.0 r.1)
+no_row verb names p c a i run request files (inr (inr (inl row))) = run request files row
+no_row verb names p c a i run request files (inr (inr (inr (inl row)))) = let r = of_asm_row verb names request files row in a (asm_row verb names r.0 r.1)
+no_row verb names p c a i run request files (inr (inr (inr (inr row)))) = let r = of_its_row verb names request files row in i (its_row verb names r.0 r.1)
 
 -- no command of the rows above it, or a `run`
 pub run_or_none : {C : Type 0} (run : Option C) (asked : C → Request) (named : C → List (List ℕ)) (verb : List ℕ) (names : List (List ℕ))
-    → (verb ≡ codes "prove" → ⊥) → (IsCheckRow (verb ∷ names) Check names → ⊥) → (IsAsmRow (verb ∷ names) Asm names → ⊥)
+    → (verb ≡ codes "prove" → ⊥) → (IsCheckRow (verb ∷ names) Check names → ⊥) → (IsAsmRow (verb ∷ names) Asm names → ⊥) → (IsItsRow (verb ∷ names) Its names → ⊥)
     → MatchOption run ((request : Request) (files : List (List ℕ)) → IsRunRow (verb ∷ names) request files → ⊥) (λ c. IsRunRow (verb ∷ names) (asked c) (named c))
     → MatchOption run ((request : Request) (files : List (List ℕ)) → IsCommand (verb ∷ names) request files → ⊥) (λ c. IsCommand (verb ∷ names) (asked c) (named c))
-run_or_none None asked named verb names p c a h = no_row verb names p c a h
-run_or_none (Some run) asked named verb names p c a h = inr (inr (inl h))
+run_or_none None asked named verb names p c a i h = no_row verb names p c a i h
+run_or_none (Some run) asked named verb names p c a i h = inr (inr (inl h))
 
 -- behind `prove`, a `prove` or no command
 pub prove_or_none : {C : Type 0} (prove : Option C) (asked : C → Request) (named : C → List (List ℕ)) (verb : List ℕ) (names : List (List ℕ)) → verb ≡ codes "prove"
@@ -177,7 +190,8 @@ prove_or_none None asked named verb names v h = none
     none request files (inl row) = h request files row
     none request files (inr (inl row)) = let e = other (codes "check") (of_check_row verb names request files row).0 in omega (arith, e)
     none request files (inr (inr (inl row))) = let e = other (codes "run") (of_run_row verb names request files row).0 in omega (arith, e)
-    none request files (inr (inr (inr row))) = let e = other (codes "asm") (of_asm_row verb names request files row).0 in omega (arith, e)
+    none request files (inr (inr (inr (inl row)))) = let e = other (codes "asm") (of_asm_row verb names request files row).0 in omega (arith, e)
+    none request files (inr (inr (inr (inr row)))) = let e = other (codes "its") (of_its_row verb names request files row).0 in omega (arith, e)
 
 -- ---- the words of a `run`
 
@@ -186,7 +200,8 @@ pub no_words : (request : Request) (files : List (List ℕ)) → IsCommand [] re
 no_words request files (inl row) = let e = row.is_prove.spelled in cc
 no_words request files (inr (inl row)) = let e = row.is_check.spelled in cc
 no_words request files (inr (inr (inl row))) = let e = row.is_run.spelled in cc
-no_words request files (inr (inr (inr row))) = let e = row.is_asm.spelled in cc
+no_words request files (inr (inr (inr (inl row)))) = let e = row.is_asm.spelled in cc
+no_words request files (inr (inr (inr (inr row)))) = let e = row.is_its.spelled in cc
 
 -- words that a test does not tell apart are one
 pub same_word : (xs ys : List ℕ) → true ≡ bytes_eq xs ys → xs ≡ ys
@@ -209,8 +224,11 @@ not_apart xs ys e = (bytes_decides xs ys).0 (un_not (bytes_eq xs ys) e)
 pub is_check : (verb : List ℕ) (names : List (List ℕ)) (answer : Bool) → verb ≡ codes "check" → (IsTrue answer ↔ AreCheckFiles names) → IsTrue answer ↔ IsCheckRow (verb ∷ names) Check names
 is_check verb names answer v h = (λ t. check_row verb names v (h.0 t), λ row. h.1 (of_check_row verb names Check names row).1)
 
-pub is_asm : (verb : List ℕ) (names : List (List ℕ)) (answer : Bool) → verb ≡ codes "asm" → (IsTrue answer ↔ IsListing names) → IsTrue answer ↔ IsAsmRow (verb ∷ names) Asm names
+pub is_asm : (verb : List ℕ) (names : List (List ℕ)) (answer : Bool) → verb ≡ codes "asm" → (IsTrue answer ↔ IsOneFile names) → IsTrue answer ↔ IsAsmRow (verb ∷ names) Asm names
 is_asm verb names answer v h = (λ t. asm_row verb names v (h.0 t), λ row. h.1 (of_asm_row verb names Asm names row).1)
+
+pub is_its : (verb : List ℕ) (names : List (List ℕ)) (answer : Bool) → verb ≡ codes "its" → (IsTrue answer ↔ IsOneFile names) → IsTrue answer ↔ IsItsRow (verb ∷ names) Its names
+is_its verb names answer v h = (λ t. its_row verb names v (h.0 t), λ row. h.1 (of_its_row verb names Its names row).1)
 
 -- ---- all words
 
@@ -266,7 +284,7 @@ commands_one [] r s m n a b = absurd (no_words r m a)
 commands_one (verb ∷ names) r s m n (inl a) (inl b) = proves_one verb names r s m n (of_prove_row verb names r m a) (of_prove_row verb names s n b)
 commands_one words r s m n (inl a) (inr (inl b)) = absurd (other_letter words _ _ 112 99 a.is_prove.spelled b.is_check.spelled refl refl (λ e. omega (arith, e)))
 commands_one words r s m n (inl a) (inr (inr (inl b))) = absurd (other_letter words _ _ 112 114 a.is_prove.spelled b.is_run.spelled refl refl (λ e. omega (arith, e)))
-commands_one words r s m n (inl a) (inr (inr (inr b))) = absurd (other_letter words _ _ 112 97 a.is_prove.spelled b.is_asm.spelled refl refl (λ e. omega (arith, e)))
+commands_one words r s m n (inl a) (inr (inr (inr (inl b)))) = absurd (other_letter words _ _ 112 97 a.is_prove.spelled b.is_asm.spelled refl refl (λ e. omega (arith, e)))
 commands_one words r s m n (inr (inl a)) (inl b) = absurd (other_letter words _ _ 99 112 a.is_check.spelled b.is_prove.spelled refl refl (λ e. omega (arith, e)))
 commands_one words r s m n (inr (inl a)) (inr (inl b)) =
     let here : words ≡ _ = a.is_check.spelled in
@@ -274,7 +292,7 @@ commands_one words r s m n (inr (inl a)) (inr (inl b)) =
     let same : a.cert ∷ a.desc ∷ a.classes ≡ b.cert ∷ b.desc ∷ b.classes = cc in
     (a.asked ∙ sym b.asked, a.named ∙ same ∙ sym b.named)
 commands_one words r s m n (inr (inl a)) (inr (inr (inl b))) = absurd (other_letter words _ _ 99 114 a.is_check.spelled b.is_run.spelled refl refl (λ e. omega (arith, e)))
-commands_one words r s m n (inr (inl a)) (inr (inr (inr b))) = absurd (other_letter words _ _ 99 97 a.is_check.spelled b.is_asm.spelled refl refl (λ e. omega (arith, e)))
+commands_one words r s m n (inr (inl a)) (inr (inr (inr (inl b)))) = absurd (other_letter words _ _ 99 97 a.is_check.spelled b.is_asm.spelled refl refl (λ e. omega (arith, e)))
 commands_one words r s m n (inr (inr (inl a))) (inl b) = absurd (other_letter words _ _ 114 112 a.is_run.spelled b.is_prove.spelled refl refl (λ e. omega (arith, e)))
 commands_one words r s m n (inr (inr (inl a))) (inr (inl b)) = absurd (other_letter words _ _ 114 99 a.is_run.spelled b.is_check.spelled refl refl (λ e. omega (arith, e)))
 commands_one words r s m n (inr (inr (inl a))) (inr (inr (inl b))) =
@@ -284,14 +302,27 @@ commands_one words r s m n (inr (inr (inl a))) (inr (inr (inl b))) =
     let same : a.state ∷ a.classes ≡ b.state ∷ b.classes = cc in
     let fuel : a.fuel ≡ b.fuel = fuel_one b.is_run.word a.fuel b.fuel (subst (λ (w : List ℕ). IsFuel w a.fuel) word a.is_run.is_fuel) b.is_run.is_fuel in
     (a.asked ∙ ap Run fuel ∙ sym b.asked, a.named ∙ same ∙ sym b.named)
-commands_one words r s m n (inr (inr (inl a))) (inr (inr (inr b))) = absurd (other_letter words _ _ 114 97 a.is_run.spelled b.is_asm.spelled refl refl (λ e. omega (arith, e)))
-commands_one words r s m n (inr (inr (inr a))) (inl b) = absurd (other_letter words _ _ 97 112 a.is_asm.spelled b.is_prove.spelled refl refl (λ e. omega (arith, e)))
-commands_one words r s m n (inr (inr (inr a))) (inr (inl b)) = absurd (other_letter words _ _ 97 99 a.is_asm.spelled b.is_check.spelled refl refl (λ e. omega (arith, e)))
-commands_one words r s m n (inr (inr (inr a))) (inr (inr (inl b))) = absurd (other_letter words _ _ 97 114 a.is_asm.spelled b.is_run.spelled refl refl (λ e. omega (arith, e)))
-commands_one words r s m n (inr (inr (inr a))) (inr (inr (inr b))) =
+commands_one words r s m n (inr (inr (inl a))) (inr (inr (inr (inl b)))) = absurd (other_letter words _ _ 114 97 a.is_run.spelled b.is_asm.spelled refl refl (λ e. omega (arith, e)))
+commands_one words r s m n (inr (inr (inr (inl a)))) (inl b) = absurd (other_letter words _ _ 97 112 a.is_asm.spelled b.is_prove.spelled refl refl (λ e. omega (arith, e)))
+commands_one words r s m n (inr (inr (inr (inl a)))) (inr (inl b)) = absurd (other_letter words _ _ 97 99 a.is_asm.spelled b.is_check.spelled refl refl (λ e. omega (arith, e)))
+commands_one words r s m n (inr (inr (inr (inl a)))) (inr (inr (inl b))) = absurd (other_letter words _ _ 97 114 a.is_asm.spelled b.is_run.spelled refl refl (λ e. omega (arith, e)))
+commands_one words r s m n (inr (inr (inr (inl a)))) (inr (inr (inr (inl b)))) =
     let here : words ≡ _ = a.is_asm.spelled in
     let there : words ≡ _ = b.is_asm.spelled in
     let same : a.listing ∷ [] ≡ b.listing ∷ [] = cc in
+    (a.asked ∙ sym b.asked, a.named ∙ same ∙ sym b.named)
+commands_one words r s m n (inl a) (inr (inr (inr (inr b)))) = absurd (other_letter words _ _ 112 105 a.is_prove.spelled b.is_its.spelled refl refl (λ e. omega (arith, e)))
+commands_one words r s m n (inr (inl a)) (inr (inr (inr (inr b)))) = absurd (other_letter words _ _ 99 105 a.is_check.spelled b.is_its.spelled refl refl (λ e. omega (arith, e)))
+commands_one words r s m n (inr (inr (inl a))) (inr (inr (inr (inr b)))) = absurd (other_letter words _ _ 114 105 a.is_run.spelled b.is_its.spelled refl refl (λ e. omega (arith, e)))
+commands_one words r s m n (inr (inr (inr (inl a)))) (inr (inr (inr (inr b)))) = absurd (other_letter words _ _ 97 105 a.is_asm.spelled b.is_its.spelled refl refl (λ e. omega (arith, e)))
+commands_one words r s m n (inr (inr (inr (inr a)))) (inl b) = absurd (other_letter words _ _ 105 112 a.is_its.spelled b.is_prove.spelled refl refl (λ e. omega (arith, e)))
+commands_one words r s m n (inr (inr (inr (inr a)))) (inr (inl b)) = absurd (other_letter words _ _ 105 99 a.is_its.spelled b.is_check.spelled refl refl (λ e. omega (arith, e)))
+commands_one words r s m n (inr (inr (inr (inr a)))) (inr (inr (inl b))) = absurd (other_letter words _ _ 105 114 a.is_its.spelled b.is_run.spelled refl refl (λ e. omega (arith, e)))
+commands_one words r s m n (inr (inr (inr (inr a)))) (inr (inr (inr (inl b)))) = absurd (other_letter words _ _ 105 97 a.is_its.spelled b.is_asm.spelled refl refl (λ e. omega (arith, e)))
+commands_one words r s m n (inr (inr (inr (inr a)))) (inr (inr (inr (inr b)))) =
+    let here : words ≡ _ = a.is_its.spelled in
+    let there : words ≡ _ = b.is_its.spelled in
+    let same : a.rules ∷ [] ≡ b.rules ∷ [] = cc in
     (a.asked ∙ sym b.asked, a.named ∙ same ∙ sym b.named)
 
 -- ---- a limit on nodes

@@ -15,10 +15,11 @@ use Rattle.input_steps.specs.declared.refused.Refused.TheVariants.{At}
 use Rattle.input_steps.specs.Lines.{refusal_line}
 use Rattle.abs_cells.specs.declared.packed.PackedPairs.{PackedPairs}
 use Rattle.prove_core.specs.declared.found.Reason.{Reason}
+use Rattle.its_search.specs.declared.searching.ItsFound.{ItsFound}
 use Rattle.prove_call.specs.Lines.{yes_text}
 use Rattle.check_call.specs.Lines.{refused_line}
 use Rattle.jterm.specs.Words.{IsProve, IsCommand}
-use Rattle.jterm.specs.Decision.{IsAnswer, IsUnrefused, not_proved_for, accepted, refused_at}
+use Rattle.jterm.specs.Decision.{IsAnswer, IsUnrefused, not_proved_for, left_for, accepted, refused_at}
 use Rattle.jterm.specs.Laws.{AreAlike}
 use Rattle.jterm.specs.Lines.{usage_lines, memory_line, write_line, read_line}
 use Rattle.jterm.specs.Outside.{AreTold, AreHanded, IsUnread, FirstAreRead, Decided, Puts, IsWithoutVerdict, IsWritten, file_limits}
@@ -40,11 +41,14 @@ pub record CallEnds {F O E : Type 0} (held : F → List ℕ → Told) (faults : 
   pub verdict : IfSome result.verdict (λ v. Decided words (held files.old) (Ok v))
   pub written : IfSome result.verdict (λ v. IsWritten out_faults out_taken out.old out.new v result.status)
   pub silent : IfNone result.verdict (IsWithoutVerdict result.status × (out.new ≡ out.old))
-  -- Status 1: no certificate is given, for a reason that is kept. It holds, and the text is its own.
-  pub not_proved : result.status ≡ 1 → (reason : Reason PackedPairs) × (text : List ℕ)
+  -- Status 1: no certificate is given, for a reason that is kept; or rules are left, which are kept. It holds, and the text is its own.
+  pub not_proved : result.status ≡ 1 → ((reason : Reason PackedPairs) × (text : List ℕ)
       × (result.verdict ≡ Some (not_proved_for reason text))
       × Decided words (held files.old) (Ok (not_proved_for reason text))
-      × Appends (out_taken out.old) (out_taken out.new) text
+      × Appends (out_taken out.old) (out_taken out.new) text) ⊎ ((left : ItsFound) × (text : List ℕ)
+      × (result.verdict ≡ Some (left_for left text))
+      × Decided words (held files.old) (Ok (left_for left text))
+      × Appends (out_taken out.old) (out_taken out.new) text)
   -- Status 2: the certificate is refused. The line names the first item that fails, and its cause.
   pub not_accepted : result.status ≡ 2 → (item : ℕ) × (cause : List ℕ)
       × Decided words (held files.old) (Ok (refused_at item cause))

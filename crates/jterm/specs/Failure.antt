@@ -6,13 +6,15 @@ use Rattle.io_ports.specs.declared.files.FileFault.TheVariants.{Failed, TooLong,
 use Rattle.jterm.specs.declared.inputs.Failure.{Failure}
 use Rattle.jterm.specs.declared.inputs.Failure.TheVariants.{Unread, Broken, NoMemory}
 use Rattle.jterm.specs.declared.verdict.Request.{Request}
-use Rattle.jterm.specs.declared.verdict.Request.TheVariants.{Prove, Check}
+use Rattle.jterm.specs.declared.verdict.Request.TheVariants.{Prove, Check, Its}
 use Rattle.input_steps.specs.declared.refused.Refused.TheVariants.{At}
 use Rattle.jterm.specs.declared.verdict.Verdict.{Verdict}
 use Rattle.jterm.specs.Decision.{IsAnswer, Says}
 use Rattle.check_call.specs.Lines.{accepted_line}
 use Rattle.prove_call.specs.Lines.{yes_line}
 use Rattle.desc_steps.specs.Headline.{AllEnd}
+use Rattle.its_call.specs.Answers.{IsEnding}
+use Rattle.its_call.specs.Lines as its
 use Rattle.jterm.specs.Words.{IsCommand}
 use Rattle.input_steps.specs.Lines.{refusal_line}
 use Rattle.jterm.specs.Lines.{read_line, memory_line}
@@ -58,6 +60,11 @@ abbrev pub IsTrueCheck : Request → List (List ℕ) → Verdict → Type 0
 IsTrueCheck request contents verdict =
     (cert desc : List ℕ) (classes : List (List ℕ)) → request ≡ Check → contents ≡ cert ∷ desc ∷ classes → Says accepted_line verdict → AllEnd classes desc
 
+-- so does an `its` that says `YES`
+abbrev pub IsTrueSystem : Request → List (List ℕ) → Verdict → Type 0
+IsTrueSystem request contents verdict =
+    (text : List ℕ) → request ≡ Its → contents ≡ text ∷ [] → Says its.yes_line verdict → IsEnding text
+
 -- the verdict is the answer for the contents of the files, its status is at most 2, and what it says is true
 pub record IsAnswered (limits : ℕ → ℕ) (request : Request) (names : List (List ℕ)) (held : List ℕ → Told) (verdict : Verdict) : Type 0 where
   pub contents : List (List ℕ)
@@ -66,6 +73,7 @@ pub record IsAnswered (limits : ℕ → ℕ) (request : Request) (names : List (
   pub low : verdict.status ≤ 2
   pub true_proof : IsTrueProof request contents verdict
   pub true_check : IsTrueCheck request contents verdict
+  pub true_its : IsTrueSystem request contents verdict
 
 -- the words behind `prove` begin with that of a limit on nodes
 abbrev pub NamesLimit : List (List ℕ) → Type 0

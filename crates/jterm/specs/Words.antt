@@ -6,7 +6,7 @@ use Rattle.class_base.specs.Limits.{most_classes}
 use Rattle.term_graph.specs.Limits.{most_nodes}
 use Rattle.prove_call.specs.Limits.{default_nodes}
 use Rattle.jterm.specs.declared.verdict.Request.{Request}
-use Rattle.jterm.specs.declared.verdict.Request.TheVariants.{Prove, Check, Run, Asm}
+use Rattle.jterm.specs.declared.verdict.Request.TheVariants.{Prove, Check, Run, Asm, Its}
 
 -- a word that names a file does not begin with `-`
 abbrev pub is_file_word : List ℕ → Bool
@@ -91,15 +91,15 @@ pub record IsRunRow (words : List (List ℕ)) (request : Request) (files : List 
   pub asked : request ≡ Run fuel
   pub named : files ≡ state ∷ classes
 
--- a word that names a listing, alone
-pub record IsListing (files : List (List ℕ)) : Type 0 where
+-- a word that names a listing, or a text of rules, alone
+pub record IsOneFile (files : List (List ℕ)) : Type 0 where
   pub one : length files ≡ 1
   pub each : IsTrue (list_all is_file_word files)
 
 -- `asm LISTING`
 pub record IsAsm (words : List (List ℕ)) (listing : List ℕ) : Type 0 where
   pub spelled : words ≡ codes "asm" ∷ listing ∷ []
-  pub file : IsListing (listing ∷ [])
+  pub file : IsOneFile (listing ∷ [])
 
 -- the same as a row of the table of commands
 pub record IsAsmRow (words : List (List ℕ)) (request : Request) (files : List (List ℕ)) : Type 0 where
@@ -108,7 +108,19 @@ pub record IsAsmRow (words : List (List ℕ)) (request : Request) (files : List 
   pub asked : request ≡ Asm
   pub named : files ≡ listing ∷ []
 
+-- `its RULES`
+pub record IsIts (words : List (List ℕ)) (rules : List ℕ) : Type 0 where
+  pub spelled : words ≡ codes "its" ∷ rules ∷ []
+  pub file : IsOneFile (rules ∷ [])
+
+-- the same as a row of the table of commands
+pub record IsItsRow (words : List (List ℕ)) (request : Request) (files : List (List ℕ)) : Type 0 where
+  pub rules : List ℕ
+  pub is_its : IsIts words rules
+  pub asked : request ≡ Its
+  pub named : files ≡ rules ∷ []
+
 -- the words are a row of the table of the commands that are built
 abbrev pub IsCommand : List (List ℕ) → Request → List (List ℕ) → Type 0
 IsCommand words request files =
-    IsProveRow words request files ⊎ (IsCheckRow words request files ⊎ (IsRunRow words request files ⊎ IsAsmRow words request files))
+    IsProveRow words request files ⊎ (IsCheckRow words request files ⊎ (IsRunRow words request files ⊎ (IsAsmRow words request files ⊎ IsItsRow words request files)))

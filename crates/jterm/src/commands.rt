@@ -2,8 +2,8 @@
 ghost use Rattle.std.specs.Prelude.{◌≡◌, ◌↔◌, ℕ, List, ◌∷◌, map, string_bytes, codes, IsTrue, MatchOption};
 ghost use Rattle.std.specs.List.{list_all};
 ghost use Rattle.jterm.specs.declared.verdict.Request.{Request};
-ghost use Rattle.jterm.specs.declared.verdict.Request.TheVariants.{Check, Asm};
-ghost use Rattle.jterm.specs.Words.{is_file_word, AreFiles, AreCheckFiles, IsListing, IsNumber, IsLimit, IsProveRow, IsCheckRow, IsRunRow, IsAsmRow, IsCommand};
+ghost use Rattle.jterm.specs.declared.verdict.Request.TheVariants.{Check, Asm, Its};
+ghost use Rattle.jterm.specs.Words.{is_file_word, AreFiles, AreCheckFiles, IsOneFile, IsNumber, IsLimit, IsProveRow, IsCheckRow, IsRunRow, IsAsmRow, IsItsRow, IsCommand};
 ghost use Rattle.jterm.specs.Failure.{is_plain, NamesLimit};
 
 use crate::Request;
@@ -61,6 +61,12 @@ fn command_of<'a>(verb: &str, rest: &'a [String]) -> Option<Command<'a>>
     if is_asm(verb, rest) {
         return Some(Command {
             request: Request::Asm,
+            files: rest,
+        });
+    }
+    if is_its(verb, rest) {
+        return Some(Command {
+            request: Request::Its,
             files: rest,
         });
     }
@@ -187,12 +193,18 @@ fn is_check(verb: &str, files: &[String]) -> bool
 fn is_asm(verb: &str, files: &[String]) -> bool
     ensures { IsTrue result ↔ IsAsmRow (verb.now ∷ map string_bytes files.now) Asm (map string_bytes files.now) }
 {
-    verb == "asm" && is_listing(files)
+    verb == "asm" && is_one_file(files)
+}
+
+fn is_its(verb: &str, files: &[String]) -> bool
+    ensures { IsTrue result ↔ IsItsRow (verb.now ∷ map string_bytes files.now) Its (map string_bytes files.now) }
+{
+    verb == "its" && is_one_file(files)
 }
 
 // One word that can name a file.
-fn is_listing(words: &[String]) -> bool
-    ensures { IsTrue result ↔ IsListing (map string_bytes words.now) }
+fn is_one_file(words: &[String]) -> bool
+    ensures { IsTrue result ↔ IsOneFile (map string_bytes words.now) }
 {
     words.len() == 1 && are_file_words(words)
 }

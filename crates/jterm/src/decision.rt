@@ -1,11 +1,14 @@
 //! The decision over the bytes of the input files.
-ghost use Rattle.std.specs.Prelude.{◌≡◌, List, ℕ, ◌∷◌, map, IfOk};
+ghost use Rattle.std.specs.Prelude.{◌≡◌, List, ℕ, ◌∷◌, [], map, IfOk};
 ghost use Rattle.desc_steps.specs.Headline.{AllEnd};
 ghost use Rattle.check_call.specs.Lines.{accepted_line};
 ghost use Rattle.prove_call.specs.Lines.{yes_line};
+ghost use Rattle.its_call.specs.Answers.{IsEnding};
+ghost use Rattle.its_call.specs.Lines as its;
 ghost use Rattle.jterm.specs.Decision.{Takes, Says, IsAnswer, done_of, verdict_of};
 
 use crate::listing::assemble_listing;
+use crate::rules::rules_verdict;
 use crate::verdict::{Request, Verdict};
 use check_call::{Outcome, check_line};
 use input_steps::Refused;
@@ -23,6 +26,7 @@ fn done(out: Result<Seq<u8>, Refused>) -> Result<Verdict, Refused>
             status: 0,
             out,
             reason: None,
+            its: None,
         }),
         Err(refused) => Err(refused),
     }
@@ -37,13 +41,14 @@ fn judged(outcome: Result<Outcome, Refused>) -> Result<Verdict, Refused>
             status: outcome.status,
             out: outcome.out,
             reason: None,
+            its: None,
         }),
         Err(refused) => Err(refused),
     }
 }
 
 /// Does what the request asks for with the bytes of the files that its command names, in the order of the words:
-/// the certificate of a check, the description or the state, and then the classes; or the listing.
+/// the certificate of a check, the description or the state, and then the classes; or the listing; or the rules.
 ///
 /// # Errors
 ///
@@ -59,6 +64,11 @@ pub fn decide(alloc: Global, request: &Request, inputs: &[Vec<u8>]) -> Result<Ve
     ensures headline_of_check { (cert desc : List ℕ) (classes : List (List ℕ)) → request.now ≡ Request.Check
         → map (λ file. file.items) inputs.now ≡ cert ∷ desc ∷ classes → IfOk result (λ verdict. Says accepted_line verdict → AllEnd classes desc) }
 
+    // Where YES is answered to a text of rules, there is no infinite sequence of locations with whole numbers for the variables in which each
+    // neighbours meet all rows of one rule between them.
+    ensures headline_of_its { (text : List ℕ) → request.now ≡ Request.Its
+        → map (λ file. file.items) inputs.now ≡ text ∷ [] → IfOk result (λ verdict. Says its.yes_line verdict → IsEnding text) }
+
     // The cause of each answer.
     ensures answer { IsAnswer request.now (map (λ file. file.items) inputs.now) result }
 {
@@ -73,6 +83,7 @@ pub fn decide(alloc: Global, request: &Request, inputs: &[Vec<u8>]) -> Result<Ve
                 status: answer.status,
                 out: answer.out,
                 reason: answer.reason,
+                its: None,
             }),
             Err(fault) => Err(fault),
         },
@@ -84,5 +95,6 @@ pub fn decide(alloc: Global, request: &Request, inputs: &[Vec<u8>]) -> Result<Ve
         )),
         Request::Run { fuel } => done(run_line(alloc, *fuel, inputs[0].as_slice(), &inputs[1..])),
         Request::Asm => done(assemble_listing(alloc, inputs[0].as_slice())),
+        Request::Its => rules_verdict(alloc, inputs[0].as_slice()),
     }
 }

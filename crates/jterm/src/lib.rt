@@ -7,6 +7,7 @@ mod inputs;
 mod laws;
 mod lines;
 mod listing;
+mod rules;
 mod top;
 mod verdict;
 

@@ -11,7 +11,7 @@ use std::alloc::{AllocError, Global};
 pub(crate) fn usage_text() -> &'static [u8]
     ensures { result.now ≡ usage_lines }
 {
-    b"jterm: usage\nprove DESC CLASS..\ncheck CERT DESC CLASS..\nrun FUEL STATE CLASS..\nasm LISTING\n"
+    b"jterm: usage\nprove DESC CLASS..\ncheck CERT DESC CLASS..\nrun FUEL STATE CLASS..\nasm LISTING\nits RULES\n"
 }
 
 /// Memory ran out.

@@ -1,6 +1,8 @@
 //! The call behind the program: from the words of the command line to the exit status.
-ghost use Rattle.std.specs.Prelude.{◌≡◌, ◌⊎◌, ◌≤◌, ◌^◌, ℕ, List, ◌∷◌, map, string_bytes, Some, IfOk, IfErr};
-ghost use Rattle.jterm.specs.Words.{IsProve, IsCheck};
+ghost use Rattle.std.specs.Prelude.{◌≡◌, ◌⊎◌, ◌≤◌, ◌^◌, ℕ, List, ◌∷◌, [], map, string_bytes, Some, IfOk, IfErr};
+ghost use Rattle.its_call.specs.Answers.{IsEnding};
+ghost use Rattle.its_call.specs.Lines as its;
+ghost use Rattle.jterm.specs.Words.{IsProve, IsCheck, IsIts};
 ghost use Rattle.check_call.specs.Lines.{accepted_line};
 ghost use Rattle.prove_call.specs.Lines.{yes_line};
 ghost use Rattle.desc_steps.specs.Headline.{AllEnd};
@@ -123,8 +125,8 @@ fn write_out<O: Sink, E: Sink>(verdict: Verdict, out: &mut O, err: &mut E) -> Do
 /// Reads the words of the command line and the files that they name, decides over their contents, writes the output
 /// to `out` and a line for a call without one to `err`, and gives the exit status:
 ///
-/// - 0: YES and a certificate, ACCEPTED, how a run ended, or the class file's bytes;
-/// - 1: MAYBE, and why no certificate is given;
+/// - 0: YES and a certificate, ACCEPTED, how a run ended, the class file's bytes, or YES to rules;
+/// - 1: MAYBE, and why no certificate is given, or the rules that are left;
 /// - 2: the certificate is refused;
 /// - 3: the input is refused;
 /// - 4: the words are no command;
@@ -149,6 +151,12 @@ pub fn jterm<F: Files, O: Sink, E: Sink>(
     ensures headline_of_check { (c d : List ℕ) (cs : List (List ℕ)) (cert desc : List ℕ) (classes : List (List ℕ))
         → IsCheck (map string_bytes words.now) c d cs → AreTold (F.held files.old) (c ∷ d ∷ cs) (cert ∷ desc ∷ classes)
         → Claims accepted_line O.taken out.old out.new result.status → AllEnd classes desc }
+
+    // Where YES is claimed for a text of rules, there is no infinite sequence of locations with whole numbers for the variables in which each
+    // neighbours meet all rows of one rule between them.
+    ensures headline_of_its { (r text : List ℕ)
+        → IsIts (map string_bytes words.now) r → AreTold (F.held files.old) (r ∷ []) (text ∷ [])
+        → Claims its.yes_line O.taken out.old out.new result.status → IsEnding text }
 
     // How the call ends: a field for each promise.
     ensures ends { CallEnds F.held F.faults F.leaves O.faults O.taken E.faults E.taken (map string_bytes words.now)

@@ -1,5 +1,6 @@
 //! What is asked, and what is answered.
 use abs_cells::PackedPairs;
+use its_call::ItsFound;
 use list_views::Seq;
 use prove_core::Reason;
 
@@ -20,6 +21,8 @@ pub enum Request {
     },
     /// To write the class file that a listing says.
     Asm,
+    /// To prove that the steps of a system of integer transition rules end.
+    Its,
 }
 
 /// The answer of a command whose input is not refused.
@@ -31,4 +34,6 @@ pub struct Verdict {
     pub out: Seq<u8>,
     /// Why `prove` gives no certificate, where it gives none.
     pub reason: Option<Reason<PackedPairs>>,
+    /// What `its` leaves, where it gives no proof.
+    pub its: Option<ItsFound>,
 }

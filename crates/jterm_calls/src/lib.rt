@@ -9,3 +9,5 @@ mod checking;
 mod proving;
 #[cfg(test)]
 mod rows;
+#[cfg(test)]
+mod ruling;

@@ -13,4 +13,5 @@ returns c =
     (other_word c.args.verb.now (codes "prove") c.if-eq.ensures)
     (λ row. let t = c.is_check.ensures.1 row in let f = c.if-is_check.false in cc)
     (λ row. let t = c.is_asm.ensures.1 row in let f = c.if-is_asm.false in cc)
+    (λ row. let t = c.is_its.ensures.1 row in let f = c.if-is_its.false in cc)
     c.run_of.ensures

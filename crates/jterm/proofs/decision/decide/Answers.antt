@@ -1,6 +1,6 @@
 use Rattle.std.proofs.Common.{map, sym, ap}
 use Rattle.jterm.proofs.Proving.{verdict_of_prove}
-use Rattle.jterm.proofs.Deciding.{some_inputs, inputs_are, inputs_are_two, three_inputs, prove_answer, check_answer, run_answer, proved_at, accepted_at}
+use Rattle.jterm.proofs.Deciding.{some_inputs, inputs_are, inputs_are_two, three_inputs, prove_answer, check_answer, run_answer, one_input, its_answer, proved_at, accepted_at, ended_at}
 use Rattle.jterm.proofs.decision.decide.Goals as goal
 
 pub returns-in-Ok-clause-headline : goal.returns-in-Ok-clause-headline
@@ -38,3 +38,13 @@ returns-in-Run-clause-answer c =
     let some = some_inputs c.args.request.now (map (λ file. file.items) c.args.inputs.now) c.requires in
     let split = inputs_are (λ file. file.items) c.args.inputs.now c.index-inputs-0-in-Run.result c.as_slice-in-Run.result.now some c.index-inputs-0-in-Run.is c.as_slice-in-Run.ensures.value in
     run_answer c.args.request.now _ (map (λ file. file.items) c.args.inputs.now) c.as_slice-in-Run.result.now _ c.run_line.result c.done.result c.in-Run.is split c.done.ensures c.run_line.ensures
+
+pub returns-in-Its-clause-headline_of_its : goal.returns-in-Its-clause-headline_of_its
+returns-in-Its-clause-headline_of_its c text asked given =
+    let one = one_input (λ file. file.items) c.args.inputs.now c.args.request.now c.index-inputs-0-in-Its.result c.as_slice-in-Its.result.now c.in-Its.is c.requires c.index-inputs-0-in-Its.is c.as_slice-in-Its.ensures.value in
+    ended_at (map (λ file. file.items) c.args.inputs.now) c.as_slice-in-Its.result.now text c.rules_verdict.result one given c.rules_verdict.ensures.headline
+
+pub returns-in-Its-clause-answer : goal.returns-in-Its-clause-answer
+returns-in-Its-clause-answer c =
+    let one = one_input (λ file. file.items) c.args.inputs.now c.args.request.now c.index-inputs-0-in-Its.result c.as_slice-in-Its.result.now c.in-Its.is c.requires c.index-inputs-0-in-Its.is c.as_slice-in-Its.ensures.value in
+    its_answer c.args.request.now (map (λ file. file.items) c.args.inputs.now) c.as_slice-in-Its.result.now c.rules_verdict.result c.in-Its.is one c.rules_verdict.ensures.answer

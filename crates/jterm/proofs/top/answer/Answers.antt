@@ -4,7 +4,7 @@ use Rattle.jterm.proofs.top.answer.Goals as goal
 
 pub returns-in-Ok-clause-answered : goal.returns-in-Ok-clause-answered
 returns-in-Ok-clause-answered g c =
-    is_answered _ _ _ _ _ _ _ (ap (map (λ file. file.items)) c.deref.ensures.value) c.in_ok-inputs.ensures.contents c.in-Ok.ensures.answer (λ nodes desc classes. c.in-Ok.ensures.headline nodes desc classes) c.in-Ok.ensures.headline_of_check
+    is_answered _ _ _ _ _ _ _ (ap (map (λ file. file.items)) c.deref.ensures.value) c.in_ok-inputs.ensures.contents c.in-Ok.ensures.answer (λ nodes desc classes. c.in-Ok.ensures.headline nodes desc classes) c.in-Ok.ensures.headline_of_check c.in-Ok.ensures.headline_of_its
 
 pub returns-in-Err-At-clause-cause : goal.returns-in-Err-At-clause-cause
 returns-in-Err-At-clause-cause g c =

@@ -1,7 +1,8 @@
 use Rattle.std.proofs.Common.{arith}
 use Rattle.prove_call.specs.Lines.{yes_line}
 use Rattle.check_call.specs.Lines.{accepted_line}
-use Rattle.jterm.proofs.Endings.{unclaimed, not_low, headline, headline_of_check}
+use Rattle.its_call.specs.Lines as its
+use Rattle.jterm.proofs.Endings.{unclaimed, not_low, headline, headline_of_check, headline_of_its}
 use Rattle.jterm.proofs.WaysOut.{no_command, with_verdict, stopped}
 use Rattle.jterm.proofs.top.jterm.Goals as goal
 
@@ -24,6 +25,16 @@ returns-in-Ok-clause-headline_of_check g c cert d cs content desc classes check 
 
 pub returns-in-Err-clause-headline_of_check : goal.returns-in-Err-clause-headline_of_check
 returns-in-Err-clause-headline_of_check g c cert d cs content desc classes check told claims = absurd (unclaimed accepted_line g.O.Sink.taken c.args.out.now c.report.result (omega arith) (λ e. not_low c.in-Err.failure c.report.result _ _ _ c.report.ensures (omega (arith, e))) claims)
+
+pub returns-in_default-clause-headline_of_its : goal.returns-in_default-clause-headline_of_its
+returns-in_default-clause-headline_of_its g c r text is told claims = absurd (unclaimed its.yes_line g.O.Sink.taken c.args.out.now 4 (omega arith) (λ e. omega arith) claims)
+
+pub returns-in-Ok-clause-headline_of_its : goal.returns-in-Ok-clause-headline_of_its
+returns-in-Ok-clause-headline_of_its g c r text is told claims =
+    headline_of_its g.O.Sink.faults g.O.Sink.taken c.args.out.now _ _ _ _ _ _ _ r text c.in-Some.ensures c.in-Ok.ensures.answered c.write_out.ensures.written is told claims
+
+pub returns-in-Err-clause-headline_of_its : goal.returns-in-Err-clause-headline_of_its
+returns-in-Err-clause-headline_of_its g c r text is told claims = absurd (unclaimed its.yes_line g.O.Sink.taken c.args.out.now c.report.result (omega arith) (λ e. not_low c.in-Err.failure c.report.result _ _ _ c.report.ensures (omega (arith, e))) claims)
 
 pub returns-in_default-clause-ends : goal.returns-in_default-clause-ends
 returns-in_default-clause-ends g c =

@@ -1,0 +1,4 @@
+pub mod Plain
+pub mod Trying
+pub mod Asked
+pub mod Shown

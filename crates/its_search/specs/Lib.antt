@@ -1,0 +1,5 @@
+pub mod Changes
+pub mod Forms
+pub mod Following
+pub mod Tried
+pub mod Found
