@@ -1,4 +1,5 @@
-//! What becomes of an abstract state at an instruction: whole as definitions, with what they promise, and computed.
+//! What becomes of an abstract state at an instruction: whole as definitions, with what they promise, and computed for programs whose
+//! instructions are about ints alone and for states of ints.
 #![tactic(auto)]
 
 mod children;
@@ -6,9 +7,16 @@ mod clauses;
 mod expanding;
 mod fault;
 mod int_forms;
-mod making;
+mod operands;
 mod places;
-mod splitting;
+mod planning;
+mod plans;
+mod rows;
+mod short_rows;
+mod shuffles;
+mod spot;
+mod switches;
+mod turns;
 
 pub use clauses::bad_clause;
 pub use expanding::expand;
