@@ -26,8 +26,8 @@ TESTS_OF = {
     'program_tables': 'class_program code_verify input_text input_desc jvm_step',
     'value_tables': 'abs_ints json_view jvm_heaps',
     'low_calls': 'class_pool code_forms code_decode jvm_values jvm_heaps abs_cells lin_core list_views',
-    'state_cases': 'abs_reach term_enc abs_heap abs_match abs_widen abs_expand',
-    'state_tables': 'abs_reach term_enc abs_heap abs_match abs_widen abs_expand',
+    'state_cases': 'abs_reach term_enc abs_heap abs_match abs_widen abs_turns abs_rows abs_plans abs_expand',
+    'state_tables': 'abs_reach term_enc abs_heap abs_match abs_widen abs_turns abs_rows abs_plans abs_expand',
     'rule_cases': 'descent rule_links rank_forms rank_search',
     'proof_tables': 'descent rule_links rank_forms rank_search',
     'cert_tables': 'cert_form cert_write cert_check path_rules',
@@ -45,7 +45,8 @@ LAYER = {
         'class files': 'class_base class_pool code_forms code_decode class_read class_world class_program input_desc call_graph op_forms '
                        'asm_lines asm_codes asm_pool class_asm',
         'machine': 'jvm_values jvm_heaps frame_types jvm_step code_verify jvm_run',
-        'abstract states': 'abs_cells abs_reach abs_sound abs_equal abs_heap abs_match abs_widen term_graph abs_ints term_enc abs_expand',
+        'abstract states': 'abs_cells abs_reach abs_sound abs_equal abs_heap abs_match abs_widen term_graph abs_ints term_enc '
+                           'abs_turns abs_rows abs_plans abs_expand',
         'certificates': 'input_root descent turn_fits form_steps frame_steps object_steps access_steps step_laws its_front int_plans graph_check graph_fill plan_links cert_check '
                         'cert_form cert_write path_rules graph_build rule_links rank_forms rank_search chain_proofs prove_core',
         'program': 'input_steps run_call describe desc_steps prove_call check_call jterm',

@@ -761,7 +761,7 @@ def children(program, typing, s):
         ca = cell(arr)
         if ca[0] == 'null':
             return [throw(copied(s), NULL_POINTER)]
-        if o == 'aaload' and ca[0] != 'refs':
+        if o == 'aaload' and (ca[0] != 'refs' or ix == arr):
             return []
         ln = ca[2]
         ii, nn = (iv(ix), iv(ln))

@@ -15,7 +15,8 @@ use Rattle.abs_cells.specs.Sound.{AreIdsRising}
 use Rattle.abs_cells.specs.declared.cells.Cell.TheVariants as cells
 use Rattle.abs_reach.proofs.Finding.{stands, none}
 use Rattle.abs_heap.specs.Given.{first_cell}
-use Rattle.abs_expand.specs.Building.{IsLeastFree, changed_cell, changed_cells, IsNarrowed}
+use Rattle.abs_expand.specs.Making.{IsLeastFree, changed_cell, changed_cells}
+use Rattle.abs_turns.specs.GoodPlans.{IsChange}
 
 -- ---- cells that become others
 
@@ -23,7 +24,9 @@ changed_in : (changed listed : List (ℕ × Cell)) (id : ℕ) → cell_in (chang
 changed_in changed [] id = refl
 changed_in changed (c ∷ listed) id = at (c.0 == id) refl (changed_in changed listed id)
   where
-    at : (b : Bool) → eqb c.0 id ≡ b → cell_in (changed_cells changed listed) id ≡ option_map (λ cell. unwrap_or (cell_in changed id) cell) (cell_in listed id) → (if b then Some (changed_cell changed c) else cell_in (changed_cells changed listed) id) ≡ option_map (λ cell. unwrap_or (cell_in changed id) cell) (if b then Some c.1 else cell_in listed id)
+    at : (b : Bool) → eqb c.0 id ≡ b → cell_in (changed_cells changed listed) id ≡ option_map (λ cell. unwrap_or (cell_in changed id) cell) (cell_in listed id)
+        → (if b then Some (changed_cell changed c) else cell_in (changed_cells changed listed) id)
+        ≡ option_map (λ cell. unwrap_or (cell_in changed id) cell) (if b then Some c.1 else cell_in listed id)
     at true e rest = ap (λ (k : ℕ). Some (unwrap_or (cell_in changed k) c.1)) (eqb-true c.0 id e)
     at false e rest = rest
 
@@ -33,16 +36,17 @@ both_options (Some x) None h = absurd (none-some x (sym (h refl)))
 both_options None (Some c) h = refl
 both_options (Some x) (Some c) h = refl
 
-none_changed : (state : AbstractState) (changed : List (ℕ × Cell)) (id : ℕ) → AllByRecursion (IsNarrowed state) changed → cell_in state.cells id ≡ None → cell_in changed id ≡ None
+none_changed : (state : AbstractState) (changed : List (ℕ × Cell)) (id : ℕ) → AllByRecursion (IsChange state) changed → cell_in state.cells id ≡ None → cell_in changed id ≡ None
 none_changed state [] id h e = refl
 none_changed state (c ∷ changed) id h e = at (c.0 == id) refl (none_changed state changed id h.1 e)
   where
     at : (b : Bool) → eqb c.0 id ≡ b → cell_in changed id ≡ None → (if b then Some c.1 else cell_in changed id) ≡ None
-    at true f rest = absurd (none-some h.0.0.cell (sym e ∙ ap (cell_in state.cells) (sym (eqb-true c.0 id f)) ∙ h.0.0.is))
+    at true f rest = absurd (none-some h.0.old.cell (sym e ∙ ap (cell_in state.cells) (sym (eqb-true c.0 id f)) ∙ h.0.old.is))
     at false f rest = rest
 
 -- the cell of each id: the changed one, where it is one of these
-pub changed_at : (state : AbstractState) (changed : List (ℕ × Cell)) (id : ℕ) → AllByRecursion (IsNarrowed state) changed → cell_in (changed_cells changed state.cells) id ≡ first_cell (cell_in changed id) (cell_in state.cells id)
+pub changed_at : (state : AbstractState) (changed : List (ℕ × Cell)) (id : ℕ) → AllByRecursion (IsChange state) changed
+    → cell_in (changed_cells changed state.cells) id ≡ first_cell (cell_in changed id) (cell_in state.cells id)
 changed_at state changed id h = changed_in changed state.cells id ∙ both_options (cell_in changed id) (cell_in state.cells id) (none_changed state changed id h)
 
 pub changed_rising : (low : ℕ) (changed listed : List (ℕ × Cell)) → AreIdsRising low listed → AreIdsRising low (changed_cells changed listed)
@@ -59,7 +63,9 @@ mapped_there f o x e = ap (option_map f) e
 pub changed_free : (changed listed : List (ℕ × Cell)) (free : ℕ) → IsLeastFree listed free → IsLeastFree (changed_cells changed listed) free
 changed_free changed listed free l = record {
   none = changed_in changed listed free ∙ mapped_some (λ cell. unwrap_or (cell_in changed free) cell) (cell_in listed free) l.none;
-  least = λ m low. let found = l.least m low in (unwrap_or (cell_in changed m) found.0, changed_in changed listed m ∙ mapped_there (λ cell. unwrap_or (cell_in changed m) cell) (cell_in listed m) found.0 found.1);
+  least = λ m low.
+      let found = l.least m low in
+      (unwrap_or (cell_in changed m) found.0, changed_in changed listed m ∙ mapped_there (λ cell. unwrap_or (cell_in changed m) cell) (cell_in listed m) found.0 found.1);
 }
 
 -- ---- one cell more
@@ -88,7 +94,8 @@ free_rest low count c listed e f =
       least = λ m h l. let found = f.least m (omega (arith, h, e)) (omega (arith, l, e)) in (found.0, sym (rest_is c listed m (omega (arith, h))) ∙ found.1);
     }
 
-pub inserted_rising : (low count : ℕ) (cell : Cell) (listed : List (ℕ × Cell)) → AreIdsRising low listed → IsFreeAfter low count listed → low + count < 2048 → AreIdsRising low (take count listed ++ ((low + count, cell) ∷ drop count listed))
+pub inserted_rising : (low count : ℕ) (cell : Cell) (listed : List (ℕ × Cell)) → AreIdsRising low listed → IsFreeAfter low count listed → low + count < 2048
+    → AreIdsRising low (take count listed ++ ((low + count, cell) ∷ drop count listed))
 inserted_rising low zero cell [] r f s = (omega arith, (s, tt))
 inserted_rising low zero cell (c ∷ listed) r f s =
     let apart : low + 0 < c.0 = other (c.0 == low + 0) refl f.none in
@@ -103,7 +110,8 @@ inserted_rising low (suc count) cell (c ∷ listed) r f s =
     let found = f.least low (omega arith) (omega arith) in
     let first : c.0 ≡ low = first_is low c listed found.0 r found.1 in
     let same : suc c.0 + count ≡ low + suc count = omega (arith, first) in
-    (r.0, (r.1.0, subst (λ (n : ℕ). AreIdsRising (suc c.0) (take count listed ++ ((n, cell) ∷ drop count listed))) same (inserted_rising (suc c.0) count cell listed r.1.1 (free_rest low count c listed first f) (omega (arith, same, s)))))
+    let rest = inserted_rising (suc c.0) count cell listed r.1.1 (free_rest low count c listed first f) (omega (arith, same, s)) in
+    (r.0, (r.1.0, subst (λ (n : ℕ). AreIdsRising (suc c.0) (take count listed ++ ((n, cell) ∷ drop count listed))) same rest))
 
 -- so many cells there are at least
 pub free_is_low : (low count : ℕ) (listed : List (ℕ × Cell)) → AreIdsRising low listed → IsFreeAfter low count listed → count ≤ length listed
@@ -120,7 +128,8 @@ free_after listed free l =
 
 -- so many cells there are at least, also where some become others
 pub placed_low : (changed listed : List (ℕ × Cell)) (free : ℕ) → AreIdsRising 0 listed → IsLeastFree listed free → free ≤ length (changed_cells changed listed)
-placed_low changed listed free r l = free_is_low 0 free (changed_cells changed listed) (changed_rising 0 changed listed r) (free_after (changed_cells changed listed) free (changed_free changed listed free l))
+placed_low changed listed free r l =
+    free_is_low 0 free (changed_cells changed listed) (changed_rising 0 changed listed r) (free_after (changed_cells changed listed) free (changed_free changed listed free l))
 
 -- ---- the least free number
 
@@ -133,13 +142,15 @@ at_index low (c ∷ listed) (suc j) d r l = omega (arith, r.0, at_index (suc c.0
 abbrev pub AreCounted : List (ℕ × Cell) → ℕ → Type 0
 AreCounted listed count = (j : ℕ) → j < count → (get_or listed j (0, cells.Null)).0 ≡ j
 
-pub counted_more : (listed : List (ℕ × Cell)) (count : ℕ) (item : ℕ × Cell) → count < length listed → item ≡ get_or listed count item → item.0 ≡ count → AreCounted listed count → AreCounted listed (count + 1)
+pub counted_more : (listed : List (ℕ × Cell)) (count : ℕ) (item : ℕ × Cell) → count < length listed → item ≡ get_or listed count item → item.0 ≡ count → AreCounted listed count
+    → AreCounted listed (count + 1)
 counted_more listed count item l is e h j low = elim (cases_eq j count) [
   | inl same ↦ ap (λ (k : ℕ). (get_or listed k (0, cells.Null)).0) same ∙ ap (λ (x : ℕ × Cell). x.0) (sym (get_or_read listed count item l is (0, cells.Null))) ∙ e ∙ sym same
   | inr apart ↦ h j (omega (arith, low, apart))
 ]
 
-pub least_at : (listed : List (ℕ × Cell)) (count : ℕ) → AreIdsRising 0 listed → count ≤ length listed → AreCounted listed count → ((d : ℕ × Cell) → count < length listed → (get_or listed count d).0 ≡ count → ⊥) → IsLeastFree listed count
+pub least_at : (listed : List (ℕ × Cell)) (count : ℕ) → AreIdsRising 0 listed → count ≤ length listed → AreCounted listed count
+    → ((d : ℕ × Cell) → count < length listed → (get_or listed count d).0 ≡ count → ⊥) → IsLeastFree listed count
 least_at listed count r l h apart = record {
   none = none listed count (λ k d low e. elim (cases_eq k count) [
     | inl same ↦ apart d (omega (arith, low, same)) (subst (λ (n : ℕ). (get_or listed n d).0 ≡ count) same e)
@@ -151,7 +162,8 @@ least_at listed count r l h apart = record {
 }
 
 -- the number at which the ids of cells leave the counting
-pub least_here : (listed : List (ℕ × Cell)) (count free : ℕ) (item : ℕ × Cell) → AreIdsRising 0 listed → free ≡ count → count < length listed → item ≡ get_or listed count item → (item.0 ≡ free → ⊥) → AreCounted listed count → IsLeastFree listed free
+pub least_here : (listed : List (ℕ × Cell)) (count free : ℕ) (item : ℕ × Cell) → AreIdsRising 0 listed → free ≡ count → count < length listed → item ≡ get_or listed count item
+    → (item.0 ≡ free → ⊥) → AreCounted listed count → IsLeastFree listed free
 least_here listed count free item r at l is apart h =
     subst (IsLeastFree listed) (sym at) (least_at listed count r (omega (arith, l)) h (λ d low e. apart (ap (λ (x : ℕ × Cell). x.0) (is ∙ get_or_default listed count item d l) ∙ e ∙ sym at)))
 
@@ -163,13 +175,17 @@ first_none None b e = refl
 first_none (Some x) b e = e
 
 -- the cell of each id, where one more comes
-pub inserted_at : (listed : List (ℕ × Cell)) (count free : ℕ) (cell : Cell) (id : ℕ) → cell_in listed free ≡ None → cell_in (take count listed ++ ((free, cell) ∷ drop count listed)) id ≡ first_cell (cell_in ((free, cell) ∷ []) id) (cell_in listed id)
+pub inserted_at : (listed : List (ℕ × Cell)) (count free : ℕ) (cell : Cell) (id : ℕ) → cell_in listed free ≡ None
+    → cell_in (take count listed ++ ((free, cell) ∷ drop count listed)) id ≡ first_cell (cell_in ((free, cell) ∷ []) id) (cell_in listed id)
 inserted_at listed count free cell id none =
     joined_is (take count listed) ((free, cell) ∷ drop count listed) id ∙ at (free == id) refl
   where
     whole : (n : ℕ) → first_cell (cell_in (take count listed) n) (cell_in (drop count listed) n) ≡ cell_in listed n
     whole n = sym (joined_is (take count listed) (drop count listed) n) ∙ ap (λ (xs : List (ℕ × Cell)). cell_in xs n) (take-append-drop count listed)
 
-    at : (b : Bool) → eqb free id ≡ b → first_cell (cell_in (take count listed) id) (if b then Some cell else cell_in (drop count listed) id) ≡ first_cell (if b then Some cell else None) (cell_in listed id)
-    at true e = ap (λ (o : Option Cell). first_cell o (Some cell)) (first_none (cell_in (take count listed) id) (cell_in (drop count listed) id) (whole id ∙ ap (cell_in listed) (sym (eqb-true free id e)) ∙ none))
+    at : (b : Bool) → eqb free id ≡ b
+        → first_cell (cell_in (take count listed) id) (if b then Some cell else cell_in (drop count listed) id) ≡ first_cell (if b then Some cell else None) (cell_in listed id)
+    at true e =
+        ap (λ (o : Option Cell). first_cell o (Some cell))
+        (first_none (cell_in (take count listed) id) (cell_in (drop count listed) id) (whole id ∙ ap (cell_in listed) (sym (eqb-true free id e)) ∙ none))
     at false e = whole id

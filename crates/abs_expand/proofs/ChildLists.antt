@@ -1,27 +1,26 @@
 -- The children of steps, counted and made.
-use Rattle.std.proofs.Common.{◌≡◌, ◌∙◌, ◌<◌, ◌≤◌, ◌+◌, ◌==◌, ℕ, false, List, [], ◌∷◌, ◌++◌, length, map, take, Option, Some, None, get_or, sym, ap, subst, append_assoc, arith}
+use Rattle.std.proofs.Common.{◌≡◌, ◌∙◌, ◌<◌, ◌≤◌, ◌+◌, ℕ, List, [], ◌∷◌, ◌++◌, length, map, take, Option, Some, None, get_or, sym, ap, subst, append_assoc, arith}
 use Rattle.std.specs.Prelude.{Result, Ok, Err}
 use Rattle.std.specs.List.{AllByRecursion, AllZip}
-use Rattle.std.proofs.lemmas.Bool.{false≢true}
 use Rattle.std.proofs.lemmas.List.{length-map, get_or-map, take_all}
 use Rattle.std.proofs.lemmas.Option.{slice_get-get_or}
-use Rattle.std.proofs.lemmas.List.Elements.{All-more, All-same, recursion_from_All}
+use Rattle.std.proofs.lemmas.List.Elements.{All-more, All-same}
 use Rattle.jvm_values.specs.TypedHeaps.{WorldTypes}
 use Rattle.abs_cells.specs.AbstractStates.{AbstractState}
 use Rattle.term_graph.specs.Graphs.{GraphChild}
 use Rattle.class_world.specs.WorldTypes.{types_of}
 use Rattle.class_program.specs.Programs.{Program}
 use Rattle.frame_types.specs.Tables.{CodeTypes}
-use Rattle.abs_expand.specs.Plans.{Turn, Plan, steps, ids_made}
+use Rattle.abs_turns.specs.Plans.{Turn, Plan, steps, ids_made}
 use Rattle.abs_expand.specs.BadStates.{IsGoodState}
-use Rattle.abs_expand.specs.Answers.{Answers, HasChildren}
+use Rattle.abs_expand.specs.Answers.{Answers, HasPlanChildren}
 use Rattle.abs_expand.specs.declared.fault.ExpandFault.{ExpandFault}
 use Rattle.abs_expand.specs.declared.fault.ExpandFault.TheVariants.{BadState, TooManyIds, Memory}
 use Rattle.abs_expand.specs.Children.{IsTurnChild, IsLean}
 use Rattle.abs_expand.specs.Expansions.{plan_of, counts_of, AreFew, IsFirstTooMany, AreExpanded}
 use Rattle.abs_expand.specs.Building.{IsChildOf, turn_counts}
-use Rattle.abs_expand.specs.declared.plans.Turn.{Turn as TurnSeen}
-use Rattle.abs_expand.specs.PlansSeen.{turn_seen}
+use Rattle.abs_turns.specs.declared.plans.Turn.{Turn as TurnSeen}
+use Rattle.abs_turns.specs.PlansSeen.{turn_seen}
 
 -- ---- lists
 
@@ -35,12 +34,14 @@ pub all_mapped : {X Y : Type 0} (P : Y → Type 0) (f : X → Y) (xs : List X) �
 all_mapped P f [] h = tt
 all_mapped P f (x ∷ xs) h = (h.0, all_mapped P f xs h.1)
 
-pub more_made : {X Y : Type 0} (f : X → Y) (made : List Y) (old rest : List X) (x : X) (y : Y) (whole : List Y) → old ≡ x ∷ rest → y ≡ f x → made ++ map f old ≡ whole → (made ++ y ∷ []) ++ map f rest ≡ whole
+pub more_made : {X Y : Type 0} (f : X → Y) (made : List Y) (old rest : List X) (x : X) (y : Y) (whole : List Y) → old ≡ x ∷ rest → y ≡ f x → made ++ map f old ≡ whole
+    → (made ++ y ∷ []) ++ map f rest ≡ whole
 more_made f made old rest x y whole o e w = append_assoc made (y ∷ []) (map f rest) ∙ ap (λ z. made ++ z ∷ map f rest) e ∙ ap (λ zs. made ++ map f zs) (sym o) ∙ w
 
 -- ---- children
 
-wholes_of : (types : WorldTypes) (state : AbstractState) (turns : List Turn) (children : List GraphChild) → AllZip (IsChildOf types state) turns children → (wholes : List GraphChild) × (AllZip (IsTurnChild types state) turns wholes × AllZip IsLean wholes children)
+wholes_of : (types : WorldTypes) (state : AbstractState) (turns : List Turn) (children : List GraphChild) → AllZip (IsChildOf types state) turns children
+    → (wholes : List GraphChild) × (AllZip (IsTurnChild types state) turns wholes × AllZip IsLean wholes children)
 wholes_of types state [] [] h = ([], (tt, tt))
 wholes_of types state [] (child ∷ children) h = absurd h
 wholes_of types state (turn ∷ turns) [] h = absurd h
@@ -48,21 +49,13 @@ wholes_of types state (turn ∷ turns) (child ∷ children) h =
     let rest = wholes_of types state turns children h.1 in
     (h.0.whole ∷ rest.0, ((h.0.is, rest.1.0), (h.0.lean, rest.1.1)))
 
-pub expanded : (types : WorldTypes) (state : AbstractState) (turns : List Turn) (children : List GraphChild) → AreFew (turn_counts types (length state.cells) turns) → AllZip (IsChildOf types state) turns children → AreExpanded types state (steps turns) children
+pub expanded : (types : WorldTypes) (state : AbstractState) (turns : List Turn) (children : List GraphChild) → AreFew (turn_counts types (length state.cells) turns)
+    → AllZip (IsChildOf types state) turns children → AreExpanded types state (steps turns) children
 expanded types state turns children few h =
     let found = wholes_of types state turns children h in
     record { few = few; wholes = found.0; are = found.1.0; lean = found.1.1 }
 
 -- ---- counts
-
-pub few_cells : (types : WorldTypes) (count : ℕ) (turn : Turn) (turns : List Turn) → AreFew (turn_counts types count (turn ∷ turns)) → count ≤ 512
-few_cells types count turn turns few =
-    let first = (recursion_from_All (λ (n : ℕ). n ≤ 512) (turn_counts types count (turn ∷ turns)) few).0 in
-    omega (arith, first)
-
-pub few_all_cells : (types : WorldTypes) (count : ℕ) (turns : List TurnSeen) → (length turns == 0) ≡ false → AreFew (turn_counts types count (map turn_seen turns)) → count ≤ 512
-few_all_cells types count [] e few = absurd (false≢true (sym e))
-few_all_cells types count (turn ∷ turns) e few = few_cells types count (turn_seen turn) (map turn_seen turns) few
 
 module _ (types : WorldTypes) (count : ℕ) (turns : List TurnSeen) where
   abbrev Counts : List ℕ
@@ -79,10 +72,12 @@ module _ (types : WorldTypes) (count : ℕ) (turns : List TurnSeen) where
   count_of : (n made : ℕ) (turn : TurnSeen) → n < length turns → turn ≡ get_or turns n turn → made ≡ ids_made types (turn_seen turn).act → get_or Counts n 0 ≡ count + made
   count_of n made turn l is e = count_at n turn l ∙ ap (λ (t : TurnSeen). count + ids_made types (turn_seen t).act) (sym is) ∙ ap (λ (m : ℕ). count + m) (sym e)
 
-  pub few_next : (n made : ℕ) (turn : TurnSeen) → n < length turns → turn ≡ get_or turns n turn → made ≡ ids_made types (turn_seen turn).act → count + made ≤ 512 → AreFew (take n Counts) → AreFew (take (n + 1) Counts)
+  pub few_next : (n made : ℕ) (turn : TurnSeen) → n < length turns → turn ≡ get_or turns n turn → made ≡ ids_made types (turn_seen turn).act → count + made ≤ 512 → AreFew (take n Counts)
+      → AreFew (take (n + 1) Counts)
   few_next n made turn l is e few before = All-more (λ (m : ℕ). m ≤ 512) Counts n 0 (omega (arith, l, counted)) before (omega (arith, few, count_of n made turn l is e))
 
-  pub many_at : (n made : ℕ) (turn : TurnSeen) → n < length turns → turn ≡ get_or turns n turn → made ≡ ids_made types (turn_seen turn).act → 512 < count + made → AreFew (take n Counts) → IsFirstTooMany Counts n
+  pub many_at : (n made : ℕ) (turn : TurnSeen) → n < length turns → turn ≡ get_or turns n turn → made ≡ ids_made types (turn_seen turn).act → 512 < count + made → AreFew (take n Counts)
+      → IsFirstTooMany Counts n
   many_at n made turn l is e many before = record {
     count = get_or Counts n 0;
     is = slice_get-get_or Counts n 0 (omega (arith, l, counted));
@@ -95,10 +90,11 @@ module _ (types : WorldTypes) (count : ℕ) (turns : List TurnSeen) where
 
 -- ---- the answer
 
--- what is answered of a plan's steps is the state's answer
-pub steps_answer : (p : Program) (typing : ℕ → CodeTypes) (state : AbstractState) (turns : List Turn) (result : Result (Option (List GraphChild)) ExpandFault) → IsGoodState p typing state → steps turns ≡ plan_of p typing state → HasChildren (types_of p.world) state turns result → Answers p typing state result
-steps_answer p typing state turns (Ok None) good e h = absurd h
-steps_answer p typing state turns (Ok (Some children)) good e h = (good, subst (λ (plan : Plan). AreExpanded (types_of p.world) state plan children) e h)
-steps_answer p typing state turns (Err (BadState clause)) good e h = absurd h
-steps_answer p typing state turns (Err (TooManyIds child)) good e h = (good, subst (λ (plan : Plan). IsFirstTooMany (counts_of (types_of p.world) state plan) child) e h)
-steps_answer p typing state turns (Err Memory) good e h = tt
+-- what is answered of a plan is the state's answer
+pub plan_answer : (p : Program) (typing : ℕ → CodeTypes) (state : AbstractState) (plan : Plan) (result : Result (Option (List GraphChild)) ExpandFault) → IsGoodState p typing state
+    → plan ≡ plan_of p typing state → HasPlanChildren (types_of p.world) state plan result → Answers p typing state result
+plan_answer p typing state plan (Ok None) good e h = absurd h
+plan_answer p typing state plan (Ok (Some children)) good e h = (good, subst (λ (plan : Plan). AreExpanded (types_of p.world) state plan children) e h)
+plan_answer p typing state plan (Err (BadState clause)) good e h = absurd h
+plan_answer p typing state plan (Err (TooManyIds child)) good e h = (good, subst (λ (plan : Plan). IsFirstTooMany (counts_of (types_of p.world) state plan) child) e h)
+plan_answer p typing state plan (Err Memory) good e h = tt

@@ -1,6 +1,5 @@
 -- States of ints under programs of ints: one frame runs, no reference is tested, and no call waits.
 use Rattle.std.proofs.Common.{◌≡◌, ◌≢◌, ◌∙◌, ℕ, true, false, List, [], ◌∷◌, ◌++◌, length, get_or, reverse, Option, Some, None, refl, sym, ap, subst, arith}
-use Rattle.std.specs.Prelude.{Result, Ok, Err, IfOk}
 use Rattle.std.specs.List.{AllByRecursion, flat_map}
 use Rattle.std.specs.Option.{option_map, option_map_or}
 use Rattle.std.proofs.lemmas.List.Elements.{recursion_from_All}
@@ -18,13 +17,13 @@ use Rattle.class_program.specs.declared.op.Op.TheVariants as ops
 use Rattle.class_program.specs.Programs.{Program, insn_at, op_at}
 use Rattle.op_forms.specs.Forms.{Form, form_of}
 use Rattle.frame_types.specs.Tables.{CodeTypes}
-use Rattle.abs_expand.specs.Plans.{Plan}
+use Rattle.abs_turns.specs.Plans.{Plan}
 use Rattle.abs_expand.specs.Building.{HoldsIds, AreIntTurns}
 use Rattle.abs_expand.specs.Expansions.{plan_here, plan_in, plan_of}
 use Rattle.abs_expand.proofs.IntTurns.{row_sound}
-use Rattle.abs_expand.specs.Needs.{Passing, passes, passing, after_test, tested, operands_of}
-use Rattle.abs_expand.specs.Turns.{Here}
-use Rattle.abs_expand.specs.Table.{types_here, taken_by, row_of, plan_of_form}
+use Rattle.abs_turns.specs.Needs.{Passing, passes, passing, after_test, tested, operands_of}
+use Rattle.abs_turns.specs.Turns.{Here}
+use Rattle.abs_turns.specs.Table.{types_here, taken_by, row_of, plan_of_form}
 use Rattle.abs_expand.specs.BadStates.{call_takes, call_at, AreAtCalls, IsGoodState}
 use Rattle.abs_expand.specs.IntForms.{is_int_form, has_int_form, HasIntForms, IsIntState}
 
@@ -88,11 +87,6 @@ only_frame (x ∷ []) seen frame turned one is = ap (λ (y : AbstractFrame). y �
 only_frame (x ∷ y ∷ rest) seen frame turned one is = absurd (omega (arith, one))
 
 -- ---- plans
-
--- what a call gives is more than it says
-pub if_ok : {A E : Type 0} (P Q : A → Type 0) (result : Result A E) → ((a : A) → P a → Q a) → IfOk result P → IfOk result Q
-if_ok P Q (Ok a) f p = f a p
-if_ok P Q (Err e) f p = tt
 
 -- what the only frame holds has cells
 pub frame_held : (state : AbstractState) (frame : AbstractFrame) → IsWellFormed state → state.frames ≡ frame ∷ [] → HoldsIds state frame

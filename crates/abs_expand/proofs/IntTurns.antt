@@ -1,5 +1,5 @@
 -- Each step of a state of ints narrows ints of it, keeps to its ids, and makes one id at most.
-use Rattle.std.proofs.Common.{◌≡◌, ◌∙◌, ◌==◌, ℕ, zero, suc, ℤ, pos, Bool, true, false, if◌then◌else◌, List, [], ◌∷◌, length, Option, Some, None, slice_get, refl, ap, subst, arith}
+use Rattle.std.proofs.Common.{◌≡◌, ◌∙◌, ◌==◌, ℕ, ℤ, pos, Bool, true, false, if◌then◌else◌, List, [], ◌∷◌, length, Option, Some, None, slice_get, refl, ap, subst, arith}
 use Rattle.std.specs.Prelude.{slice_set}
 use Rattle.std.specs.List.{AllByRecursion, filter_map}
 use Rattle.std.specs.Option.{option_map, option_and_then}
@@ -23,66 +23,17 @@ use Rattle.abs_ints.specs.Comparing.{compared}
 use Rattle.abs_ints.specs.Operating.{operated}
 use Rattle.abs_ints.specs.declared.cases.IntCase.{IntCase}
 use Rattle.op_forms.specs.declared.form.Shuffle.{Shuffle as StackShuffle}
-use Rattle.op_forms.specs.declared.form.Shuffle.TheVariants.{Pop, Pop2, Dup, DupX1, DupX2, Dup2, Dup2X1, Dup2X2, Swap}
 use Rattle.op_forms.specs.Forms.{Form, shuffled}
 use Rattle.op_forms.specs.Forms.Form.{Nop, AconstNull, Iconst, Iload, Aload, Istore, Astore, Iinc, Shuffle, Arith, Ineg, Narrow, If, IfIcmp, IfAcmpeq, IfAcmpne, Ifnull, Ifnonnull, Goto, Tableswitch, Lookupswitch, Ireturn, Areturn, Return, Getstatic, Putstatic, Getfield, Putfield, Invokevirtual, Invokespecial, Invokestatic, Invokeinterface, New, Newarray, Anewarray, Arraylength, NumberLoad, Aaload, NumberStore, Aastore, Athrow, Checkcast, Instanceof}
 use Rattle.term_graph.specs.declared.links.LinkRow.{LinkRow}
-use Rattle.abs_expand.specs.Plans.{Goal, on_stack, in_local, Turn, Plan, steps, makes, no_rows}
-use Rattle.abs_expand.specs.Turns.{Here, Operand, known, id, frames_at, with_stack, moves, goes_on, pushes, interval_at, interval_of_id, are_one, narrowings, rows_over, turn_of_result, turn_of_case, turns_of, turn_narrowing, turns_narrowing, narrows, rows_if, place_of_way, branch_of_case, branches, switch_turn}
-use Rattle.abs_expand.specs.Switches.{table_keys, lookup_keys, parts_of}
-use Rattle.abs_expand.specs.Table.{local_here, load_plan, store_plan, increment_plan, negation_plan, narrow_plan, switch_plan, unary, binary, value_plan, returned_to, row_of}
+use Rattle.abs_turns.specs.Plans.{Goal, on_stack, in_local, Turn, Plan, steps, makes, no_rows}
+use Rattle.abs_turns.specs.Turns.{Here, Operand, known, id, frames_at, with_stack, moves, goes_on, pushes, interval_at, interval_of_id, are_one, narrowings, rows_over, turn_of_result, turn_of_case, turns_of, turn_narrowing, turns_narrowing, narrows, rows_if, place_of_way, branch_of_case, branches, switch_turn}
+use Rattle.abs_turns.specs.Switches.{table_keys, lookup_keys, parts_of}
+use Rattle.abs_turns.specs.Table.{local_here, load_plan, store_plan, increment_plan, negation_plan, narrow_plan, switch_plan, unary, binary, value_plan, returned_to, row_of}
 use Rattle.abs_expand.specs.IntForms.{is_int_form, IsIntState}
 use Rattle.abs_expand.specs.Building.{HoldsIds, IsNarrowed, MakesOneAtMost, IsIntTurn, AreIntTurns}
-use Rattle.abs_expand.proofs.OptionLists.{each_any, if_there}
-
--- ---- locals
-
-pub local_held : (P : ℕ → Type 0) (locals : List (Option ℕ)) (n x : ℕ) → AllByRecursion P (given_ids locals) → slice_get locals n ≡ Some (Some x) → P x
-local_held P [] n x h e = absurd (none-some (Some x) e)
-local_held P (None ∷ locals) zero x h e = absurd (none-some x (some_is e))
-local_held P (Some y ∷ locals) zero x h e = subst P (some_is (some_is e)) h.0
-local_held P (None ∷ locals) (suc n) x h e = local_held P locals n x h e
-local_held P (Some y ∷ locals) (suc n) x h e = local_held P locals n x h.1 e
-
-pub set_held : (P : ℕ → Type 0) (locals : List (Option ℕ)) (n x : ℕ) → AllByRecursion P (given_ids locals) → P x → AllByRecursion P (given_ids (slice_set locals n (Some x)))
-set_held P [] n x h p = tt
-set_held P (None ∷ locals) zero x h p = (p, h)
-set_held P (Some y ∷ locals) zero x h p = (p, h.1)
-set_held P (None ∷ locals) (suc n) x h p = set_held P locals n x h p
-set_held P (Some y ∷ locals) (suc n) x h p = (h.0, set_held P locals n x h.1 p)
-
--- ---- stacks
-
-pub reordered : (P : ℕ → Type 0) (shuffle : StackShuffle) (stack rest : List ℕ) → AllByRecursion P stack → shuffled shuffle stack ≡ Some rest → AllByRecursion P rest
-reordered P Pop [] rest h e = absurd (none-some rest e)
-reordered P Pop (a ∷ below) rest h e = subst (AllByRecursion P) (some_is e) h.1
-reordered P Pop2 [] rest h e = absurd (none-some rest e)
-reordered P Pop2 (a ∷ []) rest h e = absurd (none-some rest e)
-reordered P Pop2 (a ∷ b ∷ below) rest h e = subst (AllByRecursion P) (some_is e) h.1.1
-reordered P Dup [] rest h e = absurd (none-some rest e)
-reordered P Dup (a ∷ below) rest h e = subst (AllByRecursion P) (some_is e) (h.0, h)
-reordered P DupX1 [] rest h e = absurd (none-some rest e)
-reordered P DupX1 (a ∷ []) rest h e = absurd (none-some rest e)
-reordered P DupX1 (a ∷ b ∷ below) rest h e = subst (AllByRecursion P) (some_is e) (h.0, (h.1.0, (h.0, h.1.1)))
-reordered P DupX2 [] rest h e = absurd (none-some rest e)
-reordered P DupX2 (a ∷ []) rest h e = absurd (none-some rest e)
-reordered P DupX2 (a ∷ b ∷ []) rest h e = absurd (none-some rest e)
-reordered P DupX2 (a ∷ b ∷ c ∷ below) rest h e = subst (AllByRecursion P) (some_is e) (h.0, (h.1.0, (h.1.1.0, (h.0, h.1.1.1))))
-reordered P Dup2 [] rest h e = absurd (none-some rest e)
-reordered P Dup2 (a ∷ []) rest h e = absurd (none-some rest e)
-reordered P Dup2 (a ∷ b ∷ below) rest h e = subst (AllByRecursion P) (some_is e) (h.0, (h.1.0, h))
-reordered P Dup2X1 [] rest h e = absurd (none-some rest e)
-reordered P Dup2X1 (a ∷ []) rest h e = absurd (none-some rest e)
-reordered P Dup2X1 (a ∷ b ∷ []) rest h e = absurd (none-some rest e)
-reordered P Dup2X1 (a ∷ b ∷ c ∷ below) rest h e = subst (AllByRecursion P) (some_is e) (h.0, (h.1.0, (h.1.1.0, (h.0, (h.1.0, h.1.1.1)))))
-reordered P Dup2X2 [] rest h e = absurd (none-some rest e)
-reordered P Dup2X2 (a ∷ []) rest h e = absurd (none-some rest e)
-reordered P Dup2X2 (a ∷ b ∷ []) rest h e = absurd (none-some rest e)
-reordered P Dup2X2 (a ∷ b ∷ c ∷ []) rest h e = absurd (none-some rest e)
-reordered P Dup2X2 (a ∷ b ∷ c ∷ d ∷ below) rest h e = subst (AllByRecursion P) (some_is e) (h.0, (h.1.0, (h.1.1.0, (h.1.1.1.0, (h.0, (h.1.0, h.1.1.1.1))))))
-reordered P Swap [] rest h e = absurd (none-some rest e)
-reordered P Swap (a ∷ []) rest h e = absurd (none-some rest e)
-reordered P Swap (a ∷ b ∷ below) rest h e = subst (AllByRecursion P) (some_is e) (h.1.0, (h.0, h.1.1))
+use Rattle.abs_turns.proofs.OptionLists.{each_any, if_there}
+pub use Rattle.abs_plans.proofs.Holding.{local_held, set_held, reordered}
 
 -- ---- steps
 

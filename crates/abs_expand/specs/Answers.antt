@@ -6,7 +6,7 @@ use Rattle.class_program.specs.Programs.{Program}
 use Rattle.frame_types.specs.Tables.{CodeTypes}
 use Rattle.term_graph.specs.Graphs.{GraphChild}
 use Rattle.jvm_values.specs.TypedHeaps.{WorldTypes}
-use Rattle.abs_expand.specs.Plans.{Turn, ends, steps}
+use Rattle.abs_turns.specs.Plans.{Plan, ends}
 use Rattle.abs_expand.specs.BadStates.{IsGoodState, IsBadState}
 use Rattle.abs_expand.specs.Expansions.{plan_of, counts_of, IsFirstTooMany, AreExpanded}
 use Rattle.abs_expand.specs.declared.fault.ExpandFault.{ExpandFault}
@@ -21,10 +21,10 @@ Answers p typing state (Err (BadState clause)) = IsBadState p typing state claus
 Answers p typing state (Err (TooManyIds child)) = IsGoodState p typing state × IsFirstTooMany (counts_of (types_of p.world) state (plan_of p typing state)) child
 Answers p typing state (Err Memory) = Unit {0}
 
--- what an expansion answers where the plan is these steps
-abbrev pub HasChildren : WorldTypes → AbstractState → List Turn → Result (Option (List GraphChild)) ExpandFault → Type 0
-HasChildren types state turns (Ok None) = ⊥
-HasChildren types state turns (Ok (Some children)) = AreExpanded types state (steps turns) children
-HasChildren types state turns (Err (TooManyIds child)) = IsFirstTooMany (counts_of types state (steps turns)) child
-HasChildren types state turns (Err (BadState clause)) = ⊥
-HasChildren types state turns (Err Memory) = Unit {0}
+-- what an expansion answers where a state that has one has this plan, and the run doesn't end
+abbrev pub HasPlanChildren : WorldTypes → AbstractState → Plan → Result (Option (List GraphChild)) ExpandFault → Type 0
+HasPlanChildren types state plan (Ok None) = ⊥
+HasPlanChildren types state plan (Ok (Some children)) = AreExpanded types state plan children
+HasPlanChildren types state plan (Err (TooManyIds child)) = IsFirstTooMany (counts_of types state plan) child
+HasPlanChildren types state plan (Err (BadState clause)) = ⊥
+HasPlanChildren types state plan (Err Memory) = Unit {0}

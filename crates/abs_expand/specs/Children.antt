@@ -14,8 +14,8 @@ use Rattle.abs_reach.specs.Reached.{IsDropped}
 use Rattle.term_graph.specs.Graphs.{GraphChild}
 use Rattle.abs_heap.specs.Given.{IsGiven, AreFresh, with_cells}
 use Rattle.abs_heap.specs.Writing.{IsWriteChild, IsItemChild, IsObjectChild, IsNewArrayChild}
-use Rattle.abs_expand.specs.Plans.{Act, nothing, makes, writes, item, object, array, Goal, nowhere, on_stack, in_local, in_bottom, in_field, is_thrown, Turn}
-use Rattle.abs_expand.specs.Table.{bottom_with}
+use Rattle.abs_turns.specs.Plans.{Act, nothing, makes, writes, item, object, array, Goal, nowhere, on_stack, in_local, in_bottom, in_field, is_thrown, Turn}
+use Rattle.abs_turns.specs.Table.{bottom_with}
 
 -- an act gives a state from another one, with the id that it makes; one that makes none gives any
 abbrev pub IsActed : WorldTypes → Act → ℕ → AbstractState → AbstractState → Type 0

@@ -1,45 +1,21 @@
 -- The expansion of an abstract state: the children of its plan, without the ids that nothing reaches (Otto, Brockschmidt, von Essen,
 -- Giesl 2010).
-use Rattle.std.specs.Prelude.{ℕ, ◌+◌, ◌-◌, if◌then◌else◌, List, [], ◌∷◌, map, length, Option, Some, None, slice_get}
+use Rattle.std.specs.Prelude.{ℕ, ◌+◌, ◌-◌, if◌then◌else◌, List, [], ◌∷◌, map, length, Option, Some}
 use Rattle.std.specs.List.{AllZip}
-use Rattle.std.specs.Option.{option_map_or}
 use Rattle.jvm_values.specs.declared.types.Ty.{Ty}
 use Rattle.jvm_values.specs.TypedHeaps.{WorldTypes}
-use Rattle.jvm_values.specs.States.{PlaceTypes}
 use Rattle.abs_cells.specs.declared.cells.Cell.{Cell}
 use Rattle.abs_cells.specs.declared.cells.Cell.TheVariants as cells
-use Rattle.abs_cells.specs.AbstractStates.{AbstractFrame, AbstractState}
+use Rattle.abs_cells.specs.AbstractStates.{AbstractState}
 use Rattle.abs_cells.specs.Cells.{cell_at, are_compatible}
 use Rattle.term_graph.specs.Graphs.{GraphChild}
 use Rattle.abs_heap.specs.Refining.{cases_of}
 use Rattle.abs_heap.specs.Counts.{case_counts}
 pub use Rattle.abs_heap.specs.Counts.{AreFew, IsFirstTooMany}
 use Rattle.abs_heap.specs.Answers.{AreNullChildren, AreClassChildren, AreEqualAnswers}
-use Rattle.class_world.specs.WorldTypes.{types_of}
-use Rattle.class_program.specs.declared.program.Method.{Method}
-use Rattle.class_program.specs.Programs.{Program, insn_at}
-use Rattle.op_forms.specs.Forms.{Form, form_of}
-use Rattle.frame_types.specs.Tables.{CodeTypes}
-use Rattle.abs_expand.specs.Plans.{Turn, Plan, ends, steps, by_null, by_class, by_equal, no_child, ids_made}
-use Rattle.abs_expand.specs.Table.{plan_of_form}
+use Rattle.abs_turns.specs.Plans.{Turn, Plan, ends, steps, by_null, by_class, by_equal, ids_made}
+pub use Rattle.abs_plans.specs.Planning.{plan_here, plan_in, plan_of}
 use Rattle.abs_expand.specs.Children.{IsTurnChild, IsLean}
-use Rattle.abs_expand.specs.Throwing.{throwing_plan}
-
--- ---- the plan of a state
-
--- in normal mode by the form of the instruction, with the typing's types there and the place of the next instruction. Where none
--- comes after it, which no place of a typing leads to, its own place stands for that
-abbrev pub plan_here : Program → (ℕ → CodeTypes) → AbstractState → AbstractFrame → List AbstractFrame → Option Form → Option ℕ → Option PlaceTypes → Plan
-plan_here p typing state frame below (Some form) next (Some there) = plan_of_form (record { program = p; state = state; frame = frame; below = below; places = there.stack; next = option_map_or (λ place. place) next frame.pc }) form
-plan_here p typing state frame below _ next _ = no_child
-
-abbrev pub plan_in : Program → (ℕ → CodeTypes) → AbstractState → Option ℕ → List AbstractFrame → Plan
-plan_in p typing state thrown [] = no_child
-plan_in p typing state (Some x) (frame ∷ below) = throwing_plan (types_of p.world) state x frame below (option_map_or (λ (m : Method). m.table) (slice_get p.methods frame.method) [])
-plan_in p typing state None (frame ∷ below) = plan_here p typing state frame below (option_map_or (λ found. form_of found.0) (insn_at p.methods frame.method frame.pc) None) (option_map_or (λ found. found.1) (insn_at p.methods frame.method frame.pc) None) (typing frame.method frame.pc)
-
-abbrev pub plan_of : Program → (ℕ → CodeTypes) → AbstractState → Plan
-plan_of p typing state = plan_in p typing state state.throwing state.frames
 
 -- ---- the children of a plan
 

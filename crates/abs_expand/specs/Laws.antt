@@ -14,7 +14,7 @@ use Rattle.jvm_step.specs.Running.{step, IsEnd}
 use Rattle.jvm_step.specs.Running.Step.{Going}
 use Rattle.term_graph.specs.Graphs.{GraphChild}
 use Rattle.term_graph.specs.Edges.{Edge}
-use Rattle.abs_expand.specs.Plans.{ends}
+use Rattle.abs_turns.specs.Plans.{ends}
 use Rattle.abs_expand.specs.BadStates.{IsGoodState}
 use Rattle.class_program.specs.Widths.{HasWidths}
 use Rattle.abs_expand.specs.Expansions.{plan_of, AreExpanded}

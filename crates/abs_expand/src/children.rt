@@ -1,89 +1,29 @@
-//! The children of a state of ints: each step done, and the ids dropped that nothing reaches.
-ghost use Rattle.std.specs.Prelude.{◌≡◌, ◌<◌, ◌≤◌, ◌≤ℤ◌, ◌+ℤ◌, ◌*ℤ◌, ◌++◌, ◌∷◌, pos, negsuc, length, take, drop, reverse, slice_set, IfOk, IsTrue, Some};
-ghost use Rattle.std.specs.Option.{option_map};
-ghost use Rattle.jvm_values.specs.TypedHeaps.{WorldTypes};
-ghost use Rattle.abs_cells.specs.Cells.{cell_in};
-ghost use Rattle.abs_cells.specs.Sound.{AreIdsRising, IsWellFormed};
-ghost use Rattle.abs_expand.specs.Turns.{term_of, terms_of, constant_of, row_over, rows_over};
-ghost use Rattle.abs_expand.specs.Building.{IsLeastFree, changed_cell, changed_cells, cells_after, frames_to, thrown_by, grown, IsIntTurn, IsLeanState, IsChildOf};
-ghost use Rattle.abs_expand.specs.ShortRows.{is_small_factor, is_short_row, are_short};
-ghost use Rattle.abs_expand.specs.OperandsSeen.{operand_seen};
-ghost use Rattle.abs_expand.specs.IntForms.{IsIntState};
-ghost use Rattle.abs_expand.specs.PlansSeen.{act_seen, goal_seen, rows_seen, turn_seen};
+//! The children of steps: each step done, and the ids dropped that nothing reaches.
+ghost use Rattle.std.specs.Prelude.{◌≡◌, ◌≤◌, ◌≤ℤ◌, ◌+◌, ◌+ℤ◌, ◌*ℤ◌, ◌++◌, pos, negsuc, length, IfOk, IsTrue, Err};
+ghost use Rattle.abs_cells.specs.Limits.{most_ids};
+ghost use Rattle.abs_cells.specs.Sound.{IsWellFormed};
+ghost use Rattle.abs_heap.specs.declared.fault.HeapFault.TheVariants.{TooManyIds};
+ghost use Rattle.class_program.specs.Views.{program_of};
+ghost use Rattle.class_world.specs.WorldTypes.{types_of};
+ghost use Rattle.abs_turns.specs.Plans.{ids_made};
+ghost use Rattle.abs_turns.specs.GoodPlans.{IsGoodTurn};
+ghost use Rattle.abs_turns.specs.OperandsSeen.{operand_seen};
+ghost use Rattle.abs_turns.specs.PlansSeen.{rows_seen, turn_seen};
+ghost use Rattle.abs_turns.specs.ShortRows.{is_small_factor, is_short_row, are_short};
+ghost use Rattle.abs_turns.specs.Turns.{term_of, terms_of, constant_of, row_over, rows_over};
+ghost use Rattle.abs_expand.specs.Building.{IsLeanState, IsChildOf};
+ghost use Rattle.abs_expand.specs.Children.{IsLean};
 
-use crate::operands::Operand;
-use crate::plans::{Act, Goal, Rows, Turn};
-use crate::short_rows::RowsOver;
-use abs_cells::{AbsFrame, AbsState, Cell, Id, Pairs, copied_cell};
+use crate::making::whole_state;
+use abs_cells::{AbsState, Id, Pairs};
+use abs_heap::HeapFault;
 use abs_ints::{Few, ShortRow};
 use abs_reach::{Marks, drop_unreached};
+use abs_turns::{Operand, Rows, RowsOver, Turn};
+use class_program::Program;
 use list_views::Seq;
 use std::alloc::{AllocError, Global};
 use term_graph::{Child, Link, LinkRow, Side};
-
-/// The least number that is no id of cells.
-pub(crate) fn least_free(cells: &[(Id, Cell)]) -> Id
-    requires rising { AreIdsRising 0 cells.now }
-    requires few { length cells.now < 2048 }
-    ensures is { IsLeastFree cells.now result }
-    ensures low { result < 2048 }
-{
-    let mut free = 0u16;
-    for (id, _cell) in cells {
-        if *id != free {
-            return free;
-        }
-        free += 1;
-    }
-    free
-}
-
-/// The interval of a cell among others, where it is there and an int's.
-fn changed_int(changed: &[(Id, Cell)], id: Id) -> Option<&Cell>
-    ensures { option_map (λ cell. cell.now) result ≡ cell_in changed.now id }
-{
-    for (other, cell) in changed {
-        if *other == id {
-            return Some(cell);
-        }
-    }
-    None
-}
-
-/// The cell of an id, which a change may have.
-fn new_cell(alloc: Global, changed: &[(Id, Cell)], id: Id, cell: &Cell) -> Result<Cell, AllocError>
-    ensures { IfOk result (λ copy. copy ≡ changed_cell changed.now (id, cell.now)) }
-{
-    match changed_int(changed, id) {
-        Some(other) => copied_cell(alloc, other),
-        None => copied_cell(alloc, cell),
-    }
-}
-
-/// Cells, of which some become others.
-fn changed_cells(
-    alloc: Global,
-    cells: &[(Id, Cell)],
-    changed: &[(Id, Cell)],
-) -> Result<Seq<(Id, Cell)>, AllocError>
-    ensures { IfOk result (λ copy. copy ≡ changed_cells changed.now cells.now) }
-{
-    let mut copy = Seq::with_capacity(alloc, cells.len() + 1)?;
-    for (id, cell) in cells {
-        copy.push((*id, new_cell(alloc, changed, *id, cell)?))?;
-    }
-    Ok(copy)
-}
-
-/// Cells with one more, whose id is the least that none of them has.
-fn with_cell(cells: Seq<(Id, Cell)>, id: Id, cell: Cell) -> Result<Seq<(Id, Cell)>, AllocError>
-    requires { id ≤ length cells }
-    ensures { IfOk result (λ all. all ≡ take id cells ++ ((id, cell) ∷ drop id cells)) }
-{
-    let mut items = cells.into_vec();
-    items.insert(usize::from(id), (id, cell))?;
-    Ok(Seq::from_vec(items))
-}
 
 /// What an operand adds to the terms of a row.
 fn put_term(
@@ -205,78 +145,6 @@ fn link_rows(alloc: Global, rows: Rows, fresh: Id) -> Result<Seq<LinkRow>, Alloc
     }
 }
 
-/// A frame with an id on its stack.
-fn with_top(alloc: Global, frame: &AbsFrame, id: Id) -> Result<AbsFrame, AllocError>
-    ensures { IfOk result (λ made. made ≡ record frame.now { stack = id ∷ frame.now.stack }) }
-{
-    let locals = Seq::from_slice(alloc, frame.locals())?;
-    let mut stack = Seq::from_slice(alloc, frame.stack())?;
-    stack.push(id)?;
-    Ok(AbsFrame::new(frame.method(), frame.pc(), locals, stack))
-}
-
-/// A frame with an id in a local.
-fn with_local(alloc: Global, frame: &AbsFrame, n: u16, id: Id) -> Result<AbsFrame, AllocError>
-    ensures { IfOk result (λ made. made ≡ record frame.now { locals = slice_set frame.now.locals n (Some id) }) }
-{
-    let mut locals = Seq::from_slice(alloc, frame.locals())?;
-    if usize::from(n) < locals.len() {
-        *locals.at_mut(usize::from(n)) = Some(id);
-    }
-    let stack = Seq::from_slice(alloc, frame.stack())?;
-    Ok(AbsFrame::new(frame.method(), frame.pc(), locals, stack))
-}
-
-/// Frames, the running call's last, with an id at a goal of the running one.
-fn frames_to(
-    alloc: Global,
-    mut frames: Seq<AbsFrame>,
-    goal: Goal,
-    id: Id,
-) -> Result<Seq<AbsFrame>, AllocError>
-    ensures { IfOk result (λ made. reverse made ≡ frames_to (goal_seen goal) id (reverse frames)) }
-{
-    let Some(frame) = frames.pop() else {
-        return Ok(frames);
-    };
-    let made = match goal {
-        Goal::Nowhere | Goal::Thrown => frame,
-        Goal::OnStack => with_top(alloc, &frame, id)?,
-        Goal::InLocal(n) => with_local(alloc, &frame, n, id)?,
-    };
-    frames.push(made)?;
-    Ok(frames)
-}
-
-/// The thrown id after a step.
-fn thrown_by(goal: Goal, id: Id) -> Option<Id>
-    ensures { result ≡ thrown_by (goal_seen goal) id }
-{
-    match goal {
-        Goal::Thrown => Some(id),
-        _ => None,
-    }
-}
-
-/// The cells after a step.
-fn cells_after(
-    alloc: Global,
-    cells: &[(Id, Cell)],
-    changed: &[(Id, Cell)],
-    act: Act,
-    fresh: Id,
-) -> Result<Seq<(Id, Cell)>, AllocError>
-    requires rising { AreIdsRising 0 cells.now }
-    requires fresh { IsLeastFree cells.now fresh }
-    ensures { IfOk result (λ made. made ≡ cells_after changed.now (act_seen act) fresh cells.now) }
-{
-    let made = changed_cells(alloc, cells, changed)?;
-    match act {
-        Act::Nothing => Ok(made),
-        Act::Makes(cell) => with_cell(made, fresh, cell),
-    }
-}
-
 /// A state without the ids that nothing reaches.
 fn lean<P: Pairs>(whole: AbsState<P>, marks: &mut Marks) -> AbsState<P>
     requires { IsWellFormed whole }
@@ -288,57 +156,49 @@ fn lean<P: Pairs>(whole: AbsState<P>, marks: &mut Marks) -> AbsState<P>
     part
 }
 
-/// The state of a step of a state of ints, before ids are dropped.
-fn grown<P: Pairs>(
-    alloc: Global,
-    state: &AbsState<P>,
-    changed: Seq<(Id, Cell)>,
-    frames: Seq<AbsFrame>,
-    act: Act,
-    goal: Goal,
-    fresh: Id,
-) -> Result<AbsState<P>, AllocError>
-    requires rising { AreIdsRising 0 state.now.cells }
-    requires fresh { IsLeastFree state.now.cells fresh }
-    ensures { IfOk result (λ whole. whole ≡ grown state.now changed (reverse frames) (act_seen act) (goal_seen goal) fresh) }
+/// A child without the ids that nothing reaches.
+pub(crate) fn lean_child<P: Pairs>(child: Child<P>, marks: &mut Marks) -> Child<P>
+    requires { IsWellFormed child.state }
+    ensures { IsLean child result }
 {
-    let cells = cells_after(alloc, state.cells(), changed.as_slice(), act, fresh)?;
-    let frames = frames_to(alloc, frames, goal, fresh)?;
-    Ok(AbsState::new(
-        frames,
-        thrown_by(goal, fresh),
-        cells,
-        P::empty(alloc),
-        P::empty(alloc),
-    ))
+    let (whole, link) = child.into_parts();
+    Child::new(lean(whole, marks), link)
 }
 
 /// The child of a step.
 pub(crate) fn child<P: Pairs>(
     alloc: Global,
+    program: &Program<'_>,
     state: &AbsState<P>,
     turn: Turn,
-    fresh: Id,
     marks: &mut Marks,
-) -> Result<Child<P>, AllocError>
-    requires ints { IsIntState state.now }
+) -> Result<Child<P>, HeapFault>
     requires good { IsWellFormed state.now }
-    requires fresh { IsLeastFree state.now.cells fresh }
-    requires low { fresh < 2048 }
-    requires turn { IsIntTurn state.now (turn_seen turn) }
-    ensures { (types : WorldTypes) → IfOk result (λ child. IsChildOf types state.now (turn_seen turn) child) }
+    requires few { length state.now.cells + ids_made (types_of (program_of program.now).world) (turn_seen turn).act ≤ most_ids }
+    requires turn { IsGoodTurn (types_of (program_of program.now).world) state.now (turn_seen turn) }
+    ensures child { IfOk result (λ child. IsChildOf (types_of (program_of program.now).world) state.now (turn_seen turn) child) }
+    ensures never { result ≡ Err TooManyIds → ⊥ }
 {
     let Turn {
         changed,
         frames,
+        throwing,
         act,
         goal,
         rows,
     } = turn;
-    let rows = link_rows(alloc, rows, fresh)?;
-    let whole = grown(alloc, state, changed, frames, act, goal, fresh)?;
+    let (whole, id) = whole_state(
+        alloc,
+        &program.world,
+        state,
+        changed.as_slice(),
+        frames,
+        throwing,
+        act,
+        goal,
+    )?;
     let link = Link {
-        rows,
+        rows: link_rows(alloc, rows, id)?,
         merged: None,
         step: true,
     };

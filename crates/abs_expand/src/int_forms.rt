@@ -1,4 +1,4 @@
-//! Which programs and states expansion is built for so far.
+//! Which programs and states are about ints alone.
 ghost use Rattle.std.specs.Prelude.{◌≡◌, IsTrue, slice_get};
 ghost use Rattle.std.specs.Option.{is_none};
 ghost use Rattle.std.specs.List.{list_all};

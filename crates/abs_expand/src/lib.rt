@@ -1,5 +1,4 @@
-//! What becomes of an abstract state at an instruction: whole as definitions, with what they promise, and computed for programs whose
-//! instructions are about ints alone and for states of ints.
+//! What becomes of an abstract state at an instruction: whole as definitions, with what they promise, and computed.
 #![tactic(auto)]
 
 mod children;
@@ -7,16 +6,9 @@ mod clauses;
 mod expanding;
 mod fault;
 mod int_forms;
-mod operands;
+mod making;
 mod places;
-mod planning;
-mod plans;
-mod rows;
-mod short_rows;
-mod shuffles;
-mod spot;
-mod switches;
-mod turns;
+mod splitting;
 
 pub use clauses::bad_clause;
 pub use expanding::expand;

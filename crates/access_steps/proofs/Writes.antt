@@ -1,9 +1,9 @@
 -- Forms that read and write items of arrays of references, and that write numbers into arrays.
-use Rattle.std.proofs.Common.{◌≡◌, ◌∙◌, ◌<◌, ◌≤◌, ◌⊎◌, inl, inr, ℕ, ℤ, pos, negsuc, ◌<ℤ◌, ◌≤ℤ◌, Bool, true, false, cond, if◌then◌else◌, List, [], ◌∷◌, length, map, Option, Some, None, slice_get, refl, sym, ap, subst, arith}
+use Rattle.std.proofs.Common.{◌≡◌, ◌==◌, eqb, ◌∙◌, ◌<◌, ◌≤◌, ◌⊎◌, inl, inr, ℕ, ℤ, pos, negsuc, ◌<ℤ◌, ◌≤ℤ◌, Bool, true, false, cond, if◌then◌else◌, List, [], ◌∷◌, length, map, Option, Some, None, slice_get, refl, sym, ap, subst, arith}
 use Rattle.std.specs.Prelude.{All, slice_set}
 use Rattle.std.specs.List.{AllByRecursion}
 use Rattle.std.specs.Option.{option_map, option_map_or}
-use Rattle.std.proofs.lemmas.Bool.{false≢true, lt-ltb, le-ltb}
+use Rattle.std.proofs.lemmas.Bool.{eqb-true, false≢true, lt-ltb, le-ltb}
 use Rattle.std.proofs.lemmas.Int.{ints}
 use Rattle.std.proofs.lemmas.Option.{none-some}
 use Rattle.list_views.proofs.Items.{get_within, length_set}
@@ -38,7 +38,7 @@ use Rattle.jvm_step.specs.Running.{Step, step}
 use Rattle.term_graph.specs.Edges.{HoldsBetween}
 use Rattle.term_graph.specs.declared.links.LinkRow.{LinkRow}
 use Rattle.abs_expand.specs.Plans.{nothing, nowhere, on_stack, item, writes, Turn, Plan, no_child}
-use Rattle.abs_expand.specs.Table.{cell_here, is_null_cell, is_null_here, access_at, length_id, items_length_id, number_store_plan, aaload_plan, aastore_plan}
+use Rattle.abs_expand.specs.Table.{cell_here, is_null_cell, is_null_here, access_at, length_id, items_length_id, items_of, number_store_plan, aaload_plan, aastore_plan}
 use Rattle.abs_expand.specs.Turns.{throws_after, with_stack as stack_at}
 use Rattle.turn_fits.proofs.SomeOf.{SomeOf}
 use Rattle.turn_fits.proofs.Carry.{described_of}
@@ -50,6 +50,14 @@ use Rattle.form_steps.proofs.TurnKinds.{Fitting, Meets, IsChange, throwing_turn,
 use Rattle.form_steps.proofs.Operands.{int_at, by_int_at, TopInt}
 use Rattle.frame_steps.proofs.Moves.{by_reference_at}
 use Rattle.frame_steps.proofs.References.{top_is_reference, accessed_meets}
+
+-- a reference isn't the id of an int
+other_id : (meaning : Meaning) (k index : ℕ) (n : ℤ) → meaning index ≡ values.Int n → reference_of (meaning k) ≡ Some (meaning k) → (k == index) ≡ false
+other_id meaning k index n e r = at (eqb k index) refl
+  where
+    at : (b : Bool) → eqb k index ≡ b → b ≡ false
+    at true f = absurd (none-some (meaning k) (sym (ap reference_of (ap meaning (eqb-true k index f) ∙ e)) ∙ r))
+    at false f = refl
 
 -- ---- effects
 
@@ -218,16 +226,17 @@ module _ (p : Program) (typing : ℕ → CodeTypes) (state : AbstractState) (mac
 
       at : (index k : ℕ) (rest : List ℕ) → IndexOver p typing state machine meaning s s.running.stack s.frame.stack index k rest → Covered (aaload_plan (here p typing state machine meaning s) (index ∷ k ∷ rest))
       at index k rest x =
-          accessed_meets p typing state machine meaning s 1 k (option_map_or (λ (len : ℕ). access_at (here p typing state machine meaning s) index len (ItemSteps k rest)) (items_length_id (cell_here (here p typing state machine meaning s) k)) no_child)
+          accessed_meets p typing state machine meaning s 1 k (option_map_or (λ (len : ℕ). access_at (here p typing state machine meaning s) index len (ItemSteps k rest)) (items_of (here p typing state machine meaning s) k index) no_child)
           (ap (λ (ids : List ℕ). slice_get ids 1) x.ids_are) x.reference
           (λ f. raises_frame p typing state machine meaning s effect null_pointer_exception is (aaload_null machine.heap s.running x.number (meaning k ∷ map meaning rest) (map meaning rest) x.top (top_array p typing state machine meaning s k rest values.Null x.reference f)))
           (λ class ids r c f o. absurd (none effect is (aaload_none machine.heap s.running x.number (meaning k ∷ map meaning rest) (map meaning rest) r (objects.Instance class (map meaning ids)) x.top (top_array p typing state machine meaning s k rest (values.Ref r) x.reference f) o refl)))
           (λ kind len r items c f o l. absurd (none effect is (aaload_none machine.heap s.running x.number (meaning k ∷ map meaning rest) (map meaning rest) r (objects.Nums kind items) x.top (top_array p typing state machine meaning s k rest (values.Ref r) x.reference f) o refl)))
           (λ element len shape r own items c f o b l.
-          subst (λ (cell : Option Cell). Covered (option_map_or (λ (y : ℕ). access_at (here p typing state machine meaning s) index y (ItemSteps k rest)) (items_length_id cell) no_child)) (sym c)
+          subst (λ (b : Bool). Covered (option_map_or (λ (y : ℕ). access_at (here p typing state machine meaning s) index y (ItemSteps k rest)) (if b then None else items_length_id (cell_here (here p typing state machine meaning s) k)) no_child)) (sym (other_id meaning k index x.number x.int.is x.reference))
+          (subst (λ (cell : Option Cell). Covered (option_map_or (λ (y : ℕ). access_at (here p typing state machine meaning s) index y (ItemSteps k rest)) (items_length_id cell) no_child)) (sym c)
           (access_meets p typing state machine meaning s index len x.number (length items) (ItemSteps k rest) x.int (int_at p typing state machine meaning s len (pos (length items)) (length_held p typing state machine meaning s k (cells.Refs element len shape) len c refl) l)
           (λ i n low list rows are only hold. inl (inside r own items f o i n low list rows are only hold))
-          (λ out. raises_frame p typing state machine meaning s effect array_index_out_of_bounds_exception is (whole r own items f o ∙ ap (λ (found : Option Value). Some (on_item found (λ (v : Value). Effect.Next (with_stack s.running (v ∷ map meaning rest))))) (outside_item p typing state machine meaning s items x.number out)))))
+          (λ out. raises_frame p typing state machine meaning s effect array_index_out_of_bounds_exception is (whole r own items f o ∙ ap (λ (found : Option Value). Some (on_item found (λ (v : Value). Effect.Next (with_stack s.running (v ∷ map meaning rest))))) (outside_item p typing state machine meaning s items x.number out))))))
         where
           whole : (r : ℕ) (own : Ty) (items : List Value) → meaning k ≡ values.Ref r → slice_get machine.heap.objects r ≡ Some (objects.Refs own items) → effect ≡ Some (on_item (item_at items x.number) (λ (v : Value). Effect.Next (with_stack s.running (v ∷ map meaning rest))))
           whole r own items f o = aaload_by machine.heap s.running x.number (meaning k ∷ map meaning rest) (map meaning rest) r (objects.Refs own items) own items x.top (top_array p typing state machine meaning s k rest (values.Ref r) x.reference f) o refl

@@ -26,7 +26,7 @@ use Rattle.abs_expand.specs.Expansions.{plan_of}
 use Rattle.abs_expand.specs.IntForms.{HasIntForms, IsIntState}
 use Rattle.abs_expand.specs.Plans.{nothing, makes, Goal, on_stack, in_local, Turn, steps, no_rows}
 use Rattle.abs_expand.specs.Turns.{Here, Operand, known, id, with_stack, interval_at, are_one, narrowings, term_of, terms_of, constant_of, row_over, rows_over, turn_of_result, turn_of_case, turns_of, narrows, place_of_way, branch_of_case, branches}
-use Rattle.abs_expand.proofs.OptionLists.{filtered}
+use Rattle.abs_turns.proofs.OptionLists.{filtered}
 use Rattle.int_plans.proofs.EachTurn.{EachTurn, HoldsOfInts, here_in, each_turn, in_plan}
 use Rattle.plan_links.proofs.SmallRows.{IsPlainRow, compared_plain}
 

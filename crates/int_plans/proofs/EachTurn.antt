@@ -36,7 +36,7 @@ use Rattle.abs_expand.specs.Switches.{table_keys, lookup_keys, parts_of}
 use Rattle.abs_expand.specs.Table.{number_cell, local_here, load_plan, store_plan, increment_plan, negation_plan, narrow_plan, switch_plan, unary, binary, value_plan, returned_to, row_of}
 use Rattle.abs_expand.proofs.IntTurns.{row_sound}
 use Rattle.abs_expand.proofs.IntStates.{one_frame, form_int, op_int, plan_is_row, plan_alone, frame_held}
-use Rattle.abs_expand.proofs.OptionLists.{each_any, if_there}
+use Rattle.abs_turns.proofs.OptionLists.{each_any, if_there}
 use Rattle.int_plans.specs.Laws.{IntPlansAreOfInts}
 
 -- each step of a plan, and no state is split

@@ -54,7 +54,7 @@ use Rattle.abs_expand.specs.Needs.{may_be_null, need_null, is_unknown, known_par
 use Rattle.abs_expand.specs.Plans.{Turn, Plan, on_stack, in_local, in_bottom, in_field, steps, by_null, by_equal, no_child, no_rows}
 use Rattle.abs_expand.specs.Switches.{table_keys, lookup_keys}
 use Rattle.abs_expand.specs.Turns.{Here, known, id, frames_at, with_stack, emptied, moves, goes_on, pushes, throws, throws_after, interval_at, interval_of_id, turns_of, branches}
-use Rattle.abs_expand.specs.Table.{types_here, place_under, cell_here, is_null_here, unless_null, accessed, local_here, step_if, one_step, store_plan, increment_plan, negation_plan, narrow_plan, switch_plan, jump_if, null_plan, equal_plan, field_id, getfield_plan, on_instance, put_slot, putfield_plan, bottom_with, static_local, put_static, putstatic_plan, new_of_base, array_turn, natural, negative, array_plan, length_id, length_plan, access_at, access_of, number_load_plan, number_store_plan, aaload_plan, aastore_plan, Cast, checkcast_of, instanceof_of, with_bound, bounded, cell_bound, is_bound_below, may_be_below, is_known_cell, undecided, cast_plan, checkcast_plan, instanceof_plan, invokes, runs_or_lacks, static_plan, receiver_of, special_plan, class_of_cell, answered, selecting_plan, returned_to, value_plan, athrow_plan, binary, unary, row_of}
+use Rattle.abs_expand.specs.Table.{types_here, place_under, cell_here, is_null_here, unless_null, accessed, local_here, step_if, one_step, store_plan, increment_plan, negation_plan, narrow_plan, switch_plan, jump_if, null_plan, equal_plan, field_id, getfield_plan, on_instance, put_slot, putfield_plan, bottom_with, static_local, put_static, putstatic_plan, new_of_base, array_turn, natural, negative, array_plan, length_id, items_length_id, items_of, length_plan, access_at, access_of, number_load_plan, number_store_plan, aaload_plan, aastore_plan, Cast, checkcast_of, instanceof_of, with_bound, bounded, cell_bound, is_bound_below, may_be_below, is_known_cell, undecided, cast_plan, checkcast_plan, instanceof_plan, invokes, runs_or_lacks, static_plan, receiver_of, special_plan, class_of_cell, answered, selecting_plan, returned_to, value_plan, athrow_plan, binary, unary, row_of}
 use Rattle.int_plans.proofs.EachRow.{each_sum, each_difference}
 use Rattle.plan_links.proofs.SmallRows.{HasIntEnds, IsInt}
 use Rattle.plan_links.proofs.Rows.{IsOver, sum_over, difference_over}
@@ -304,11 +304,16 @@ module _ (p : Program) (here : Here) (sound : IsSound (types_of p.world) here.st
   number_read (index ∷ k ∷ stack) int =
       access 1 k index (length_id (cell_here here k)) _ (int index (k ∷ stack) refl) (λ len. length_int Types here.state sound k len (cell_here here k) refl) (λ inside h. (inside_turn here ends inside _ h refl refl, tt))
 
+  -- an array isn't read at itself
+  other_items : (b : Bool) (found : Option ℕ) (len : ℕ) → (if b then None else found) ≡ Some len → found ≡ Some len
+  other_items true found len e = absurd (none-some len e)
+  other_items false found len e = e
+
   item_read : (stack : List ℕ) → ((x : ℕ) (rest : List ℕ) → stack ≡ x ∷ rest → IsIntId x) → Fits (aaload_plan here stack)
   item_read [] int = tt
   item_read (index ∷ []) int = tt
   item_read (index ∷ k ∷ stack) int =
-      access 1 k index _ _ (int index (k ∷ stack) refl) (λ len. items_int Types here.state sound k len (cell_here here k) refl) (λ inside h. (inside_turn here ends inside _ h refl refl, tt))
+      access 1 k index (items_of here k index) _ (int index (k ∷ stack) refl) (λ len e. items_int Types here.state sound k len (cell_here here k) refl (other_items (k == index) (items_length_id (cell_here here k)) len e)) (λ inside h. (inside_turn here ends inside _ h refl refl, tt))
 
   number_stored : (stack : List ℕ) → ((v x : ℕ) (rest : List ℕ) → stack ≡ v ∷ x ∷ rest → IsIntId x) → Fits (number_store_plan here stack)
   number_stored [] int = tt

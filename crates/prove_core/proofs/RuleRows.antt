@@ -21,7 +21,7 @@ use Rattle.term_graph.specs.declared.links.LinkRow.{LinkRow}
 use Rattle.term_graph.specs.declared.links.Link.{Link}
 use Rattle.term_graph.specs.Edges.{is_size_variable}
 use Rattle.term_graph.specs.Graphs.{GraphNode}
-use Rattle.abs_expand.proofs.OptionLists.{each_any}
+use Rattle.abs_turns.proofs.OptionLists.{each_any}
 use Rattle.path_rules.specs.Stops.{Stop, Leg, child, instance, LinkedGraph, leg_by, leg_at, rides_from}
 use Rattle.path_rules.specs.Rules.{at_least_zero, ids_with, variable_of, variable_at, bounds_of, rows_of_stop, tie, has_int, link_row, rows_of_child, image_row, rows_of_instance, rows_of_leg, variables_after, rows_along}
 use Rattle.path_rules.specs.Conditions.{IsRowBetween, IsLinkBetween}

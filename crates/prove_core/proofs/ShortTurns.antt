@@ -49,9 +49,9 @@ use Rattle.term_graph.specs.declared.links.LinkRow.{LinkRow}
 use Rattle.abs_expand.specs.Needs.{Passing, passes, fails, splits, passing_id, after_test, tested, operands_of, may_be_null, need_null, is_unknown, known_partner, split_unknown, split_below, need_class, need_object}
 use Rattle.abs_expand.specs.Plans.{Goal, on_stack, in_local, in_bottom, in_field, Turn, Plan, ends, steps, by_null, by_class, by_equal, makes, writes, item, nothing, nowhere, no_child, no_rows}
 use Rattle.abs_expand.specs.Switches.{table_keys, lookup_keys, parts_of}
-use Rattle.abs_expand.specs.Table.{types_here, place_under, cell_here, is_null_here, unless_null, accessed, local_here, step_if, load_plan, store_plan, increment_plan, negation_plan, narrow_plan, switch_plan, jump_if, null_plan, equal_plan, field_id, getfield_plan, on_instance, put_slot, putfield_plan, bottom_with, static_local, getstatic_plan, bottom_of, put_static, putstatic_plan, new_of_base, array_turn, natural, negative, array_plan, length_id, items_length_id, length_plan, of_kind, in_bounds, out_of_bounds, access_at, access_of, access_plan, number_load_plan, number_store_plan, aaload_plan, aastore_plan, Cast, checkcast_of, instanceof_of, with_bound, bounded, cell_bound, is_bound_below, may_be_below, is_known_cell, undecided, cast_plan, checkcast_plan, instanceof_plan, called_frame, invokes, runs_or_lacks, static_plan, receiver_of, special_plan, class_of_cell, answered, selecting_plan, returned_to, value_plan, athrow_plan, binary, unary, row_of, taken_by, plan_of_form}
+use Rattle.abs_expand.specs.Table.{types_here, place_under, cell_here, is_null_here, unless_null, accessed, local_here, step_if, load_plan, store_plan, increment_plan, negation_plan, narrow_plan, switch_plan, jump_if, null_plan, equal_plan, field_id, getfield_plan, on_instance, put_slot, putfield_plan, bottom_with, static_local, getstatic_plan, bottom_of, put_static, putstatic_plan, new_of_base, array_turn, natural, negative, array_plan, length_id, items_of, length_plan, of_kind, in_bounds, out_of_bounds, access_at, access_of, access_plan, number_load_plan, number_store_plan, aaload_plan, aastore_plan, Cast, checkcast_of, instanceof_of, with_bound, bounded, cell_bound, is_bound_below, may_be_below, is_known_cell, undecided, cast_plan, checkcast_plan, instanceof_plan, called_frame, invokes, runs_or_lacks, static_plan, receiver_of, special_plan, class_of_cell, answered, selecting_plan, returned_to, value_plan, athrow_plan, binary, unary, row_of, taken_by, plan_of_form}
 use Rattle.abs_expand.specs.Turns.{Here, Operand, known, id, with_stack, emptied, goes_on, moves, throws, throws_after, interval_at, interval_of_id, are_one, narrowings, term_of, terms_of, row_over, rows_over, turn_of_result, turn_of_case, turns_of, turn_narrowing, turns_narrowing, narrows, rows_if, place_of_way, branch_of_case, branches, switch_turn}
-use Rattle.abs_expand.proofs.OptionLists.{each_any}
+use Rattle.abs_turns.proofs.OptionLists.{each_any}
 use Rattle.prove_core.specs.ShortLinks.{IsShortRow}
 use Rattle.prove_core.proofs.ShortCases.{IsLow, AreLow, HasLow, operated_low, related_low, compared_low}
 
@@ -388,7 +388,7 @@ module _ (here : Here) where
   aaload_short : (stack : List ℕ) → IsShortPlan (aaload_plan here stack)
   aaload_short [] = tt
   aaload_short (index ∷ []) = tt
-  aaload_short (index ∷ k ∷ stack) = access_of_short 1 k index (items_length_id (cell_here here k)) (λ narrowed rows. record { changed = narrowed; frames = with_stack here here.next stack; throwing = None; act = item k; goal = on_stack; rows = rows } ∷ []) (λ narrowed rows h. (h, tt))
+  aaload_short (index ∷ k ∷ stack) = access_of_short 1 k index (items_of here k index) (λ narrowed rows. record { changed = narrowed; frames = with_stack here here.next stack; throwing = None; act = item k; goal = on_stack; rows = rows } ∷ []) (λ narrowed rows h. (h, tt))
 
   aastore_short : (stack : List ℕ) → IsShortPlan (aastore_plan here stack)
   aastore_short [] = tt

@@ -1,9 +1,6 @@
 //! `expand`: a state, an entry method and class files; what expansion answers.
-ghost use Rattle.class_program.specs.Views.{program_of};
-ghost use Rattle.abs_expand.specs.IntForms.{HasIntForms, IsIntState};
-
 use abs_cells::{AbsState, ListPairs, PackedPairs, Pairs};
-use abs_expand::{ExpandFault, expand, has_int_forms, is_int_state};
+use abs_expand::{ExpandFault, expand};
 use abs_reach::Marks;
 use anyhow::{Context, Result, bail};
 use class_program::Program;
@@ -33,28 +30,13 @@ impl ProgramAnswers for Expansions {
     }
 }
 
-/// The answer to a case of a program whose instructions are about ints.
+/// The answer that both forms of pairs give.
 fn of_program(
     alloc: Global,
     program: &Program<'_>,
     typing: &Typing,
     case: &Case<'_>,
 ) -> Result<String> {
-    if !has_int_forms(program) {
-        bail!("instructions about ints are wanted");
-    }
-    of_forms(alloc, program, typing, case)
-}
-
-/// The answer that both forms of pairs give.
-fn of_forms(
-    alloc: Global,
-    program: &Program<'_>,
-    typing: &Typing,
-    case: &Case<'_>,
-) -> Result<String>
-    requires { HasIntForms (program_of program.now) }
-{
     let listed = answer_by::<ListPairs>(alloc, program, typing, case)?;
     agreed(
         listed,
@@ -67,39 +49,10 @@ fn answer_by<P: Pairs>(
     program: &Program<'_>,
     typing: &Typing,
     case: &Case<'_>,
-) -> Result<String>
-    requires { HasIntForms (program_of program.now) }
-{
+) -> Result<String> {
     let state = state_in::<P>(alloc, &program.world, case.text(0)?)?;
-    of_state(alloc, program, typing, &state)
-}
-
-/// What becomes of a state, which is of ints alone or refused.
-fn of_state<P: Pairs>(
-    alloc: Global,
-    program: &Program<'_>,
-    typing: &Typing,
-    state: &AbsState<P>,
-) -> Result<String>
-    requires { HasIntForms (program_of program.now) }
-{
-    if !is_int_state(state) {
-        bail!("ints alone are wanted");
-    }
-    of_ints(alloc, program, typing, state)
-}
-
-fn of_ints<P: Pairs>(
-    alloc: Global,
-    program: &Program<'_>,
-    typing: &Typing,
-    state: &AbsState<P>,
-) -> Result<String>
-    requires forms { HasIntForms (program_of program.now) }
-    requires ints { IsIntState state.now }
-{
     let mut marks = Marks::new(alloc)?;
-    let expanded = expand(alloc, program, typing, state, &mut marks);
+    let expanded = expand(alloc, program, typing, &state, &mut marks);
     told(alloc, &program.world, &expanded)
 }
 

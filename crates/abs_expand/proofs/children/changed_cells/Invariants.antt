@@ -1,6 +1,0 @@
-use Rattle.std.proofs.Common.{◌≡◌, take}
-use Rattle.abs_expand.specs.Building.{changed_cells}
-use Rattle.abs_expand.proofs.children.changed_cells.Given as goal
-
-abbrev pub invariant-loop-id : goal.invariant-loop-id
-invariant-loop-id l = l.copy ≡ changed_cells l.changed (take l.id-index l.cells)

@@ -1,0 +1,10 @@
+pub mod Calling
+pub mod GoodPlans
+pub mod GoodRows
+pub mod GoodTurns
+pub mod Holding
+pub mod MadePlans
+pub mod PlannedStates
+pub mod RangesTaken
+pub mod Taking
+pub mod WellFormed

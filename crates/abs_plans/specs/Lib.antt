@@ -1,0 +1,3 @@
+pub mod Casts
+pub mod TestsSeen
+pub mod Planning

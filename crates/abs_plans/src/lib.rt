@@ -1,0 +1,10 @@
+//! The plan of an abstract state: whether the run ends, what each of its steps does, or into which cases the state is split.
+#![tactic(auto)]
+
+mod calls;
+mod casts;
+mod planning;
+mod testing;
+mod throwing;
+
+pub use planning::plan;

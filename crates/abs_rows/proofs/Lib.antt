@@ -1,0 +1,3 @@
+pub mod FirstCases
+pub mod Narrowed
+pub mod StoredItems

@@ -1,0 +1,11 @@
+pub mod Plans
+pub mod Needs
+pub mod Turns
+pub mod Switches
+pub mod Table
+pub mod Throwing
+pub mod OperandsSeen
+pub mod PlansSeen
+pub mod ShortRows
+pub mod Stops
+pub mod GoodPlans

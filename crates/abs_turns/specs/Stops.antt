@@ -1,0 +1,82 @@
+-- What comes in the place of a form's row, if anything does: a split, a throw, or no child. The code asks for it before it makes a row.
+use Rattle.std.specs.Prelude.{ℕ, Bool, true, false, ◌&&◌, ◌||◌, if◌then◌else◌, List, [], ◌∷◌, filter, Option, Some, None}
+use Rattle.std.specs.List.{find, list_any}
+use Rattle.lin_core.specs.Intervals.{Bounds, interval_of}
+use Rattle.jvm_values.specs.declared.types.Kind.{Kind}
+use Rattle.jvm_values.specs.Kinds.{least_of, greatest_of}
+use Rattle.jvm_values.specs.declared.typing.PlaceType.{PlaceType}
+use Rattle.jvm_values.specs.TypedHeaps.{WorldTypes}
+use Rattle.abs_cells.specs.AbstractStates.{AbstractState}
+use Rattle.abs_cells.specs.Cells.{cell_at}
+use Rattle.abs_cells.specs.PairLists.{has}
+use Rattle.abs_ints.specs.Narrowings.{are_of_kind}
+use Rattle.class_world.specs.BuiltIns.{null_pointer_exception}
+use Rattle.class_program.specs.declared.op.Op.{Op}
+use Rattle.class_program.specs.declared.op.Op.TheVariants as ops
+use Rattle.class_program.specs.declared.op.Call.{Call}
+use Rattle.class_program.specs.declared.program.CatchRange.{CatchRange}
+use Rattle.abs_turns.specs.Plans.{Plan, steps, no_child, by_null, by_equal}
+use Rattle.abs_turns.specs.Needs.{Passing, passes, fails, splits, passing_id, may_be_null, is_unknown, split_below}
+use Rattle.abs_turns.specs.Turns.{Here, throws}
+use Rattle.abs_turns.specs.Table.{place_under, is_null_here, jump_if}
+use Rattle.abs_turns.specs.Throwing.{takes, may_take, before_taker}
+
+-- a plan, unless another one comes in its place
+abbrev pub unless : Option Plan → Plan → Plan
+unless None plan = plan
+unless (Some stop) plan = stop
+
+abbrev pub or_next : Option Plan → Option Plan → Option Plan
+or_next None next = next
+or_next (Some stop) next = Some stop
+
+-- for an operand that doesn't pass
+abbrev pub stop_of : Passing → ℕ → Option Plan
+stop_of passes id = None
+stop_of fails id = Some no_child
+stop_of splits id = Some (by_null id)
+
+-- for the first of some operands that doesn't pass
+abbrev pub first_stop : WorldTypes → AbstractState → List (PlaceType × ℕ) → Option Plan
+first_stop types state [] = None
+first_stop types state (operand ∷ operands) = or_next (stop_of (passing_id types state operand.0 operand.1) operand.1) (first_stop types state operands)
+
+-- for null, which throws
+abbrev pub null_stop : Here → ℕ → Option Plan
+null_stop here x = if is_null_here here x then Some (steps (throws here null_pointer_exception ∷ [])) else None
+
+-- for a receiver that may be null, or is null
+abbrev pub receiver_stop : Here → ℕ → Option Plan
+receiver_stop here x = if may_be_null (cell_at here.state x) then Some (by_null x) else null_stop here x
+
+-- for the receiver of an access, under so many entries of the stack, which isn't of a known class
+abbrev pub access_stop : Here → ℕ → ℕ → Option Plan
+access_stop here depth x = if may_be_null (cell_at here.state x) then Some (by_null x) else if is_unknown (cell_at here.state x) then Some (split_below here.state x (place_under here depth)) else null_stop here x
+
+-- ---- parts of rows
+
+-- two ids that differ, neither of which is split by null, are compared
+abbrev pub objects_plan : Here → Bool → ℕ → ℕ → ℕ → List ℕ → Plan
+objects_plan here wanted place a b stack =
+    if is_null_here here a && is_null_here here b then jump_if here wanted true place stack
+    else if is_null_here here a || is_null_here here b then jump_if here wanted false place stack
+    else if has a b here.state.eq then by_equal a b
+    else jump_if here wanted false place stack
+
+-- what an int becomes in a narrowing to a kind: nothing, where it stays as it is, and else the numbers of the kind
+abbrev pub narrowed_to : Kind → Bounds → Option Bounds
+narrowed_to kind a = if are_of_kind kind a then None else interval_of (least_of kind) (greatest_of kind)
+
+-- a call that selects, of an interface's method or not
+abbrev pub op_called : Bool → Call → Op
+op_called true call = ops.Invokeinterface call
+op_called false call = ops.Invokevirtual call
+
+-- ---- ranges
+
+-- the first range with the place that takes an object, and whether one before it may
+abbrev pub taker_of : WorldTypes → AbstractState → ℕ → (CatchRange → Bool) → List CatchRange → Option CatchRange
+taker_of types state x covered table = find (takes types state x) (filter covered table)
+
+abbrev pub may_of : WorldTypes → AbstractState → ℕ → (CatchRange → Bool) → List CatchRange → Bool
+may_of types state x covered table = list_any (may_take types state x) (before_taker types state x (filter covered table))

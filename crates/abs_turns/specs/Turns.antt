@@ -1,0 +1,173 @@
+-- The steps of an abstract state, built from their parts: where it goes on, what it throws, and the cases of its ints.
+use Rattle.std.specs.Prelude.{ℕ, ℤ, pos, ◌+ℤ◌, ◌*ℤ◌, ◌==◌, Bool, true, false, if◌then◌else◌, List, [], ◌∷◌, ◌++◌, map, Option, Some, None}
+use Rattle.std.specs.List.{filter_map}
+use Rattle.std.specs.Option.{option_map, option_and_then}
+use Rattle.std.specs.Ordering.{int_eq}
+use Rattle.lin_core.specs.Intervals.{Bounds}
+use Rattle.jvm_values.specs.declared.types.Kind.{Kind}
+use Rattle.jvm_values.specs.declared.ints.IntOp.{IntOp}
+use Rattle.jvm_values.specs.declared.ints.IntOp.TheVariants.{Narrow}
+use Rattle.jvm_values.specs.declared.ints.Cond.{Cond}
+use Rattle.jvm_values.specs.declared.typing.PlaceType.{PlaceType}
+use Rattle.abs_cells.specs.declared.cells.Cell.{Cell}
+use Rattle.abs_cells.specs.declared.cells.Cell.TheVariants as cells
+use Rattle.abs_cells.specs.AbstractStates.{AbstractFrame, AbstractState}
+use Rattle.abs_cells.specs.Cells.{cell_at}
+use Rattle.abs_ints.specs.IntIntervals.{all_ints, just, meet_of}
+use Rattle.abs_ints.specs.Operating.{operated}
+use Rattle.abs_ints.specs.Comparing.{compared}
+use Rattle.abs_ints.specs.declared.cases.IntCase.{IntCase}
+use Rattle.abs_ints.specs.declared.cases.ShortRow.{ShortRow}
+use Rattle.abs_ints.specs.declared.cases.Way.{Way}
+use Rattle.abs_ints.specs.declared.cases.Way.TheVariants as ways
+use Rattle.class_program.specs.Programs.{Program}
+use Rattle.class_world.specs.BuiltIns.{arithmetic_exception}
+use Rattle.term_graph.specs.declared.links.Side.{Side}
+use Rattle.term_graph.specs.declared.links.Side.TheVariants.{Before, After}
+use Rattle.term_graph.specs.declared.links.LinkRow.{LinkRow}
+use Rattle.abs_turns.specs.Plans.{Goal, Turn, nothing, makes, nowhere, on_stack, is_thrown, no_rows}
+
+-- where a state stands: the program, the state, its running frame and the frames below, the types that the typing gives the
+-- frame's stack, the top first, and the place of the next instruction
+pub record Here : Type 0 where
+  pub program : Program
+  pub state : AbstractState
+  pub frame : AbstractFrame
+  pub below : List AbstractFrame
+  pub places : List PlaceType
+  pub next : ℕ
+
+-- ---- frames
+
+abbrev pub frames_at : Here → ℕ → List (Option ℕ) → List ℕ → List AbstractFrame
+frames_at here place locals stack = record { method = here.frame.method; pc = place; locals = locals; stack = stack } ∷ here.below
+
+-- the running frame goes on at a place with another stack
+abbrev pub with_stack : Here → ℕ → List ℕ → List AbstractFrame
+with_stack here place stack = frames_at here place here.frame.locals stack
+
+-- its stack is emptied, and it stays where it is
+abbrev pub emptied : Here → List AbstractFrame
+emptied here = with_stack here here.frame.pc []
+
+-- ---- steps
+
+-- frames change, and nothing else
+abbrev pub moves : List AbstractFrame → Turn
+moves frames = record { changed = []; frames = frames; throwing = None; act = nothing; goal = nowhere; rows = no_rows }
+
+abbrev pub goes_on : Here → ℕ → List ℕ → Turn
+goes_on here place stack = moves (with_stack here place stack)
+
+-- a fresh id with a cell goes on the stack
+abbrev pub pushes : Here → Cell → List ℕ → Turn
+pushes here cell stack = record { changed = []; frames = with_stack here here.next stack; throwing = None; act = makes cell; goal = on_stack; rows = no_rows }
+
+-- an object of a built-in class is thrown, which has no fields
+abbrev pub throws_after : Here → List (ℕ × Cell) → (ℕ → List LinkRow) → ℕ → Turn
+throws_after here narrowed rows class = record { changed = narrowed; frames = emptied here; throwing = None; act = makes (cells.Obj class []); goal = is_thrown; rows = rows }
+
+abbrev pub throws : Here → ℕ → Turn
+throws here class = throws_after here [] no_rows class
+
+-- ---- ints
+
+-- an operand: an id, or a number
+pub data Operand : Type 0 where
+  known : ℤ → Operand
+  id : ℕ → Operand
+
+abbrev pub interval_in : Option Cell → Bounds
+interval_in (Some (cells.Int interval)) = interval
+interval_in _ = all_ints
+
+abbrev pub interval_of_id : AbstractState → ℕ → Bounds
+interval_of_id state x = interval_in (cell_at state x)
+
+abbrev pub interval_at : AbstractState → Operand → Bounds
+interval_at state (known n) = just n
+interval_at state (id x) = interval_of_id state x
+
+-- two operands are one id
+abbrev pub are_one : Operand → Operand → Bool
+are_one (id x) (id y) = x == y
+are_one _ _ = false
+
+-- the ids of two operands with their cells, narrowed; one that is both has the numbers of both, and none where there are none
+abbrev pub narrowings : Operand → Bounds → Operand → Bounds → Option (List (ℕ × Cell))
+narrowings (known m) left (known n) right = Some []
+narrowings (id x) left (known n) right = Some ((x, cells.Int left) ∷ [])
+narrowings (known m) left (id y) right = Some ((y, cells.Int right) ∷ [])
+narrowings (id x) left (id y) right = if x == y then option_map (λ both. (x, cells.Int both) ∷ []) (meet_of left right) else Some ((x, cells.Int left) ∷ (y, cells.Int right) ∷ [])
+
+-- what an operand adds to the terms and to the constant of a row
+abbrev pub term_of : Side → ℕ → ℤ → List (Side × ℕ × ℤ)
+term_of side x times = if int_eq times (pos 0) then [] else (side, x, times) ∷ []
+
+abbrev pub terms_of : Operand → ℤ → List (Side × ℕ × ℤ)
+terms_of (known n) times = []
+terms_of (id x) times = term_of Before x times
+
+abbrev pub constant_of : Operand → ℤ → ℤ
+constant_of (known n) times = times *ℤ n
+constant_of (id x) times = pos 0
+
+-- the row of a case over ids: operands as before the step, the result as after it
+abbrev pub row_over : Operand → Operand → ℕ → ShortRow → LinkRow
+row_over left right result row = record { kind = row.kind; terms = terms_of left row.left ++ (terms_of right row.right ++ term_of After result row.result); constant = row.constant +ℤ (constant_of left row.left +ℤ constant_of right row.right) }
+
+abbrev pub rows_over : Operand → Operand → List ShortRow → ℕ → List LinkRow
+rows_over left right rows result = map (row_over left right result) rows
+
+-- ---- operators
+
+-- a case of an operator: its result goes to a goal of frames; a case without a result is the division by 0, which throws
+abbrev pub turn_of_result : Here → List AbstractFrame → Goal → List (ℕ × Cell) → (ℕ → List LinkRow) → Option Bounds → Turn
+turn_of_result here frames goal narrowed rows None = throws_after here narrowed rows arithmetic_exception
+turn_of_result here frames goal narrowed rows (Some result) = record { changed = narrowed; frames = frames; throwing = None; act = makes (cells.Int result); goal = goal; rows = rows }
+
+abbrev pub turn_of_case : Here → Operand → Operand → List AbstractFrame → Goal → IntCase → Option Turn
+turn_of_case here left right frames goal case = option_map (λ narrowed. turn_of_result here frames goal narrowed (rows_over left right case.rows) case.result) (narrowings left case.left right case.right)
+
+-- the cases of an operator in their order; one that narrows an operand to nothing isn't there
+abbrev pub turns_of : Here → IntOp → Operand → Operand → List AbstractFrame → Goal → List Turn
+turns_of here op left right frames goal = filter_map (turn_of_case here left right frames goal) (operated op (interval_at here.state left) (interval_at here.state right))
+
+-- ---- narrowings to a kind
+
+-- an int that is of the kind stays, else it is some number of the kind: `kept` is the step with its own id, and `frames` and `goal`
+-- are where a fresh one goes
+abbrev pub turn_narrowing : Turn → List AbstractFrame → Goal → Option Bounds → Turn
+turn_narrowing kept frames goal None = kept
+turn_narrowing kept frames goal (Some result) = record { changed = []; frames = frames; throwing = None; act = makes (cells.Int result); goal = goal; rows = no_rows }
+
+abbrev pub turns_narrowing : Here → Kind → ℕ → Turn → List AbstractFrame → Goal → List Turn
+turns_narrowing here kind x kept frames goal = map (λ (case : IntCase). turn_narrowing kept frames goal case.result) (operated (Narrow kind) (interval_of_id here.state x) (interval_of_id here.state x))
+
+-- ---- comparisons
+
+abbrev pub is_taken : Way → Bool
+is_taken ways.Taken = true
+is_taken _ = false
+
+-- a case of a comparison goes on with a stack, at the jump's place or at the next one; comparing with 0 gives no rows
+abbrev pub rows_if : Bool → (ℕ → List LinkRow) → ℕ → List LinkRow
+rows_if with_rows rows = if with_rows then rows else no_rows
+
+abbrev pub narrows : List (ℕ × Cell) → List AbstractFrame → (ℕ → List LinkRow) → Turn
+narrows narrowed frames rows = record { changed = narrowed; frames = frames; throwing = None; act = nothing; goal = nowhere; rows = rows }
+
+abbrev pub place_of_way : Here → ℕ → Way → ℕ
+place_of_way here place way = if is_taken way then place else here.next
+
+abbrev pub branch_of_case : Here → Operand → Operand → ℕ → List ℕ → Bool → IntCase → Option Turn
+branch_of_case here left right place stack with_rows case = option_map (λ narrowed. narrows narrowed (with_stack here (place_of_way here place case.way) stack) (rows_if with_rows (rows_over left right case.rows))) (narrowings left case.left right case.right)
+
+abbrev pub branches : Here → Cond → Operand → Operand → ℕ → List ℕ → Bool → List Turn
+branches here cond left right place stack rows = filter_map (branch_of_case here left right place stack rows) (compared cond (are_one left right) (interval_at here.state left) (interval_at here.state right))
+
+-- ---- switches
+
+-- a key is met, or a number between keys: the place, where the operand is among these numbers
+abbrev pub switch_turn : Here → ℕ → List ℕ → Option Bounds × ℕ → Option Turn
+switch_turn here x stack part = option_map (λ both. narrows ((x, cells.Int both) ∷ []) (with_stack here part.1 stack) no_rows) (option_and_then (meet_of (interval_of_id here.state x)) part.0)
