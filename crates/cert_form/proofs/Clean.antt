@@ -1,5 +1,6 @@
 -- Readers of values never say that a text is no JSON, and never want memory.
-use Rattle.std.proofs.Common.{◌≡◌, ℕ, suc, ℤ, pos, negsuc, ◌+◌, ◌==◌, ◌&&◌, ◌||◌, nat_lt, nat_le, Bool, true, false, cond, List, [], ◌∷◌, ◌++◌, length, Result, Ok, Err, Option, Some, None, option_map, codes, refl, sym, ap, ◌∙◌, subst}
+use Rattle.std.proofs.Common.{◌≡◌, ℕ, suc, ℤ, pos, negsuc, ◌+◌, ◌==◌, ◌&&◌, ◌||◌, nat_lt, nat_le, Bool, true, false, cond, List, []}
+use Rattle.std.proofs.Common.{◌∷◌, ◌++◌, length, Result, Ok, Err, Option, Some, None, option_map, codes, refl, sym, ap, ◌∙◌, subst}
 use Rattle.std.specs.Prelude.{int_le}
 use Rattle.std.specs.Option.{ok_or}
 use Rattle.std.specs.Str.{bytes_eq}
@@ -8,7 +9,8 @@ use Rattle.serde_json.specs.Events.{items_len}
 use Rattle.serde_json.specs.Find.{get_member, as_object, as_array, as_str, as_bool}
 use Rattle.json_view.specs.Located.{Located, root_of}
 use Rattle.json_view.specs.Names.{least_unlisted, first_missing}
-use Rattle.json_view.specs.Reading.{only_of, field_of, items_of, item_of, at_item, at_member, int_of, text_of, flag_of, within, whole_number_of, first_fault, unknown_field, missing_field, of_kind}
+use Rattle.json_view.specs.Reading.{only_of, field_of, items_of, item_of, at_item, at_member, int_of, text_of, flag_of, within}
+use Rattle.json_view.specs.Reading.{whole_number_of, first_fault, unknown_field, missing_field, of_kind}
 use Rattle.json_view.specs.declared.fault.JsonFault.{JsonFault}
 use Rattle.json_view.specs.declared.fault.JsonFault.TheVariants as faults
 use Rattle.abs_cells.specs.declared.cells.Cell.{Cell}
@@ -28,12 +30,19 @@ use Rattle.cert_form.specs.declared.steps.RuleWord.{RuleWord}
 use Rattle.cert_form.specs.declared.steps.RuleWord.TheVariants as rule_words
 use Rattle.json_view.specs.Answers.{Reads}
 use Rattle.cert_form.specs.Answers.{Reader, Says, json, wrong_kind, out_of_range, past_limit}
-use Rattle.cert_form.specs.Fields.{◌>>=◌, only, field, entries_from, entries_of, at_most, of_length, nth, there_or, longer_than, word_or, a_word, in_order, number_to, a_number, a_place, an_id, an_int, maybe_to, maybe_number, maybe_within, maybe_id, long_to, a_multiple, a_constant}
+use Rattle.cert_form.specs.Fields.{◌>>=◌, only, field, entries_from, entries_of, at_most, of_length, nth, there_or, longer_than}
+use Rattle.cert_form.specs.Fields.{word_or, a_word, in_order, number_to, a_number, a_place, an_id, an_int, maybe_to, maybe_number}
+use Rattle.cert_form.specs.Fields.{maybe_within, maybe_id, long_to, a_multiple, a_constant}
 use Rattle.cert_form.specs.Types.{type_in, type_of_word, shape_of, shape_named, kind_of, kind_or}
-use Rattle.cert_form.specs.Cells.{cell_word, up_to, bounds_or, int_cell, ids_of, obj_cell, nums_cell, refs_cell, unk_cell, cell_of, keyed_cell, cell_in}
-use Rattle.cert_form.specs.States.{is_next_pair, two_ids, ordered_pair, pair_in, locals_of, frame_parts, frame_of, cells_of, frames_of, pairs_of, state_of}
+use Rattle.cert_form.specs.Cells.{cell_word, up_to, bounds_or, int_cell, ids_of, obj_cell, nums_cell, refs_cell, unk_cell, cell_of}
+use Rattle.cert_form.specs.Cells.{keyed_cell, cell_in}
+use Rattle.cert_form.specs.States.{is_next_pair, two_ids, ordered_pair, pair_in, locals_of, frame_parts, frame_of, cells_of}
+use Rattle.cert_form.specs.States.{frames_of, pairs_of, state_of}
 use Rattle.cert_form.specs.Ways.{way_word, numbers_of, map_entry, map_of, expand_of, instance_of, way_of, by_of}
-use Rattle.cert_form.specs.Steps.{row_parts, row_of, multipliers_of, a_weight, weight_parts, weight_in, multiple_parts, multiple_in, multiples_of, sized_list, form_parts, form_in, rule_word, weak_of, strict_of, listed_of, rule_parts, rule_in, step_word, order_of, order_named, parts_of, steps_of, split_of, rank_parts, rank_of, dead_of, proof_step_of, step_of, proof_of}
+use Rattle.cert_form.specs.Steps.{row_parts, row_of, multipliers_of, a_weight, weight_parts, weight_in, multiple_parts, multiple_in}
+use Rattle.cert_form.specs.Steps.{multiples_of, sized_list, form_parts, form_in, rule_word, weak_of, strict_of, listed_of}
+use Rattle.cert_form.specs.Steps.{rule_parts, rule_in, step_word, order_of, order_named, parts_of, steps_of, split_of, rank_parts}
+use Rattle.cert_form.specs.Steps.{rank_of, dead_of, proof_step_of, step_of, proof_of}
 use Rattle.cert_form.specs.Certificates.{whole_node, named_node, node_with, node_in, nodes_of, form_of, CertContent, cert_of, AnswersText}
 
 -- ---- faults that a value has
@@ -58,7 +67,8 @@ IsClean (Err fault) = IsOfValue fault
 abbrev AreClean : {A : Type 0} → Reader A → Type 0
 AreClean reader = (here : Located) → IsClean (reader here)
 
-bind : {A B : Type 0} (r : Result A CertFault) (next : A → Result B CertFault) → IsClean r → ((x : A) → IsClean (next x)) → IsClean (r >>= next)
+bind : {A B : Type 0} (r : Result A CertFault) (next : A → Result B CertFault) → IsClean r → ((x : A) → IsClean (next x))
+    → IsClean (r >>= next)
 bind (Ok x) next c d = d x
 bind (Err fault) next c d = c
 
@@ -72,7 +82,8 @@ kinds : {A : Type 0} (found : Option A) (fault : JsonFault) → IsOther fault �
 kinds (Some x) fault o = tt
 kinds None fault o = o
 
-firsts : (place : List ℕ) (a b : Option (List ℕ)) → IsClean (json (first_fault (option_map (unknown_field place) a) (option_map (missing_field place) b)))
+firsts : (place : List ℕ) (a b : Option (List ℕ))
+    → IsClean (json (first_fault (option_map (unknown_field place) a) (option_map (missing_field place) b)))
 firsts place (Some a) b = tt
 firsts place None (Some b) = tt
 firsts place None None = tt
@@ -81,7 +92,10 @@ of_only : (names : List ℕ) (here : Located) → IsClean (only names here)
 unfolding only only_of
 of_only names here = at (as_object here.value)
   where
-    at : (found : Option Members) → IsClean (json (ok_or found (faults.WrongKind here.place) >>= λ members. first_fault (option_map (unknown_field here.place) (least_unlisted names members)) (option_map (missing_field here.place) (first_missing names members))))
+    at : (found : Option Members)
+        → IsClean (json (ok_or found (faults.WrongKind here.place) >>= λ members. first_fault
+        (option_map (unknown_field here.place) (least_unlisted names members))
+        (option_map (missing_field here.place) (first_missing names members))))
     at (Some members) = firsts here.place (least_unlisted names members) (first_missing names members)
     at None = tt
 
@@ -89,7 +103,9 @@ field_is : (name : List ℕ) (here : Located) → IsClean (json (field_of name h
 unfolding field_of
 field_is name here = at (as_object here.value)
   where
-    at : (found : Option Members) → IsClean (json (ok_or found (faults.WrongKind here.place) >>= λ members. ok_or (option_map (at_member here.place name) (get_member name members)) (missing_field here.place name)))
+    at : (found : Option Members)
+        → IsClean (json (ok_or found (faults.WrongKind here.place) >>= λ members. ok_or
+        (option_map (at_member here.place name) (get_member name members)) (missing_field here.place name)))
     at (Some members) = kinds (option_map (at_member here.place name) (get_member name members)) (missing_field here.place name) tt
     at None = tt
 
@@ -123,25 +139,32 @@ of_field : {A : Type 0} (name : List ℕ) (reader : Reader A) → AreClean reade
 unfolding field
 of_field name reader c here = bind (json (field_of name here)) reader (field_is name here) c
 
-from_entries : {A : Type 0} (reader : List A → Reader A) (front : List A) (place : List ℕ) (n : ℕ) (all : Items) → ((f : List A) → AreClean (reader f)) → IsClean (entries_from reader front place n all)
+from_entries : {A : Type 0} (reader : List A → Reader A) (front : List A) (place : List ℕ) (n : ℕ) (all : Items)
+    → ((f : List A) → AreClean (reader f)) → IsClean (entries_from reader front place n all)
 from_entries reader front place n no_items c = tt
-from_entries reader front place n (item value rest) c = bind (reader front (at_item place n value)) (λ x. entries_from reader (front ++ x ∷ []) place (suc n) rest) (c front (at_item place n value)) (λ x. from_entries reader (front ++ x ∷ []) place (suc n) rest c)
+from_entries reader front place n (item value rest) c = bind (reader front (at_item place n value))
+    (λ x. entries_from reader (front ++ x ∷ []) place (suc n) rest) (c front (at_item place n value))
+    (λ x. from_entries reader (front ++ x ∷ []) place (suc n) rest c)
 
 of_entries : {A : Type 0} (reader : List A → Reader A) → ((f : List A) → AreClean (reader f)) → AreClean (entries_of reader)
 unfolding entries_of
-of_entries reader c here = bind (json (of_kind as_array here)) (entries_from reader [] here.place 0) (kinds (as_array here.value) (faults.WrongKind here.place) tt) (λ all. from_entries reader [] here.place 0 all c)
+of_entries reader c here = bind (json (of_kind as_array here)) (entries_from reader [] here.place 0)
+    (kinds (as_array here.value) (faults.WrongKind here.place) tt) (λ all. from_entries reader [] here.place 0 all c)
 
 of_most : {A : Type 0} (most : ℕ) (reader : Reader A) → AreClean reader → AreClean (at_most most reader)
 unfolding at_most
-of_most most reader c here = bind (json (items_of here)) (λ count. cond (nat_lt most count) (past_limit here) (reader here)) (items here) (λ count. choice (nat_lt most count) (past_limit here) (reader here) tt (c here))
+of_most most reader c here = bind (json (items_of here)) (λ count. cond (nat_lt most count) (past_limit here) (reader here))
+    (items here) (λ count. choice (nat_lt most count) (past_limit here) (reader here) tt (c here))
 
 of_size : {A : Type 0} (size : ℕ) (reader : Reader A) → AreClean reader → AreClean (of_length size reader)
 unfolding of_length
-of_size size reader c here = bind (json (items_of here)) (λ count. cond (count == size) (reader here) (wrong_kind here)) (items here) (λ count. choice (count == size) (reader here) (wrong_kind here) (c here) tt)
+of_size size reader c here = bind (json (items_of here)) (λ count. cond (count == size) (reader here) (wrong_kind here))
+    (items here) (λ count. choice (count == size) (reader here) (wrong_kind here) (c here) tt)
 
 of_longer : {A : Type 0} (least : ℕ) (reader : Reader A) → AreClean reader → AreClean (longer_than least reader)
 unfolding longer_than
-of_longer least reader c here = bind (json (items_of here)) (λ count. cond (nat_lt least count) (reader here) (wrong_kind here)) (items here) (λ count. choice (nat_lt least count) (reader here) (wrong_kind here) (c here) tt)
+of_longer least reader c here = bind (json (items_of here)) (λ count. cond (nat_lt least count) (reader here) (wrong_kind here))
+    (items here) (λ count. choice (nat_lt least count) (reader here) (wrong_kind here) (c here) tt)
 
 of_nth : {A : Type 0} (n : ℕ) (reader : Reader A) → AreClean reader → AreClean (nth n reader)
 unfolding nth
@@ -228,7 +251,8 @@ of_shape here = bind _ _ (text here) named
   where
     named : (word : List ℕ) → IsClean (shape_named here word)
     named word =
-        choice (bytes_eq word (codes "tree")) (Ok Tree) (cond (bytes_eq word (codes "dag")) (Ok Dag) (cond (bytes_eq word (codes "any")) (Ok Any) (wrong_kind here))) tt
+        choice (bytes_eq word (codes "tree")) (Ok Tree)
+        (cond (bytes_eq word (codes "dag")) (Ok Dag) (cond (bytes_eq word (codes "any")) (Ok Any) (wrong_kind here))) tt
         (choice (bytes_eq word (codes "dag")) (Ok Dag) (cond (bytes_eq word (codes "any")) (Ok Any) (wrong_kind here)) tt
         (choice (bytes_eq word (codes "any")) (Ok Any) (wrong_kind here) tt tt))
 
@@ -258,16 +282,20 @@ of_cell names cell_words.Int here = bind _ _ (of_nth 2 an_int of_int here) (λ l
 of_cell names cell_words.Null here = tt
 of_cell names cell_words.Obj here = bind _ _ (of_nth 2 a_number of_number here) (λ _. bind _ _ (of_nth 3 ids_of of_ids here) (λ _. tt))
 of_cell names cell_words.Nums here = bind _ _ (of_nth 2 kind_of of_kind_number here) (λ _. bind _ _ (of_nth 3 an_id of_id here) (λ _. tt))
-of_cell names cell_words.Refs here = bind _ _ (of_nth 2 (type_in names) (of_type names) here) (λ _. bind _ _ (of_nth 3 an_id of_id here) (λ _. bind _ _ (of_nth 4 shape_of of_shape here) (λ _. tt)))
-of_cell names cell_words.Unk here = bind _ _ (of_nth 2 (type_in names) (of_type names) here) (λ _. bind _ _ (of_nth 3 (λ there. json (flag_of there)) flag here) (λ _. bind _ _ (of_nth 4 shape_of of_shape here) (λ _. tt)))
+of_cell names cell_words.Refs here = bind _ _ (of_nth 2 (type_in names) (of_type names) here)
+    (λ _. bind _ _ (of_nth 3 an_id of_id here) (λ _. bind _ _ (of_nth 4 shape_of of_shape here) (λ _. tt)))
+of_cell names cell_words.Unk here = bind _ _ (of_nth 2 (type_in names) (of_type names) here)
+    (λ _. bind _ _ (of_nth 3 (λ there. json (flag_of there)) flag here) (λ _. bind _ _ (of_nth 4 shape_of of_shape here) (λ _. tt)))
 
 of_keyed : (names : List (List ℕ)) (front : List (ℕ × Cell)) (word : CellWord) → AreClean (keyed_cell names front word)
 unfolding keyed_cell
-of_keyed names front word here = bind _ _ (of_nth 0 an_id of_id here) (λ _. bind _ _ (of_order _ here) (λ _. bind _ _ (of_cell names word here) (λ _. tt)))
+of_keyed names front word here = bind _ _ (of_nth 0 an_id of_id here)
+    (λ _. bind _ _ (of_order _ here) (λ _. bind _ _ (of_cell names word here) (λ _. tt)))
 
 of_cell_in : (names : List (List ℕ)) (front : List (ℕ × Cell)) → AreClean (cell_in names front)
 unfolding cell_in
-of_cell_in names front here = bind _ _ (of_longer 1 _ (of_nth 1 (a_word cell_word) (of_word cell_word)) here) (λ word. of_size _ _ (of_keyed names front word) here)
+of_cell_in names front here = bind _ _ (of_longer 1 _ (of_nth 1 (a_word cell_word) (of_word cell_word)) here)
+    (λ word. of_size _ _ (of_keyed names front word) here)
 
 -- ---- states
 
@@ -279,7 +307,8 @@ of_ordered : (front : List (ℕ × ℕ)) → AreClean (ordered_pair front)
 unfolding ordered_pair
 of_ordered front here =
     bind (two_ids here) (λ pair. in_order (nat_lt pair.0 pair.1 && is_next_pair front pair) here >>= λ order. Ok pair) (of_two_ids here)
-    (λ pair. bind (in_order (nat_lt pair.0 pair.1 && is_next_pair front pair) here) (λ order. Ok pair) (of_order (nat_lt pair.0 pair.1 && is_next_pair front pair) here) (λ order. tt))
+    (λ pair. bind (in_order (nat_lt pair.0 pair.1 && is_next_pair front pair) here) (λ order. Ok pair)
+    (of_order (nat_lt pair.0 pair.1 && is_next_pair front pair) here) (λ order. tt))
 
 of_pair : (front : List (ℕ × ℕ)) → AreClean (pair_in front)
 unfolding pair_in
@@ -334,17 +363,23 @@ of_by here = bind _ _ (of_longer 0 _ (of_nth 0 (a_word way_word) (of_word way_wo
 of_node_with : (names : List (List ℕ)) (lacks : Bool) → AreClean (node_with names lacks)
 unfolding named_node whole_node
 of_node_with names true here = bind _ _ (of_only _ here) (λ _. bind _ _ (of_field (codes "by") by_of of_by here) (λ _. tt))
-of_node_with names false here = bind _ _ (of_only _ here) (λ _. bind _ _ (of_field (codes "by") by_of of_by here) (λ _. bind _ _ (of_field (codes "state") (state_of names) (of_state names) here) (λ _. tt)))
+of_node_with names false here = bind _ _ (of_only _ here)
+    (λ _. bind _ _ (of_field (codes "by") by_of of_by here)
+    (λ _. bind _ _ (of_field (codes "state") (state_of names) (of_state names) here) (λ _. tt)))
 
 of_nodes : (names : List (List ℕ)) (second : Bool) → AreClean (nodes_of names second)
 unfolding nodes_of node_in
-of_nodes names second here = of_most 20000 (entries_of (node_in names second)) (of_entries (node_in names second) (λ front. of_node_with names (Rattle.cert_form.specs.Certificates.lacks_state second front))) here
+of_nodes names second here = of_most 20000 (entries_of (node_in names second))
+    (of_entries (node_in names second) (λ front. of_node_with names (Rattle.cert_form.specs.Certificates.lacks_state second front))) here
 
 -- ---- proofs
 
 of_multipliers : AreClean multipliers_of
 unfolding multipliers_of row_of row_parts
-of_multipliers here = of_most 65536 _ (of_entries (λ _. row_of) (λ _. of_size 2 row_parts (λ there. bind _ _ (of_nth 0 a_number of_number there) (λ _. bind _ _ (of_nth 1 a_multiple of_multiple there) (λ _. tt))))) here
+of_multipliers here = of_most 65536 _
+    (of_entries (λ _. row_of)
+    (λ _. of_size 2 row_parts
+    (λ there. bind _ _ (of_nth 0 a_number of_number there) (λ _. bind _ _ (of_nth 1 a_multiple of_multiple there) (λ _. tt))))) here
 
 of_weight : AreClean a_weight
 unfolding a_weight
@@ -352,19 +387,25 @@ of_weight here = bind _ _ (int _ _ here) (λ n. choice _ (Ok n) (past_limit here
 
 of_weight_in : (front : List (ℕ × ℤ)) → AreClean (weight_in front)
 unfolding weight_in weight_parts
-of_weight_in front here = of_size 2 (weight_parts front) (λ there. bind _ _ (of_nth 0 a_number of_number there) (λ _. bind _ _ (of_order _ there) (λ _. bind _ _ (of_nth 1 a_weight of_weight there) (λ _. tt)))) here
+of_weight_in front here = of_size 2 (weight_parts front)
+    (λ there. bind _ _ (of_nth 0 a_number of_number there)
+    (λ _. bind _ _ (of_order _ there) (λ _. bind _ _ (of_nth 1 a_weight of_weight there) (λ _. tt)))) here
 
 of_multiple_in : (front : List (ℕ × ℤ)) → AreClean (multiple_in front)
 unfolding multiple_in multiple_parts
-of_multiple_in front here = of_size 2 (multiple_parts front) (λ there. bind _ _ (of_nth 0 an_id of_id there) (λ _. bind _ _ (of_order _ there) (λ _. bind _ _ (of_nth 1 a_multiple of_multiple there) (λ _. tt)))) here
+of_multiple_in front here = of_size 2 (multiple_parts front)
+    (λ there. bind _ _ (of_nth 0 an_id of_id there)
+    (λ _. bind _ _ (of_order _ there) (λ _. bind _ _ (of_nth 1 a_multiple of_multiple there) (λ _. tt)))) here
 
 of_multiples : AreClean multiples_of
 unfolding multiples_of
 of_multiples here = of_entries multiple_in of_multiple_in here
 
-of_sized : {A : Type 0} (size : Bool) (reader : List A → Reader A) → ((f : List A) → AreClean (reader f)) → AreClean (sized_list size reader)
+of_sized : {A : Type 0} (size : Bool) (reader : List A → Reader A) → ((f : List A) → AreClean (reader f))
+    → AreClean (sized_list size reader)
 unfolding sized_list
-of_sized size reader c here = bind _ _ (items here) (λ count. choice (size || (count == 0)) (entries_of reader here) (wrong_kind here) (of_entries reader c here) tt)
+of_sized size reader c here = bind _ _ (items here)
+    (λ count. choice (size || (count == 0)) (entries_of reader here) (wrong_kind here) (of_entries reader c here) tt)
 
 of_form : (size : Bool) (front : List CutForm) → AreClean (form_in size front)
 unfolding form_in form_parts
@@ -379,11 +420,14 @@ of_form size front here =
 of_listed : (word : RuleWord) (rule : ℕ) → AreClean (listed_of word rule)
 unfolding weak_of strict_of
 of_listed rule_words.Weak rule here = bind _ _ (of_nth 2 multipliers_of of_multipliers here) (λ _. tt)
-of_listed rule_words.Strict rule here = bind _ _ (of_nth 2 multipliers_of of_multipliers here) (λ _. bind _ _ (of_nth 3 multipliers_of of_multipliers here) (λ _. tt))
+of_listed rule_words.Strict rule here = bind _ _ (of_nth 2 multipliers_of of_multipliers here)
+    (λ _. bind _ _ (of_nth 3 multipliers_of of_multipliers here) (λ _. tt))
 
 of_rule : (front : List RankRule) → AreClean (rule_in front)
 unfolding rule_in rule_parts
-of_rule front here = bind _ _ (of_longer 1 _ (of_nth 1 (a_word rule_word) (of_word rule_word)) here) (λ word. of_size _ (rule_parts front word) (λ there. bind _ _ (of_nth 0 a_number of_number there) (λ rule. bind _ _ (of_order _ there) (λ _. of_listed word rule there))) here)
+of_rule front here = bind _ _ (of_longer 1 _ (of_nth 1 (a_word rule_word) (of_word rule_word)) here)
+    (λ word. of_size _ (rule_parts front word)
+    (λ there. bind _ _ (of_nth 0 a_number of_number there) (λ rule. bind _ _ (of_order _ there) (λ _. of_listed word rule there))) here)
 
 of_order_word : AreClean order_of
 unfolding order_of
@@ -412,13 +456,17 @@ of_taken count here = of_size count (entries_of (λ _. maybe_number)) (of_entrie
 of_kind_of_step : (word : StepWord) → AreClean (proof_step_of word)
 unfolding split_of rank_of dead_of
 of_kind_of_step step_words.Empty here = tt
-of_kind_of_step step_words.Split here = bind _ _ (of_nth 1 parts_of of_parts here) (λ parts. bind _ _ (of_nth 2 (steps_of (length parts)) (of_taken (length parts)) here) (λ _. tt))
-of_kind_of_step step_words.Rank here = bind _ _ (of_nth 1 order_of of_order_word here) (λ size. bind _ _ (of_ranked size here) (λ _. bind _ _ (of_nth 5 a_number of_number here) (λ _. tt)))
-of_kind_of_step step_words.Dead here = bind _ _ (of_nth 1 a_number of_number here) (λ _. bind _ _ (of_nth 2 multipliers_of of_multipliers here) (λ _. bind _ _ (of_nth 3 a_number of_number here) (λ _. tt)))
+of_kind_of_step step_words.Split here = bind _ _ (of_nth 1 parts_of of_parts here)
+    (λ parts. bind _ _ (of_nth 2 (steps_of (length parts)) (of_taken (length parts)) here) (λ _. tt))
+of_kind_of_step step_words.Rank here = bind _ _ (of_nth 1 order_of of_order_word here)
+    (λ size. bind _ _ (of_ranked size here) (λ _. bind _ _ (of_nth 5 a_number of_number here) (λ _. tt)))
+of_kind_of_step step_words.Dead here = bind _ _ (of_nth 1 a_number of_number here)
+    (λ _. bind _ _ (of_nth 2 multipliers_of of_multipliers here) (λ _. bind _ _ (of_nth 3 a_number of_number here) (λ _. tt)))
 
 of_step : AreClean step_of
 unfolding step_of
-of_step here = bind _ _ (of_longer 0 _ (of_nth 0 (a_word step_word) (of_word step_word)) here) (λ word. of_size _ _ (of_kind_of_step word) here)
+of_step here = bind _ _ (of_longer 0 _ (of_nth 0 (a_word step_word) (of_word step_word)) here)
+    (λ word. of_size _ _ (of_kind_of_step word) here)
 
 of_proof : AreClean proof_of
 unfolding proof_of
@@ -446,12 +494,15 @@ clean_is : {A : Type 0} (said : Result A CertFault) (fault : CertFault) → IsCl
 clean_is {A = A} said fault c e = subst (λ (r : Result A CertFault). IsClean r) e c
 
 -- the fault of the value of a text is that of the text
-pub faulty : (names : List (List ℕ)) (bytes : List ℕ) (value : Data) (fault : CertFault) → Reads bytes value → Says {A = CertContent} (Err fault) (cert_of names (root_of value)) → AnswersText (cert_of names) bytes (Err fault)
-faulty names bytes value (Json faults.NotJson) r s = absurd (clean_is (cert_of names (root_of value)) (Json faults.NotJson) (of_cert names (root_of value)) s)
+pub faulty : (names : List (List ℕ)) (bytes : List ℕ) (value : Data) (fault : CertFault) → Reads bytes value
+    → Says {A = CertContent} (Err fault) (cert_of names (root_of value)) → AnswersText (cert_of names) bytes (Err fault)
+faulty names bytes value (Json faults.NotJson) r s = absurd
+    (clean_is (cert_of names (root_of value)) (Json faults.NotJson) (of_cert names (root_of value)) s)
 faulty names bytes value (Json (faults.WrongKind p)) r s = (value, (r, s))
 faulty names bytes value (Json (faults.MissingField p)) r s = (value, (r, s))
 faulty names bytes value (Json (faults.UnknownField p)) r s = (value, (r, s))
 faulty names bytes value (Json (faults.OutOfRange p)) r s = (value, (r, s))
-faulty names bytes value (Json faults.Memory) r s = absurd (clean_is (cert_of names (root_of value)) (Json faults.Memory) (of_cert names (root_of value)) s)
+faulty names bytes value (Json faults.Memory) r s = absurd
+    (clean_is (cert_of names (root_of value)) (Json faults.Memory) (of_cert names (root_of value)) s)
 faulty names bytes value (Limit p) r s = (value, (r, s))
 faulty names bytes value Memory r s = tt

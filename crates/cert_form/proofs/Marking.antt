@@ -1,5 +1,6 @@
 -- Marks say which nodes a list names as children.
-use Rattle.std.proofs.Common.{◌≡◌, ℕ, zero, suc, ◌+◌, ◌<◌, ◌≤◌, ◌==◌, ◌||◌, Bool, true, false, List, [], ◌∷◌, ◌++◌, length, replicate, Option, Some, None, slice_get, slice_set, slice_index_or, refl, sym, ap, ◌∙◌, subst, arith}
+use Rattle.std.proofs.Common.{◌≡◌, ℕ, zero, suc, ◌+◌, ◌<◌, ◌≤◌, ◌==◌, ◌||◌, Bool, true, false, List, [], ◌∷◌, ◌++◌, length}
+use Rattle.std.proofs.Common.{replicate, Option, Some, None, slice_get, slice_set, slice_index_or, refl, sym, ap, ◌∙◌, subst, arith}
 use Rattle.std.specs.Option.{unwrap_or}
 use Rattle.std.specs.List.{list_any}
 use Rattle.std.proofs.lemmas.Bool.Decides.{nat_tests}
@@ -42,7 +43,8 @@ get_set marks i k b e = go (i == k) refl
     go : (t : Bool) → (i == k) ≡ t → SetAt marks t k b
     go true t =
         let same = same_number i k t in
-        subst (λ (m : ℕ). SetAt marks true m b) same (set_there marks i b (subst (λ (m : ℕ). slice_get (slice_set marks i true) m ≡ Some b) (sym same) e))
+        subst (λ (m : ℕ). SetAt marks true m b) same
+        (set_there marks i b (subst (λ (m : ℕ). slice_get (slice_set marks i true) m ≡ Some b) (sym same) e))
     go false t = (b, (sym (set_other marks i k (other_number i k t)) ∙ e, refl))
 
 or_turns : (p q a : Bool) → (q || (p || a)) ≡ ((p || q) || a)
@@ -51,12 +53,19 @@ or_turns true false a = refl
 or_turns false true a = refl
 or_turns false false a = refl
 
-get_all : (marks : List Bool) (children : List ℕ) (k : ℕ) (b : Bool) → slice_get (all_marked marks children) k ≡ Some b → SetAt marks (list_any (λ child. child == k) children) k b
+get_all : (marks : List Bool) (children : List ℕ) (k : ℕ) (b : Bool) → slice_get (all_marked marks children) k ≡ Some b
+    → SetAt marks (list_any (λ child. child == k) children) k b
 get_all marks [] k b e = (b, (e, refl))
 get_all marks (c ∷ cs) k b e =
     let later = get_all (slice_set marks c true) cs k b e in
-    let first = get_set marks c k later.0 later.1.0 in
-    (first.0, (first.1.0, later.1.1 ∙ ap (λ (x : Bool). list_any (λ child. child == k) cs || x) first.1.1 ∙ or_turns (c == k) (list_any (λ child. child == k) cs) first.0))
+    let first = get_set marks c k later.0 later.1.0 in (
+      first.0,
+      (
+        first.1.0,
+        later.1.1 ∙ ap (λ (x : Bool). list_any (λ child. child == k) cs || x) first.1.1
+            ∙ or_turns (c == k) (list_any (λ child. child == k) cs) first.0,
+      ),
+    )
 
 get_by : (marks : List Bool) (by : By) (k : ℕ) (b : Bool) → slice_get (marked_by marks by) k ≡ Some b → SetAt marks (names_child k by) k b
 get_by marks (Expand children) k b e = get_all marks children k b e
@@ -65,7 +74,8 @@ get_by marks End k b e = (b, (e, refl))
 get_by marks Todo k b e = (b, (e, refl))
 
 -- one more node
-pub marked_on : (marks : List Bool) (front : List GraphPart) (part : GraphPart) → Marked marks front → Marked (marked_by marks part.by) (front ++ part ∷ [])
+pub marked_on : (marks : List Bool) (front : List GraphPart) (part : GraphPart) → Marked marks front
+    → Marked (marked_by marks part.by) (front ++ part ∷ [])
 marked_on marks front part m k b e =
     let s = get_by marks part.by k b e in
     s.1.1 ∙ or_behind (names_child k part.by) s.0
@@ -104,7 +114,8 @@ unmarked (x ∷ xs) zero l = absurd (omega arith)
 unmarked (x ∷ xs) (suc i) l = let m : length xs ≤ i = omega arith in ap (λ (ys : List Bool). x ∷ ys) (unmarked xs i m)
 
 -- a mark that is there, and one that is not
-pub mark_there : (marks : List Bool) (n : ℕ) (read : Bool) → n < length marks → read ≡ slice_index_or marks n read → read ≡ unwrap_or (slice_get marks n) false
+pub mark_there : (marks : List Bool) (n : ℕ) (read : Bool) → n < length marks → read ≡ slice_index_or marks n read
+    → read ≡ unwrap_or (slice_get marks n) false
 mark_there [] n read l r = absurd (omega arith)
 mark_there (x ∷ xs) zero read l r = r
 mark_there (x ∷ xs) (suc n) read l r = mark_there xs n read (omega arith) r
@@ -115,7 +126,8 @@ mark_past (x ∷ xs) zero l = absurd (omega arith)
 mark_past (x ∷ xs) (suc n) l = mark_past xs n (omega arith)
 
 -- a mark says whether one of the nodes names it
-pub has_is : (marks : List Bool) (front : List GraphPart) (n : ℕ) → Marked marks front → n < length marks → unwrap_or (slice_get marks n) false ≡ is_named n front
+pub has_is : (marks : List Bool) (front : List GraphPart) (n : ℕ) → Marked marks front → n < length marks
+    → unwrap_or (slice_get marks n) false ≡ is_named n front
 has_is marks front n m l =
     let f = get_within marks n l in
     ap (λ (mark : Option Bool). unwrap_or mark false) f.1 ∙ m n f.0 f.1

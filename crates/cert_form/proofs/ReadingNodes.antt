@@ -1,5 +1,6 @@
 -- Nodes, read one after another with marks of those that are named.
-use Rattle.std.proofs.Common.{◌≡◌, ℕ, ◌+◌, ◌<◌, ◌&&◌, Bool, true, false, List, [], ◌∷◌, ◌++◌, length, replicate, length-append, Result, Ok, Err, Option, Some, None, slice_get, refl, sym, ap, ◌∙◌, subst, arith}
+use Rattle.std.proofs.Common.{◌≡◌, ℕ, ◌+◌, ◌<◌, ◌&&◌, Bool, true, false, List, [], ◌∷◌, ◌++◌, length, replicate, length-append}
+use Rattle.std.proofs.Common.{Result, Ok, Err, Option, Some, None, slice_get, refl, sym, ap, ◌∙◌, subst, arith}
 use Rattle.std.specs.Option.{unwrap_or}
 use Rattle.std.proofs.lemmas.List.{length-replicate}
 use Rattle.json_view.specs.Located.{Located}
@@ -25,13 +26,23 @@ pub record AreRead (names : List (List ℕ)) (second : Bool) (here : Located) (n
 length_none : (count : ℕ) → length (replicate count false) ≡ count
 length_none count = length-replicate count false
 
-pub none_read : (names : List (List ℕ)) (second : Bool) (here : Located) (count : ℕ) (marks : List Bool) → items_of here ≡ Ok count → marks ≡ replicate count false → AreRead names second here 0 count marks
+pub none_read : (names : List (List ℕ)) (second : Bool) (here : Located) (count : ℕ) (marks : List Bool) → items_of here ≡ Ok count
+    → marks ≡ replicate count false → AreRead names second here 0 count marks
 none_read names second here count marks e m =
     subst (λ (bs : List Bool). AreRead names second here 0 count bs) (sym m)
-    (record { front = []; goes = starts (node_in names second) here count e; number = refl; marked = marked_none count; room = length_none count })
+    (record {
+      front = [];
+      goes = starts (node_in names second) here count e;
+      number = refl;
+      marked = marked_none count;
+      room =
+          length_none count;
+    })
 
 -- how the next node is read
-next_as : (names : List (List ℕ)) (second : Bool) (here there : Located) (n count : ℕ) (marks : List Bool) (read : AreRead names second here n count marks) → n < count → node_in names second read.front there ≡ node_with names (second && unwrap_or (slice_get marks n) false) there
+next_as : (names : List (List ℕ)) (second : Bool) (here there : Located) (n count : ℕ) (marks : List Bool)
+    (read : AreRead names second here n count marks) → n < count → node_in names second read.front there ≡ node_with names
+    (second && unwrap_or (slice_get marks n) false) there
 unfolding node_in
 next_as names second here there n count marks read l =
     let within : n < length marks = subst (λ (m : ℕ). n < m) (sym read.room) l in
@@ -39,7 +50,10 @@ next_as names second here there n count marks read l =
     ap (λ (m : ℕ). node_with names (second && is_named m read.front) there) read.number
     ∙ ap (λ (b : Bool). node_with names (second && b) there) (sym named)
 
-pub read_on : (names : List (List ℕ)) (second : Bool) (here there : Located) (n count : ℕ) (marks later : List Bool) (lacks : Bool) (part : GraphPart) → AreRead names second here n count marks → n < count → item_of n here ≡ Some there → lacks ≡ (second && unwrap_or (slice_get marks n) false) → node_with names lacks there ≡ Ok part → later ≡ marked_by marks part.by → AreRead names second here (n + 1) count later
+pub read_on : (names : List (List ℕ)) (second : Bool) (here there : Located) (n count : ℕ) (marks later : List Bool) (lacks : Bool)
+    (part : GraphPart) → AreRead names second here n count marks → n < count → item_of n here ≡ Some there
+    → lacks ≡ (second && unwrap_or (slice_get marks n) false) → node_with names lacks there ≡ Ok part
+    → later ≡ marked_by marks part.by → AreRead names second here (n + 1) count later
 read_on names second here there n count marks later lacks part read l e b said m =
     let way = next_as names second here there n count marks read l in
     let said_so : node_in names second read.front there ≡ Ok part = way ∙ ap (λ (t : Bool). node_with names t there) (sym b) ∙ said in
@@ -57,11 +71,18 @@ done_fault Memory said s = tt
 done_fault {A = A} (Json f) said s = ap (λ (r : Result A CertFault). done r) s
 done_fault {A = A} (Limit p) said s = ap (λ (r : Result A CertFault). done r) s
 
-pub read_stops : (names : List (List ℕ)) (second : Bool) (here there : Located) (n count : ℕ) (marks : List Bool) (lacks : Bool) (fault : CertFault) → AreRead names second here n count marks → n < count → item_of n here ≡ Some there → lacks ≡ (second && unwrap_or (slice_get marks n) false) → Says {A = GraphPart} (Err fault) (node_with names lacks there) → Says (Err fault) (done (entries_of (node_in names second) here))
+pub read_stops : (names : List (List ℕ)) (second : Bool) (here there : Located) (n count : ℕ) (marks : List Bool) (lacks : Bool)
+    (fault : CertFault) → AreRead names second here n count marks → n < count → item_of n here ≡ Some there
+    → lacks ≡ (second && unwrap_or (slice_get marks n) false) → Says {A = GraphPart} (Err fault) (node_with names lacks there)
+    → Says (Err fault) (done (entries_of (node_in names second) here))
 read_stops names second here there n count marks lacks fault read l e b said =
     let way = next_as names second here there n count marks read l in
-    let said_so : Says (Err fault) (node_in names second read.front there) = subst (λ (r : Result GraphPart CertFault). Says (Err fault) r) (sym (way ∙ ap (λ (t : Bool). node_with names t there) (sym b))) said in
-    done_fault fault (entries_of (node_in names second) here) (stops (node_in names second) here there n read.front read.front fault read.goes e refl said_so)
+    let said_so : Says (Err fault) (node_in names second read.front there) = subst
+    (λ (r : Result GraphPart CertFault). Says (Err fault) r) (sym (way ∙ ap (λ (t : Bool). node_with names t there) (sym b))) said in
+    done_fault fault (entries_of (node_in names second) here)
+    (stops (node_in names second) here there n read.front read.front fault read.goes e refl said_so)
 
-pub all_read : (names : List (List ℕ)) (second : Bool) (here : Located) (count : ℕ) (marks : List Bool) → AreRead names second here count count marks → count ≡ item_count here.value → done (entries_of (node_in names second) here) ≡ Ok tt
-all_read names second here count marks read e = ap (λ (r : Result (List GraphPart) CertFault). done r) (is_read (node_in names second) here count read.front read.goes e)
+pub all_read : (names : List (List ℕ)) (second : Bool) (here : Located) (count : ℕ) (marks : List Bool)
+    → AreRead names second here count count marks → count ≡ item_count here.value → done (entries_of (node_in names second) here) ≡ Ok tt
+all_read names second here count marks read e = ap (λ (r : Result (List GraphPart) CertFault). done r)
+    (is_read (node_in names second) here count read.front read.goes e)

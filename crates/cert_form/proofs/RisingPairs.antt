@@ -1,5 +1,7 @@
 -- Lists of pairs that were read rise, and their pairs can be added to a set one after another.
-use Rattle.std.proofs.Common.{◌≡◌, ℕ, zero, suc, ◌+◌, ◌-◌, ◌<◌, ◌≤◌, ◌==◌, ◌&&◌, ◌||◌, nat_lt, Bool, true, false, cond, List, [], ◌∷◌, ◌++◌, length, take, Result, Ok, Err, Option, Some, None, slice_get, get_or, min, max, refl, sym, ap, ◌∙◌, subst, arith}
+use Rattle.std.proofs.Common.{◌≡◌, ℕ, zero, suc, ◌+◌, ◌-◌, ◌<◌, ◌≤◌, ◌==◌, ◌&&◌, ◌||◌, nat_lt, Bool, true, false, cond, List, []}
+use Rattle.std.proofs.Common.{◌∷◌, ◌++◌, length, take, Result, Ok, Err, Option, Some, None, slice_get, get_or, min, max, refl, sym}
+use Rattle.std.proofs.Common.{ap, ◌∙◌, subst, arith}
 use Rattle.std.proofs.lemmas.Bool.Decides.{nat_tests}
 use Rattle.std.proofs.lemmas.Bool.{and_parts}
 use Rattle.std.proofs.lemmas.List.{take_more}
@@ -33,7 +35,14 @@ last_tail p r rest =
 rising_push : (front : List (ℕ × ℕ)) (q : ℕ × ℕ) → IsRising front → Bounded q → is_next_pair front q ≡ true → IsRising (front ++ q ∷ [])
 rising_push [] q r b e = (b, (tt, tt))
 rising_push (p ∷ []) q r b e = (r.0, (e, (b, (tt, tt))))
-rising_push (p ∷ s ∷ rest) q r b e = (r.0, (r.1.0, rising_push (s ∷ rest) q r.1.1 b (ap (λ (l : Option (ℕ × ℕ)). option_map_or (λ p. is_before p q) l true) (sym (last_tail p s rest)) ∙ e)))
+rising_push (p ∷ s ∷ rest) q r b e = (
+  r.0,
+  (
+    r.1.0,
+    rising_push (s ∷ rest) q r.1.1 b
+        (ap (λ (l : Option (ℕ × ℕ)). option_map_or (λ p. is_before p q) l true) (sym (last_tail p s rest)) ∙ e),
+  ),
+)
 
 two_below : (here : Located) (q : ℕ × ℕ) → two_ids here ≡ Ok q → q.1 < 2048
 unfolding two_ids
@@ -44,14 +53,16 @@ two_below here q e =
     let same : (a.0, b.0) ≡ q = let s = b.2 in cc in
     subst (λ (p : ℕ × ℕ). p.1 < 2048) same (id_ok there.0 b.0 there.1.1)
 
-ordered_ok : (front : List (ℕ × ℕ)) (here : Located) (q : ℕ × ℕ) → ordered_pair front here ≡ Ok q → Bounded q × (is_next_pair front q ≡ true)
+ordered_ok : (front : List (ℕ × ℕ)) (here : Located) (q : ℕ × ℕ) → ordered_pair front here ≡ Ok q → Bounded q
+    × (is_next_pair front q ≡ true)
 unfolding ordered_pair
 ordered_ok front here q e =
     let p = bind_ok (two_ids here) (λ pair. in_order (nat_lt pair.0 pair.1 && is_next_pair front pair) here >>= λ order. Ok pair) q e in
     let o = bind_ok (in_order (nat_lt p.0.0 p.0.1 && is_next_pair front p.0) here) (λ order. Ok p.0) q p.2 in
     let same : p.0 ≡ q = let s = o.2 in cc in
     let both = and_parts (nat_lt p.0.0 p.0.1) (is_next_pair front p.0) (order_ok _ here o.0 o.1) in
-    subst (λ (x : ℕ × ℕ). Bounded x × (is_next_pair front x ≡ true)) same (((nat_lt_true p.0.0 p.0.1 both.0), two_below here p.0 p.1), both.1)
+    subst (λ (x : ℕ × ℕ). Bounded x × (is_next_pair front x ≡ true)) same
+    (((nat_lt_true p.0.0 p.0.1 both.0), two_below here p.0 p.1), both.1)
 
 pair_step : (front : List (ℕ × ℕ)) (there : Located) (q : ℕ × ℕ) → IsRising front → pair_in front there ≡ Ok q → IsRising (front ++ q ∷ [])
 unfolding pair_in
@@ -62,7 +73,8 @@ pair_step front there q r e =
 -- pairs that were read rise
 pub pairs_rise : (here : Located) (pairs : List (ℕ × ℕ)) → pairs_of here ≡ Ok pairs → IsRising pairs
 unfolding pairs_of
-pairs_rise here pairs e = entries_keep (λ (ps : List (ℕ × ℕ)). IsRising ps) pair_in here pairs tt (λ f there x k r. pair_step f there x k r) e
+pairs_rise here pairs e = entries_keep (λ (ps : List (ℕ × ℕ)). IsRising ps) pair_in here pairs tt
+    (λ f there x k r. pair_step f there x k r) e
 
 -- ---- adding pairs to a set
 
@@ -79,7 +91,8 @@ not_back p q e = go (is_before q p) refl
     go true t = absurd (never_both p q (before_is p q e) (before_is q p t))
     go false t = refl
 
-first_before : (q : ℕ × ℕ) (rest : List (ℕ × ℕ)) (p : ℕ × ℕ) → IsFirst q (rest ++ p ∷ []) → IsRising (rest ++ p ∷ []) → is_before q p ≡ true
+first_before : (q : ℕ × ℕ) (rest : List (ℕ × ℕ)) (p : ℕ × ℕ) → IsFirst q (rest ++ p ∷ []) → IsRising (rest ++ p ∷ [])
+    → is_before q p ≡ true
 first_before q [] p f r = f
 first_before q (s ∷ rest) p f r = onward q s p f (first_before s rest p r.1.0 r.1.1)
 
@@ -105,7 +118,8 @@ rising_at (p ∷ ps) zero d r l = r.0
 rising_at (p ∷ ps) (suc i) d r l = rising_at ps i d r.1.1 (omega arith)
 
 -- the next pair of a rising list, added to the pairs in front of it
-pub add_next : (ps set : List (ℕ × ℕ)) (i : ℕ) (d : ℕ × ℕ) → IsRising ps → i < length ps → set ≡ take i ps → added (get_or ps i d).0 (get_or ps i d).1 set ≡ take (i + 1) ps
+pub add_next : (ps set : List (ℕ × ℕ)) (i : ℕ) (d : ℕ × ℕ) → IsRising ps → i < length ps → set ≡ take i ps
+    → added (get_or ps i d).0 (get_or ps i d).1 set ≡ take (i + 1) ps
 add_next ps set i d r l e =
     let more = take_more ps i d l in
     let rises : IsRising (take i ps ++ get_or ps i d ∷ []) = subst (λ (qs : List (ℕ × ℕ)). IsRising qs) more (rising_take ps (i + 1) r) in

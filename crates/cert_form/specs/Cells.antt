@@ -101,4 +101,5 @@ keyed_cell names front word here = do
 
 -- a cell behind those of `front`
 unfoldable pub cell_in : List (List ℕ) → List (ℕ × Cell) → Reader (ℕ × Cell)
-cell_in names front here = longer_than 1 (nth 1 (a_word cell_word)) here >>= λ word. of_length (cell_length word) (keyed_cell names front word) here
+cell_in names front here = longer_than 1 (nth 1 (a_word cell_word)) here >>= λ word. of_length (cell_length word)
+    (keyed_cell names front word) here

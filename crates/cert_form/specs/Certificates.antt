@@ -3,7 +3,8 @@
 --
 -- In form 1 each node is `{"by":B,"state":S}`. In form 2 a node that an `expand` node with a lower number names as a child
 -- has no state, since it has the child's: it is `{"by":B}`.
-use Rattle.std.specs.Prelude.{◌≡◌, ℕ, ℤ, pos, ◌==◌, ◌||◌, ◌&&◌, Bool, true, false, if◌then◌else◌, List, [], ◌∷◌, Option, Some, None, codes, length, take, slice_get, Result, Ok, Err}
+use Rattle.std.specs.Prelude.{◌≡◌, ℕ, ℤ, pos, ◌==◌, ◌||◌, ◌&&◌, Bool, true, false, if◌then◌else◌, List, [], ◌∷◌, Option, Some, None}
+use Rattle.std.specs.Prelude.{codes, length, take, slice_get, Result, Ok, Err}
 use Rattle.std.specs.List.{list_any}
 use Rattle.std.specs.Ordering.{int_eq}
 use Rattle.json_view.specs.Answers.{Reads}
@@ -95,7 +96,8 @@ cert_of names here = do
 
 -- a node's state, where it has one
 unfoldable pub maybe_state : List (List ℕ) → Reader (Option AbstractState)
-maybe_state names here = if has_field (codes "state") here then (field (codes "state") (state_of names) here >>= λ state. Ok (Some state)) else Ok None
+maybe_state names here = if has_field (codes "state") here then
+    (field (codes "state") (state_of names) here >>= λ state. Ok (Some state)) else Ok None
 
 -- what a reader says of node n of a certificate
 unfoldable pub of_node : {A : Type 0} → ℕ → Reader A → Reader A

@@ -1,5 +1,6 @@
 -- Readers of JSON values, one after another: the first fault stands for all.
-use Rattle.std.specs.Prelude.{ℕ, suc, ℤ, pos, negsuc, nat_abs, nat_le, nat_lt, unsigned_abs, Bool, List, [], ◌∷◌, ◌++◌, ◌==◌, if◌then◌else◌, ◌+◌, ◌-◌, length, slice_get, Option, Some, None, Result, Ok}
+use Rattle.std.specs.Prelude.{ℕ, suc, ℤ, pos, negsuc, nat_abs, nat_le, nat_lt, unsigned_abs, Bool, List, [], ◌∷◌, ◌++◌, ◌==◌}
+use Rattle.std.specs.Prelude.{if◌then◌else◌, ◌+◌, ◌-◌, length, slice_get, Option, Some, None, Result, Ok}
 use Rattle.std.specs.Option.{option_map_or}
 pub use Rattle.list_views.specs.Results.{◌>>=◌}
 use Rattle.serde_json.specs.Data.{Items, no_items, item}
@@ -24,7 +25,8 @@ field name reader here = json (field_of name here) >>= reader
 -- what a reader says of each entry, from number n on, one after another; it is told of the entries in front of it
 abbrev pub entries_from : {A : Type 0} → (List A → Reader A) → List A → List ℕ → ℕ → Items → Result (List A) CertFault
 entries_from reader front place n no_items = Ok front
-entries_from reader front place n (item value rest) = reader front (at_item place n value) >>= λ x. entries_from reader (front ++ x ∷ []) place (suc n) rest
+entries_from reader front place n (item value rest) = reader front (at_item place n value) >>= λ x. entries_from reader
+    (front ++ x ∷ []) place (suc n) rest
 
 -- what a reader says of each entry of a list
 unfoldable pub entries_of : {A : Type 0} → (List A → Reader A) → Reader (List A)
@@ -107,7 +109,8 @@ maybe_id here = maybe_to 65535 here >>= maybe_within here
 
 -- a number of 64 bits whose size is at most this
 unfoldable pub long_to : ℕ → Reader ℤ
-long_to most here = json (int_of (negsuc 9223372036854775807) (pos 9223372036854775807) here) >>= λ n. if nat_le (unsigned_abs n) most then Ok n else past_limit here
+long_to most here = json (int_of (negsuc 9223372036854775807) (pos 9223372036854775807) here) >>= λ n. if nat_le (unsigned_abs n)
+    most then Ok n else past_limit here
 
 -- a coefficient or a multiplier: its size is at most 2^31
 unfoldable pub a_multiple : Reader ℤ

@@ -2,14 +2,16 @@
 --
 -- A frame is `[method,place,[locals],[stack]]`, the bottom frame first, with -1 for an unset local and the stack's top
 -- last; `throw` is -1 or an id; pairs are `[a,b]` with a below b, rising.
-use Rattle.std.specs.Prelude.{ℕ, ◌&&◌, nat_lt, Bool, true, if◌then◌else◌, List, [], ◌∷◌, reverse, Option, Some, None, codes, Result, Ok, Err}
+use Rattle.std.specs.Prelude.{ℕ, ◌&&◌, nat_lt, Bool, true, if◌then◌else◌, List, [], ◌∷◌, reverse, Option, Some, None, codes, Result}
+use Rattle.std.specs.Prelude.{Ok, Err}
 use Rattle.std.specs.Option.{option_map_or}
 use Rattle.abs_cells.specs.AbstractStates.{AbstractFrame, AbstractState}
 use Rattle.abs_cells.specs.declared.cells.Cell.{Cell}
 use Rattle.abs_cells.specs.Limits.{most_ids}
 use Rattle.abs_cells.specs.PairLists.{is_before}
 use Rattle.cert_form.specs.Answers.{Reader}
-use Rattle.cert_form.specs.Fields.{◌>>=◌, only, field, entries_of, at_most, of_length, nth, in_order, last_of, a_number, a_place, an_id, maybe_id}
+use Rattle.cert_form.specs.Fields.{◌>>=◌, only, field, entries_of, at_most, of_length, nth, in_order, last_of, a_number, a_place}
+use Rattle.cert_form.specs.Fields.{an_id, maybe_id}
 use Rattle.cert_form.specs.Cells.{cell_in, ids_of}
 
 -- ---- pairs

@@ -1,7 +1,8 @@
 -- Steps of a proof: `["empty"]`; `["split",[[rules],..],[step or -1,..]]`; `["rank",order,[[class,weight],..],
 -- [[cut,constant,[[id,multiple],..],[[id,multiple],..]],..],[[rule,"weak",M] or [rule,"strict",M,M],..],rest]`, where
 -- order is `linear` or `size` and M is a list `[[row,multiplier],..]`; `["dead",rule,M,rest]`.
-use Rattle.std.specs.Prelude.{ℕ, ◌+◌, ℤ, pos, negsuc, ◌==◌, ◌&&◌, ◌||◌, not, nat_abs, nat_le, int_le, Bool, true, false, if◌then◌else◌, List, Option, Some, None, codes, length, Result, Ok, Err}
+use Rattle.std.specs.Prelude.{ℕ, ◌+◌, ℤ, pos, negsuc, ◌==◌, ◌&&◌, ◌||◌, not, nat_abs, nat_le, int_le, Bool, true, false}
+use Rattle.std.specs.Prelude.{if◌then◌else◌, List, Option, Some, None, codes, length, Result, Ok, Err}
 use Rattle.std.specs.Str.{bytes_eq}
 use Rattle.std.specs.Option.{option_map_or}
 use Rattle.json_view.specs.Located.{Located}
@@ -18,7 +19,8 @@ use Rattle.cert_form.specs.declared.steps.StepWord.TheVariants.{Empty, Split, Ra
 use Rattle.cert_form.specs.declared.steps.RuleWord.{RuleWord}
 use Rattle.cert_form.specs.declared.steps.RuleWord.TheVariants.{Weak, Strict}
 use Rattle.cert_form.specs.Answers.{Reader, json, wrong_kind, past_limit}
-use Rattle.cert_form.specs.Fields.{◌>>=◌, entries_of, at_most, of_length, longer_than, nth, a_word, in_order, last_of, key_in, a_number, maybe_number, an_id, a_multiple, a_constant}
+use Rattle.cert_form.specs.Fields.{◌>>=◌, entries_of, at_most, of_length, longer_than, nth, a_word, in_order, last_of, key_in}
+use Rattle.cert_form.specs.Fields.{a_number, maybe_number, an_id, a_multiple, a_constant}
 use Rattle.cert_form.specs.Ways.{numbers_of}
 
 -- ---- multipliers
@@ -40,7 +42,8 @@ multipliers_of here = at_most 65536 (entries_of (λ _. row_of)) here
 
 -- a weight is at most 65,535, and not below 0
 unfoldable pub a_weight : Reader ℤ
-a_weight here = json (int_of (negsuc 9223372036854775807) (pos 9223372036854775807) here) >>= λ n. if int_le (pos 0) n && int_le n (pos 65535) then Ok n else past_limit here
+a_weight here = json (int_of (negsuc 9223372036854775807) (pos 9223372036854775807) here) >>= λ n. if int_le (pos 0) n && int_le n
+    (pos 65535) then Ok n else past_limit here
 
 unfoldable pub weight_parts : List (ℕ × ℤ) → Reader (ℕ × ℤ)
 weight_parts front here = do
@@ -147,7 +150,8 @@ step_length Dead = 4
 
 -- whether sizes count
 abbrev pub order_named : Located → List ℕ → Result Bool CertFault
-order_named here word = if bytes_eq word (codes "size") then Ok true else if bytes_eq word (codes "linear") then Ok false else wrong_kind here
+order_named here word = if bytes_eq word (codes "size") then Ok true else if bytes_eq word (codes "linear") then Ok false else
+    wrong_kind here
 
 unfoldable pub order_of : Reader Bool
 order_of here = json (text_of here) >>= order_named here

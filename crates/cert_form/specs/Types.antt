@@ -1,6 +1,7 @@
 -- The words of types: a class by its name, an array type by its descriptor (JVM specification, SE 8, sections 4.2.1 and
 -- 4.3.2), over the names of the world's classes in the order of their numbers. And the words of shapes, and kinds.
-use Rattle.std.specs.Prelude.{ℕ, ◌==◌, nat_abs, pos, if◌then◌else◌, List, Option, Some, None, option_and_then, option_map, codes, Result, Ok, Err}
+use Rattle.std.specs.Prelude.{ℕ, ◌==◌, nat_abs, pos, if◌then◌else◌, List, Option, Some, None, option_and_then, option_map, codes}
+use Rattle.std.specs.Prelude.{Result, Ok, Err}
 use Rattle.std.specs.List.{position_from}
 use Rattle.std.specs.Str.{bytes_eq}
 use Rattle.json_view.specs.Located.{Located}

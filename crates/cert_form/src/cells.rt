@@ -4,7 +4,8 @@ ghost use Rattle.json_view.specs.Located.{located};
 ghost use Rattle.json_view.specs.Reading.{item_count, flag_of};
 ghost use Rattle.cert_form.specs.Answers.{Says, json};
 ghost use Rattle.cert_form.specs.Fields.{nth, of_length, next_key};
-ghost use Rattle.cert_form.specs.Cells.{cell_length, up_to, int_cell, ids_of, obj_cell, nums_cell, refs_cell, unk_cell, cell_of, keyed_cell, cell_in};
+ghost use Rattle.cert_form.specs.Cells.{cell_length, up_to, int_cell, ids_of, obj_cell, nums_cell, refs_cell, unk_cell, cell_of};
+ghost use Rattle.cert_form.specs.Cells.{keyed_cell, cell_in};
 
 use crate::fault::CertFault;
 use crate::lists::{Said, list};

@@ -3,7 +3,8 @@ ghost use Rattle.std.specs.Prelude.{◌≡◌, ◌<◌, ◌≤◌, ◌≤ℤ◌,
 ghost use Rattle.json_view.specs.Located.{located};
 ghost use Rattle.json_view.specs.Reading.{item_count};
 ghost use Rattle.cert_form.specs.Answers.{Says};
-ghost use Rattle.cert_form.specs.Fields.{nth, in_order, number_to, a_number, a_place, an_id, an_int, id_within, unless_negative, maybe_to, maybe_number, maybe_id, maybe_within, long_to, a_multiple, a_constant};
+ghost use Rattle.cert_form.specs.Fields.{nth, in_order, number_to, a_number, a_place, an_id, an_int, id_within, unless_negative};
+ghost use Rattle.cert_form.specs.Fields.{maybe_to, maybe_number, maybe_id, maybe_within, long_to, a_multiple, a_constant};
 
 use crate::fault::CertFault;
 use crate::lists::Said;

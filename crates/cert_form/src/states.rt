@@ -5,7 +5,8 @@ ghost use Rattle.json_view.specs.Located.{located};
 ghost use Rattle.json_view.specs.Reading.{item_count};
 ghost use Rattle.cert_form.specs.Answers.{Says};
 ghost use Rattle.cert_form.specs.Fields.{nth, of_length, field, maybe_id};
-ghost use Rattle.cert_form.specs.States.{is_next_pair, two_ids, ordered_pair, locals_of, frame_parts, frame_of, cells_of, frames_of, pairs_of, state_of};
+ghost use Rattle.cert_form.specs.States.{is_next_pair, two_ids, ordered_pair, locals_of, frame_parts, frame_of, cells_of, frames_of};
+ghost use Rattle.cert_form.specs.States.{pairs_of, state_of};
 
 use crate::cells::nth_ids;
 use crate::fault::CertFault;

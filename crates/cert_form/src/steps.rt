@@ -4,7 +4,11 @@ ghost use Rattle.json_view.specs.Located.{located};
 ghost use Rattle.json_view.specs.Reading.{item_count};
 ghost use Rattle.cert_form.specs.Answers.{Says};
 ghost use Rattle.cert_form.specs.Fields.{nth, of_length, entries_of, next_key};
-ghost use Rattle.cert_form.specs.Steps.{row_parts, row_of, multipliers_of, a_weight, weight_parts, multiple_parts, multiples_of, sized_list, multiple_in, weight_in, next_cut, form_parts, form_in, rule_length, weak_of, strict_of, listed_of, number_of, next_rule, rule_parts, rule_in, step_length, order_of, parts_of, steps_of, split_of, rank_parts, rank_of, dead_of, proof_step_of, step_of, proof_of};
+ghost use Rattle.cert_form.specs.Steps.{row_parts, row_of, multipliers_of, a_weight, weight_parts, multiple_parts, multiples_of};
+ghost use Rattle.cert_form.specs.Steps.{sized_list, multiple_in, weight_in, next_cut, form_parts, form_in, rule_length, weak_of};
+ghost use Rattle.cert_form.specs.Steps.{strict_of, listed_of, number_of, next_rule, rule_parts, rule_in, step_length, order_of};
+ghost use Rattle.cert_form.specs.Steps.{parts_of, steps_of, split_of, rank_parts, rank_of, dead_of, proof_step_of, step_of};
+ghost use Rattle.cert_form.specs.Steps.{proof_of};
 
 use crate::fault::CertFault;
 use crate::lists::{Said, list};

@@ -19,11 +19,14 @@ form_back : Back form_of (natural 2) true
 unfolding form_of int_of
 form_back place = refl
 
-nodes_back : (names : List (List ℕ)) (parts : List GraphPart) → AreNames names → length parts ≤ 20000 → AreParts names [] parts → Back (nodes_of names true) (list (map (node names) parts)) parts
+nodes_back : (names : List (List ℕ)) (parts : List GraphPart) → AreNames names → length parts ≤ 20000 → AreParts names [] parts
+    → Back (nodes_of names true) (list (map (node names) parts)) parts
 unfolding nodes_of
-nodes_back names parts all few are place = most_back 20000 _ (node names) parts parts few (list_back (node_in names true) (node names) parts (each_part names [] parts all are)) place
+nodes_back names parts all few are place = most_back 20000 _ (node names) parts parts few
+    (list_back (node_in names true) (node names) parts (each_part names [] parts all are)) place
 
-pub cert_back : (names : List (List ℕ)) (content : CertContent) → IsReadable names content → Back (cert_of names) (certificate names content) content
+pub cert_back : (names : List (List ℕ)) (content : CertContent) → IsReadable names content
+    → Back (cert_of names) (certificate names content) content
 unfolding cert_of only only_of least_unlisted first_missing field field_of
 cert_back names content is place =
     then_back _ _ true _ (form_back _)
@@ -32,10 +35,12 @@ cert_back names content is place =
     (then_back _ _ content.proof _ (proof_back content.proof is.proof _) refl)))
 
 -- bytes that read as what is written say the content
-pub says : (names : List (List ℕ)) (content : CertContent) (bytes : List ℕ) → Reads bytes (certificate names content) → IsReadable names content → SaysOf (cert_of names) bytes (Ok content)
+pub says : (names : List (List ℕ)) (content : CertContent) (bytes : List ℕ) → Reads bytes (certificate names content)
+    → IsReadable names content → SaysOf (cert_of names) bytes (Ok content)
 says names content bytes reads is = (certificate names content, (reads, cert_back names content is []))
 
-pub graph_is : (names : List (List ℕ)) (graph : List GraphNode) (cuts : List ℕ) (proof : List ProofStep) → IsReadableGraph names graph cuts proof → IsReadable names (content_of graph cuts proof)
+pub graph_is : (names : List (List ℕ)) (graph : List GraphNode) (cuts : List ℕ) (proof : List ProofStep)
+    → IsReadableGraph names graph cuts proof → IsReadable names (content_of graph cuts proof)
 graph_is names graph cuts proof is =
     record {
       named = is.named;
@@ -47,6 +52,8 @@ graph_is names graph cuts proof is =
     }
 
 -- the same of what may be bytes
-pub says_if : {E : Type 0} (names : List (List ℕ)) (content : CertContent) (value : Data) (result : Result (List ℕ) E) → value ≡ certificate names content → IfOk result (λ bytes. Reads bytes value) → IsReadable names content → IfOk result (λ bytes. SaysOf (cert_of names) bytes (Ok content))
+pub says_if : {E : Type 0} (names : List (List ℕ)) (content : CertContent) (value : Data) (result : Result (List ℕ) E)
+    → value ≡ certificate names content → IfOk result (λ bytes. Reads bytes value) → IsReadable names content
+    → IfOk result (λ bytes. SaysOf (cert_of names) bytes (Ok content))
 says_if names content value (Ok bytes) e reads is = says names content bytes (subst (λ (v : Data). Reads bytes v) e reads) is
 says_if names content value (Err error) e reads is = tt

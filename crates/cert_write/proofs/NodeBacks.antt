@@ -1,5 +1,6 @@
 -- Nodes are read again.
-use Rattle.std.proofs.Common.{◌≡◌, ℕ, suc, Bool, true, false, List, [], ◌∷◌, ◌++◌, length, Option, Some, None, All, refl, sym, ap, ◌∙◌, subst, append-nil, append_assoc}
+use Rattle.std.proofs.Common.{◌≡◌, ℕ, suc, Bool, true, false, List, [], ◌∷◌, ◌++◌, length, Option, Some, None, All, refl, sym, ap}
+use Rattle.std.proofs.Common.{◌∙◌, subst, append-nil, append_assoc}
 use Rattle.std.proofs.lemmas.List.Elements.{All-head, All-tail}
 use Rattle.json_view.specs.Names.{least_unlisted, first_missing}
 use Rattle.json_view.specs.Reading.{items_of as count_of, item_of, text_of, only_of, field_of}
@@ -31,24 +32,34 @@ map_back ps all place = all_back (λ (p : ℕ × ℕ). IsId p.0 × IsId p.1) map
 by_back : (way : By) → IsWay way → Back by_of (by way) way
 unfolding by_of longer_than count_of nth item_of a_word text_of of_length expand_of instance_of
 by_back (Expand children) is place = then_back _ _ children _ (numbers_back children is _) refl
-by_back (Instance target map) is place = then_back _ _ target _ (a_number_back target is.0 _) (then_back _ _ map _ (map_back map is.1 _) refl)
+by_back (Instance target map) is place = then_back _ _ target _ (a_number_back target is.0 _)
+    (then_back _ _ map _ (map_back map is.1 _) refl)
 by_back End is place = refl
 by_back Todo is place = absurd is
 
-with_back : (names : List (List ℕ)) (lacks : Bool) (way : By) (state : Option AbstractState) → AreNames names → IsWay way → IsStated names lacks state → Back (node_with names lacks) (node names (record { state = state; by = way })) (record { state = state; by = way })
+with_back : (names : List (List ℕ)) (lacks : Bool) (way : By) (state : Option AbstractState) → AreNames names → IsWay way
+    → IsStated names lacks state → Back (node_with names lacks) (node names (record { state = state; by = way }))
+    (record { state = state; by = way })
 unfolding named_node whole_node only only_of least_unlisted first_missing field field_of
 with_back names true way (Some state) all is stated place = absurd stated
 with_back names true way None all is stated place = then_back _ _ way _ (by_back way is _) refl
-with_back names false way (Some state) all is stated place = then_back _ _ way _ (by_back way is _) (then_back _ _ state _ (state_back names state all stated _) refl)
+with_back names false way (Some state) all is stated place = then_back _ _ way _ (by_back way is _)
+    (then_back _ _ state _ (state_back names state all stated _) refl)
 with_back names false way None all is stated place = absurd stated
 
-pub node_back : (names : List (List ℕ)) (front : List GraphPart) (part : GraphPart) → AreNames names → IsWay part.by → IsStated names (is_named (length front) front) part.state → Back (node_in names true front) (node names part) part
+pub node_back : (names : List (List ℕ)) (front : List GraphPart) (part : GraphPart) → AreNames names → IsWay part.by
+    → IsStated names (is_named (length front) front) part.state → Back (node_in names true front) (node names part) part
 unfolding node_in
 node_back names front part all is stated place = with_back names (is_named (length front) front) part.by part.state all is stated place
 
-pub each_part : (names : List (List ℕ)) (front parts : List GraphPart) → AreNames names → AreParts names front parts → EachBack (node_in names true) (node names) front parts
+pub each_part : (names : List (List ℕ)) (front parts : List GraphPart) → AreNames names → AreParts names front parts
+    → EachBack (node_in names true) (node names) front parts
 each_part names front [] all are = tt
-each_part names front (part ∷ parts) all are = (node_back names front part all are.0.0 are.0.1, each_part names (front ++ part ∷ []) parts all are.1)
+each_part names front (part ∷ parts) all are = (
+  node_back names front part all are.0.0 are.0.1,
+  each_part names (front ++ part ∷ [])
+      parts all are.1,
+)
 
 -- ---- the nodes of a graph
 
@@ -59,20 +70,27 @@ behind front (n ∷ rest) = part_of (is_named (length front) front) n ∷ behind
 
 behind_is : (front : List GraphPart) (graph : List GraphNode) → parts_from front graph ≡ front ++ behind front graph
 behind_is front [] = sym (append-nil front)
-behind_is front (n ∷ rest) = behind_is (front ++ part_of (is_named (length front) front) n ∷ []) rest ∙ append_assoc front (part_of (is_named (length front) front) n ∷ []) (behind (front ++ part_of (is_named (length front) front) n ∷ []) rest)
+behind_is front (n ∷ rest) = behind_is (front ++ part_of (is_named (length front) front) n ∷ []) rest
+    ∙ append_assoc front (part_of (is_named (length front) front) n ∷ [])
+    (behind (front ++ part_of (is_named (length front) front) n ∷ []) rest)
 
 stated : (names : List (List ℕ)) (lacks : Bool) (n : GraphNode) → IsState names n.state → IsStated names lacks (part_of lacks n).state
 stated names true n is = tt
 stated names false n is = is
 
-behind_are : (names : List (List ℕ)) (front : List GraphPart) (graph : List GraphNode) → All (IsNode names) graph → AreParts names front (behind front graph)
+behind_are : (names : List (List ℕ)) (front : List GraphPart) (graph : List GraphNode) → All (IsNode names) graph
+    → AreParts names front (behind front graph)
 behind_are names front [] all = tt
 behind_are names front (n ∷ rest) all =
-    let first : IsNode names n = All-head (IsNode names) n rest all in
-    ((first.way, stated names (is_named (length front) front) n first.state), behind_are names (front ++ part_of (is_named (length front) front) n ∷ []) rest (All-tail (IsNode names) n rest all))
+    let first : IsNode names n = All-head (IsNode names) n rest all in (
+      (first.way, stated names (is_named (length front) front) n first.state),
+      behind_are names
+          (front ++ part_of (is_named (length front) front) n ∷ []) rest (All-tail (IsNode names) n rest all),
+    )
 
 pub graph_parts : (names : List (List ℕ)) (graph : List GraphNode) → All (IsNode names) graph → AreParts names [] (parts_from [] graph)
-graph_parts names graph all = subst (λ (parts : List GraphPart). AreParts names [] parts) (sym (behind_is [] graph)) (behind_are names [] graph all)
+graph_parts names graph all = subst (λ (parts : List GraphPart). AreParts names [] parts) (sym (behind_is [] graph))
+    (behind_are names [] graph all)
 
 behind_count : (front : List GraphPart) (graph : List GraphNode) → length (behind front graph) ≡ length graph
 behind_count front [] = refl

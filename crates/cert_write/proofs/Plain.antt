@@ -1,7 +1,9 @@
 -- Certificates as JSON values have no floats, and nest no deeper than `serde_json` reads.
-use Rattle.std.proofs.Common.{◌≡◌, ℕ, suc, ℤ, pos, negsuc, ◌≤◌, ◌||◌, Bool, true, false, max, List, [], ◌∷◌, map, reverse, Option, Some, None, refl, sym, subst, arith}
+use Rattle.std.proofs.Common.{◌≡◌, ℕ, suc, ℤ, pos, negsuc, ◌≤◌, ◌||◌, Bool, true, false, max, List, [], ◌∷◌, map, reverse, Option}
+use Rattle.std.proofs.Common.{Some, None, refl, sym, subst, arith}
 use Rattle.std.proofs.lemmas.Bool.{or_from}
-use Rattle.serde_json.specs.Data.{Data, boolean, string, array, object, Items, no_items, item, Members, no_members, member, depth, items_depth, members_depth}
+use Rattle.serde_json.specs.Data.{Data, boolean, string, array, object, Items, no_items, item, Members, no_members, member, depth}
+use Rattle.serde_json.specs.Data.{items_depth, members_depth}
 use Rattle.serde_json.specs.View.{items_of}
 use Rattle.serde_json.specs.Written.{has_float, items_have_float, members_have_float}
 use Rattle.abs_cells.specs.AbstractStates.{AbstractFrame, AbstractState}
@@ -33,7 +35,11 @@ none : (most : ℕ) → ArePlain most no_items
 none most = record { floats = refl; nests = omega arith }
 
 one_more : (most : ℕ) (first : Data) (rest : Items) → IsPlain most first → ArePlain most rest → ArePlain most (item first rest)
-one_more most first rest p q = record { floats = or_from (has_float first) (items_have_float rest) p.floats q.floats; nests = both_most (depth first) (items_depth rest) most p.nests q.nests }
+one_more most first rest p q = record {
+  floats = or_from (has_float first) (items_have_float rest) p.floats q.floats;
+  nests =
+      both_most (depth first) (items_depth rest) most p.nests q.nests;
+}
 
 as_list : (most : ℕ) (items : Items) → ArePlain most items → IsPlain (suc most) (array items)
 as_list most items p = let n = p.nests in record { floats = p.floats; nests = omega arith }
@@ -85,18 +91,26 @@ entries es = listed 1 w.entry es an_entry
 -- ---- states
 
 cell_items : (names : List (List ℕ)) (c : Cell) → ArePlain 1 (items_of (w.cell_items names c))
-cell_items names (cells.Int bounds) = one_more 1 _ _ (a_text 1 _) (one_more 1 _ _ (an_integer 1 bounds.lo) (one_more 1 _ _ (an_integer 1 bounds.hi) (none 1)))
+cell_items names (cells.Int bounds) = one_more 1 _ _ (a_text 1 _)
+    (one_more 1 _ _ (an_integer 1 bounds.lo) (one_more 1 _ _ (an_integer 1 bounds.hi) (none 1)))
 cell_items names cells.Null = one_more 1 _ _ (a_text 1 _) (none 1)
-cell_items names (cells.Obj class ids) = one_more 1 _ _ (a_text 1 _) (one_more 1 _ _ (a_natural 1 class) (one_more 1 _ _ (naturals ids) (none 1)))
-cell_items names (cells.Nums kind length) = one_more 1 _ _ (a_text 1 _) (one_more 1 _ _ (a_natural 1 _) (one_more 1 _ _ (a_natural 1 length) (none 1)))
-cell_items names (cells.Refs element length shape) = one_more 1 _ _ (a_text 1 _) (one_more 1 _ _ (a_text 1 _) (one_more 1 _ _ (a_natural 1 length) (one_more 1 _ _ (a_text 1 _) (none 1))))
-cell_items names (cells.Unk bound nullable shape) = one_more 1 _ _ (a_text 1 _) (one_more 1 _ _ (a_text 1 _) (one_more 1 _ _ (a_flag 1 nullable) (one_more 1 _ _ (a_text 1 _) (none 1))))
+cell_items names (cells.Obj class ids) = one_more 1 _ _ (a_text 1 _)
+    (one_more 1 _ _ (a_natural 1 class) (one_more 1 _ _ (naturals ids) (none 1)))
+cell_items names (cells.Nums kind length) = one_more 1 _ _ (a_text 1 _)
+    (one_more 1 _ _ (a_natural 1 _) (one_more 1 _ _ (a_natural 1 length) (none 1)))
+cell_items names (cells.Refs element length shape) = one_more 1 _ _ (a_text 1 _)
+    (one_more 1 _ _ (a_text 1 _) (one_more 1 _ _ (a_natural 1 length) (one_more 1 _ _ (a_text 1 _) (none 1))))
+cell_items names (cells.Unk bound nullable shape) = one_more 1 _ _ (a_text 1 _)
+    (one_more 1 _ _ (a_text 1 _) (one_more 1 _ _ (a_flag 1 nullable) (one_more 1 _ _ (a_text 1 _) (none 1))))
 
 a_cell : (names : List (List ℕ)) (c : ℕ × Cell) → IsPlain 2 (w.cell names c)
 a_cell names c = as_list 1 _ (one_more 1 _ _ (a_natural 1 c.0) (cell_items names c.1))
 
 a_frame : (f : AbstractFrame) → IsPlain 2 (w.frame f)
-a_frame f = as_list 1 _ (one_more 1 _ _ (a_natural 1 f.method) (one_more 1 _ _ (a_natural 1 f.pc) (one_more 1 _ _ (listed 0 w.maybe f.locals (λ n. a_maybe 0 n)) (one_more 1 _ _ (naturals (reverse f.stack)) (none 1)))))
+a_frame f = as_list 1 _
+    (one_more 1 _ _ (a_natural 1 f.method)
+    (one_more 1 _ _ (a_natural 1 f.pc)
+    (one_more 1 _ _ (listed 0 w.maybe f.locals (λ n. a_maybe 0 n)) (one_more 1 _ _ (naturals (reverse f.stack)) (none 1)))))
 
 -- members of an object
 record HasPlain (most : ℕ) (members : Members) : Type 0 where
@@ -106,8 +120,13 @@ record HasPlain (most : ℕ) (members : Members) : Type 0 where
 no_more : (most : ℕ) → HasPlain most no_members
 no_more most = record { floats = refl; nests = omega arith }
 
-and_more : (most : ℕ) (name : List ℕ) (first : Data) (rest : Members) → IsPlain most first → HasPlain most rest → HasPlain most (member name first rest)
-and_more most name first rest p q = record { floats = or_from (has_float first) (members_have_float rest) p.floats q.floats; nests = both_most (depth first) (members_depth rest) most p.nests q.nests }
+and_more : (most : ℕ) (name : List ℕ) (first : Data) (rest : Members) → IsPlain most first → HasPlain most rest
+    → HasPlain most (member name first rest)
+and_more most name first rest p q = record {
+  floats = or_from (has_float first) (members_have_float rest) p.floats q.floats;
+  nests =
+      both_most (depth first) (members_depth rest) most p.nests q.nests;
+}
 
 as_object : (most : ℕ) (ms : Members) → HasPlain most ms → IsPlain (suc most) (object ms)
 as_object most ms p = let n = p.nests in record { floats = p.floats; nests = omega arith }
@@ -124,8 +143,10 @@ a_state names s =
 -- ---- nodes
 
 a_way : (way : By) → IsPlain 3 (w.by way)
-a_way (Expand children) = as_list 2 _ (one_more 2 _ _ (a_text 2 _) (one_more 2 _ _ (deeper 1 2 _ (omega arith) (naturals children)) (none 2)))
-a_way (Instance target map) = as_list 2 _ (one_more 2 _ _ (a_text 2 _) (one_more 2 _ _ (a_natural 2 target) (one_more 2 _ _ (pairs map) (none 2))))
+a_way (Expand children) = as_list 2 _
+    (one_more 2 _ _ (a_text 2 _) (one_more 2 _ _ (deeper 1 2 _ (omega arith) (naturals children)) (none 2)))
+a_way (Instance target map) = as_list 2 _
+    (one_more 2 _ _ (a_text 2 _) (one_more 2 _ _ (a_natural 2 target) (one_more 2 _ _ (pairs map) (none 2))))
 a_way End = as_list 2 _ (one_more 2 _ _ (a_text 2 _) (none 2))
 a_way Todo = record { floats = refl; nests = omega arith }
 
@@ -142,15 +163,21 @@ some_nodes names parts = listed 5 (w.node names) parts (a_node names)
 -- ---- proofs
 
 a_form : (f : CutForm) → IsPlain 3 (w.form f)
-a_form f = as_list 2 _ (one_more 2 _ _ (a_natural 2 f.cut) (one_more 2 _ _ (an_integer 2 f.constant) (one_more 2 _ _ (entries f.ints) (one_more 2 _ _ (entries f.sizes) (none 2)))))
+a_form f = as_list 2 _
+    (one_more 2 _ _ (a_natural 2 f.cut)
+    (one_more 2 _ _ (an_integer 2 f.constant) (one_more 2 _ _ (entries f.ints) (one_more 2 _ _ (entries f.sizes) (none 2)))))
 
 a_rule : (r : RankRule) → IsPlain 3 (w.rule r)
 a_rule (Weak n fall) = as_list 2 _ (one_more 2 _ _ (a_natural 2 n) (one_more 2 _ _ (a_text 2 _) (one_more 2 _ _ (entries fall) (none 2))))
-a_rule (Strict n fall bound) = as_list 2 _ (one_more 2 _ _ (a_natural 2 n) (one_more 2 _ _ (a_text 2 _) (one_more 2 _ _ (entries fall) (one_more 2 _ _ (entries bound) (none 2)))))
+a_rule (Strict n fall bound) = as_list 2 _
+    (one_more 2 _ _ (a_natural 2 n)
+    (one_more 2 _ _ (a_text 2 _) (one_more 2 _ _ (entries fall) (one_more 2 _ _ (entries bound) (none 2)))))
 
 a_step : (s : ProofStep) → IsPlain 5 (w.step s)
 a_step Empty = as_list 4 _ (one_more 4 _ _ (a_text 4 _) (none 4))
-a_step (Split parts steps) = as_list 4 _ (one_more 4 _ _ (a_text 4 _) (one_more 4 _ _ (deeper 2 4 _ (omega arith) (listed 1 w.naturals parts naturals)) (one_more 4 _ _ (deeper 1 4 _ (omega arith) (listed 0 w.maybe steps (λ n. a_maybe 0 n))) (none 4))))
+a_step (Split parts steps) = as_list 4 _
+    (one_more 4 _ _ (a_text 4 _) (one_more 4 _ _ (deeper 2 4 _ (omega arith) (listed 1 w.naturals parts naturals))
+    (one_more 4 _ _ (deeper 1 4 _ (omega arith) (listed 0 w.maybe steps (λ n. a_maybe 0 n))) (none 4))))
 a_step (Rank ranked rest) =
     as_list 4 _
     (one_more 4 _ _ (a_text 4 _)
@@ -159,7 +186,10 @@ a_step (Rank ranked rest) =
     (one_more 4 _ _ (listed 3 w.form ranked.forms a_form)
     (one_more 4 _ _ (listed 3 w.rule ranked.rules a_rule)
     (one_more 4 _ _ (a_natural 4 rest) (none 4)))))))
-a_step (Dead n multipliers rest) = as_list 4 _ (one_more 4 _ _ (a_text 4 _) (one_more 4 _ _ (a_natural 4 n) (one_more 4 _ _ (deeper 2 4 _ (omega arith) (entries multipliers)) (one_more 4 _ _ (a_natural 4 rest) (none 4)))))
+a_step (Dead n multipliers rest) = as_list 4 _
+    (one_more 4 _ _ (a_text 4 _)
+    (one_more 4 _ _ (a_natural 4 n)
+    (one_more 4 _ _ (deeper 2 4 _ (omega arith) (entries multipliers)) (one_more 4 _ _ (a_natural 4 rest) (none 4)))))
 
 -- ---- the whole
 

@@ -1,7 +1,8 @@
 -- JSON values of certificates of form 2.
 --
 -- A node that an `expand` node with a lower number names as a child is written without its state.
-use Rattle.std.specs.Prelude.{ℕ, ℤ, negsuc, Bool, ◌==◌, if◌then◌else◌, List, [], ◌∷◌, ◌++◌, length, map, reverse, replicate, slice_get, Option, Some, None, codes}
+use Rattle.std.specs.Prelude.{ℕ, ℤ, negsuc, Bool, ◌==◌, if◌then◌else◌, List, [], ◌∷◌, ◌++◌, length, map, reverse, replicate}
+use Rattle.std.specs.Prelude.{slice_get, Option, Some, None, codes}
 use Rattle.std.specs.Option.{unwrap_or}
 use Rattle.serde_json.specs.Data.{Data, unsigned, null, boolean, number, string, array, object, Members, no_members, member}
 use Rattle.serde_json.specs.Find.{of_integer}
@@ -90,8 +91,10 @@ cell_items names (cells.Int bounds) = string (codes "int") ∷ integer bounds.lo
 cell_items names cells.Null = string (codes "null") ∷ []
 cell_items names (cells.Obj class ids) = string (codes "obj") ∷ natural class ∷ naturals ids ∷ []
 cell_items names (cells.Nums kind length) = string (codes "nums") ∷ natural (kind_code kind) ∷ natural length ∷ []
-cell_items names (cells.Refs element length shape) = string (codes "refs") ∷ string (type_word names element) ∷ natural length ∷ string (shape_word shape) ∷ []
-cell_items names (cells.Unk bound nullable shape) = string (codes "unk") ∷ string (type_word names bound) ∷ boolean nullable ∷ string (shape_word shape) ∷ []
+cell_items names (cells.Refs element length shape) = string (codes "refs") ∷ string (type_word names element) ∷ natural length
+    ∷ string (shape_word shape) ∷ []
+cell_items names (cells.Unk bound nullable shape) = string (codes "unk") ∷ string (type_word names bound) ∷ boolean nullable
+    ∷ string (shape_word shape) ∷ []
 
 abbrev pub cell : List (List ℕ) → ℕ × Cell → Data
 cell names c = list (natural c.0 ∷ cell_items names c.1)
@@ -147,7 +150,8 @@ abbrev pub split : List (List ℕ) → List (Option ℕ) → Data
 split parts steps = list (string (codes "split") ∷ list (map naturals parts) ∷ list (map maybe steps) ∷ [])
 
 abbrev pub rank : RankStep → ℕ → Data
-rank ranked rest = list (string (codes "rank") ∷ string (order_word ranked.size) ∷ entries ranked.weights ∷ list (map form ranked.forms) ∷ list (map rule ranked.rules) ∷ natural rest ∷ [])
+rank ranked rest = list (string (codes "rank") ∷ string (order_word ranked.size) ∷ entries ranked.weights ∷ list
+    (map form ranked.forms) ∷ list (map rule ranked.rules) ∷ natural rest ∷ [])
 
 abbrev pub dead : ℕ → List (ℕ × ℤ) → ℕ → Data
 dead n multipliers rest = list (string (codes "dead") ∷ natural n ∷ entries multipliers ∷ natural rest ∷ [])

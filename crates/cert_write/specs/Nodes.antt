@@ -7,7 +7,8 @@ use Rattle.cert_form.specs.Marks.{marked_by}
 use Rattle.cert_write.specs.Data.{node, part_of}
 
 -- A node is put behind values, without its state where it is marked, and what it names is marked.
-pub record IsPut (names : List (List ℕ)) (graph : List GraphNode) (n : ℕ) (marks later : List Bool) (values more : List Data) : Type 0 where
+pub record IsPut (names : List (List ℕ)) (graph : List GraphNode) (n : ℕ) (marks later : List Bool) (values more : List Data) : Type
+    0 where
   pub next : GraphNode
   pub is_next : slice_get graph n ≡ Some next
   pub marked : later ≡ marked_by marks next.by

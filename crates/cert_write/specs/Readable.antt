@@ -1,5 +1,6 @@
 -- What a certificate keeps so that what is written of it is read again: the limits of its numbers and lists, and their orders.
-use Rattle.std.specs.Prelude.{◌≡◌, ℕ, suc, ℤ, ◌<◌, ◌≤◌, ◌≤ℤ◌, Bool, true, false, IsTrue, List, [], ◌∷◌, ◌++◌, length, slice_get, Option, Some, None, unsigned_abs}
+use Rattle.std.specs.Prelude.{◌≡◌, ℕ, suc, ℤ, ◌<◌, ◌≤◌, ◌≤ℤ◌, Bool, true, false, IsTrue, List, [], ◌∷◌, ◌++◌, length, slice_get}
+use Rattle.std.specs.Prelude.{Option, Some, None, unsigned_abs}
 use Rattle.std.specs.List.{All, list_all}
 use Rattle.class_base.specs.ClassNames.{is_class_name}
 use Rattle.jvm_values.specs.Kinds.{IsOfKind}
@@ -90,7 +91,8 @@ IsStated names false None = ⊥
 -- the nodes behind those of `front`: each lacks its state exactly where one in front of it names it as a child
 abbrev pub AreParts : List (List ℕ) → List GraphPart → List GraphPart → Type 0
 AreParts names front [] = Unit {0}
-AreParts names front (part ∷ parts) = (IsWay part.by × IsStated names (is_named (length front) front) part.state) × AreParts names (front ++ part ∷ []) parts
+AreParts names front (part ∷ parts) = (IsWay part.by × IsStated names (is_named (length front) front) part.state)
+    × AreParts names (front ++ part ∷ []) parts
 
 -- ---- proofs
 

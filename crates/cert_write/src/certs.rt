@@ -31,7 +31,8 @@ fn put_next<P: Pairs, S: NodeSource<P>>(
     values: &mut Vec<Value>,
 ) -> Result<(), AllocError>
     requires { n < length (S.graph source.old) }
-    ensures next { OnOk result (IsPut words.now.names.now (S.graph source.old) n named.old named.new (map view values.old.items) (map view values.new.items)) }
+    ensures next { OnOk result (IsPut words.now.names.now (S.graph source.old) n named.old named.new (map view values.old.items)
+        (map view values.new.items)) }
     ensures same { S.graph source.new ≡ S.graph source.old }
 {
     let next = source.node(alloc, n)?;
@@ -98,9 +99,11 @@ pub fn encode<P: Pairs, S: NodeSource<P>>(
     names: &ClassNames,
 ) -> Result<Seq<u8>, AllocError>
     requires names { IsTrue (list_all is_class_name names.now) }
-    ensures text { IfOk result (λ bytes. bytes ≡ compact_text (certificate names.now (content_of (S.graph source.old) cuts.now proof.now.steps))) }
+    ensures text { IfOk result
+        (λ bytes. bytes ≡ compact_text (certificate names.now (content_of (S.graph source.old) cuts.now proof.now.steps))) }
     ensures reads { IfOk result (λ bytes. Reads bytes (certificate names.now (content_of (S.graph source.old) cuts.now proof.now.steps))) }
-    ensures again { IsReadableGraph names.now (S.graph source.old) cuts.now proof.now.steps → IfOk result (λ bytes. SaysOf (cert_of names.now) bytes (Ok (content_of (S.graph source.old) cuts.now proof.now.steps))) }
+    ensures again { IsReadableGraph names.now (S.graph source.old) cuts.now proof.now.steps
+        → IfOk result (λ bytes. SaysOf (cert_of names.now) bytes (Ok (content_of (S.graph source.old) cuts.now proof.now.steps))) }
     ensures same { S.graph source.new ≡ S.graph source.old }
 {
     let nodes = all_nodes(alloc, &Words { names }, source)?;
@@ -137,9 +140,15 @@ pub fn encode_parts<P: Pairs, S: PartSource<P>>(
     names: &ClassNames,
 ) -> Result<Seq<u8>, AllocError>
     requires { IsTrue (list_all is_class_name names.now) }
-    ensures text { IfOk result (λ bytes. bytes ≡ compact_text (certificate names.now (record { cuts = cuts.now; parts = S.parts source.now; proof = proof.now.steps }))) }
-    ensures reads { IfOk result (λ bytes. Reads bytes (certificate names.now (record { cuts = cuts.now; parts = S.parts source.now; proof = proof.now.steps }))) }
-    ensures again { IsReadable names.now (record { cuts = cuts.now; parts = S.parts source.now; proof = proof.now.steps }) → IfOk result (λ bytes. SaysOf (cert_of names.now) bytes (Ok (record { cuts = cuts.now; parts = S.parts source.now; proof = proof.now.steps }))) }
+    ensures text { IfOk result
+        (λ bytes. bytes ≡ compact_text
+        (certificate names.now (record { cuts = cuts.now; parts = S.parts source.now; proof = proof.now.steps }))) }
+    ensures reads { IfOk result
+        (λ bytes. Reads bytes
+        (certificate names.now (record { cuts = cuts.now; parts = S.parts source.now; proof = proof.now.steps }))) }
+    ensures again { IsReadable names.now (record { cuts = cuts.now; parts = S.parts source.now; proof = proof.now.steps })
+        → IfOk result (λ bytes. SaysOf (cert_of names.now) bytes
+        (Ok (record { cuts = cuts.now; parts = S.parts source.now; proof = proof.now.steps }))) }
 {
     let nodes = all_parts(alloc, &Words { names }, source)?;
     text(alloc, nodes, cuts, proof)

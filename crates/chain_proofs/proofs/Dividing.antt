@@ -1,7 +1,10 @@
 -- A set that is divided into the classes of rules that reach each other is divided as a proof asks.
-use Rattle.std.proofs.Common.{◌≡◌, ◌∙◌, inl, inr, ◌+◌, ◌<◌, ◌≤◌, ◌==◌, ◌&&◌, ◌++◌, not, cond, ℕ, zero, suc, Bool, true, false, List, [], ◌∷◌, length, take, length-append, Option, Some, None, is_none, slice_get, slice_set, nat_lt, refl, sym, ap, subst, arith}
+use Rattle.std.proofs.Common.{◌≡◌, ◌∙◌, inl, inr, ◌+◌, ◌<◌, ◌≤◌, ◌==◌, ◌&&◌, ◌++◌, not, cond, ℕ, zero, suc, Bool, true, false, List}
+use Rattle.std.proofs.Common.{[], ◌∷◌, length, take, length-append, Option, Some, None, is_none, slice_get, slice_set, nat_lt, refl}
+use Rattle.std.proofs.Common.{sym, ap, subst, arith}
 use Rattle.std.specs.List.{AllZip, concat, filter_map}
-use Rattle.std.proofs.lemmas.Bool.{cases_Bool, eqb-true, le-ltb, and_left, and_right, or_cases, false≢true, false_from_ne_true, not_from_true}
+use Rattle.std.proofs.lemmas.Bool.{cases_Bool, eqb-true, le-ltb, and_left, and_right, or_cases, false≢true, false_from_ne_true}
+use Rattle.std.proofs.lemmas.Bool.{not_from_true}
 use Rattle.std.proofs.lemmas.List.Elements.{filter_map-append}
 use Rattle.std.proofs.lemmas.Option.{none-some, same_Some, slice_get_within}
 use Rattle.list_views.proofs.Items.{take_past}
@@ -10,7 +13,9 @@ use Rattle.descent.specs.declared.proof.ProofStep.TheVariants.{Split}
 use Rattle.descent.specs.declared.rules.PathRule.{PathRule}
 use Rattle.descent.specs.Components.{AreClasses}
 use Rattle.descent.specs.Conditions.{IsStep}
-use Rattle.descent.specs.Splits.{has, stands_in, place_in, is_misplaced, least, uncovered, is_followed, meet_at, is_below, back_fault, back_edge, is_lone, loops_in, loops_at, first_loop, loop_fault, edge_fault, cover_fault, split_fault}
+use Rattle.descent.specs.Splits.{has, stands_in, place_in, is_misplaced, least, uncovered, is_followed, meet_at, is_below}
+use Rattle.descent.specs.Splits.{back_fault, back_edge, is_lone, loops_in, loops_at, first_loop, loop_fault, edge_fault}
+use Rattle.descent.specs.Splits.{cover_fault, split_fault}
 use Rattle.descent.specs.Steps.{Given, set_of, is_free, give, part_left, parts_left, same_option}
 use Rattle.chain_proofs.specs.Unfinished.{HoldsAt}
 use Rattle.chain_proofs.specs.Sets.{Rises, AreAt, AreOwn, IsStepOf, IsHanded, is_alone}
@@ -19,7 +24,8 @@ use Rattle.chain_proofs.proofs.Places.{place_of, none_passes, none_found, same_p
 
 -- ---- rules of a set
 
-pub own_at : (rules : List PathRule) (set : List ℕ) (own : List PathRule) (i n : ℕ) → AreOwn rules set own → slice_get set i ≡ Some n → slice_get own i ≡ slice_get rules n
+pub own_at : (rules : List PathRule) (set : List ℕ) (own : List PathRule) (i n : ℕ) → AreOwn rules set own
+    → slice_get set i ≡ Some n → slice_get own i ≡ slice_get rules n
 own_at rules [] [] i n h e = absurd (none-some n e)
 own_at rules [] (rule ∷ own) i n h e = absurd h
 own_at rules (m ∷ set) [] i n h e = absurd h
@@ -38,14 +44,17 @@ record IsBeside {A B : Type 0} (R : A → B → Type 0) (xs : List A) (k : ℕ) 
   at : slice_get xs k ≡ Some item
   related : R item y
 
-beside : {A B : Type 0} (R : A → B → Type 0) (xs : List A) (ys : List B) (k : ℕ) (y : B) → AllZip R xs ys → slice_get ys k ≡ Some y → IsBeside R xs k y
+beside : {A B : Type 0} (R : A → B → Type 0) (xs : List A) (ys : List B) (k : ℕ) (y : B) → AllZip R xs ys → slice_get ys k ≡ Some y
+    → IsBeside R xs k y
 beside R [] [] k y h e = absurd (none-some y e)
 beside R [] (z ∷ ys) k y h e = absurd h
 beside R (x ∷ xs) [] k y h e = absurd h
 beside R (x ∷ xs) (z ∷ ys) zero y h e = record { item = x; at = refl; related = subst (R x) (same_Some z y e) h.0 }
-beside R (x ∷ xs) (z ∷ ys) (suc k) y h e = let later = beside R xs ys k y h.1 e in record { item = later.item; at = later.at; related = later.related }
+beside R (x ∷ xs) (z ∷ ys) (suc k) y h e = let later = beside R xs ys k y h.1 e in record
+    { item = later.item; at = later.at; related = later.related }
 
-module _ (rules : List PathRule) (set : List ℕ) (own : List PathRule) (are : AreOwn rules set own) (rise : Rises 0 set) (classes parts : List (List ℕ)) (is : AreClasses own classes) (zip : AllZip (AreAt set) classes parts) where
+module _ (rules : List PathRule) (set : List ℕ) (own : List PathRule) (are : AreOwn rules set own) (rise : Rises 0 set)
+    (classes parts : List (List ℕ)) (is : AreClasses own classes) (zip : AllZip (AreAt set) classes parts) where
   -- a rule of the set has a place
   record IsPlaced (n : ℕ) : Type 0 where
     i : ℕ
@@ -57,16 +66,25 @@ module _ (rules : List PathRule) (set : List ℕ) (own : List PathRule) (are : A
   placed : (n : ℕ) → has set n ≡ true → IsPlaced n
   placed n h =
       let found = place_of set n h in
-      let within : found.0 < length own = subst (λ (k : ℕ). found.0 < k) (as_long rules set own are) (slice_get_within set found.0 n found.1) in
+      let within : found.0 < length own = subst (λ (k : ℕ). found.0 < k) (as_long rules set own are)
+      (slice_get_within set found.0 n found.1) in
       let class = is.each found.0 within in
-      record { i = found.0; at = found.1; class = class.0; place = same_place set rise found.0 n found.1 0 classes parts zip ∙ class.1; own_place = class.1 }
+      record {
+        i = found.0;
+        at = found.1;
+        class = class.0;
+        place = same_place set rise found.0 n found.1 0 classes parts zip
+            ∙ class.1;
+        own_place = class.1;
+      }
 
   unplaced : (n : ℕ) → has set n ≡ false → stands_in parts n ≡ false
   unplaced n h = false_from_ne_true (stands_in parts n) (λ s. false≢true (sym h ∙ in_parts set classes parts n zip s))
 
   none_misplaced : (n : ℕ) → is_misplaced set parts n ≡ false
   none_misplaced n = elim (cases_Bool (has set n)) as (λ o. is_misplaced set parts n ≡ false) [
-    | inl h ↦ ap (λ (b : Bool). cond b (is_none (place_in parts n)) (stands_in parts n)) h ∙ ap (λ (o : Option ℕ). is_none o) (placed n h).place
+    | inl h ↦ ap (λ (b : Bool). cond b (is_none (place_in parts n)) (stands_in parts n)) h
+        ∙ ap (λ (o : Option ℕ). is_none o) (placed n h).place
     | inr h ↦ ap (λ (b : Bool). cond b (is_none (place_in parts n)) (stands_in parts n)) h ∙ unplaced n h
   ]
 
@@ -74,7 +92,8 @@ module _ (rules : List PathRule) (set : List ℕ) (own : List PathRule) (are : A
   covered = ap least (none_passes (is_misplaced set parts) none_misplaced (set ++ concat parts))
 
   same_followed : (n m i j : ℕ) → slice_get set i ≡ Some n → slice_get set j ≡ Some m → is_followed rules n m ≡ is_followed own i j
-  same_followed n m i j e f = ap (λ (o : Option PathRule). meet_at o (slice_get rules m)) (sym (own_at rules set own i n are e)) ∙ ap (λ (o : Option PathRule). meet_at (slice_get own i) o) (sym (own_at rules set own j m are f))
+  same_followed n m i j e f = ap (λ (o : Option PathRule). meet_at o (slice_get rules m)) (sym (own_at rules set own i n are e))
+      ∙ ap (λ (o : Option PathRule). meet_at (slice_get own i) o) (sym (own_at rules set own j m are f))
 
   -- ---- no rule is followed by one of a lower part
 
@@ -90,27 +109,32 @@ module _ (rules : List PathRule) (set : List ℕ) (own : List PathRule) (are : A
       ap (λ (o : Option ℕ). is_followed rules n m && is_below o (place_in parts n)) q.place
       ∙ ap (λ (o : Option ℕ). is_followed rules n m && is_below (Some q.class) o) p.place
       ∙ elim (cases_Bool (is_followed own p.i q.i)) as (λ o. (is_followed rules n m && nat_lt q.class p.class) ≡ false) [
-        | inl f ↦ and_right (is_followed rules n m) (nat_lt q.class p.class) (le-ltb q.class p.class (is.forward p.i q.i p.class q.class f p.own_place q.own_place))
+        | inl f ↦ and_right (is_followed rules n m) (nat_lt q.class p.class)
+            (le-ltb q.class p.class (is.forward p.i q.i p.class q.class f p.own_place q.own_place))
         | inr f ↦ and_left (is_followed rules n m) (nat_lt q.class p.class) (same_followed n m p.i q.i p.at q.at ∙ f)
       ]
 
   none_back : (n m : ℕ) → is_back n m ≡ false
   none_back n m = elim (cases_Bool (has set n)) as (λ o. is_back n m ≡ false) [
-    | inr h ↦ ap (λ (o : Option ℕ). is_followed rules n m && is_below (place_in parts m) o) (no_place 0 parts n (unplaced n h)) ∙ and_right (is_followed rules n m) (is_below (place_in parts m) None) (below_none (place_in parts m))
+    | inr h ↦ ap (λ (o : Option ℕ). is_followed rules n m && is_below (place_in parts m) o) (no_place 0 parts n (unplaced n h))
+        ∙ and_right (is_followed rules n m) (is_below (place_in parts m) None) (below_none (place_in parts m))
     | inl h ↦ elim (cases_Bool (has set m)) as (λ o. is_back n m ≡ false) [
-      | inr g ↦ ap (λ (o : Option ℕ). is_followed rules n m && is_below o (place_in parts n)) (no_place 0 parts m (unplaced m g)) ∙ and_right (is_followed rules n m) false refl
+      | inr g ↦ ap (λ (o : Option ℕ). is_followed rules n m && is_below o (place_in parts n)) (no_place 0 parts m (unplaced m g))
+          ∙ and_right (is_followed rules n m) false refl
       | inl g ↦ forward n m (placed n h) (placed m g)
     ]
   ]
 
   no_back : (rest : List ℕ) → back_edge rules set parts rest ≡ None
   no_back [] = refl
-  no_back (n ∷ rest) = ap (λ (o : Option ℕ). back_fault n o (back_edge rules set parts rest)) (none_found (λ (m : ℕ). is_back n m) (none_back n) set) ∙ no_back rest
+  no_back (n ∷ rest) = ap (λ (o : Option ℕ). back_fault n o (back_edge rules set parts rest))
+      (none_found (λ (m : ℕ). is_back n m) (none_back n) set) ∙ no_back rest
 
   -- ---- a part without a step is one rule that doesn't follow itself
 
   module _ (steps : List (Option ℕ)) (step_zip : AllZip (IsStepOf own) classes steps) where
-    lone : (n : ℕ) (class part : List ℕ) → AreAt set class part → has part n ≡ true → is_alone own class ≡ true → is_lone rules n part ≡ true
+    lone : (n : ℕ) (class part : List ℕ) → AreAt set class part → has part n ≡ true → is_alone own class ≡ true
+        → is_lone rules n part ≡ true
     lone n [] part h g a = absurd (false≢true a)
     lone n (only ∷ more ∷ rest) part h g a = absurd (false≢true a)
     lone n (only ∷ []) [] h g a = absurd h
@@ -127,14 +151,16 @@ module _ (rules : List PathRule) (set : List ℕ) (own : List PathRule) (are : A
     step_at : (k : ℕ) (step : Option ℕ) → slice_get steps k ≡ Some step → IsBeside (IsStepOf own) classes k step
     step_at k step e = beside (IsStepOf own) classes steps k step step_zip e
 
-    quiet_at : (n k : ℕ) (part : List ℕ) (step : Option (Option ℕ)) → slice_get parts k ≡ Some part → has part n ≡ true → slice_get steps k ≡ step → loops_in rules n (Some part) step ≡ false
+    quiet_at : (n k : ℕ) (part : List ℕ) (step : Option (Option ℕ)) → slice_get parts k ≡ Some part → has part n ≡ true
+        → slice_get steps k ≡ step → loops_in rules n (Some part) step ≡ false
     quiet_at n k part None p h e = refl
     quiet_at n k part (Some (Some step)) p h e = refl
     quiet_at n k part (Some None) p h e =
         let found = beside (AreAt set) classes parts k part zip p in
         let other = step_at k None e in
         let same : found.item ≡ other.item = same_Some found.item other.item (sym found.at ∙ other.at) in
-        not_from_true (is_lone rules n part) (lone n found.item part found.related h (subst (λ (c : List ℕ). is_alone own c ≡ true) (sym same) other.related))
+        not_from_true (is_lone rules n part)
+        (lone n found.item part found.related h (subst (λ (c : List ℕ). is_alone own c ≡ true) (sym same) other.related))
 
     quiet_place : (n : ℕ) (o : Option ℕ) → place_in parts n ≡ o → loops_at rules parts steps n o ≡ false
     quiet_place n None e = refl
@@ -142,70 +168,98 @@ module _ (rules : List PathRule) (set : List ℕ) (own : List PathRule) (are : A
         let found = part_with 0 k n parts e in
         let same : k ≡ found.more = let is = found.is in omega (arith, is) in
         let at : slice_get parts k ≡ Some found.part = ap (λ (x : ℕ). slice_get parts x) same ∙ found.at in
-        ap (λ (o : Option (List ℕ)). loops_in rules n o (slice_get steps k)) at ∙ quiet_at n k found.part (slice_get steps k) at found.has_it refl
+        ap (λ (o : Option (List ℕ)). loops_in rules n o (slice_get steps k)) at
+        ∙ quiet_at n k found.part (slice_get steps k) at found.has_it refl
 
     no_loop : first_loop rules set parts steps ≡ None
     no_loop = none_found (λ (n : ℕ). loops_at rules parts steps n (place_in parts n)) (λ n. quiet_place n (place_in parts n) refl) set
 
     pub divided : split_fault rules set parts steps ≡ None
     divided =
-        ap (λ (o : Option ℕ). cover_fault o (edge_fault (back_edge rules set parts set) (loop_fault (first_loop rules set parts steps)))) covered
+        ap (λ (o : Option ℕ). cover_fault o
+        (edge_fault (back_edge rules set parts set) (loop_fault (first_loop rules set parts steps)))) covered
         ∙ ap (λ (o : Option DescentFault). edge_fault o (loop_fault (first_loop rules set parts steps))) (no_back set)
         ∙ ap loop_fault no_loop
 
 -- ---- one part more
 
-pub give_then : (number : ℕ) (xs ys : List (ℕ × List ℕ)) (given mid after : Given) → give number xs given ≡ Some mid → give number ys mid ≡ Some after → give number (xs ++ ys) given ≡ Some after
+pub give_then : (number : ℕ) (xs ys : List (ℕ × List ℕ)) (given mid after : Given) → give number xs given ≡ Some mid
+    → give number ys mid ≡ Some after → give number (xs ++ ys) given ≡ Some after
 give_then number [] ys given mid after e f = subst (λ (g : Given). give number ys g ≡ Some after) (sym (same_Some given mid e)) f
-give_then number (x ∷ xs) ys given mid after e f = go (nat_lt number x.0 && is_free (slice_get given x.0)) e (λ g. give_then number xs ys (slice_set given x.0 (Some x.1)) mid after g f)
+give_then number (x ∷ xs) ys given mid after e f = go (nat_lt number x.0 && is_free (slice_get given x.0)) e
+    (λ g. give_then number xs ys (slice_set given x.0 (Some x.1)) mid after g f)
   where
-    go : (b : Bool) → cond b (give number xs (slice_set given x.0 (Some x.1))) None ≡ Some mid → (give number xs (slice_set given x.0 (Some x.1)) ≡ Some mid → give number (xs ++ ys) (slice_set given x.0 (Some x.1)) ≡ Some after) → cond b (give number (xs ++ ys) (slice_set given x.0 (Some x.1))) None ≡ Some after
+    go : (b : Bool) → cond b (give number xs (slice_set given x.0 (Some x.1))) None ≡ Some mid
+        → (give number xs (slice_set given x.0 (Some x.1)) ≡ Some mid → give number (xs ++ ys) (slice_set given x.0 (Some x.1))
+        ≡ Some after) → cond b (give number (xs ++ ys) (slice_set given x.0 (Some x.1))) None ≡ Some after
     go true g rest = rest g
     go false g rest = absurd (none-some mid g)
 
-left_more : (set : List ℕ) (parts : List (List ℕ)) (steps : List (Option ℕ)) (part : List ℕ) (step : Option ℕ) → length parts ≡ length steps → parts_left set (parts ++ part ∷ []) (steps ++ step ∷ []) ≡ parts_left set parts steps ++ part_left set part step ∷ []
+left_more : (set : List ℕ) (parts : List (List ℕ)) (steps : List (Option ℕ)) (part : List ℕ) (step : Option ℕ)
+    → length parts ≡ length steps → parts_left set (parts ++ part ∷ []) (steps ++ step ∷ []) ≡ parts_left set parts steps
+    ++ part_left set part step ∷ []
 left_more set [] [] part step e = refl
 left_more set [] (s ∷ steps) part step e = absurd (omega (arith, e))
 left_more set (p ∷ parts) [] part step e = absurd (omega (arith, e))
-left_more set (p ∷ parts) (s ∷ steps) part step e = ap (λ (rest : List (Option (ℕ × List ℕ))). part_left set p s ∷ rest) (left_more set parts steps part step (omega (arith, e)))
+left_more set (p ∷ parts) (s ∷ steps) part step e = ap (λ (rest : List (Option (ℕ × List ℕ))). part_left set p s ∷ rest)
+    (left_more set parts steps part step (omega (arith, e)))
 
-pub gives_more : (number : ℕ) (set : List ℕ) (parts : List (List ℕ)) (steps : List (Option ℕ)) (part : List ℕ) (step : Option ℕ) (given mid after : Given) → length parts ≡ length steps → give number (filter_map same_option (parts_left set parts steps)) given ≡ Some mid → give number (filter_map same_option (part_left set part step ∷ [])) mid ≡ Some after → give number (filter_map same_option (parts_left set (parts ++ part ∷ []) (steps ++ step ∷ []))) given ≡ Some after
+pub gives_more : (number : ℕ) (set : List ℕ) (parts : List (List ℕ)) (steps : List (Option ℕ)) (part : List ℕ) (step : Option ℕ)
+    (given mid after : Given) → length parts ≡ length steps → give number (filter_map same_option (parts_left set parts steps))
+    given ≡ Some mid → give number (filter_map same_option (part_left set part step ∷ [])) mid ≡ Some after
+    → give number (filter_map same_option (parts_left set (parts ++ part ∷ []) (steps ++ step ∷ []))) given ≡ Some after
 gives_more number set parts steps part step given mid after lengths e f =
     ap (λ (xs : List (Option (ℕ × List ℕ))). give number (filter_map same_option xs) given) (left_more set parts steps part step lengths)
-    ∙ ap (λ (xs : List (ℕ × List ℕ)). give number xs given) (filter_map-append same_option (parts_left set parts steps) (part_left set part step ∷ []))
-    ∙ give_then number (filter_map same_option (parts_left set parts steps)) (filter_map same_option (part_left set part step ∷ [])) given mid after e f
+    ∙ ap (λ (xs : List (ℕ × List ℕ)). give number xs given)
+    (filter_map-append same_option (parts_left set parts steps) (part_left set part step ∷ []))
+    ∙ give_then number (filter_map same_option (parts_left set parts steps)) (filter_map same_option (part_left set part step ∷ []))
+    given mid after e f
 
 -- ---- a set that is being divided
 
 -- the parts of the first classes, with the steps that take them
-pub record IsDivided (own : List PathRule) (set : List ℕ) (classes : List (List ℕ)) (i number : ℕ) (given : Given) (parts : List (List ℕ)) (steps : List (Option ℕ)) (after : Given) : Type 0 where
+pub record IsDivided (own : List PathRule) (set : List ℕ) (classes : List (List ℕ)) (i number : ℕ) (given : Given)
+    (parts : List (List ℕ)) (steps : List (Option ℕ)) (after : Given) : Type 0 where
   pub parts_are : AllZip (AreAt set) (take i classes) parts
   pub steps_are : AllZip (IsStepOf own) (take i classes) steps
   pub lengths : length parts ≡ length steps
   pub gives : give number (filter_map same_option (parts_left set parts steps)) given ≡ Some after
 
-pub divided_first : (own : List PathRule) (set : List ℕ) (classes : List (List ℕ)) (number : ℕ) (given : Given) → IsDivided own set classes 0 number given [] [] given
+pub divided_first : (own : List PathRule) (set : List ℕ) (classes : List (List ℕ)) (number : ℕ) (given : Given)
+    → IsDivided own set classes 0 number given [] [] given
 divided_first own set classes number given = record { parts_are = tt; steps_are = tt; lengths = refl; gives = refl }
 
-pub divided_more : (own : List PathRule) (set : List ℕ) (classes : List (List ℕ)) (i number : ℕ) (given mid after : Given) (parts more_parts : List (List ℕ)) (steps more_steps : List (Option ℕ)) (class part : List ℕ) (step : Option ℕ) → slice_get classes i ≡ Some class → IsDivided own set classes i number given parts steps mid → AreAt set class part → IsHanded own set class part number mid step after → more_parts ≡ parts ++ part ∷ [] → more_steps ≡ steps ++ step ∷ [] → IsDivided own set classes (i + 1) number given more_parts more_steps after
+pub divided_more : (own : List PathRule) (set : List ℕ) (classes : List (List ℕ)) (i number : ℕ) (given mid after : Given)
+    (parts more_parts : List (List ℕ)) (steps more_steps : List (Option ℕ)) (class part : List ℕ) (step : Option ℕ)
+    → slice_get classes i ≡ Some class → IsDivided own set classes i number given parts steps mid → AreAt set class part
+    → IsHanded own set class part number mid step after → more_parts ≡ parts ++ part ∷ [] → more_steps ≡ steps ++ step ∷ []
+    → IsDivided own set classes (i + 1) number given more_parts more_steps after
 divided_more own set classes i number given mid after parts more_parts steps more_steps class part step e h at handed f g = record {
   parts_are = zip_more (AreAt set) classes parts more_parts i class part e h.parts_are at f;
   steps_are = zip_more (IsStepOf own) classes steps more_steps i class step e h.steps_are handed.step_is g;
-  lengths = ap length f ∙ length-append parts (part ∷ []) ∙ ap (λ (k : ℕ). k + 1) h.lengths ∙ sym (ap length g ∙ length-append steps (step ∷ []));
+  lengths = ap length f ∙ length-append parts (part ∷ []) ∙ ap (λ (k : ℕ). k + 1) h.lengths
+      ∙ sym (ap length g ∙ length-append steps (step ∷ []));
   gives = ap (λ (ps : List (List ℕ)). give number (filter_map same_option (parts_left set ps more_steps)) given) f
       ∙ ap (λ (ss : List (Option ℕ)). give number (filter_map same_option (parts_left set (parts ++ part ∷ []) ss)) given) g
       ∙ gives_more number set parts steps part step given mid after h.lengths h.gives handed.gives;
 }
 
-pub split_holds : (rules : List PathRule) (set : List ℕ) (own : List PathRule) (number i : ℕ) (given after : Given) (classes parts : List (List ℕ)) (steps : List (Option ℕ)) → AreOwn rules set own → Rises 0 set → AreClasses own classes → set_of (slice_get given number) ≡ Some set → length classes ≤ i → IsDivided own set classes i number given parts steps after → HoldsAt rules number given (Split parts steps) after
+pub split_holds : (rules : List PathRule) (set : List ℕ) (own : List PathRule) (number i : ℕ) (given after : Given)
+    (classes parts : List (List ℕ)) (steps : List (Option ℕ)) → AreOwn rules set own → Rises 0 set → AreClasses own classes
+    → set_of (slice_get given number) ≡ Some set → length classes ≤ i → IsDivided own set classes i number given parts steps after
+    → HoldsAt rules number given (Split parts steps) after
 split_holds rules set own number i given after classes parts steps are rise is has_set l h = record {
   set = set;
   given_set = has_set;
   holds =
       let whole = take_past i classes l in
-      divided rules set own are rise classes parts is (subst (λ (cs : List (List ℕ)). AllZip (AreAt set) cs parts) whole h.parts_are) steps (subst (λ (cs : List (List ℕ)). AllZip (IsStepOf own) cs steps) whole h.steps_are);
+      divided rules set own are rise classes parts is
+      (subst (λ (cs : List (List ℕ)). AllZip (AreAt set) cs parts) whole h.parts_are) steps
+      (subst (λ (cs : List (List ℕ)). AllZip (IsStepOf own) cs steps) whole h.steps_are);
   gives = h.gives;
 }
 
-pub split_within : (own : List PathRule) (set : List ℕ) (classes : List (List ℕ)) (i number : ℕ) (given : Given) (parts : List (List ℕ)) (steps : List (Option ℕ)) (after : Given) → IsDivided own set classes i number given parts steps after → IsStep (Split parts steps)
+pub split_within : (own : List PathRule) (set : List ℕ) (classes : List (List ℕ)) (i number : ℕ) (given : Given)
+    (parts : List (List ℕ)) (steps : List (Option ℕ)) (after : Given) → IsDivided own set classes i number given parts steps after
+    → IsStep (Split parts steps)
 split_within own set classes i number given parts steps after h = sym h.lengths

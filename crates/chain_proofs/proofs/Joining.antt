@@ -1,5 +1,6 @@
 -- One class of rules that reach each other, and what is left of it where no form ranks them.
-use Rattle.std.proofs.Common.{◌≡◌, ◌≢◌, ◌∙◌, inl, inr, ◌<◌, ◌==◌, ◌&&◌, ◌||◌, ◌++◌, not, cond, ℕ, Bool, true, false, List, [], ◌∷◌, length, map, Some, None, slice_get, IsTrue, refl, sym, ap, subst, arith}
+use Rattle.std.proofs.Common.{◌≡◌, ◌≢◌, ◌∙◌, inl, inr, ◌<◌, ◌==◌, ◌&&◌, ◌||◌, ◌++◌, not, cond, ℕ, Bool, true, false, List, [], ◌∷◌}
+use Rattle.std.proofs.Common.{length, map, Some, None, slice_get, IsTrue, refl, sym, ap, subst, arith}
 use Rattle.std.specs.List.{AllZip}
 use Rattle.std.proofs.lemmas.Bool.{cases_eq, or_cases, eqb-true, eq-eqb, false≢true, and_parts, not-true}
 use Rattle.std.proofs.lemmas.Option.{none-some, same_Some}
@@ -28,7 +29,8 @@ leads_to_other : (own : List PathRule) (a b : ℕ) → a ≢ b → Reaches own a
 leads_to_other own a b differ ([], way) = absurd (differ way)
 leads_to_other own a b differ (next ∷ rest, way) = leads_on own a b next rest way.0 way.1
 
-way_then : (own : List PathRule) (first second : List ℕ) (a b c : ℕ) → IsWay (Steps own) a first b → IsWay (Steps own) b second c → IsWay (Steps own) a (first ++ b ∷ second) c
+way_then : (own : List PathRule) (first second : List ℕ) (a b c : ℕ) → IsWay (Steps own) a first b → IsWay (Steps own) b second c
+    → IsWay (Steps own) a (first ++ b ∷ second) c
 way_then own [] second a b c f g = (f, g)
 way_then own (x ∷ first) second a b c f g = (f.0, way_then own first second x b c f.1 g)
 
@@ -42,11 +44,13 @@ module _ (own : List PathRule) (class : List ℕ) (is : AreClasses own (class �
   in_it : (rule k : ℕ) → place_in (class ∷ []) rule ≡ Some k → (has class rule ≡ true) × ((stands_once class rule ≡ true) × (k ≡ 0))
   in_it rule k e = go (has class rule) refl e
     where
-      here : (b : Bool) → has class rule ≡ true → (stands_once class rule && true) ≡ b → cond b (Some 0) None ≡ Some k → (has class rule ≡ true) × ((stands_once class rule ≡ true) × (k ≡ 0))
+      here : (b : Bool) → has class rule ≡ true → (stands_once class rule && true) ≡ b → cond b (Some 0) None ≡ Some k
+          → (has class rule ≡ true) × ((stands_once class rule ≡ true) × (k ≡ 0))
       here true h t f = (h, ((and_parts (stands_once class rule) true t).0, sym (same_Some 0 k f)))
       here false h t f = absurd (none-some k f)
 
-      go : (b : Bool) → has class rule ≡ b → cond b (cond (stands_once class rule && true) (Some 0) None) None ≡ Some k → (has class rule ≡ true) × ((stands_once class rule ≡ true) × (k ≡ 0))
+      go : (b : Bool) → has class rule ≡ b → cond b (cond (stands_once class rule && true) (Some 0) None) None ≡ Some k
+          → (has class rule ≡ true) × ((stands_once class rule ≡ true) × (k ≡ 0))
       go true h f = here (stands_once class rule && true) h refl f
       go false h f = absurd (none-some k f)
 
@@ -64,24 +68,33 @@ module _ (own : List PathRule) (class : List ℕ) (is : AreClasses own (class �
 
   -- where another rule is there, each leads to itself by it
   by_other : (rule other : ℕ) → rule < length own → other < length own → rule ≢ other → Leads (Steps own) rule rule
-  by_other rule other l m differ = leads_then own rule other rule (leads_to_other own rule other differ (reach rule other l m)) (leads_to_other own other rule (λ e. differ (sym e)) (reach other rule m l))
+  by_other rule other l m differ = leads_then own rule other rule (leads_to_other own rule other differ (reach rule other l m))
+      (leads_to_other own other rule (λ e. differ (sym e)) (reach other rule m l))
 
   to_itself : (list : List ℕ) → class ≡ list → Follows own list → (rule : ℕ) → rule < length own → Leads (Steps own) rule rule
   to_itself [] e f rule l = absurd f
   to_itself (only ∷ []) e f rule l =
       let h : has (only ∷ []) rule ≡ true = subst (λ (c : List ℕ). has c rule ≡ true) e (in_it rule 0 (at_0 rule l)).0 in
-      let same : only ≡ rule = elim (or_cases (only == rule) false h) as (λ o. only ≡ rule) [ inl g ↦ eqb-true only rule g | inr g ↦ absurd (false≢true g) ] in
+      let same : only ≡ rule = elim (or_cases (only == rule) false h) as (λ o. only ≡ rule) [
+        | inl g ↦ eqb-true only rule g
+        | inr g ↦ absurd (false≢true g)
+      ] in
       ([], subst (λ (x : ℕ). Steps own x x) same f)
   to_itself (one ∷ more ∷ rest) e f rule l =
-      let whole : (x : ℕ) → has (one ∷ more ∷ rest) x ≡ true → x < length own = λ x h. inside x (subst (λ (c : List ℕ). has c x ≡ true) (sym e) h) in
+      let whole : (x : ℕ) → has (one ∷ more ∷ rest) x ≡ true → x < length own = λ x h. inside x
+      (subst (λ (c : List ℕ). has c x ≡ true) (sym e) h) in
       let one_in : has (one ∷ more ∷ rest) one ≡ true = ap (λ (b : Bool). b || has (more ∷ rest) one) (eq-eqb one one refl) in
       let more_first : has (more ∷ rest) more ≡ true = ap (λ (b : Bool). b || has rest more) (eq-eqb more more refl) in
       let more_in : has (one ∷ more ∷ rest) more ≡ true = either_way (one == more) more_first in
       elim (cases_eq rule one) as (λ o. Leads (Steps own) rule rule) [
         | inl same ↦
-            let once : stands_once (one ∷ more ∷ rest) one ≡ true = subst (λ (c : List ℕ). stands_once c one ≡ true) e (in_it one 0 (at_0 one (whole one one_in))).1.0 in
-            let no_more : has (more ∷ rest) one ≡ false = not-true (has (more ∷ rest) one) (sym (ap (λ (b : Bool). cond b (not (has (more ∷ rest) one)) (stands_once (more ∷ rest) one)) (eq-eqb one one refl)) ∙ once) in
-            by_other rule more l (whole more more_in) (λ k. false≢true (sym no_more ∙ ap (λ (x : ℕ). has (more ∷ rest) x) (sym same ∙ k) ∙ more_first))
+            let once : stands_once (one ∷ more ∷ rest) one ≡ true = subst (λ (c : List ℕ). stands_once c one ≡ true) e
+            (in_it one 0 (at_0 one (whole one one_in))).1.0 in
+            let no_more : has (more ∷ rest) one ≡ false = not-true (has (more ∷ rest) one)
+            (sym (ap (λ (b : Bool). cond b (not (has (more ∷ rest) one)) (stands_once (more ∷ rest) one)) (eq-eqb one one refl))
+            ∙ once) in
+            by_other rule more l (whole more more_in)
+            (λ k. false≢true (sym no_more ∙ ap (λ (x : ℕ). has (more ∷ rest) x) (sym same ∙ k) ∙ more_first))
         | inr differ ↦ by_other rule one l (whole one one_in) differ
       ]
     where
@@ -94,7 +107,8 @@ module _ (own : List PathRule) (class : List ℕ) (is : AreClasses own (class �
     where
       first : (x : ℕ) (rest : List ℕ) → class ≡ x ∷ rest → 0 < length own
       first x rest e =
-          let h : has class x ≡ true = subst (λ (c : List ℕ). has c x ≡ true) (sym e) (ap (λ (b : Bool). b || has rest x) (eq-eqb x x refl)) in
+          let h : has class x ≡ true = subst (λ (c : List ℕ). has c x ≡ true) (sym e)
+          (ap (λ (b : Bool). b || has rest x) (eq-eqb x x refl)) in
           let within = inside x h in
           omega (arith, within)
 
@@ -111,19 +125,23 @@ module _ (own : List PathRule) (class : List ℕ) (is : AreClasses own (class �
     ];
   }
 
-pub joined : (own : List PathRule) (class : List ℕ) (rest classes : List (List ℕ)) → AreClasses own classes → classes ≡ class ∷ rest → (length rest == 0) ≡ true → Follows own class → AreJoined own
+pub joined : (own : List PathRule) (class : List ℕ) (rest classes : List (List ℕ)) → AreClasses own classes → classes ≡ class ∷ rest
+    → (length rest == 0) ≡ true → Follows own class → AreJoined own
 joined own class [] classes is e none f = joined_class own class (subst (AreClasses own) e is) f
 joined own class (other ∷ rest) classes is e none f = let long = eqb-true (length (other ∷ rest)) 0 none in absurd (omega (arith, long))
 
 -- ---- the rules that are left
 
-numbers_left : (rules : List PathRule) (set : List ℕ) (left : List LeftRule) → AreLeft rules set left → map (λ (one : LeftRule). one.rule) left ≡ set
+numbers_left : (rules : List PathRule) (set : List ℕ) (left : List LeftRule) → AreLeft rules set left
+    → map (λ (one : LeftRule). one.rule) left ≡ set
 numbers_left rules [] [] h = refl
 numbers_left rules [] (one ∷ left) h = absurd h
 numbers_left rules (n ∷ set) [] h = absurd h
-numbers_left rules (n ∷ set) (one ∷ left) h = ap (λ (x : ℕ). x ∷ map (λ (l : LeftRule). l.rule) left) h.0.number_is ∙ ap (λ (xs : List ℕ). n ∷ xs) (numbers_left rules set left h.1)
+numbers_left rules (n ∷ set) (one ∷ left) h = ap (λ (x : ℕ). x ∷ map (λ (l : LeftRule). l.rule) left) h.0.number_is
+    ∙ ap (λ (xs : List ℕ). n ∷ xs) (numbers_left rules set left h.1)
 
-own_left : (rules : List PathRule) (set : List ℕ) (left : List LeftRule) (own : List PathRule) → AreLeft rules set left → AreOwn rules set own → AllZip (IsLeftRule rules) left own
+own_left : (rules : List PathRule) (set : List ℕ) (left : List LeftRule) (own : List PathRule) → AreLeft rules set left
+    → AreOwn rules set own → AllZip (IsLeftRule rules) left own
 own_left rules [] [] [] h g = tt
 own_left rules [] [] (rule ∷ own) h g = absurd g
 own_left rules [] (one ∷ left) own h g = absurd h
@@ -133,7 +151,8 @@ own_left rules (n ∷ set) (one ∷ left) (rule ∷ own) h g =
     let same : h.0.rule ≡ rule = same_Some h.0.rule rule (sym h.0.is.is ∙ ap (λ (k : ℕ). slice_get rules k) h.0.number_is ∙ g.0) in
     (subst (IsLeftRule rules one) same h.0.is, own_left rules set left own h.1 g.1)
 
-pub stuck_at : (none : List PathRule → Type 0) (rules : List PathRule) (set : List ℕ) (left : List LeftRule) (own : List PathRule) → AreLeft rules set left → AreOwn rules set own → AreJoined own → none own → IsStuckAt none rules set left
+pub stuck_at : (none : List PathRule → Type 0) (rules : List PathRule) (set : List ℕ) (left : List LeftRule) (own : List PathRule)
+    → AreLeft rules set left → AreOwn rules set own → AreJoined own → none own → IsStuckAt none rules set left
 stuck_at none rules set left own h g joined no_form = record {
   own = own;
   numbers = numbers_left rules set left h;

@@ -1,5 +1,6 @@
 -- Rules of a set as values of their own; items beside one another, one more.
-use Rattle.std.proofs.Common.{◌≡◌, ◌+◌, ℕ, zero, suc, List, [], ◌∷◌, ◌++◌, take, Option, Some, None, Result, Ok, Err, IfOk, IfSome, slice_get, refl, sym, subst, arith}
+use Rattle.std.proofs.Common.{◌≡◌, ◌+◌, ℕ, zero, suc, List, [], ◌∷◌, ◌++◌, take, Option, Some, None, Result, Ok, Err, IfOk, IfSome}
+use Rattle.std.proofs.Common.{slice_get, refl, sym, subst, arith}
 use Rattle.std.specs.List.{AllZip, AllByRecursion}
 use Rattle.std.proofs.lemmas.List.Elements.{All-get_or, All-from_recursion}
 use Rattle.std.proofs.lemmas.Option.{none-some, same_Some, slice_get_within, get_or_from_slice_get}
@@ -11,21 +12,25 @@ use Rattle.rank_forms.specs.RankSteps.{IsRankStep}
 use Rattle.chain_proofs.specs.Stuck.{HasNoForm}
 use Rattle.chain_proofs.specs.Sets.{RanksOwn}
 
-zip_next : {A B : Type 0} (R : A → B → Type 0) (xs : List A) (ys : List B) (i : ℕ) (x : A) (y : B) → slice_get xs i ≡ Some x → AllZip R (take i xs) ys → R x y → AllZip R (take (suc i) xs) (ys ++ y ∷ [])
+zip_next : {A B : Type 0} (R : A → B → Type 0) (xs : List A) (ys : List B) (i : ℕ) (x : A) (y : B) → slice_get xs i ≡ Some x
+    → AllZip R (take i xs) ys → R x y → AllZip R (take (suc i) xs) (ys ++ y ∷ [])
 zip_next R [] ys i x y e h r = absurd (none-some x e)
 zip_next R (z ∷ xs) [] zero x y e h r = (subst (λ (k : _). R k y) (sym (same_Some z x e)) r, tt)
 zip_next R (z ∷ xs) (w ∷ ys) zero x y e h r = absurd h
 zip_next R (z ∷ xs) [] (suc i) x y e h r = absurd h
 zip_next R (z ∷ xs) (w ∷ ys) (suc i) x y e h r = (h.0, zip_next R xs ys i x y e h.1 r)
 
-pub zip_more : {A B : Type 0} (R : A → B → Type 0) (xs : List A) (ys more : List B) (i : ℕ) (x : A) (y : B) → slice_get xs i ≡ Some x → AllZip R (take i xs) ys → R x y → more ≡ ys ++ y ∷ [] → AllZip R (take (i + 1) xs) more
+pub zip_more : {A B : Type 0} (R : A → B → Type 0) (xs : List A) (ys more : List B) (i : ℕ) (x : A) (y : B)
+    → slice_get xs i ≡ Some x → AllZip R (take i xs) ys → R x y → more ≡ ys ++ y ∷ [] → AllZip R (take (i + 1) xs) more
 zip_more {A} {B} R xs ys more i x y e h r f =
     let same : suc i ≡ i + 1 = omega arith in
     subst (λ (k : ℕ). AllZip R (take k xs) more) same (subst (AllZip R (take (suc i) xs)) (sym f) (zip_next R xs ys i x y e h r))
 
 -- ---- forms
 
-pub linear_found : {E : Type 0} (own : List PathRule) (result : Result (Option RankStep) E) → NoPlainForm own → IfOk result (λ found. IfSome found (λ step. IsRankStep own step)) → IfOk result (λ found. found ≡ None → NoStepwiseForm own) → IfOk result (RanksOwn HasNoForm own)
+pub linear_found : {E : Type 0} (own : List PathRule) (result : Result (Option RankStep) E) → NoPlainForm own
+    → IfOk result (λ found. IfSome found (λ step. IsRankStep own step)) → IfOk result (λ found. found ≡ None → NoStepwiseForm own)
+    → IfOk result (RanksOwn HasNoForm own)
 linear_found own (Ok (Some step)) none found missing = found.limits
 linear_found own (Ok None) none found missing = record { plain = none; stepwise = missing refl }
 linear_found own (Err e) none found missing = tt

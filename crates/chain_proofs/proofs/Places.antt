@@ -1,5 +1,6 @@
 -- Lists of numbers: places of a rising list, and classes of places beside the parts that they stand for.
-use Rattle.std.proofs.Common.{◌≡◌, ◌∙◌, inl, inr, ◌+◌, ◌≤◌, ◌==◌, ◌&&◌, ◌||◌, not, cond, ℕ, zero, suc, Bool, true, false, List, [], ◌∷◌, filter, find, Option, Some, None, slice_get, refl, sym, ap, subst, arith}
+use Rattle.std.proofs.Common.{◌≡◌, ◌∙◌, inl, inr, ◌+◌, ◌≤◌, ◌==◌, ◌&&◌, ◌||◌, not, cond, ℕ, zero, suc, Bool, true, false, List, []}
+use Rattle.std.proofs.Common.{◌∷◌, filter, find, Option, Some, None, slice_get, refl, sym, ap, subst, arith}
 use Rattle.std.specs.List.{AllZip}
 use Rattle.std.proofs.lemmas.Bool.{cases_eq, eq-eqb, ne_eqb, eqb-true, or_cases, or_left, or_right, false≢true, or_parts}
 use Rattle.std.proofs.lemmas.Option.{none-some, same_Some}
@@ -16,8 +17,10 @@ above (x ∷ xs) low (suc i) n r e = let later = above xs (suc x) i n r.1 e in o
 pub one_place : (set : List ℕ) (low i j n : ℕ) → Rises low set → slice_get set i ≡ Some n → slice_get set j ≡ Some n → i ≡ j
 one_place [] low i j n r e f = absurd (none-some n e)
 one_place (x ∷ xs) low zero zero n r e f = refl
-one_place (x ∷ xs) low zero (suc j) n r e f = let later = above xs (suc x) j n r.1 f in let same = same_Some x n e in omega (arith, later, same)
-one_place (x ∷ xs) low (suc i) zero n r e f = let later = above xs (suc x) i n r.1 e in let same = same_Some x n f in omega (arith, later, same)
+one_place (x ∷ xs) low zero (suc j) n r e f = let later = above xs (suc x) j n r.1 f in let same = same_Some x n e in omega
+    (arith, later, same)
+one_place (x ∷ xs) low (suc i) zero n r e f = let later = above xs (suc x) i n r.1 e in let same = same_Some x n f in omega
+    (arith, later, same)
 one_place (x ∷ xs) low (suc i) (suc j) n r e f = ap suc (one_place xs (suc x) i j n r.1 e f)
 
 -- ---- membership
@@ -55,7 +58,8 @@ module _ (set : List ℕ) (rise : Rises 0 set) (i n : ℕ) (at : slice_get set i
   same_has [] [] h = refl
   same_has [] (m ∷ part) h = absurd h
   same_has (p ∷ class) [] h = absurd h
-  same_has (p ∷ class) (m ∷ part) h = ap (λ (b : Bool). b || has part n) (same_test p m h.0) ∙ ap (λ (b : Bool). (p == i) || b) (same_has class part h.1)
+  same_has (p ∷ class) (m ∷ part) h = ap (λ (b : Bool). b || has part n) (same_test p m h.0)
+      ∙ ap (λ (b : Bool). (p == i) || b) (same_has class part h.1)
 
   same_once : (class part : List ℕ) → AreAt set class part → stands_once part n ≡ stands_once class i
   same_once [] [] h = refl
@@ -70,17 +74,23 @@ module _ (set : List ℕ) (rise : Rises 0 set) (i n : ℕ) (at : slice_get set i
   same_in [] [] h = refl
   same_in [] (part ∷ parts) h = absurd h
   same_in (class ∷ classes) [] h = absurd h
-  same_in (class ∷ classes) (part ∷ parts) h = ap (λ (b : Bool). b || stands_in parts n) (same_has class part h.0) ∙ ap (λ (b : Bool). has class i || b) (same_in classes parts h.1)
+  same_in (class ∷ classes) (part ∷ parts) h = ap (λ (b : Bool). b || stands_in parts n) (same_has class part h.0)
+      ∙ ap (λ (b : Bool). has class i || b) (same_in classes parts h.1)
 
-  pub same_place : (k : ℕ) (classes parts : List (List ℕ)) → AllZip (AreAt set) classes parts → place_from k parts n ≡ place_from k classes i
+  pub same_place : (k : ℕ) (classes parts : List (List ℕ)) → AllZip (AreAt set) classes parts
+      → place_from k parts n ≡ place_from k classes i
   same_place k [] [] h = refl
   same_place k [] (part ∷ parts) h = absurd h
   same_place k (class ∷ classes) [] h = absurd h
   same_place k (class ∷ classes) (part ∷ parts) h =
-      ap (λ (b : Bool). cond b (cond (stands_once part n && not (stands_in parts n)) (Some k) None) (place_from (suc k) parts n)) (same_has class part h.0)
-      ∙ ap (λ (b : Bool). cond (has class i) (cond (b && not (stands_in parts n)) (Some k) None) (place_from (suc k) parts n)) (same_once class part h.0)
-      ∙ ap (λ (b : Bool). cond (has class i) (cond (stands_once class i && not b) (Some k) None) (place_from (suc k) parts n)) (same_in classes parts h.1)
-      ∙ ap (λ (o : Option ℕ). cond (has class i) (cond (stands_once class i && not (stands_in classes i)) (Some k) None) o) (same_place (suc k) classes parts h.1)
+      ap (λ (b : Bool). cond b (cond (stands_once part n && not (stands_in parts n)) (Some k) None) (place_from (suc k) parts n))
+      (same_has class part h.0)
+      ∙ ap (λ (b : Bool). cond (has class i) (cond (b && not (stands_in parts n)) (Some k) None) (place_from (suc k) parts n))
+      (same_once class part h.0)
+      ∙ ap (λ (b : Bool). cond (has class i) (cond (stands_once class i && not b) (Some k) None) (place_from (suc k) parts n))
+      (same_in classes parts h.1)
+      ∙ ap (λ (o : Option ℕ). cond (has class i) (cond (stands_once class i && not (stands_in classes i)) (Some k) None) o)
+      (same_place (suc k) classes parts h.1)
 
 -- what is in no set is in no part of it
 pub in_part : (set class part : List ℕ) (n : ℕ) → AreAt set class part → has part n ≡ true → has set n ≡ true
@@ -92,7 +102,8 @@ in_part set (p ∷ class) (m ∷ part) n h g = elim (or_cases (m == n) (has part
   | inr more ↦ in_part set class part n h.1 more
 ]
 
-pub in_parts : (set : List ℕ) (classes parts : List (List ℕ)) (n : ℕ) → AllZip (AreAt set) classes parts → stands_in parts n ≡ true → has set n ≡ true
+pub in_parts : (set : List ℕ) (classes parts : List (List ℕ)) (n : ℕ) → AllZip (AreAt set) classes parts → stands_in parts n ≡ true
+    → has set n ≡ true
 in_parts set [] [] n h g = absurd (false≢true g)
 in_parts set [] (part ∷ parts) n h g = absurd h
 in_parts set (class ∷ classes) [] n h g = absurd h
@@ -105,7 +116,8 @@ pub no_place : (k : ℕ) (parts : List (List ℕ)) (n : ℕ) → stands_in parts
 no_place k [] n h = refl
 no_place k (part ∷ parts) n h =
     let both = or_parts (has part n) (stands_in parts n) h in
-    ap (λ (b : Bool). cond b (cond (stands_once part n && not (stands_in parts n)) (Some k) None) (place_from (suc k) parts n)) both.0 ∙ no_place (suc k) parts n both.1
+    ap (λ (b : Bool). cond b (cond (stands_once part n && not (stands_in parts n)) (Some k) None) (place_from (suc k) parts n))
+    both.0 ∙ no_place (suc k) parts n both.1
 
 -- a rule's part has it
 pub record IsPartWith (parts : List (List ℕ)) (first k n : ℕ) : Type 0 where
@@ -123,6 +135,9 @@ part_with first k n (part ∷ parts) e = go (has part n) refl e (λ f. part_with
     here true h f = let same = same_Some first k f in record { more = 0; is = omega (arith, same); part = part; at = refl; has_it = h }
     here false h f = absurd (none-some k f)
 
-    go : (b : Bool) → has part n ≡ b → cond b (cond (stands_once part n && not (stands_in parts n)) (Some first) None) (place_from (suc first) parts n) ≡ Some k → (place_from (suc first) parts n ≡ Some k → IsPartWith parts (suc first) k n) → IsPartWith (part ∷ parts) first k n
+    go : (b : Bool) → has part n ≡ b → cond b (cond (stands_once part n && not (stands_in parts n)) (Some first) None)
+        (place_from (suc first) parts n) ≡ Some k → (place_from (suc first) parts n ≡ Some k → IsPartWith parts (suc first) k n)
+        → IsPartWith (part ∷ parts) first k n
     go true h f rest = here (stands_once part n && not (stands_in parts n)) h f
-    go false h f rest = let later = rest f in record { more = suc later.more; is = omega (arith, later.is); part = later.part; at = later.at; has_it = later.has_it }
+    go false h f rest = let later = rest f in record
+        { more = suc later.more; is = omega (arith, later.is); part = later.part; at = later.at; has_it = later.has_it }

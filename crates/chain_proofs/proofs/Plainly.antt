@@ -1,5 +1,6 @@
 -- The rules of a set are such as forms are looked for, where all rules are.
-use Rattle.std.proofs.Common.{◌≡◌, ◌∙◌, ◌⊎◌, ◌+◌, ◌<◌, ◌≤◌, ℕ, zero, suc, List, [], ◌∷◌, length, Some, None, slice_get, refl, sym, subst, arith}
+use Rattle.std.proofs.Common.{◌≡◌, ◌∙◌, ◌⊎◌, ◌+◌, ◌<◌, ◌≤◌, ℕ, zero, suc, List, [], ◌∷◌, length, Some, None, slice_get, refl, sym}
+use Rattle.std.proofs.Common.{subst, arith}
 use Rattle.std.specs.List.{All, AllZip, AllByRecursion}
 use Rattle.std.proofs.lemmas.List.Elements.{All-get_or, All-from_recursion}
 use Rattle.std.proofs.lemmas.Option.{none-some, same_Some, slice_get_within, get_or_from_slice_get}
@@ -10,21 +11,27 @@ use Rattle.rank_forms.specs.Graphs.{IsPathRule, IsEndAt, IsPlainRule, ArePlainRu
 use Rattle.chain_proofs.specs.Sets.{AreOwn, Rises}
 use Rattle.chain_proofs.proofs.Dividing.{as_long}
 
-pub all_own : (P : PathRule → Type 0) (rules : List PathRule) (set : List ℕ) (own : List PathRule) → All P rules → AreOwn rules set own → AllByRecursion P own
+pub all_own : (P : PathRule → Type 0) (rules : List PathRule) (set : List ℕ) (own : List PathRule) → All P rules
+    → AreOwn rules set own → AllByRecursion P own
 all_own P rules [] [] are h = tt
 all_own P rules [] (rule ∷ own) are h = absurd h
 all_own P rules (n ∷ set) [] are h = absurd h
-all_own P rules (n ∷ set) (rule ∷ own) are h =
-    (subst P (get_or_from_slice_get rules n rule rule h.0) (All-get_or P rules n rule (slice_get_within rules n rule h.0) are), all_own P rules set own are h.1)
+all_own P rules (n ∷ set) (rule ∷ own) are h = (
+  subst P (get_or_from_slice_get rules n rule rule h.0) (All-get_or P rules n rule (slice_get_within rules n rule h.0) are),
+  all_own P rules set own are h.1,
+)
 
 -- a rising set is no longer than what it is a set of
-pub own_within : (rules : List PathRule) (set : List ℕ) (own : List PathRule) (i n : ℕ) → AreOwn rules set own → slice_get set i ≡ Some n → n < length rules
+pub own_within : (rules : List PathRule) (set : List ℕ) (own : List PathRule) (i n : ℕ) → AreOwn rules set own
+    → slice_get set i ≡ Some n → n < length rules
 own_within rules [] own i n h e = absurd (none-some n e)
 own_within rules (m ∷ set) [] i n h e = absurd h
-own_within rules (m ∷ set) (rule ∷ own) zero n h e = subst (λ (k : ℕ). k < length rules) (same_Some m n e) (slice_get_within rules m rule h.0)
+own_within rules (m ∷ set) (rule ∷ own) zero n h e = subst (λ (k : ℕ). k < length rules) (same_Some m n e)
+    (slice_get_within rules m rule h.0)
 own_within rules (m ∷ set) (rule ∷ own) (suc i) n h e = own_within rules set own i n h.1 e
 
-pub as_few : (end low : ℕ) (set : List ℕ) → Rises low set → ((i n : ℕ) → slice_get set i ≡ Some n → n < end) → low ≤ end → low + length set ≤ end
+pub as_few : (end low : ℕ) (set : List ℕ) → Rises low set → ((i n : ℕ) → slice_get set i ≡ Some n → n < end) → low ≤ end
+    → low + length set ≤ end
 as_few end low [] r h l = omega (arith, l)
 as_few end low (n ∷ set) r h l =
     let within : n < end = h 0 n refl in
@@ -32,17 +39,20 @@ as_few end low (n ∷ set) r h l =
     let first = r.0 in
     omega (arith, later, first)
 
-own_from : (rules : List PathRule) (set : List ℕ) (own : List PathRule) (k : ℕ) (rule : PathRule) → AreOwn rules set own → slice_get own k ≡ Some rule → (m : ℕ) × (slice_get rules m ≡ Some rule)
+own_from : (rules : List PathRule) (set : List ℕ) (own : List PathRule) (k : ℕ) (rule : PathRule) → AreOwn rules set own
+    → slice_get own k ≡ Some rule → (m : ℕ) × (slice_get rules m ≡ Some rule)
 own_from rules [] [] k rule h e = absurd (none-some rule e)
 own_from rules [] (r ∷ own) k rule h e = absurd h
 own_from rules (n ∷ set) [] k rule h e = absurd h
 own_from rules (n ∷ set) (r ∷ own) zero rule h e = (n, h.0 ∙ e)
 own_from rules (n ∷ set) (r ∷ own) (suc k) rule h e = own_from rules set own k rule h.1 e
 
-end_at : (rules : List PathRule) (set : List ℕ) (own : List PathRule) (cut : ℕ) (slots : List SlotForm) → AreOwn rules set own → IsEndAt own cut slots → IsEndAt rules cut slots
+end_at : (rules : List PathRule) (set : List ℕ) (own : List PathRule) (cut : ℕ) (slots : List SlotForm) → AreOwn rules set own
+    → IsEndAt own cut slots → IsEndAt rules cut slots
 end_at rules set own cut slots h (n, rule, e, ends) = let found = own_from rules set own n rule h e in (found.0, rule, found.1, ends)
 
-pub own_are_plain : (rules : List PathRule) (set : List ℕ) (own : List PathRule) → ArePlainRules rules → Rises 0 set → AreOwn rules set own → ArePlainRules own
+pub own_are_plain : (rules : List PathRule) (set : List ℕ) (own : List PathRule) → ArePlainRules rules → Rises 0 set
+    → AreOwn rules set own → ArePlainRules own
 own_are_plain rules set own are rise h = record {
   paths = record {
     limits = All-from_recursion IsRule own (all_own IsRule rules set own are.paths.limits h);

@@ -1,5 +1,6 @@
 -- Proofs that grow step by step.
-use Rattle.std.proofs.Common.{◌≡◌, ◌∙◌, ◌+◌, ℕ, suc, List, [], ◌∷◌, ◌++◌, length, length-append, Some, slice_get, refl, sym, ap, subst, arith}
+use Rattle.std.proofs.Common.{◌≡◌, ◌∙◌, ◌+◌, ℕ, suc, List, [], ◌∷◌, ◌++◌, length, length-append, Some, slice_get, refl, sym, ap}
+use Rattle.std.proofs.Common.{subst, arith}
 use Rattle.descent.specs.declared.proof.ProofStep.{ProofStep}
 use Rattle.descent.specs.declared.proof.ProofStep.TheVariants.{Rank}
 use Rattle.descent.specs.declared.proof.RankStep.{RankStep}
@@ -13,14 +14,24 @@ use Rattle.chain_proofs.specs.Answers.{LeavesStuckBy}
 use Rattle.chain_proofs.specs.Unfinished.{HoldsAt, HoldFrom}
 use Rattle.chain_proofs.specs.Sets.{IsRankOf, TurnsOr}
 
-pub hold_more : (rules : List PathRule) (number : ℕ) (given mid after : Given) (steps : List ProofStep) (step : ProofStep) → HoldFrom rules number given steps mid → HoldsAt rules (number + length steps) mid step after → HoldFrom rules number given (steps ++ step ∷ []) after
+pub hold_more : (rules : List PathRule) (number : ℕ) (given mid after : Given) (steps : List ProofStep) (step : ProofStep)
+    → HoldFrom rules number given steps mid → HoldsAt rules (number + length steps) mid step after
+    → HoldFrom rules number given (steps ++ step ∷ []) after
 hold_more rules number given mid after [] step h g =
     let here : HoldsAt rules number mid step after = subst (λ (k : ℕ). HoldsAt rules k mid step after) (omega arith) g in
     (after, (subst (λ (other : Given). HoldsAt rules number other step after) (sym h) here, refl))
-hold_more rules number given mid after (first ∷ rest) step h g =
-    (h.0, (h.1.0, hold_more rules (suc number) h.0 mid after rest step h.1.1 (subst (λ (k : ℕ). HoldsAt rules k mid step after) (omega arith) g)))
+hold_more rules number given mid after (first ∷ rest) step h g = (
+  h.0,
+  (
+    h.1.0,
+    hold_more rules (suc number) h.0 mid after rest step h.1.1
+        (subst (λ (k : ℕ). HoldsAt rules k mid step after) (omega arith) g),
+  ),
+)
 
-pub rank_holds : (rules : List PathRule) (number : ℕ) (set : List ℕ) (given after : Given) (step : RankStep) (rest : ℕ) (weak : List ℕ) → set_of (slice_get given number) ≡ Some set → IsRankOf rules set step → weak ≡ weak_ones step.rules → give number ((rest, weak) ∷ []) given ≡ Some after → HoldsAt rules number given (Rank step rest) after
+pub rank_holds : (rules : List PathRule) (number : ℕ) (set : List ℕ) (given after : Given) (step : RankStep) (rest : ℕ)
+    (weak : List ℕ) → set_of (slice_get given number) ≡ Some set → IsRankOf rules set step → weak ≡ weak_ones step.rules
+    → give number ((rest, weak) ∷ []) given ≡ Some after → HoldsAt rules number given (Rank step rest) after
 rank_holds rules number set given after step rest weak has_set is e gives = record {
   set = set;
   given_set = has_set;
@@ -34,19 +45,26 @@ pub record IsProof (rules : List PathRule) (below number : ℕ) (steps : List Pr
   pub count : length steps ≡ number
   pub within : AreSteps steps
 
-pub proof_first : (rules : List PathRule) (below : ℕ) (given : Given) → given ≡ given_first (length rules) below → IsProof rules below 0 [] given
+pub proof_first : (rules : List PathRule) (below : ℕ) (given : Given) → given ≡ given_first (length rules) below
+    → IsProof rules below 0 [] given
 proof_first rules below given e = record { hold = sym e; count = refl; within = All-nil IsStep }
 
-pub proof_more : (none : List PathRule → Type 0) (rules : List PathRule) (below number : ℕ) (steps more : List ProofStep) (given after : Given) (step : ProofStep) (set : List ℕ) → IsProof rules below number steps given → TurnsOr none rules number set given (Step step) after → more ≡ steps ++ step ∷ [] → IsProof rules below (number + 1) more after
+pub proof_more : (none : List PathRule → Type 0) (rules : List PathRule) (below number : ℕ) (steps more : List ProofStep)
+    (given after : Given) (step : ProofStep) (set : List ℕ) → IsProof rules below number steps given
+    → TurnsOr none rules number set given (Step step) after → more ≡ steps ++ step ∷ [] → IsProof rules below (number + 1) more after
 proof_more none rules below number steps more given after step set h turn e =
     let same : number ≡ 0 + length steps = let count = h.count in omega (arith, count) in
     subst (λ (ss : List ProofStep). IsProof rules below (number + 1) ss after) (sym e) (record {
-      hold = hold_more rules 0 (given_first (length rules) below) given after steps step h.hold (subst (λ (k : ℕ). HoldsAt rules k given step after) same turn.0);
+      hold = hold_more rules 0 (given_first (length rules) below) given after steps step h.hold
+          (subst (λ (k : ℕ). HoldsAt rules k given step after) same turn.0);
       count = length-append steps (step ∷ []) ∙ ap (λ (k : ℕ). k + 1) h.count;
       within = All-push IsStep steps step h.within turn.1;
     })
 
-pub unproved : (none : List PathRule → Type 0) (rules : List PathRule) (below number : ℕ) (given after : Given) (steps : List ProofStep) (set : List ℕ) (left : List LeftRule) → IsProof rules below number steps given → Some set ≡ set_of (slice_get given number) → TurnsOr none rules number set given (Left left) after → LeavesStuckBy none rules steps left
+pub unproved : (none : List PathRule → Type 0) (rules : List PathRule) (below number : ℕ) (given after : Given)
+    (steps : List ProofStep) (set : List ℕ) (left : List LeftRule) → IsProof rules below number steps given
+    → Some set ≡ set_of (slice_get given number) → TurnsOr none rules number set given (Left left) after
+    → LeavesStuckBy none rules steps left
 unproved none rules below number given after steps set left h has_set turn = record {
   limits = h.within;
   is_left = record {

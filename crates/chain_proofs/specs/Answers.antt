@@ -12,7 +12,8 @@ use Rattle.chain_proofs.specs.Stuck.{HasNoForm, AreStuck, IsLeftRule}
 use Rattle.chain_proofs.specs.Unfinished.{IsLeft}
 
 -- the steps so far are within the limits of proofs and hold, and leave these rules to the next one; and the rules are stuck
-pub record LeavesStuckBy (none : List PathRule → Type 0) (rules : List PathRule) (steps : List ProofStep) (left : List LeftRule) : Type 0 where
+pub record LeavesStuckBy (none : List PathRule → Type 0) (rules : List PathRule) (steps : List ProofStep) (left : List LeftRule) :
+    Type 0 where
   pub limits : AreSteps steps
   pub is_left : IsLeft rules steps (map (λ (one : LeftRule). one.rule) left)
   pub own : List PathRule

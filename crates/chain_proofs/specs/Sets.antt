@@ -1,5 +1,6 @@
 -- Words for the calls that make proofs: sets of rules, and the steps for them.
-use Rattle.std.specs.Prelude.{◌≡◌, ℕ, suc, ◌<◌, ◌≤◌, true, Bool, false, IsTrue, if◌then◌else◌, List, [], ◌∷◌, length, map, Option, Some, None, slice_get}
+use Rattle.std.specs.Prelude.{◌≡◌, ℕ, suc, ◌<◌, ◌≤◌, true, Bool, false, IsTrue, if◌then◌else◌, List, [], ◌∷◌, length, map, Option}
+use Rattle.std.specs.Prelude.{Some, None, slice_get}
 use Rattle.std.specs.List.{AllZip, filter_map}
 use Rattle.descent.specs.declared.proof.RankStep.{RankStep}
 use Rattle.descent.specs.declared.rules.PathRule.{PathRule}
@@ -39,7 +40,8 @@ abbrev pub IsStepOf : List PathRule → List ℕ → Option ℕ → Type 0
 IsStepOf own class (Some step) = Unit {0}
 IsStepOf own class None = is_alone own class ≡ true
 
-pub record IsHanded (own : List PathRule) (set class part : List ℕ) (number : ℕ) (given : Given) (step : Option ℕ) (after : Given) : Type 0 where
+pub record IsHanded (own : List PathRule) (set class part : List ℕ) (number : ℕ) (given : Given) (step : Option ℕ) (after : Given) :
+    Type 0 where
   pub step_is : IsStepOf own class step
   pub gives : give number (filter_map same_option (part_left set part step ∷ [])) given ≡ Some after
 

@@ -14,7 +14,8 @@ pub record HoldsAt (rules : List PathRule) (number : ℕ) (given : Given) (step 
 -- so do the steps from a number on, one after another
 abbrev pub HoldFrom : List PathRule → ℕ → Given → List ProofStep → Given → Type 0
 HoldFrom rules number given [] after = given ≡ after
-HoldFrom rules number given (step ∷ rest) after = (next : Given) × (HoldsAt rules number given step next × HoldFrom rules (suc number) next rest after)
+HoldFrom rules number given (step ∷ rest) after = (next : Given)
+    × (HoldsAt rules number given step next × HoldFrom rules (suc number) next rest after)
 
 -- The steps hold, and the set is left to the first one that is to come: the one of the least number that is named and isn't there, or step
 -- 0, which has all rules. Steps are named below some number.

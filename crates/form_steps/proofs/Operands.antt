@@ -1,5 +1,6 @@
 -- The operands of forms: ints and references on the machine's stack beside the ids of an abstract one.
-use Rattle.std.proofs.Common.{◌≡◌, ◌∙◌, ◌==◌, eqb, ℕ, ℤ, Bool, true, false, if◌then◌else◌, List, [], ◌∷◌, map, Option, Some, None, inl, inr, refl, sym, ap, subst, arith}
+use Rattle.std.proofs.Common.{◌≡◌, ◌∙◌, ◌==◌, eqb, ℕ, ℤ, Bool, true, false, if◌then◌else◌, List, [], ◌∷◌, map, Option, Some, None}
+use Rattle.std.proofs.Common.{inl, inr, refl, sym, ap, subst, arith}
 use Rattle.std.specs.List.{AllByRecursion}
 use Rattle.std.specs.Option.{option_map, IsSomeAnd}
 use Rattle.std.proofs.lemmas.Bool.{eqb-true}
@@ -30,7 +31,8 @@ use Rattle.form_steps.proofs.Standing.{Stands, held}
 use Rattle.form_steps.proofs.TurnKinds.{sound_at, Meets, IsChange, int_change}
 
 -- the interval of an id has ends of 32 bits
-cell_bounded : (types : WorldTypes) (state : AbstractState) (found : Option Cell) → ((cell : Cell) → found ≡ Some cell → IsSoundCell types state cell) → AreInts (interval_in found)
+cell_bounded : (types : WorldTypes) (state : AbstractState) (found : Option Cell)
+    → ((cell : Cell) → found ≡ Some cell → IsSoundCell types state cell) → AreInts (interval_in found)
 cell_bounded types state None h = (omega (arith, ints), omega (arith, ints))
 cell_bounded types state (Some (cells.Int interval)) h = let both = h (cells.Int interval) refl in (both.0.0, both.1.1)
 cell_bounded types state (Some cells.Null) h = (omega (arith, ints), omega (arith, ints))
@@ -48,7 +50,8 @@ no_null e = cc
 no_ref : {n : ℤ} {r : ℕ} → values.Ref r ≡ values.Int n → ⊥
 no_ref e = cc
 
-module _ (p : Program) (typing : ℕ → CodeTypes) (state : AbstractState) (machine : MachineState) (meaning : Meaning) (s : Stands p typing state machine meaning) where
+module _ (p : Program) (typing : ℕ → CodeTypes) (state : AbstractState) (machine : MachineState) (meaning : Meaning)
+    (s : Stands p typing state machine meaning) where
   abbrev types : WorldTypes
   types = types_of p.world
 
@@ -78,7 +81,8 @@ module _ (p : Program) (typing : ℕ → CodeTypes) (state : AbstractState) (mac
         old = interval;
         at = f;
         is = e;
-        inside = subst (λ (b : Bounds). IsIn n b) (sym (ap interval_in f)) (subst (λ (m : ℤ). IsIn m interval) (int_is (sym d.1.0 ∙ e)) d.1.1);
+        inside = subst (λ (b : Bounds). IsIn n b) (sym (ap interval_in f))
+            (subst (λ (m : ℤ). IsIn m interval) (int_is (sym d.1.0 ∙ e)) d.1.1);
       }
       at cells.Null f d = absurd (no_null (sym d ∙ e))
       at (cells.Obj class ids) f d = absurd (no_ref (sym d.names ∙ e))
@@ -102,7 +106,8 @@ module _ (p : Program) (typing : ℕ → CodeTypes) (state : AbstractState) (mac
   abbrev pub AreIntCells : List (ℕ × Cell) → Type 0
   AreIntCells list = AllByRecursion (λ (c : ℕ × Cell). is_int c.1 ≡ true) list
 
-  pub narrow_to : (x : ℕ) (n : ℤ) (interval : Bounds) → IntAt x n → IsIn n interval → IsChange types machine.heap state meaning (x, cells.Int interval)
+  pub narrow_to : (x : ℕ) (n : ℤ) (interval : Bounds) → IntAt x n → IsIn n interval
+      → IsChange types machine.heap state meaning (x, cells.Int interval)
   narrow_to x n interval i inside = int_change types machine.heap state meaning x i.old interval n i.at i.is inside
 
   pub record Narrowed (left : Operand) (a : Bounds) (right : Operand) (b : Bounds) : Type 0 where
@@ -111,22 +116,41 @@ module _ (p : Program) (typing : ℕ → CodeTypes) (state : AbstractState) (mac
     pub are : AreChanges list
     pub ints_ : AreIntCells list
 
-  met : (x : ℕ) (n : ℤ) (found : Option Bounds) → IntAt x n → IsSomeAnd found (λ b. IsIn n b) → (list : List (ℕ × Cell)) × ((option_map (λ both. (x, cells.Int both) ∷ []) found ≡ Some list) × (AreChanges list × AreIntCells list))
+  met : (x : ℕ) (n : ℤ) (found : Option Bounds) → IntAt x n → IsSomeAnd found (λ b. IsIn n b) → (list : List (ℕ × Cell))
+      × ((option_map (λ both. (x, cells.Int both) ∷ []) found ≡ Some list) × (AreChanges list × AreIntCells list))
   met x n None e i = absurd i
   met x n (Some both) e i = ((x, cells.Int both) ∷ [], (refl, ((narrow_to x n both e i, tt), (refl, tt))))
 
-  pub narrow_both : (left right : Operand) (l r : ℤ) → Numbered left l → Numbered right r → (a b : Bounds) → IsIn l a → IsIn r b → Narrowed left a right b
+  pub narrow_both : (left right : Operand) (l r : ℤ) → Numbered left l → Numbered right r → (a b : Bounds) → IsIn l a → IsIn r b
+      → Narrowed left a right b
   narrow_both (known j) (known k) l r nl nr a b il ir = record { list = []; is = refl; are = tt; ints_ = tt }
-  narrow_both (id x) (known k) l r nl nr a b il ir = record { list = (x, cells.Int a) ∷ []; is = refl; are = (narrow_to x l a nl il, tt); ints_ = (refl, tt) }
-  narrow_both (known j) (id y) l r nl nr a b il ir = record { list = (y, cells.Int b) ∷ []; is = refl; are = (narrow_to y r b nr ir, tt); ints_ = (refl, tt) }
+  narrow_both (id x) (known k) l r nl nr a b il ir = record
+      { list = (x, cells.Int a) ∷ []; is = refl; are = (narrow_to x l a nl il, tt); ints_ = (refl, tt) }
+  narrow_both (known j) (id y) l r nl nr a b il ir = record
+      { list = (y, cells.Int b) ∷ []; is = refl; are = (narrow_to y r b nr ir, tt); ints_ = (refl, tt) }
   narrow_both (id x) (id y) l r nl nr a b il ir = at (x == y) refl
     where
       at : (same : Bool) → eqb x y ≡ same → Narrowed (id x) a (id y) b
       at true e =
           let both : l ≡ r = int_is (sym nl.is ∙ ap meaning (eqb-true x y e) ∙ nr.is) in
           let found = met x l (meet_of a b) nl (in_meet l a b il (subst (λ (n : ℤ). IsIn n b) (sym both) ir)) in
-          record { list = found.0; is = ap (λ (t : Bool). if t then option_map (λ (both : Bounds). (x, cells.Int both) ∷ []) (meet_of a b) else Some ((x, cells.Int a) ∷ (y, cells.Int b) ∷ [])) e ∙ found.1.0; are = found.1.1.0; ints_ = found.1.1.1 }
-      at false e = record { list = (x, cells.Int a) ∷ (y, cells.Int b) ∷ []; is = ap (λ (t : Bool). if t then option_map (λ (both : Bounds). (x, cells.Int both) ∷ []) (meet_of a b) else Some ((x, cells.Int a) ∷ (y, cells.Int b) ∷ [])) e; are = (narrow_to x l a nl il, (narrow_to y r b nr ir, tt)); ints_ = (refl, (refl, tt)) }
+          record {
+            list = found.0;
+            is = ap (λ (t : Bool). if t then option_map (λ (both : Bounds). (x, cells.Int both) ∷ [])
+                (meet_of a b) else Some ((x, cells.Int a) ∷ (y, cells.Int b) ∷ [])) e
+                ∙ found.1.0;
+            are = found.1.1.0;
+            ints_ = found.1.1.1;
+          }
+      at false e = record {
+        list = (x, cells.Int a) ∷ (y, cells.Int b) ∷ [];
+        is = ap
+            (λ (t : Bool). if t then option_map (λ (both : Bounds). (x, cells.Int both) ∷ []) (meet_of a b) else Some
+            ((x, cells.Int a) ∷ (y, cells.Int b) ∷ [])) e;
+        are = (narrow_to x l a nl il, (narrow_to y r b nr ir, tt));
+        ints_ =
+            (refl, (refl, tt));
+      }
 
   -- ---- the stack
 
@@ -151,11 +175,16 @@ module _ (p : Program) (typing : ℕ → CodeTypes) (state : AbstractState) (mac
       at values.Null e = absurd (some (ap (λ (v : Value). top_int (v ∷ map meaning rest)) e))
       at (values.Ref r) e = absurd (some (ap (λ (v : Value). top_int (v ∷ map meaning rest)) e))
 
-  pub by_int_at : (plan : List ℕ → Plan) → (top_int s.running.stack ≡ None → ⊥) → ((a : ℕ) (rest : List ℕ) → s.frame.stack ≡ a ∷ rest → s.running.stack ≡ map meaning (a ∷ rest) → TopInt a rest → Covered (plan (a ∷ rest))) → (ids : List ℕ) → s.frame.stack ≡ ids → Covered (plan ids)
+  pub by_int_at : (plan : List ℕ → Plan) → (top_int s.running.stack ≡ None → ⊥)
+      → ((a : ℕ) (rest : List ℕ) → s.frame.stack ≡ a ∷ rest → s.running.stack ≡ map meaning (a ∷ rest) → TopInt a rest
+      → Covered (plan (a ∷ rest))) → (ids : List ℕ) → s.frame.stack ≡ ids → Covered (plan ids)
   by_int_at plan some h [] e = absurd (some (ap top_int (stack_is [] e)))
-  by_int_at plan some h (a ∷ rest) e = h a rest e (stack_is (a ∷ rest) e) (top_int_at a rest (stack_held (a ∷ rest) e) (λ f. some (ap top_int (stack_is (a ∷ rest) e) ∙ f)))
+  by_int_at plan some h (a ∷ rest) e = h a rest e (stack_is (a ∷ rest) e)
+      (top_int_at a rest (stack_held (a ∷ rest) e) (λ f. some (ap top_int (stack_is (a ∷ rest) e) ∙ f)))
 
-  pub by_int : (plan : List ℕ → Plan) → (top_int s.running.stack ≡ None → ⊥) → ((a : ℕ) (rest : List ℕ) → s.running.stack ≡ map meaning (a ∷ rest) → TopInt a rest → Covered (plan (a ∷ rest))) → (ids : List ℕ) → s.frame.stack ≡ ids → Covered (plan ids)
+  pub by_int : (plan : List ℕ → Plan) → (top_int s.running.stack ≡ None → ⊥)
+      → ((a : ℕ) (rest : List ℕ) → s.running.stack ≡ map meaning (a ∷ rest) → TopInt a rest → Covered (plan (a ∷ rest)))
+      → (ids : List ℕ) → s.frame.stack ≡ ids → Covered (plan ids)
   by_int plan some h ids e = by_int_at plan some (λ a rest f g t. h a rest g t) ids e
 
   -- two ints, the right one on the top
@@ -167,7 +196,10 @@ module _ (p : Program) (typing : ℕ → CodeTypes) (state : AbstractState) (mac
     pub others : AllByRecursion Holds rest
     pub stack : s.running.stack ≡ values.Int right ∷ values.Int left ∷ map meaning rest
 
-  pub by_two_ints : (plan : List ℕ → Plan) → (top_int s.running.stack ≡ None → ⊥) → ((n : ℤ) (below : List Value) → s.running.stack ≡ values.Int n ∷ below → top_int below ≡ None → ⊥) → ((b a : ℕ) (rest : List ℕ) → TwoInts b a rest → Covered (plan (b ∷ a ∷ rest))) → (ids : List ℕ) → s.frame.stack ≡ ids → Covered (plan ids)
+  pub by_two_ints : (plan : List ℕ → Plan) → (top_int s.running.stack ≡ None → ⊥)
+      → ((n : ℤ) (below : List Value) → s.running.stack ≡ values.Int n ∷ below → top_int below ≡ None → ⊥)
+      → ((b a : ℕ) (rest : List ℕ) → TwoInts b a rest → Covered (plan (b ∷ a ∷ rest))) → (ids : List ℕ) → s.frame.stack ≡ ids
+      → Covered (plan ids)
   by_two_ints plan some next h [] e = absurd (some (ap top_int (stack_is [] e)))
   by_two_ints plan some next h (b ∷ []) e =
       let t = top_int_at b [] (stack_held (b ∷ []) e) (λ f. some (ap top_int (stack_is (b ∷ []) e) ∙ f)) in
@@ -175,4 +207,12 @@ module _ (p : Program) (typing : ℕ → CodeTypes) (state : AbstractState) (mac
   by_two_ints plan some next h (b ∷ a ∷ rest) e =
       let t = top_int_at b (a ∷ rest) (stack_held (b ∷ a ∷ rest) e) (λ f. some (ap top_int (stack_is (b ∷ a ∷ rest) e) ∙ f)) in
       let u = top_int_at a rest t.others (λ f. next t.number (map meaning (a ∷ rest)) (stack_is (b ∷ a ∷ rest) e ∙ t.stack) f) in
-      h b a rest (record { left = u.number; right = t.number; left_int = u.int; right_int = t.int; others = u.others; stack = stack_is (b ∷ a ∷ rest) e ∙ t.stack ∙ ap (λ (vs : List Value). values.Int t.number ∷ vs) u.stack })
+      h b a rest (record {
+        left = u.number;
+        right = t.number;
+        left_int = u.int;
+        right_int = t.int;
+        others = u.others;
+        stack =
+            stack_is (b ∷ a ∷ rest) e ∙ t.stack ∙ ap (λ (vs : List Value). values.Int t.number ∷ vs) u.stack;
+      })

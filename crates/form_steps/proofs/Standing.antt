@@ -38,7 +38,8 @@ use Rattle.turn_fits.proofs.Tops.{FitFrames}
 use Rattle.form_steps.proofs.Bottoms.{StandsOnStatics, last_of}
 
 -- the running frame is at an instruction of a form
-pub record Runs (p : Program) (machine : MachineState) (running : MachineFrame) (below : List MachineFrame) (m : Method) (op : Op) (next : Option ℕ) (form : Form) : Type 0 where
+pub record Runs (p : Program) (machine : MachineState) (running : MachineFrame) (below : List MachineFrame) (m : Method) (op : Op)
+    (next : Option ℕ) (form : Form) : Type 0 where
   pub frames_are : machine.frames ≡ running ∷ below
   pub normal : machine.mode ≡ Normal
   pub is_method : slice_get p.methods running.method ≡ Some m
@@ -46,7 +47,8 @@ pub record Runs (p : Program) (machine : MachineState) (running : MachineFrame) 
   pub is_form : form_of op ≡ Some form
 
 -- a good state and a typed state of the machine that fits
-pub record Stands (p : Program) (typing : ℕ → CodeTypes) (state : AbstractState) (machine : MachineState) (meaning : Meaning) : Type 0 where
+pub record Stands (p : Program) (typing : ℕ → CodeTypes) (state : AbstractState) (machine : MachineState) (meaning : Meaning) : Type
+    0 where
   pub lows : Lows
   pub sound : IsSound (types_of p.world) state
   pub laws : AreLawful (types_of p.world)
@@ -62,13 +64,15 @@ pub record Stands (p : Program) (typing : ℕ → CodeTypes) (state : AbstractSt
   pub below : List MachineFrame
   pub fit : FitFrames meaning frame lower machine.statics running below
   pub on_statics : StandsOnStatics p state meaning machine.statics (last_of frame lower) (running ∷ below)
-  pub statics_typed : AllZip (λ (field : StaticField) (value : Value). Holds (types_of p.world) machine.heap field.slot value) p.statics machine.statics
+  pub statics_typed : AllZip (λ (field : StaticField) (value : Value). Holds (types_of p.world) machine.heap field.slot value)
+      p.statics machine.statics
   pub there : PlaceTypes
   pub typed : HasStack (types_of p.world) machine.heap there.stack running.stack
   pub set : All IsSet there.stack
   pub of_world : All (IsOfWorld (types_of p.world)) there.stack
   -- each local that the typing has is given
-  pub given : (n : ℕ) (place : PlaceType) → slice_get there.locals n ≡ Some place → IsSet place → (x : ℕ) × (slice_get frame.locals n ≡ Some (Some x))
+  pub given : (n : ℕ) (place : PlaceType) → slice_get there.locals n ≡ Some place → IsSet place → (x : ℕ)
+      × (slice_get frame.locals n ≡ Some (Some x))
   pub method : Method
   pub op : Op
   pub next : Option ℕ
@@ -88,14 +92,23 @@ pub record Rests (p : Program) (state : AbstractState) (machine : MachineState) 
   pub closed : IsClosedState machine state meaning
   pub fits : Fits (types_of p.world) state machine meaning
 
-pub rests : (p : Program) (typing : ℕ → CodeTypes) (state : AbstractState) (machine : MachineState) (meaning : Meaning) → Stands p typing state machine meaning → Rests p state machine meaning
-rests p typing state machine meaning s = record { lows = s.lows; sound = s.sound; laws = s.laws; heap = s.heap; closed = s.closed; fits = s.fits }
+pub rests : (p : Program) (typing : ℕ → CodeTypes) (state : AbstractState) (machine : MachineState) (meaning : Meaning)
+    → Stands p typing state machine meaning → Rests p state machine meaning
+rests p typing state machine meaning s = record {
+  lows = s.lows;
+  sound = s.sound;
+  laws = s.laws;
+  heap = s.heap;
+  closed = s.closed;
+  fits = s.fits;
+}
 
 -- the state with these frames, in normal mode
 abbrev pub going : List MachineFrame → Heap → List Value → MachineState
 going frames heap statics = record { frames = frames; heap = heap; mode = Normal; statics = statics }
 
-module _ (p : Program) (typing : ℕ → CodeTypes) (state : AbstractState) (machine : MachineState) (meaning : Meaning) (s : Stands p typing state machine meaning) where
+module _ (p : Program) (typing : ℕ → CodeTypes) (state : AbstractState) (machine : MachineState) (meaning : Meaning)
+    (s : Stands p typing state machine meaning) where
   abbrev pub types : WorldTypes
   types = types_of p.world
 
@@ -119,17 +132,29 @@ module _ (p : Program) (typing : ℕ → CodeTypes) (state : AbstractState) (mac
 
   -- ---- the step by the effect
 
-  pub stepped : step p machine ≡ unwrap_or (option_and_then (applied p s.below s.next Work_) (effect_of p s.method s.form Work_)) Step.Stuck
+  pub stepped : step p machine ≡ unwrap_or (option_and_then (applied p s.below s.next Work_) (effect_of p s.method s.form Work_))
+      Step.Stuck
   unfolding step normal_step
   stepped =
       ap (λ (mode : Mode). unwrap_or (step_in p machine mode) Step.Stuck) s.runs.normal
       ∙ ap (λ (frames : List MachineFrame). unwrap_or (normal_step p machine frames) Step.Stuck) s.runs.frames_are
-      ∙ ap (λ (found : Option Method). unwrap_or (option_and_then (λ (x : Method). option_and_then (λ (at : Op × Option ℕ). option_and_then (λ (f : Form). option_and_then (applied p s.below at.1 Work_) (effect_of p x f Work_)) (form_of at.0)) (insn_at p.methods s.running.method s.running.pc)) found) Step.Stuck) s.runs.is_method
-      ∙ ap (λ (found : Option (Op × Option ℕ)). unwrap_or (option_and_then (λ (at : Op × Option ℕ). option_and_then (λ (f : Form). option_and_then (applied p s.below at.1 Work_) (effect_of p s.method f Work_)) (form_of at.0)) found) Step.Stuck) s.runs.insn
-      ∙ ap (λ (found : Option Form). unwrap_or (option_and_then (λ (f : Form). option_and_then (applied p s.below s.next Work_) (effect_of p s.method f Work_)) found) Step.Stuck) s.runs.is_form
+      ∙ ap (λ (found : Option Method). unwrap_or
+      (option_and_then (λ (x : Method). option_and_then
+      (λ (at : Op × Option ℕ). option_and_then
+      (λ (f : Form). option_and_then (applied p s.below at.1 Work_) (effect_of p x f Work_)) (form_of at.0))
+      (insn_at p.methods s.running.method s.running.pc)) found) Step.Stuck) s.runs.is_method
+      ∙ ap (λ (found : Option (Op × Option ℕ)). unwrap_or
+      (option_and_then (λ (at : Op × Option ℕ). option_and_then
+      (λ (f : Form). option_and_then (applied p s.below at.1 Work_) (effect_of p s.method f Work_)) (form_of at.0)) found)
+      Step.Stuck) s.runs.insn
+      ∙ ap (λ (found : Option Form). unwrap_or
+      (option_and_then (λ (f : Form). option_and_then (applied p s.below s.next Work_) (effect_of p s.method f Work_)) found)
+      Step.Stuck) s.runs.is_form
 
-  pub by_effect : (effect : Option (Effect Work)) → effect_of p s.method s.form Work_ ≡ effect → step p machine ≡ unwrap_or (option_and_then (applied p s.below s.next Work_) effect) Step.Stuck
-  by_effect effect e = stepped ∙ ap (λ (x : Option (Effect Work)). unwrap_or (option_and_then (applied p s.below s.next Work_) x) Step.Stuck) e
+  pub by_effect : (effect : Option (Effect Work)) → effect_of p s.method s.form Work_ ≡ effect
+      → step p machine ≡ unwrap_or (option_and_then (applied p s.below s.next Work_) effect) Step.Stuck
+  by_effect effect e = stepped
+      ∙ ap (λ (x : Option (Effect Work)). unwrap_or (option_and_then (applied p s.below s.next Work_) x) Step.Stuck) e
 
   pub not_stuck : step p machine ≡ Step.Stuck → ⊥
   not_stuck e = subst (GoesTyped p typing) e s.goes
@@ -137,37 +162,63 @@ module _ (p : Program) (typing : ℕ → CodeTypes) (state : AbstractState) (mac
   pub some_effect : effect_of p s.method s.form Work_ ≡ None → ⊥
   some_effect e = not_stuck (by_effect None e)
 
-  pub no_frame_effect : (effect : Option (Effect MachineFrame)) → effect_of p s.method s.form Work_ ≡ on_frame Work_ effect → effect ≡ None → ⊥
+  pub no_frame_effect : (effect : Option (Effect MachineFrame)) → effect_of p s.method s.form Work_ ≡ on_frame Work_ effect
+      → effect ≡ None → ⊥
   no_frame_effect effect is e = some_effect (is ∙ ap (on_frame Work_) e)
 
-  pub no_heap_effect : (effect : Option (Effect (MachineFrame × Heap))) → effect_of p s.method s.form Work_ ≡ on_heap Work_ effect → effect ≡ None → ⊥
+  pub no_heap_effect : (effect : Option (Effect (MachineFrame × Heap))) → effect_of p s.method s.form Work_ ≡ on_heap Work_ effect
+      → effect ≡ None → ⊥
   no_heap_effect effect is e = some_effect (is ∙ ap (on_heap Work_) e)
 
   -- the next instruction runs
-  pub goes_after : (after : Work) → effect_of p s.method s.form Work_ ≡ Some (Effect.Next after) → step p machine ≡ Step.Going (going (record after.frame { pc = onward } ∷ s.below) after.heap after.statics)
+  pub goes_after : (after : Work) → effect_of p s.method s.form Work_ ≡ Some (Effect.Next after)
+      → step p machine ≡ Step.Going (going (record after.frame { pc = onward } ∷ s.below) after.heap after.statics)
   goes_after after e = at s.next refl (by_effect (Some (Effect.Next after)) e)
     where
-      at : (n : Option ℕ) → s.next ≡ n → step p machine ≡ unwrap_or (option_map (λ (place : ℕ). Step.Going (going (record after.frame { pc = place } ∷ s.below) after.heap after.statics)) s.next) Step.Stuck → step p machine ≡ Step.Going (going (record after.frame { pc = onward } ∷ s.below) after.heap after.statics)
-      at None f g = absurd (not_stuck (g ∙ ap (λ (n : Option ℕ). unwrap_or (option_map (λ (place : ℕ). Step.Going (going (record after.frame { pc = place } ∷ s.below) after.heap after.statics)) n) Step.Stuck) f))
+      at : (n : Option ℕ) → s.next ≡ n
+          → step p machine ≡ unwrap_or
+          (option_map (λ (place : ℕ). Step.Going (going (record after.frame { pc = place } ∷ s.below) after.heap after.statics))
+          s.next) Step.Stuck → step p machine ≡ Step.Going
+          (going (record after.frame { pc = onward } ∷ s.below) after.heap after.statics)
+      at None f g = absurd (not_stuck
+          (g ∙ ap (λ (n : Option ℕ). unwrap_or
+          (option_map (λ (place : ℕ). Step.Going
+          (going (record after.frame { pc = place } ∷ s.below) after.heap after.statics)) n) Step.Stuck) f))
       at (Some place) f g =
-          g ∙ ap (λ (n : Option ℕ). unwrap_or (option_map (λ (to : ℕ). Step.Going (going (record after.frame { pc = to } ∷ s.below) after.heap after.statics)) n) Step.Stuck) f
-          ∙ ap (λ (n : Option ℕ). Step.Going (going (record after.frame { pc = option_map_or (λ (to : ℕ). to) n s.frame.pc } ∷ s.below) after.heap after.statics)) (sym f)
+          g ∙ ap (λ (n : Option ℕ). unwrap_or
+          (option_map (λ (to : ℕ). Step.Going (going (record after.frame { pc = to } ∷ s.below) after.heap after.statics)) n)
+          Step.Stuck) f
+          ∙ ap (λ (n : Option ℕ). Step.Going
+          (going (record after.frame { pc = option_map_or (λ (to : ℕ). to) n s.frame.pc } ∷ s.below) after.heap
+          after.statics)) (sym f)
 
-  pub goes_next : (effect : Option (Effect MachineFrame)) (after : MachineFrame) → effect_of p s.method s.form Work_ ≡ on_frame Work_ effect → effect ≡ Some (Effect.Next after) → step p machine ≡ Step.Going (going (record after { pc = onward } ∷ s.below) machine.heap machine.statics)
+  pub goes_next : (effect : Option (Effect MachineFrame)) (after : MachineFrame)
+      → effect_of p s.method s.form Work_ ≡ on_frame Work_ effect → effect ≡ Some (Effect.Next after)
+      → step p machine ≡ Step.Going (going (record after { pc = onward } ∷ s.below) machine.heap machine.statics)
   goes_next effect after is e = goes_after (record Work_ { frame = after }) (is ∙ ap (on_frame Work_) e)
 
-  pub goes_to : (effect : Option (Effect MachineFrame)) (place : ℕ) (after : MachineFrame) → effect_of p s.method s.form Work_ ≡ on_frame Work_ effect → effect ≡ Some (Effect.Jump place after) → step p machine ≡ Step.Going (going (record after { pc = place } ∷ s.below) machine.heap machine.statics)
+  pub goes_to : (effect : Option (Effect MachineFrame)) (place : ℕ) (after : MachineFrame)
+      → effect_of p s.method s.form Work_ ≡ on_frame Work_ effect → effect ≡ Some (Effect.Jump place after)
+      → step p machine ≡ Step.Going (going (record after { pc = place } ∷ s.below) machine.heap machine.statics)
   goes_to effect place after is e = by_effect (Some (Effect.Jump place (record Work_ { frame = after }))) (is ∙ ap (on_frame Work_) e)
 
   -- a new object of a built-in class is thrown
   abbrev pub raised : ℕ → MachineState
-  raised class = record { frames = record s.running { stack = [] } ∷ s.below; heap = with_object machine.heap (new_instance types class); mode = Throwing (length machine.heap.objects); statics = machine.statics }
+  raised class = record {
+    frames = record s.running { stack = [] } ∷ s.below;
+    heap = with_object machine.heap
+        (new_instance types class);
+    mode = Throwing (length machine.heap.objects);
+    statics = machine.statics;
+  }
 
   pub raises : (class : ℕ) → effect_of p s.method s.form Work_ ≡ Some (Effect.Raise class) → step p machine ≡ Step.Going (raised class)
   raises class e = by_effect (Some (Effect.Raise class)) e
 
-  pub raises_frame : (effect : Option (Effect MachineFrame)) (class : ℕ) → effect_of p s.method s.form Work_ ≡ on_frame Work_ effect → effect ≡ Some (Effect.Raise class) → step p machine ≡ Step.Going (raised class)
+  pub raises_frame : (effect : Option (Effect MachineFrame)) (class : ℕ) → effect_of p s.method s.form Work_ ≡ on_frame Work_ effect
+      → effect ≡ Some (Effect.Raise class) → step p machine ≡ Step.Going (raised class)
   raises_frame effect class is e = raises class (is ∙ ap (on_frame Work_) e)
 
-  pub raises_heap : (effect : Option (Effect (MachineFrame × Heap))) (class : ℕ) → effect_of p s.method s.form Work_ ≡ on_heap Work_ effect → effect ≡ Some (Effect.Raise class) → step p machine ≡ Step.Going (raised class)
+  pub raises_heap : (effect : Option (Effect (MachineFrame × Heap))) (class : ℕ) → effect_of p s.method s.form Work_ ≡ on_heap Work_
+      effect → effect ≡ Some (Effect.Raise class) → step p machine ≡ Step.Going (raised class)
   raises_heap effect class is e = raises class (is ∙ ap (on_heap Work_) e)

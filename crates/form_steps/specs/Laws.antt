@@ -3,7 +3,8 @@ use Rattle.std.specs.Prelude.{IsTrue}
 use Rattle.jvm_values.specs.declared.types.Ty.{Ty}
 use Rattle.jvm_values.specs.Subtyping.{class_type, IsErased}
 use Rattle.jvm_values.specs.Writes.{IntWritesKeep, NumberWritesKeep}
-use Rattle.abs_heap.specs.Laws.{NullSplits, ClassesSplit, EqualSplits, WritesGoOn, ObjectsGoOn, ArraysGoOn, ItemsGoOn, IntWritesGoOn, NumberWritesGoOn}
+use Rattle.abs_heap.specs.Laws.{NullSplits, ClassesSplit, EqualSplits, WritesGoOn, ObjectsGoOn, ArraysGoOn, ItemsGoOn}
+use Rattle.abs_heap.specs.Laws.{IntWritesGoOn, NumberWritesGoOn}
 use Rattle.class_world.specs.BuiltIns.{throwable}
 use Rattle.class_world.specs.WorldTypes.{types_of}
 use Rattle.class_program.specs.Programs.{Program}

@@ -1,5 +1,6 @@
 -- Forms that test references: null or not, one object or two; and accesses to the object of a reference.
-use Rattle.std.proofs.Common.{◌≡◌, ◌≢◌, ◌∙◌, inl, inr, ◌==◌, eqb, ℕ, ℤ, pos, zero, suc, IsTrue, Bool, true, false, ◌&&◌, ◌||◌, if◌then◌else◌, List, [], ◌∷◌, length, map, Option, Some, None, slice_get, refl, sym, ap, subst, arith}
+use Rattle.std.proofs.Common.{◌≡◌, ◌≢◌, ◌∙◌, inl, inr, ◌==◌, eqb, ℕ, ℤ, pos, zero, suc, IsTrue, Bool, true, false, ◌&&◌, ◌||◌}
+use Rattle.std.proofs.Common.{if◌then◌else◌, List, [], ◌∷◌, length, map, Option, Some, None, slice_get, refl, sym, ap, subst, arith}
 use Rattle.std.specs.Prelude.{All, slice_index_or}
 use Rattle.std.specs.List.{AllByRecursion}
 use Rattle.std.specs.Option.{option_map}
@@ -48,7 +49,9 @@ use Rattle.frame_steps.proofs.Moves.{by_reference, branched, going_turn}
 
 -- ---- effects
 
-null_by : (wanted : Bool) (place : ℕ) (f : MachineFrame) (value : Value) (below : List Value) → top_reference f.stack ≡ Some (value, below) → if_null_effect wanted place f ≡ Some (branch (is_wanted wanted (is_null value)) place (with_stack f below))
+null_by : (wanted : Bool) (place : ℕ) (f : MachineFrame) (value : Value) (below : List Value)
+    → top_reference f.stack ≡ Some (value, below)
+    → if_null_effect wanted place f ≡ Some (branch (is_wanted wanted (is_null value)) place (with_stack f below))
 unfolding if_null_effect
 null_by wanted place f value below e = rw e refl
 
@@ -56,7 +59,9 @@ null_stuck : (wanted : Bool) (place : ℕ) (f : MachineFrame) → top_reference 
 unfolding if_null_effect
 null_stuck wanted place f e = rw e refl
 
-acmp_by : (wanted : Bool) (place : ℕ) (f : MachineFrame) (right left : Value) (next below : List Value) → top_reference f.stack ≡ Some (right, next) → top_reference next ≡ Some (left, below) → if_acmp_effect wanted place f ≡ Some (branch (is_wanted wanted (same_reference left right)) place (with_stack f below))
+acmp_by : (wanted : Bool) (place : ℕ) (f : MachineFrame) (right left : Value) (next below : List Value)
+    → top_reference f.stack ≡ Some (right, next) → top_reference next ≡ Some (left, below)
+    → if_acmp_effect wanted place f ≡ Some (branch (is_wanted wanted (same_reference left right)) place (with_stack f below))
 unfolding if_acmp_effect
 acmp_by wanted place f right left next below e g = rw (e, g) refl
 
@@ -64,14 +69,16 @@ acmp_stuck : (wanted : Bool) (place : ℕ) (f : MachineFrame) → top_reference 
 unfolding if_acmp_effect
 acmp_stuck wanted place f e = rw e refl
 
-acmp_stuck_next : (wanted : Bool) (place : ℕ) (f : MachineFrame) (right : Value) (next : List Value) → top_reference f.stack ≡ Some (right, next) → top_reference next ≡ None → if_acmp_effect wanted place f ≡ None
+acmp_stuck_next : (wanted : Bool) (place : ℕ) (f : MachineFrame) (right : Value) (next : List Value)
+    → top_reference f.stack ≡ Some (right, next) → top_reference next ≡ None → if_acmp_effect wanted place f ≡ None
 unfolding if_acmp_effect
 acmp_stuck_next wanted place f right next e g = rw (e, g) refl
 
 -- ---- what cells tell of null
 
 -- a cell that isn't nullable tells whether its value is null
-null_told : (types : WorldTypes) (heap : Heap) (meaning : Meaning) (c : Cell) (value : Value) → Describes types heap meaning c value → may_be_null (Some c) ≡ false → is_null_cell (Some c) ≡ is_null value
+null_told : (types : WorldTypes) (heap : Heap) (meaning : Meaning) (c : Cell) (value : Value) → Describes types heap meaning c value
+    → may_be_null (Some c) ≡ false → is_null_cell (Some c) ≡ is_null value
 null_told types heap meaning (cells.Int interval) value d n = ap is_null (sym d.1.0)
 null_told types heap meaning cells.Null value d n = ap is_null (sym d)
 null_told types heap meaning (cells.Obj class ids) value d n = ap is_null (sym d.names)
@@ -118,7 +125,10 @@ top_is_reference values.Null below e = refl
 top_is_reference (values.Ref r) below e = refl
 
 -- an entry of a typed stack has the type of its place
-typed_at : (types_ : WorldTypes) (state : AbstractState) (machine : MachineState) (meaning : Meaning) (x : ℕ) (wanted : List PlaceType) (stack : List Value) (ids : List ℕ) (n : ℕ) → HasStack types_ machine.heap wanted stack → All IsSet wanted → All (IsOfWorld types_) wanted → stack ≡ map meaning ids → AllByRecursion (HasCell (λ _. true) state) ids → slice_get ids n ≡ Some x → IsTypedId types_ state machine meaning (slice_index_or wanted n places.Unset) x
+typed_at : (types_ : WorldTypes) (state : AbstractState) (machine : MachineState) (meaning : Meaning) (x : ℕ)
+    (wanted : List PlaceType) (stack : List Value) (ids : List ℕ) (n : ℕ) → HasStack types_ machine.heap wanted stack
+    → All IsSet wanted → All (IsOfWorld types_) wanted → stack ≡ map meaning ids → AllByRecursion (HasCell (λ _. true) state) ids
+    → slice_get ids n ≡ Some x → IsTypedId types_ state machine meaning (slice_index_or wanted n places.Unset) x
 typed_at types_ state machine meaning x wanted stack [] n t set world is h k = absurd (none-some x k)
 typed_at types_ state machine meaning x [] [] (i ∷ ids) n t set world is h k = absurd (omega (arith, ap length is))
 typed_at types_ state machine meaning x [] (v ∷ stack) (i ∷ ids) n t set world is h k = absurd t
@@ -132,12 +142,14 @@ typed_at types_ state machine meaning x (q ∷ wanted) (v ∷ stack) (i ∷ ids)
   where
     first_is : v ∷ stack ≡ map meaning (i ∷ ids) → v ≡ meaning i
     first_is e = cc
-typed_at types_ state machine meaning x (q ∷ wanted) (v ∷ stack) (i ∷ ids) (suc n) t set world is h k = typed_at types_ state machine meaning x wanted stack ids n t.1 (All-tail IsSet q wanted set) (All-tail (IsOfWorld types_) q wanted world) (rest_is is) h.1 k
+typed_at types_ state machine meaning x (q ∷ wanted) (v ∷ stack) (i ∷ ids) (suc n) t set world is h k = typed_at types_ state
+    machine meaning x wanted stack ids n t.1 (All-tail IsSet q wanted set) (All-tail (IsOfWorld types_) q wanted world) (rest_is is) h.1 k
   where
     rest_is : v ∷ stack ≡ map meaning (i ∷ ids) → stack ≡ map meaning ids
     rest_is e = cc
 
-module _ (p : Program) (typing : ℕ → CodeTypes) (state : AbstractState) (machine : MachineState) (meaning : Meaning) (s : Stands p typing state machine meaning) where
+module _ (p : Program) (typing : ℕ → CodeTypes) (state : AbstractState) (machine : MachineState) (meaning : Meaning)
+    (s : Stands p typing state machine meaning) where
   abbrev Covered : Plan → Type 0
   Covered = Meets p state machine meaning
 
@@ -145,37 +157,57 @@ module _ (p : Program) (typing : ℕ → CodeTypes) (state : AbstractState) (mac
   Holds = HasCell (λ _. true) state
 
   abbrev Effects : Option (Effect MachineFrame) → Type 0
-  Effects effect = effect_of p s.method s.form (Work_ p typing state machine meaning s) ≡ on_frame (Work_ p typing state machine meaning s) effect
+  Effects effect = effect_of p s.method s.form (Work_ p typing state machine meaning s) ≡ on_frame
+      (Work_ p typing state machine meaning s) effect
 
   none : (effect : Option (Effect MachineFrame)) → Effects effect → effect ≡ None → ⊥
   none = no_frame_effect p typing state machine meaning s
 
-  pub null_agrees : (x : ℕ) → Holds x → may_be_null (cell_at state x) ≡ false → is_null_here (here p typing state machine meaning s) x ≡ is_null (meaning x)
+  pub null_agrees : (x : ℕ) → Holds x → may_be_null (cell_at state x) ≡ false → is_null_here (here p typing state machine meaning s)
+      x ≡ is_null (meaning x)
   null_agrees x h n =
-      ap is_null_cell h.is ∙ null_told (types_of p.world) machine.heap meaning h.cell (meaning x) (s.fits.cells x h.cell h.is) (sym (ap may_be_null h.is) ∙ n)
+      ap is_null_cell h.is ∙ null_told (types_of p.world) machine.heap meaning h.cell (meaning x) (s.fits.cells x h.cell h.is)
+      (sym (ap may_be_null h.is) ∙ n)
 
   -- a jump where a test is as it is wanted
-  jumps_if : (wanted test : Bool) (place : ℕ) (ids : List ℕ) → AllByRecursion Holds ids → (effect : Option (Effect MachineFrame)) → Effects effect → effect ≡ Some (branch (is_wanted wanted test) place (with_stack s.running (map meaning ids))) → Covered (jump_if (here p typing state machine meaning s) wanted test place ids)
+  jumps_if : (wanted test : Bool) (place : ℕ) (ids : List ℕ) → AllByRecursion Holds ids → (effect : Option (Effect MachineFrame))
+      → Effects effect → effect ≡ Some (branch (is_wanted wanted test) place (with_stack s.running (map meaning ids)))
+      → Covered (jump_if (here p typing state machine meaning s) wanted test place ids)
   jumps_if wanted test place ids h effect is e =
-      inl (going_turn p typing state machine meaning s (if is_wanted wanted test then place else onward p typing state machine meaning s) ids (map meaning ids) h refl (branched p typing state machine meaning s (is_wanted wanted test) place (map meaning ids) effect is e))
+      inl (going_turn p typing state machine meaning s
+      (if is_wanted wanted test then place else onward p typing state machine meaning s) ids (map meaning ids) h refl
+      (branched p typing state machine meaning s (is_wanted wanted test) place (map meaning ids) effect is e))
 
-  pub null_test : (wanted : Bool) (place : ℕ) → Effects (if_null_effect wanted place s.running) → Covered (null_plan (here p typing state machine meaning s) wanted place s.frame.stack)
+  pub null_test : (wanted : Bool) (place : ℕ) → Effects (if_null_effect wanted place s.running)
+      → Covered (null_plan (here p typing state machine meaning s) wanted place s.frame.stack)
   null_test wanted place is =
-      by_reference p typing state machine meaning s (null_plan (here p typing state machine meaning s) wanted place) (λ f. none (if_null_effect wanted place s.running) is (null_stuck wanted place s.running f)) (λ a rest h e t.
-      need_null_meets p state machine meaning (rests p typing state machine meaning s) a (jump_if (here p typing state machine meaning s) wanted (is_null_here (here p typing state machine meaning s) a) place rest) (λ n.
+      by_reference p typing state machine meaning s (null_plan (here p typing state machine meaning s) wanted place)
+      (λ f. none (if_null_effect wanted place s.running) is (null_stuck wanted place s.running f)) (λ a rest h e t.
+      need_null_meets p state machine meaning (rests p typing state machine meaning s) a
+      (jump_if (here p typing state machine meaning s) wanted (is_null_here (here p typing state machine meaning s) a) place
+      rest) (λ n.
       jumps_if wanted (is_null_here (here p typing state machine meaning s) a) place rest h.1 (if_null_effect wanted place s.running) is
-      (null_by wanted place s.running (meaning a) (map meaning rest) t ∙ ap (λ (b : Bool). Some (branch (is_wanted wanted b) place (with_stack s.running (map meaning rest)))) (sym (null_agrees a h.0 n))))) s.frame.stack refl
+      (null_by wanted place s.running (meaning a) (map meaning rest) t
+      ∙ ap (λ (b : Bool). Some (branch (is_wanted wanted b) place (with_stack s.running (map meaning rest))))
+      (sym (null_agrees a h.0 n))))) s.frame.stack refl
 
   -- what comes once two references are null or not
   abbrev EqualRest : Bool → ℕ → ℕ → ℕ → List ℕ → Bool → Bool → Plan
-  EqualRest wanted place a b rest x y = if x && y then jump_if (here p typing state machine meaning s) wanted true place rest else if x || y then jump_if (here p typing state machine meaning s) wanted false place rest else if has a b state.eq then by_equal a b else jump_if (here p typing state machine meaning s) wanted false place rest
+  EqualRest wanted place a b rest x y = if x && y then jump_if (here p typing state machine meaning s) wanted true place rest else
+      if x || y then jump_if (here p typing state machine meaning s) wanted false place rest else if has a b state.eq then by_equal
+      a b else jump_if (here p typing state machine meaning s) wanted false place rest
 
-  pub equal_test : (wanted : Bool) (place : ℕ) → Effects (if_acmp_effect wanted place s.running) → Covered (equal_plan (here p typing state machine meaning s) wanted place s.frame.stack)
+  pub equal_test : (wanted : Bool) (place : ℕ) → Effects (if_acmp_effect wanted place s.running)
+      → Covered (equal_plan (here p typing state machine meaning s) wanted place s.frame.stack)
   equal_test wanted place is =
-      by_reference p typing state machine meaning s (equal_plan (here p typing state machine meaning s) wanted place) (λ f. none (if_acmp_effect wanted place s.running) is (acmp_stuck wanted place s.running f)) next s.frame.stack refl
+      by_reference p typing state machine meaning s (equal_plan (here p typing state machine meaning s) wanted place)
+      (λ f. none (if_acmp_effect wanted place s.running) is (acmp_stuck wanted place s.running f)) next s.frame.stack refl
     where
-      next : (b : ℕ) (rest : List ℕ) → AllByRecursion Holds (b ∷ rest) → s.running.stack ≡ meaning b ∷ map meaning rest → top_reference s.running.stack ≡ Some (meaning b, map meaning rest) → Covered (equal_plan (here p typing state machine meaning s) wanted place (b ∷ rest))
-      next b [] h e t = absurd (none (if_acmp_effect wanted place s.running) is (acmp_stuck_next wanted place s.running (meaning b) [] t refl))
+      next : (b : ℕ) (rest : List ℕ) → AllByRecursion Holds (b ∷ rest) → s.running.stack ≡ meaning b ∷ map meaning rest
+          → top_reference s.running.stack ≡ Some (meaning b, map meaning rest)
+          → Covered (equal_plan (here p typing state machine meaning s) wanted place (b ∷ rest))
+      next b [] h e t = absurd
+          (none (if_acmp_effect wanted place s.running) is (acmp_stuck_next wanted place s.running (meaning b) [] t refl))
       next b (a ∷ rest) h e t = by (meaning a) refl
         where
           effect : Option (Effect MachineFrame)
@@ -184,16 +216,22 @@ module _ (p : Program) (typing : ℕ → CodeTypes) (state : AbstractState) (mac
           right_reference : reference_of (meaning b) ≡ Some (meaning b)
           right_reference = top_is_reference (meaning b) (map meaning (a ∷ rest)) (sym (ap top_reference e) ∙ t)
 
-          decided : reference_of (meaning a) ≡ Some (meaning a) → Covered (equal_plan (here p typing state machine meaning s) wanted place (b ∷ a ∷ rest))
+          decided : reference_of (meaning a) ≡ Some (meaning a)
+              → Covered (equal_plan (here p typing state machine meaning s) wanted place (b ∷ a ∷ rest))
           decided left_reference = same (a == b) refl
             where
-              told : effect ≡ Some (branch (is_wanted wanted (same_reference (meaning a) (meaning b))) place (with_stack s.running (map meaning rest)))
-              told = acmp_by wanted place s.running (meaning b) (meaning a) (map meaning (a ∷ rest)) (map meaning rest) t (ap (option_map (λ (v : Value). (v, map meaning rest))) left_reference)
+              told : effect ≡ Some (branch (is_wanted wanted (same_reference (meaning a) (meaning b))) place
+                  (with_stack s.running (map meaning rest)))
+              told = acmp_by wanted place s.running (meaning b) (meaning a) (map meaning (a ∷ rest)) (map meaning rest) t
+                  (ap (option_map (λ (v : Value). (v, map meaning rest))) left_reference)
 
-              jump : (test : Bool) → same_reference (meaning a) (meaning b) ≡ test → Covered (jump_if (here p typing state machine meaning s) wanted test place rest)
-              jump test g = jumps_if wanted test place rest h.1.1 effect is (told ∙ ap (λ (x : Bool). Some (branch (is_wanted wanted x) place (with_stack s.running (map meaning rest)))) g)
+              jump : (test : Bool) → same_reference (meaning a) (meaning b) ≡ test
+                  → Covered (jump_if (here p typing state machine meaning s) wanted test place rest)
+              jump test g = jumps_if wanted test place rest h.1.1 effect is
+                  (told ∙ ap (λ (x : Bool). Some (branch (is_wanted wanted x) place (with_stack s.running (map meaning rest)))) g)
 
-              apart : (a == b) ≡ false → has a b state.eq ≡ false → is_null (meaning a) ≡ false → is_null (meaning b) ≡ false → same_reference (meaning a) (meaning b) ≡ false
+              apart : (a == b) ≡ false → has a b state.eq ≡ false → is_null (meaning a) ≡ false → is_null (meaning b) ≡ false
+                  → same_reference (meaning a) (meaning b) ≡ false
               apart differ unequal na nb =
                   let left = named_reference (meaning a) na left_reference in
                   let right = named_reference (meaning b) nb right_reference in
@@ -205,15 +243,22 @@ module _ (p : Program) (typing : ℕ → CodeTypes) (state : AbstractState) (mac
                       ne : (c : Bool) → eqb o q ≡ c → c ≡ false
                       ne false k = refl
                       ne true k =
-                          let eq : AreEqual state a b = s.fits.aliases a b o h.1.0 h.0 (λ (z : a ≡ b). false≢true (sym differ ∙ eq-eqb a b z)) (ap target f) (ap target g ∙ ap Some (sym (eqb-true o q k))) in
+                          let eq : AreEqual state a b = s.fits.aliases a b o h.1.0 h.0
+                          (λ (z : a ≡ b). false≢true (sym differ ∙ eq-eqb a b z)) (ap target f)
+                          (ap target g ∙ ap Some (sym (eqb-true o q k))) in
                           absurd (false≢true (sym unequal ∙ eq))
 
-              equal : (x : Bool) → has a b state.eq ≡ x → (a == b) ≡ false → is_null (meaning a) ≡ false → is_null (meaning b) ≡ false → Covered (if x then by_equal a b else jump_if (here p typing state machine meaning s) wanted false place rest)
-              equal true k differ na nb = equal_meets p state machine meaning (rests p typing state machine meaning s) a b k (λ (z : a ≡ b). false≢true (sym differ ∙ eq-eqb a b z))
+              equal : (x : Bool) → has a b state.eq ≡ x → (a == b) ≡ false → is_null (meaning a) ≡ false
+                  → is_null (meaning b) ≡ false
+                  → Covered (if x then by_equal a b else jump_if (here p typing state machine meaning s) wanted false place rest)
+              equal true k differ na nb = equal_meets p state machine meaning (rests p typing state machine meaning s) a b k
+                  (λ (z : a ≡ b). false≢true (sym differ ∙ eq-eqb a b z))
               equal false k differ na nb = jump false (apart differ k na nb)
 
               nulls : (x y : Bool) → is_null (meaning a) ≡ x → is_null (meaning b) ≡ y → (a == b) ≡ false
-                  → Covered (if x && y then jump_if (here p typing state machine meaning s) wanted true place rest else if x || y then jump_if (here p typing state machine meaning s) wanted false place rest else if has a b state.eq then by_equal a b else jump_if (here p typing state machine meaning s) wanted false place rest)
+                  → Covered (if x && y then jump_if (here p typing state machine meaning s) wanted true place rest else if x || y
+                  then jump_if (here p typing state machine meaning s) wanted false place rest else if has a b state.eq then
+                  by_equal a b else jump_if (here p typing state machine meaning s) wanted false place rest)
               nulls true true na nb differ = jump true (null_both (meaning a) (meaning b) na nb)
               nulls true false na nb differ = jump false (null_one (meaning a) (meaning b) na nb)
               nulls false true na nb differ = jump false (null_other (meaning a) (meaning b) na nb)
@@ -221,50 +266,93 @@ module _ (p : Program) (typing : ℕ → CodeTypes) (state : AbstractState) (mac
 
               same : (x : Bool) → eqb a b ≡ x → Covered (equal_plan (here p typing state machine meaning s) wanted place (b ∷ a ∷ rest))
               same true k =
-                  subst (λ (x : Bool). Covered (if x then jump_if (here p typing state machine meaning s) wanted true place rest else need_null state a (need_null state b (EqualRest wanted place a b rest (is_null_here (here p typing state machine meaning s) a) (is_null_here (here p typing state machine meaning s) b))))) (sym k)
-                  (jump true (ap (λ (v : Value). same_reference v (meaning b)) (ap meaning (eqb-true a b k)) ∙ same_itself (meaning b) right_reference))
+                  subst (λ (x : Bool). Covered (if x then jump_if (here p typing state machine meaning s) wanted true place rest
+                  else need_null state a
+                  (need_null state b (EqualRest wanted place a b rest
+                  (is_null_here (here p typing state machine meaning s) a)
+                  (is_null_here (here p typing state machine meaning s) b))))) (sym k)
+                  (jump true (ap (λ (v : Value). same_reference v (meaning b)) (ap meaning (eqb-true a b k))
+                  ∙ same_itself (meaning b) right_reference))
               same false k =
-                  subst (λ (x : Bool). Covered (if x then jump_if (here p typing state machine meaning s) wanted true place rest else need_null state a (need_null state b (EqualRest wanted place a b rest (is_null_here (here p typing state machine meaning s) a) (is_null_here (here p typing state machine meaning s) b))))) (sym k)
-                  (need_null_meets p state machine meaning (rests p typing state machine meaning s) a (need_null state b (EqualRest wanted place a b rest (is_null_here (here p typing state machine meaning s) a) (is_null_here (here p typing state machine meaning s) b))) (λ na.
-                  need_null_meets p state machine meaning (rests p typing state machine meaning s) b (EqualRest wanted place a b rest (is_null_here (here p typing state machine meaning s) a) (is_null_here (here p typing state machine meaning s) b)) (λ nb.
-                  nulls (is_null_here (here p typing state machine meaning s) a) (is_null_here (here p typing state machine meaning s) b) (sym (null_agrees a h.1.0 na)) (sym (null_agrees b h.0 nb)) k)))
+                  subst (λ (x : Bool). Covered (if x then jump_if (here p typing state machine meaning s) wanted true place rest
+                  else need_null state a
+                  (need_null state b (EqualRest wanted place a b rest
+                  (is_null_here (here p typing state machine meaning s) a)
+                  (is_null_here (here p typing state machine meaning s) b))))) (sym k)
+                  (need_null_meets p state machine meaning (rests p typing state machine meaning s) a
+                  (need_null state b (EqualRest wanted place a b rest (is_null_here (here p typing state machine meaning s) a)
+                  (is_null_here (here p typing state machine meaning s) b))) (λ na.
+                  need_null_meets p state machine meaning (rests p typing state machine meaning s) b
+                  (EqualRest wanted place a b rest (is_null_here (here p typing state machine meaning s) a)
+                  (is_null_here (here p typing state machine meaning s) b)) (λ nb.
+                  nulls (is_null_here (here p typing state machine meaning s) a)
+                  (is_null_here (here p typing state machine meaning s) b) (sym (null_agrees a h.1.0 na))
+                  (sym (null_agrees b h.0 nb)) k)))
 
           by : (v : Value) → meaning a ≡ v → Covered (equal_plan (here p typing state machine meaning s) wanted place (b ∷ a ∷ rest))
-          by (values.Int n) f = absurd (none effect is (acmp_stuck_next wanted place s.running (meaning b) (map meaning (a ∷ rest)) t (ap (λ (v : Value). top_reference (v ∷ map meaning rest)) f)))
+          by (values.Int n) f = absurd
+              (none effect is (acmp_stuck_next wanted place s.running (meaning b) (map meaning (a ∷ rest)) t
+              (ap (λ (v : Value). top_reference (v ∷ map meaning rest)) f)))
           by values.Null f = decided (ap reference_of f ∙ ap Some (sym f))
           by (values.Ref o) f = decided (ap reference_of f ∙ ap Some (sym f))
 
   -- ---- accesses to an object
 
   -- the place's type of an entry of the stack
-  pub typed_under : (depth x : ℕ) → slice_get s.frame.stack depth ≡ Some x → IsTypedId (types_of p.world) state machine meaning (place_under (here p typing state machine meaning s) depth) x
-  typed_under depth x e = typed_at (types_of p.world) state machine meaning x s.there.stack s.running.stack s.frame.stack depth s.typed s.set s.of_world s.fit.top.stack (stack_held p typing state machine meaning s s.frame.stack refl) e
+  pub typed_under : (depth x : ℕ) → slice_get s.frame.stack depth ≡ Some x → IsTypedId (types_of p.world) state machine meaning
+      (place_under (here p typing state machine meaning s) depth) x
+  typed_under depth x e = typed_at (types_of p.world) state machine meaning x s.there.stack s.running.stack s.frame.stack depth
+      s.typed s.set s.of_world s.fit.top.stack (stack_held p typing state machine meaning s s.frame.stack refl) e
 
   -- the object of an entry is null, which throws; else it is known, or an array
-  pub accessed_meets : (depth x : ℕ) (plan : Plan) → slice_get s.frame.stack depth ≡ Some x → reference_of (meaning x) ≡ Some (meaning x) → (meaning x ≡ values.Null → step p machine ≡ Step.Going (raised p typing state machine meaning s null_pointer_exception))
-      → ((class : ℕ) (ids : List ℕ) (r : ℕ) → cell_at state x ≡ Some (cells.Obj class ids) → meaning x ≡ values.Ref r → slice_get machine.heap.objects r ≡ Some (objects.Instance class (map meaning ids)) → Covered plan)
-      → ((kind : Kind) (len r : ℕ) (items : List ℤ) → cell_at state x ≡ Some (cells.Nums kind len) → meaning x ≡ values.Ref r → slice_get machine.heap.objects r ≡ Some (objects.Nums kind items) → meaning len ≡ values.Int (pos (length items)) → Covered plan)
-      → ((element : Ty) (len : ℕ) (shape : Shape) (r : ℕ) (item : Ty) (items : List Value) → cell_at state x ≡ Some (cells.Refs element len shape) → meaning x ≡ values.Ref r → slice_get machine.heap.objects r ≡ Some (objects.Refs item items) → IsTrue ((types_of p.world).sub item element) → meaning len ≡ values.Int (pos (length items)) → Covered plan)
+  pub accessed_meets : (depth x : ℕ) (plan : Plan) → slice_get s.frame.stack depth ≡ Some x
+      → reference_of (meaning x) ≡ Some (meaning x)
+      → (meaning x ≡ values.Null → step p machine ≡ Step.Going (raised p typing state machine meaning s null_pointer_exception))
+      → ((class : ℕ) (ids : List ℕ) (r : ℕ) → cell_at state x ≡ Some (cells.Obj class ids) → meaning x ≡ values.Ref r
+      → slice_get machine.heap.objects r ≡ Some (objects.Instance class (map meaning ids)) → Covered plan)
+      → ((kind : Kind) (len r : ℕ) (items : List ℤ) → cell_at state x ≡ Some (cells.Nums kind len) → meaning x ≡ values.Ref r
+      → slice_get machine.heap.objects r ≡ Some (objects.Nums kind items) → meaning len ≡ values.Int (pos (length items))
+      → Covered plan)
+      → ((element : Ty) (len : ℕ) (shape : Shape) (r : ℕ) (item : Ty) (items : List Value)
+      → cell_at state x ≡ Some (cells.Refs element len shape) → meaning x ≡ values.Ref r
+      → slice_get machine.heap.objects r ≡ Some (objects.Refs item items) → IsTrue ((types_of p.world).sub item element)
+      → meaning len ≡ values.Int (pos (length items)) → Covered plan)
       → Covered (accessed (here p typing state machine meaning s) depth x plan)
   accessed_meets depth x plan e reference raise instance numbers references =
       let t = typed_under depth x e in
-      need_object_meets p state machine meaning (rests p typing state machine meaning s) x (place_under (here p typing state machine meaning s) depth) (unless_null (here p typing state machine meaning s) x plan) t (λ n u. by t.own.cell t.own.is (s.fits.cells x t.own.cell t.own.is) (sym (ap may_be_null t.own.is) ∙ n) (sym (ap is_unknown t.own.is) ∙ u))
+      need_object_meets p state machine meaning (rests p typing state machine meaning s) x
+      (place_under (here p typing state machine meaning s) depth) (unless_null (here p typing state machine meaning s) x plan) t
+      (λ n u. by t.own.cell t.own.is (s.fits.cells x t.own.cell t.own.is) (sym (ap may_be_null t.own.is) ∙ n)
+      (sym (ap is_unknown t.own.is) ∙ u))
     where
-      goes : (c : Cell) → cell_at state x ≡ Some c → is_null_cell (Some c) ≡ false → Covered plan → Covered (unless_null (here p typing state machine meaning s) x plan)
-      goes c f n g = subst (λ (b : Bool). Covered (if b then steps (throws (here p typing state machine meaning s) null_pointer_exception ∷ []) else plan)) (sym (ap is_null_cell f ∙ n)) g
+      goes : (c : Cell) → cell_at state x ≡ Some c → is_null_cell (Some c) ≡ false → Covered plan
+          → Covered (unless_null (here p typing state machine meaning s) x plan)
+      goes c f n g = subst (λ (b : Bool). Covered
+          (if b then steps (throws (here p typing state machine meaning s) null_pointer_exception ∷ []) else plan))
+          (sym (ap is_null_cell f ∙ n)) g
 
-      null_goes : cell_at state x ≡ Some cells.Null → meaning x ≡ values.Null → Covered (unless_null (here p typing state machine meaning s) x plan)
-      null_goes f d = subst (λ (b : Bool). Covered (if b then steps (throws (here p typing state machine meaning s) null_pointer_exception ∷ []) else plan)) (sym (ap is_null_cell f))
-          (inl (throwing_turn p typing state machine meaning s [] no_rows null_pointer_exception tt (omega arith) (λ id after. All-nil (HoldsBetween meaning after)) (raise d)))
+      null_goes : cell_at state x ≡ Some cells.Null → meaning x ≡ values.Null
+          → Covered (unless_null (here p typing state machine meaning s) x plan)
+      null_goes f d = subst
+          (λ (b : Bool). Covered (if b then steps (throws (here p typing state machine meaning s) null_pointer_exception ∷ []) else
+          plan)) (sym (ap is_null_cell f))
+          (inl (throwing_turn p typing state machine meaning s [] no_rows null_pointer_exception tt (omega arith)
+          (λ id after. All-nil (HoldsBetween meaning after)) (raise d)))
 
       no_int : {m : ℤ} → meaning x ≡ values.Int m → ⊥
       no_int {m} f = none-some (meaning x) (sym (ap reference_of f) ∙ reference)
 
-      by : (c : Cell) → cell_at state x ≡ Some c → Describes (types_of p.world) machine.heap meaning c (meaning x) → may_be_null (Some c) ≡ false → is_unknown (Some c) ≡ false → Covered (unless_null (here p typing state machine meaning s) x plan)
+      by : (c : Cell) → cell_at state x ≡ Some c → Describes (types_of p.world) machine.heap meaning c (meaning x)
+          → may_be_null (Some c) ≡ false → is_unknown (Some c) ≡ false
+          → Covered (unless_null (here p typing state machine meaning s) x plan)
       by (cells.Int interval) f d n u = absurd (no_int d.1.0)
       by cells.Null f d n u = null_goes f d
-      by (cells.Obj class ids) f d n u = goes (cells.Obj class ids) f refl (instance class ids d.place f d.names (d.stands ∙ ap Some d.holds))
-      by (cells.Nums kind len) f d n u = goes (cells.Nums kind len) f refl (numbers kind len d.place d.holds.items f d.names (d.stands ∙ ap Some d.holds.is) d.holds.length_is)
-      by (cells.Refs element len shape) f d n u = goes (cells.Refs element len shape) f refl (references element len shape d.place d.holds.item d.holds.items f d.names (d.stands ∙ ap Some d.holds.is) d.holds.below d.holds.length_is)
+      by (cells.Obj class ids) f d n u = goes (cells.Obj class ids) f refl
+          (instance class ids d.place f d.names (d.stands ∙ ap Some d.holds))
+      by (cells.Nums kind len) f d n u = goes (cells.Nums kind len) f refl
+          (numbers kind len d.place d.holds.items f d.names (d.stands ∙ ap Some d.holds.is) d.holds.length_is)
+      by (cells.Refs element len shape) f d n u = goes (cells.Refs element len shape) f refl
+          (references element len shape d.place d.holds.item d.holds.items f d.names (d.stands ∙ ap Some d.holds.is) d.holds.below
+          d.holds.length_is)
       by (cells.Unk bound true shape) f d n u = absurd (false≢true (sym n))
       by (cells.Unk bound false shape) f d n u = absurd (false≢true (sym u))

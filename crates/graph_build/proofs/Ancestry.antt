@@ -43,7 +43,8 @@ chain parent a b v (inr h) (inl f) = inl (inr (subst (λ (x : ℕ). IsAbove pare
 chain parent a b v (inr h) (inr g) = chain_by parent h.0 g.0 a b v h.1 g.1
 
 -- a node is above no child of its own parent
-above_sibling : {count : ℕ} {parent : ℕ → ℕ} (falls : Falls count parent) (k a b : ℕ) → 0 < a → a < count → b < count → parent a ≡ parent b → IsAboveBy parent a k b → ⊥
+above_sibling : {count : ℕ} {parent : ℕ → ℕ} (falls : Falls count parent) (k a b : ℕ) → 0 < a → a < count → b < count
+    → parent a ≡ parent b → IsAboveBy parent a k b → ⊥
 above_sibling {parent = parent} falls zero a b p l m e h =
     let near : parent a < a = falls a p l in
     let same : parent a ≡ a = e ∙ h.1 in
@@ -55,7 +56,8 @@ above_sibling {count = count} {parent = parent} falls (suc k) a b p l m e h =
     omega (arith, near, far, e)
 
 -- two children of one node that are at one node or above it are one
-pub siblings : {count : ℕ} {parent : ℕ → ℕ} (falls : Falls count parent) (a b v : ℕ) → 0 < a → 0 < b → a < count → b < count → parent a ≡ parent b → IsAtOrAbove parent a v → IsAtOrAbove parent b v → a ≡ b
+pub siblings : {count : ℕ} {parent : ℕ → ℕ} (falls : Falls count parent) (a b v : ℕ) → 0 < a → 0 < b → a < count → b < count
+    → parent a ≡ parent b → IsAtOrAbove parent a v → IsAtOrAbove parent b v → a ≡ b
 siblings {parent = parent} falls a b v p q l m e h g = elim (chain parent a b v h g) as (λ o. a ≡ b) [
   | inl (inl same) ↦ same
   | inl (inr above) ↦ absurd (above_sibling falls above.0 a b p l m e above.1)
@@ -96,7 +98,8 @@ pub record Fork (count : ℕ) (parent : ℕ → ℕ) (u v : ℕ) : Type 0 where
   pub over_first : IsAtOrAbove parent first v
   pub over_second : IsAtOrAbove parent second u
 
-pub parts : (nodes : List GraphNode) (parent : ℕ → ℕ) (tree : IsTree nodes parent) (u v : ℕ) → IsUnderLater nodes parent u v → Fork (length nodes) parent u v
+pub parts : (nodes : List GraphNode) (parent : ℕ → ℕ) (tree : IsTree nodes parent) (u v : ℕ) → IsUnderLater nodes parent u v
+    → Fork (length nodes) parent u v
 parts nodes parent tree u v h =
     let one = tree.children h.at h.earlier h.first h.state h.named h.is h.is_first in
     let two = tree.children h.at h.later h.second h.state h.named h.is h.is_second in
@@ -120,36 +123,49 @@ parts nodes parent tree u v h =
 above_and_parted : {count : ℕ} {parent : ℕ → ℕ} (falls : Falls count parent) (u v : ℕ) → IsAbove parent u v → Fork count parent v u → ⊥
 above_and_parted {parent = parent} falls u v h p =
     let over : IsAtOrAbove parent p.first v = inr (at_or_above_then parent p.first u v p.over_first h) in
-    let same : p.first ≡ p.second = siblings falls p.first p.second v p.positive_first p.positive_second p.within_first p.within_second (p.first_comes ∙ sym p.second_comes) over p.over_second in
+    let same : p.first ≡ p.second = siblings falls p.first p.second v p.positive_first p.positive_second p.within_first
+    p.within_second (p.first_comes ∙ sym p.second_comes) over p.over_second in
     omega (arith, same, p.order)
 
 pub own_then : (parent : ℕ → ℕ) (c p v : ℕ) → 0 < c → parent c ≡ p → IsAtOrAbove parent c v → IsAbove parent p v
 own_then parent c p v pos e over = above_then parent p c v (zero, (pos, e)) over
 
 -- the place of one parting is above that of another
-parted_above : {count : ℕ} {parent : ℕ → ℕ} (falls : Falls count parent) (u v : ℕ) → u < count → v < count → (p : Fork count parent u v) (q : Fork count parent v u) → IsAbove parent p.at q.at → ⊥
+parted_above : {count : ℕ} {parent : ℕ → ℕ} (falls : Falls count parent) (u v : ℕ) → u < count → v < count
+    → (p : Fork count parent u v) (q : Fork count parent v u) → IsAbove parent p.at q.at → ⊥
 parted_above {count = count} {parent = parent} falls u v l m p q h =
     let d = down parent h.0 p.at q.at h.1 in
-    let to_u : IsAbove parent d.child u = at_or_above_then parent d.child q.at u d.over (own_then parent q.first q.at u q.positive_first q.first_comes q.over_first) in
-    let to_v : IsAbove parent d.child v = at_or_above_then parent d.child q.at v d.over (own_then parent q.second q.at v q.positive_second q.second_comes q.over_second) in
+    let to_u : IsAbove parent d.child u = at_or_above_then parent d.child q.at u d.over
+    (own_then parent q.first q.at u q.positive_first q.first_comes q.over_first) in
+    let to_v : IsAbove parent d.child v = at_or_above_then parent d.child q.at v d.over
+    (own_then parent q.second q.at v q.positive_second q.second_comes q.over_second) in
     let within : d.child < count = omega (arith, above_less falls to_u.0 d.child u l to_u.1, l) in
-    let one : d.child ≡ p.first = siblings falls d.child p.first v d.positive p.positive_first within p.within_first (d.comes ∙ sym p.first_comes) (inr to_v) p.over_first in
-    let two : d.child ≡ p.second = siblings falls d.child p.second u d.positive p.positive_second within p.within_second (d.comes ∙ sym p.second_comes) (inr to_u) p.over_second in
+    let one : d.child ≡ p.first = siblings falls d.child p.first v d.positive p.positive_first within p.within_first
+    (d.comes ∙ sym p.first_comes) (inr to_v) p.over_first in
+    let two : d.child ≡ p.second = siblings falls d.child p.second u d.positive p.positive_second within p.within_second
+    (d.comes ∙ sym p.second_comes) (inr to_u) p.over_second in
     omega (arith, one, two, p.order)
 
-both_parted : {count : ℕ} {parent : ℕ → ℕ} (falls : Falls count parent) (u v : ℕ) → u < count → v < count → (p : Fork count parent u v) (q : Fork count parent v u) → ⊥
+both_parted : {count : ℕ} {parent : ℕ → ℕ} (falls : Falls count parent) (u v : ℕ) → u < count → v < count
+    → (p : Fork count parent u v) (q : Fork count parent v u) → ⊥
 both_parted {count = count} {parent = parent} falls u v l m p q =
-    elim (chain parent p.at q.at u (inr (own_then parent p.second p.at u p.positive_second p.second_comes p.over_second)) (inr (own_then parent q.first q.at u q.positive_first q.first_comes q.over_first))) as (λ o. ⊥) [
+    elim (chain parent p.at q.at u (inr (own_then parent p.second p.at u p.positive_second p.second_comes p.over_second))
+    (inr (own_then parent q.first q.at u q.positive_first q.first_comes q.over_first))) as (λ o. ⊥) [
       | inl (inl same) ↦
-          let one : p.first ≡ q.second = siblings falls p.first q.second v p.positive_first q.positive_second p.within_first q.within_second (p.first_comes ∙ same ∙ sym q.second_comes) p.over_first q.over_second in
-          let two : p.second ≡ q.first = siblings falls p.second q.first u p.positive_second q.positive_first p.within_second q.within_first (p.second_comes ∙ same ∙ sym q.first_comes) p.over_second q.over_first in
+          let one : p.first ≡ q.second = siblings falls p.first q.second v p.positive_first q.positive_second p.within_first
+          q.within_second (p.first_comes ∙ same ∙ sym q.second_comes) p.over_first q.over_second in
+          let two : p.second ≡ q.first = siblings falls p.second q.first u p.positive_second q.positive_first p.within_second
+          q.within_first (p.second_comes ∙ same ∙ sym q.first_comes) p.over_second q.over_first in
           omega (arith, one, two, p.order, q.order)
       | inl (inr above) ↦ parted_above falls u v l m p q above
       | inr above ↦ parted_above falls v u m l q p above
     ]
 
-pub one_is_before : (nodes : List GraphNode) (parent : ℕ → ℕ) → IsTree nodes parent → (u v : ℕ) → u < length nodes → v < length nodes → IsBefore nodes parent u v → IsBefore nodes parent v u → ⊥
-one_is_before nodes parent tree u v l m (inl h) (inl g) = omega (arith, above_less tree.lower h.0 u v m h.1, above_less tree.lower g.0 v u l g.1)
+pub one_is_before : (nodes : List GraphNode) (parent : ℕ → ℕ) → IsTree nodes parent → (u v : ℕ) → u < length nodes
+    → v < length nodes → IsBefore nodes parent u v → IsBefore nodes parent v u → ⊥
+one_is_before nodes parent tree u v l m (inl h) (inl g) = omega
+    (arith, above_less tree.lower h.0 u v m h.1, above_less tree.lower g.0 v u l g.1)
 one_is_before nodes parent tree u v l m (inl h) (inr g) = above_and_parted tree.lower u v h (parts nodes parent tree v u g)
 one_is_before nodes parent tree u v l m (inr h) (inl g) = above_and_parted tree.lower v u g (parts nodes parent tree u v h)
-one_is_before nodes parent tree u v l m (inr h) (inr g) = both_parted tree.lower u v l m (parts nodes parent tree u v h) (parts nodes parent tree v u g)
+one_is_before nodes parent tree u v l m (inr h) (inr g) = both_parted tree.lower u v l m (parts nodes parent tree u v h)
+    (parts nodes parent tree v u g)

@@ -1,5 +1,6 @@
 -- The way up a tree to the nearest expanded node with the positions of a state, and the first expanded node that matches.
-use Rattle.std.proofs.Common.{◌≡◌, ◌⊎◌, inl, inr, ℕ, zero, suc, ◌+◌, ◌<◌, ◌≤◌, List, length, Option, Some, None, subst, ap, arith, ◌∙◌, sym}
+use Rattle.std.proofs.Common.{◌≡◌, ◌⊎◌, inl, inr, ℕ, zero, suc, ◌+◌, ◌<◌, ◌≤◌, List, length, Option, Some, None, subst, ap, arith}
+use Rattle.std.proofs.Common.{◌∙◌, sym}
 use Rattle.std.specs.Prelude.{slice_get, Result, Ok, Err, IfOk}
 use Rattle.std.proofs.lemmas.Bool.{cases_lt}
 use Rattle.std.proofs.lemmas.Option.{slice_get_within, same_Some, none-some}
@@ -23,7 +24,9 @@ above_own : (parent : ℕ → ℕ) (u at : ℕ) → IsAbove parent u at → (u �
 above_own parent u at (zero, h) = inl (sym h.1)
 above_own parent u at (suc k, h) = inr (k, h.1)
 
-module _ (nodes : List GraphNode) (parent : ℕ → ℕ) (n : ℕ) (state : AbstractState) (at next : ℕ) (positive : 0 < at) (is_next : parent at ≡ next) (way : IsAtOrAbove parent at n) (passed : (u : ℕ) → IsAlike nodes parent n state u → IsAbove parent u at) where
+module _ (nodes : List GraphNode) (parent : ℕ → ℕ) (n : ℕ) (state : AbstractState) (at next : ℕ) (positive : 0 < at)
+    (is_next : parent at ≡ next) (way : IsAtOrAbove parent at n) (passed : (u : ℕ) → IsAlike nodes parent n state u
+    → IsAbove parent u at) where
   pub next_above : IsAbove parent next n
   next_above = own_then parent at next n positive is_next way
 
@@ -43,18 +46,24 @@ module _ (nodes : List GraphNode) (parent : ℕ → ℕ) (n : ℕ) (state : Abst
           let is : IsNode nodes next a.other a.by = subst (λ (x : ℕ). IsNode nodes x a.other a.by) e a.is in
           let by_is : a.by ≡ node.by = same_by nodes next a.other node.state a.by node.by is there in
           let state_is : a.other ≡ node.state = same_state nodes next a.other node.state a.by node.by is there in
-          absurd (none (sym (ap is_expanded by_is) ∙ a.expanded, subst (λ (s : AbstractState). HaveSamePositions state s) state_is a.positions))
+          absurd (none (
+            sym (ap is_expanded by_is) ∙ a.expanded,
+            subst (λ (s : AbstractState). HaveSamePositions state s) state_is
+                a.positions,
+          ))
       | inr h ↦ h
     ]
 
 -- ---- from the first node on
 
-module _ (rules : GrowthRules) (nodes : List GraphNode) (state : AbstractState) (u : ℕ) (passed : (v : ℕ) → v < u → IsPassed rules nodes state v) where
+module _ (rules : GrowthRules) (nodes : List GraphNode) (state : AbstractState) (u : ℕ)
+    (passed : (v : ℕ) → v < u → IsPassed rules nodes state v) where
   pub all_passed : length nodes ≤ u → (v : ℕ) → IsPassed rules nodes state v
   all_passed l v other by is = passed v (omega (arith, slice_get_within nodes v (record { state = other; by = by }) is, l)) other by is
 
   module _ (node : GraphNode) (there : slice_get nodes u ≡ Some node) where
-    pub is_found : (found : Option (List (ℕ × ℕ))) (entries : List (ℕ × ℕ)) → found ≡ Some entries → NodeMatches rules state node found → IsFirstFound rules nodes state u entries
+    pub is_found : (found : Option (List (ℕ × ℕ))) (entries : List (ℕ × ℕ)) → found ≡ Some entries
+        → NodeMatches rules state node found → IsFirstFound rules nodes state u entries
     is_found None entries e h = absurd (none-some entries e)
     is_found (Some mine) entries e h = record {
       other = node.state;
@@ -73,20 +82,26 @@ module _ (rules : GrowthRules) (nodes : List GraphNode) (state : AbstractState) 
           let here : IsNode nodes u other by = subst (λ (x : ℕ). IsNode nodes x other by) (omega (arith, l, high)) is in
           let by_is : by ≡ node.by = same_by nodes u other node.state by node.by here there in
           let state_is : other ≡ node.state = same_state nodes u other node.state by node.by here there in
-          none (sym (ap is_expanded by_is) ∙ e, subst (λ (s : AbstractState). HaveSamePositions state s) state_is p) entries (subst (λ (s : AbstractState). rules.IsInstance state s entries) state_is i)
+          none (sym (ap is_expanded by_is) ∙ e, subst (λ (s : AbstractState). HaveSamePositions state s) state_is p) entries
+          (subst (λ (s : AbstractState). rules.IsInstance state s entries) state_is i)
     ]
 
 -- what a grower answers of a node
-pub node_matches : {E : Type 0} (rules : GrowthRules) (state : AbstractState) (node : GraphNode) (other : AbstractState) (answer : Result (Option (List (ℕ × ℕ))) E) → other ≡ node.state → IsNodeAlike state node → MatchesOr rules state other answer → IfOk answer (λ (found : Option (List (ℕ × ℕ))). NodeMatches rules state node found)
+pub node_matches : {E : Type 0} (rules : GrowthRules) (state : AbstractState) (node : GraphNode) (other : AbstractState)
+    (answer : Result (Option (List (ℕ × ℕ))) E) → other ≡ node.state → IsNodeAlike state node → MatchesOr rules state other answer
+    → IfOk answer (λ (found : Option (List (ℕ × ℕ))). NodeMatches rules state node found)
 node_matches rules state node other (Ok (Some entries)) e a h = (a, subst (λ (s : AbstractState). rules.IsInstance state s entries) e h)
-node_matches rules state node other (Ok None) e a h = λ b entries i. h entries (subst (λ (s : AbstractState). rules.IsInstance state s entries) (sym e) i)
+node_matches rules state node other (Ok None) e a h = λ b entries i. h entries
+    (subst (λ (s : AbstractState). rules.IsInstance state s entries) (sym e) i)
 node_matches rules state node other (Err fault) e a h = tt
 
 -- what was found, or that nothing was
-pub found_there : (rules : GrowthRules) (nodes : List GraphNode) (state : AbstractState) (found : Option (ℕ × List (ℕ × ℕ))) (x : ℕ × List (ℕ × ℕ)) → found ≡ Some x → IsFound rules nodes state found → IsFirstFound rules nodes state x.0 x.1
+pub found_there : (rules : GrowthRules) (nodes : List GraphNode) (state : AbstractState) (found : Option (ℕ × List (ℕ × ℕ)))
+    (x : ℕ × List (ℕ × ℕ)) → found ≡ Some x → IsFound rules nodes state found → IsFirstFound rules nodes state x.0 x.1
 found_there rules nodes state None x e h = absurd (none-some x e)
 found_there rules nodes state (Some y) x e h = subst (λ (z : ℕ × List (ℕ × ℕ)). IsFirstFound rules nodes state z.0 z.1) (same_Some y x e) h
 
-pub found_nowhere : (rules : GrowthRules) (nodes : List GraphNode) (state : AbstractState) (found : Option (ℕ × List (ℕ × ℕ))) → found ≡ None → IsFound rules nodes state found → (u : ℕ) → IsPassed rules nodes state u
+pub found_nowhere : (rules : GrowthRules) (nodes : List GraphNode) (state : AbstractState) (found : Option (ℕ × List (ℕ × ℕ)))
+    → found ≡ None → IsFound rules nodes state found → (u : ℕ) → IsPassed rules nodes state u
 found_nowhere rules nodes state None e h = h
 found_nowhere rules nodes state (Some y) e h = absurd (none-some y (sym e))

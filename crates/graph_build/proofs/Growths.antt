@@ -1,5 +1,6 @@
 -- The four kinds of growth, and the nodes that wait after one.
-use Rattle.std.proofs.Common.{◌≡◌, ◌≢◌, ◌⊎◌, inl, inr, ℕ, zero, suc, ◌+◌, ◌-◌, ◌<◌, ◌≤◌, Bool, true, false, List, [], ◌∷◌, ◌++◌, length, map, replicate, Some, subst, ap, arith, refl, ◌∙◌, sym, length-append}
+use Rattle.std.proofs.Common.{◌≡◌, ◌≢◌, ◌⊎◌, inl, inr, ℕ, zero, suc, ◌+◌, ◌-◌, ◌<◌, ◌≤◌, Bool, true, false, List, [], ◌∷◌, ◌++◌}
+use Rattle.std.proofs.Common.{length, map, replicate, Some, subst, ap, arith, refl, ◌∙◌, sym, length-append}
 use Rattle.std.specs.Prelude.{slice_get}
 use Rattle.std.proofs.lemmas.Bool.{false≢true, cases_lt}
 use Rattle.std.proofs.lemmas.List.{append_assoc, append-nil}
@@ -86,27 +87,59 @@ abbrev pub pushed : ℕ → ℕ → List ℕ → List ℕ
 pushed from zero waiting = waiting
 pushed from (suc count) waiting = pushed (suc from) count (from ∷ waiting)
 
-all_as_one : (nodes : List GraphNode) (parents waiting : List ℕ) (states : List AbstractState) (parent : ℕ) → with_all (record { nodes = nodes; parents = parents; waiting = waiting }) states parent ≡ record { nodes = nodes ++ map todo states; parents = parents ++ replicate (length states) parent; waiting = pushed (length nodes) (length states) waiting }
-all_as_one nodes parents waiting [] parent = ap (λ (xs : List GraphNode). record { nodes = xs; parents = parents; waiting = waiting }) (sym (append-nil nodes)) ∙ ap (λ (xs : List ℕ). record { nodes = nodes ++ []; parents = xs; waiting = waiting }) (sym (append-nil parents))
+all_as_one : (nodes : List GraphNode) (parents waiting : List ℕ) (states : List AbstractState) (parent : ℕ)
+    → with_all (record { nodes = nodes; parents = parents; waiting = waiting }) states parent ≡ record {
+      nodes = nodes ++ map todo states;
+      parents = parents ++ replicate (length states) parent;
+      waiting = pushed (length nodes)
+          (length states) waiting;
+    }
+all_as_one nodes parents waiting [] parent = ap
+    (λ (xs : List GraphNode). record { nodes = xs; parents = parents; waiting = waiting }) (sym (append-nil nodes))
+    ∙ ap (λ (xs : List ℕ). record { nodes = nodes ++ []; parents = xs; waiting = waiting }) (sym (append-nil parents))
 all_as_one nodes parents waiting (s ∷ ss) parent =
     let more : length (nodes ++ todo s ∷ []) ≡ suc (length nodes) = length-append nodes (todo s ∷ []) ∙ omega arith in
     all_as_one (nodes ++ todo s ∷ []) (parents ++ parent ∷ []) (length nodes ∷ waiting) ss parent
-    ∙ ap (λ (xs : List GraphNode). record { nodes = xs; parents = (parents ++ parent ∷ []) ++ replicate (length ss) parent; waiting = pushed (length (nodes ++ todo s ∷ [])) (length ss) (length nodes ∷ waiting) }) (append_assoc nodes (todo s ∷ []) (map todo ss))
-    ∙ ap (λ (xs : List ℕ). record { nodes = nodes ++ map todo (s ∷ ss); parents = xs; waiting = pushed (length (nodes ++ todo s ∷ [])) (length ss) (length nodes ∷ waiting) }) (append_assoc parents (parent ∷ []) (replicate (length ss) parent))
-    ∙ ap (λ (k : ℕ). record { nodes = nodes ++ map todo (s ∷ ss); parents = parents ++ replicate (length (s ∷ ss)) parent; waiting = pushed k (length ss) (length nodes ∷ waiting) }) more
+    ∙ ap (λ (xs : List GraphNode). record {
+      nodes = xs;
+      parents = (parents ++ parent ∷ []) ++ replicate (length ss) parent;
+      waiting
+          = pushed (length (nodes ++ todo s ∷ [])) (length ss) (length nodes ∷ waiting);
+    })
+    (append_assoc nodes (todo s ∷ []) (map todo ss))
+    ∙ ap (λ (xs : List ℕ). record {
+      nodes = nodes ++ map todo (s ∷ ss);
+      parents = xs;
+      waiting = pushed (length (nodes ++ todo s ∷ [])) (length ss)
+          (length nodes ∷ waiting);
+    }) (append_assoc parents (parent ∷ []) (replicate (length ss) parent))
+    ∙ ap (λ (k : ℕ). record {
+      nodes = nodes ++ map todo (s ∷ ss);
+      parents = parents ++ replicate (length (s ∷ ss)) parent;
+      waiting =
+          pushed k (length ss) (length nodes ∷ waiting);
+    }) more
 
-pub with_all_is : (work : Work) (states : List AbstractState) (parent : ℕ) → with_all work states parent ≡ record { nodes = work.nodes ++ map todo states; parents = work.parents ++ replicate (length states) parent; waiting = pushed (length work.nodes) (length states) work.waiting }
+pub with_all_is : (work : Work) (states : List AbstractState) (parent : ℕ)
+    → with_all work states parent ≡ record {
+      nodes = work.nodes ++ map todo states;
+      parents = work.parents ++ replicate (length states) parent;
+      waiting = pushed
+          (length work.nodes) (length states) work.waiting;
+    }
 with_all_is work states parent = all_as_one work.nodes work.parents work.waiting states parent
 
 -- ---- what waits
 
-pub pushed_has : (from count : ℕ) (waiting : List ℕ) (m : ℕ) → Has (pushed from count waiting) m → ((from ≤ m) × (m < from + count)) ⊎ Has waiting m
+pub pushed_has : (from count : ℕ) (waiting : List ℕ) (m : ℕ) → Has (pushed from count waiting) m → ((from ≤ m) × (m < from + count))
+    ⊎ Has waiting m
 pushed_has from zero waiting m h = inr h
-pushed_has from (suc count) waiting m h = elim (pushed_has (suc from) count (from ∷ waiting) m h) as (λ o. ((from ≤ m) × (m < from + suc count)) ⊎ Has waiting m) [
-  | inl r ↦ inl (omega (arith, r.0), omega (arith, r.1))
-  | inr (inl e) ↦ inl (omega (arith, e), omega (arith, e))
-  | inr (inr w) ↦ inr w
-]
+pushed_has from (suc count) waiting m h = elim (pushed_has (suc from) count (from ∷ waiting) m h) as
+    (λ o. ((from ≤ m) × (m < from + suc count)) ⊎ Has waiting m) [
+      | inl r ↦ inl (omega (arith, r.0), omega (arith, r.1))
+      | inr (inl e) ↦ inl (omega (arith, e), omega (arith, e))
+      | inr (inr w) ↦ inr w
+    ]
 
 pub has_pushed_old : (from count : ℕ) (waiting : List ℕ) (m : ℕ) → Has waiting m → Has (pushed from count waiting) m
 has_pushed_old from zero waiting m h = h
@@ -120,7 +153,10 @@ has_pushed_new from (suc count) waiting m l r = elim (cases_lt from m) as (λ o.
 ]
 
 -- later ones are before earlier ones, and all of them before what waited
-pub pushed_order : (nodes : List GraphNode) (parent : ℕ → ℕ) (from count : ℕ) (waiting : List ℕ) → ((a b : ℕ) → from ≤ a → a < b → b < from + count → IsBefore nodes parent b a) → ((a m : ℕ) → from ≤ a → a < from + count → Has waiting m → IsBefore nodes parent a m) → AreInOrder nodes parent waiting → AreInOrder nodes parent (pushed from count waiting)
+pub pushed_order : (nodes : List GraphNode) (parent : ℕ → ℕ) (from count : ℕ) (waiting : List ℕ)
+    → ((a b : ℕ) → from ≤ a → a < b → b < from + count → IsBefore nodes parent b a)
+    → ((a m : ℕ) → from ≤ a → a < from + count → Has waiting m → IsBefore nodes parent a m) → AreInOrder nodes parent waiting
+    → AreInOrder nodes parent (pushed from count waiting)
 pushed_order nodes parent from zero waiting each over order = order
 pushed_order nodes parent from (suc count) waiting each over order =
     pushed_order nodes parent (suc from) count (from ∷ waiting)

@@ -8,9 +8,11 @@ use Rattle.graph_build.specs.Rules.{HaveSamePositions}
 turned_values : {A X : Type 0} (f : A → X) (xs : List A) → map f (reverse xs) ≡ reverse (map f xs)
 turned_values f [] = refl
 turned_values {X = X} f (x ∷ xs) =
-    ap (map f) (reverse-append (x ∷ []) xs) ∙ map-append f (reverse xs) (x ∷ []) ∙ ap (λ (zs : List X). zs ++ f x ∷ []) (turned_values f xs) ∙ sym (reverse-append (f x ∷ []) (map f xs))
+    ap (map f) (reverse-append (x ∷ []) xs) ∙ map-append f (reverse xs) (x ∷ [])
+    ∙ ap (λ (zs : List X). zs ++ f x ∷ []) (turned_values f xs) ∙ sym (reverse-append (f x ∷ []) (map f xs))
 
-module _ (a b : AbstractState) (those others : List AbstractFrame) (those_are : those ≡ reverse a.frames) (others_are : others ≡ reverse b.frames) where
+module _ (a b : AbstractState) (those others : List AbstractFrame) (those_are : those ≡ reverse a.frames)
+    (others_are : others ≡ reverse b.frames) where
   there : map head_of those ≡ reverse (map head_of a.frames)
   there = ap (map head_of) those_are ∙ turned_values head_of a.frames
 

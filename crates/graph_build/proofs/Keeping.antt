@@ -8,7 +8,8 @@ use Rattle.term_graph.specs.declared.nodes.By.{By}
 use Rattle.term_graph.specs.declared.nodes.By.TheVariants.{Expand, Instance, End, Todo}
 use Rattle.term_graph.specs.Graphs.{GraphNode}
 use Rattle.graph_build.specs.Rules.{GrowthRules}
-use Rattle.graph_build.specs.Disciplined.{IsNode, IsTree, IsAtOrAbove, IsBefore, is_expanded, IsWidening, IsEarlier, IsMatch, IsAlikeAbove, IsSeeking, IsDueAt, Due, IsStateAt, IsLeftAsDue, IsDisciplinedBy}
+use Rattle.graph_build.specs.Disciplined.{IsNode, IsTree, IsAtOrAbove, IsBefore, is_expanded, IsWidening, IsEarlier, IsMatch}
+use Rattle.graph_build.specs.Disciplined.{IsAlikeAbove, IsSeeking, IsDueAt, Due, IsStateAt, IsLeftAsDue, IsDisciplinedBy}
 use Rattle.graph_build.specs.Disciplined.Due.{growing, matching, widening}
 use Rattle.graph_build.proofs.Ancestry.{one_is_before}
 use Rattle.graph_build.proofs.Extending.{Extends, same_by, same_state, names_no_todo, todo_not_expanded, childless}
@@ -20,7 +21,8 @@ end_not_todo e = false≢true (sym (ap is_expanded e))
 instance_not_todo : (target : ℕ) (entries : List (ℕ × ℕ)) → Instance target entries ≢ Todo
 instance_not_todo target entries e = names_no_todo (Instance target entries) target refl e
 
-module _ (rules : GrowthRules) (nodes nodes' : List GraphNode) (parent parent' : ℕ → ℕ) (n : ℕ) (state : AbstractState) (by : By) (tree : IsTree nodes parent) (g : Extends nodes nodes' parent parent' n state by) where
+module _ (rules : GrowthRules) (nodes nodes' : List GraphNode) (parent parent' : ℕ → ℕ) (n : ℕ) (state : AbstractState) (by : By)
+    (tree : IsTree nodes parent) (g : Extends nodes nodes' parent parent' n state by) where
   inside : n < length nodes
   inside = extending.inside nodes nodes' parent parent' n state by tree g
 
@@ -44,19 +46,22 @@ module _ (rules : GrowthRules) (nodes nodes' : List GraphNode) (parent parent' :
 
   -- ---- what is found from a node that the growing one isn't before
 
-  earlier_was : (m : ℕ) (s : AbstractState) (u : ℕ) (other : AbstractState) → m < length nodes → (IsBefore nodes parent n m → ⊥) → IsEarlier nodes' parent' m s u other → IsEarlier nodes parent m s u other
-  earlier_was m s u other l none h = elim (expanded_was u other h.by h.is (λ e. todo_not_expanded h.by e h.expanded)) as (λ o. IsEarlier nodes parent m s u other) [
-    | inl e ↦ absurd (none (before_was n m inside l (subst (λ (x : ℕ). IsBefore nodes' parent' x m) e h.before)))
-    | inr old ↦ record {
-      by = h.by;
-      is = old.1;
-      expanded = h.expanded;
-      before = before_was u m (node_within u other h.by old.1) l h.before;
-      positions = h.positions;
-    }
-  ]
+  earlier_was : (m : ℕ) (s : AbstractState) (u : ℕ) (other : AbstractState) → m < length nodes → (IsBefore nodes parent n m → ⊥)
+      → IsEarlier nodes' parent' m s u other → IsEarlier nodes parent m s u other
+  earlier_was m s u other l none h = elim (expanded_was u other h.by h.is (λ e. todo_not_expanded h.by e h.expanded)) as
+      (λ o. IsEarlier nodes parent m s u other) [
+        | inl e ↦ absurd (none (before_was n m inside l (subst (λ (x : ℕ). IsBefore nodes' parent' x m) e h.before)))
+        | inr old ↦ record {
+          by = h.by;
+          is = old.1;
+          expanded = h.expanded;
+          before = before_was u m (node_within u other h.by old.1) l h.before;
+          positions = h.positions;
+        }
+      ]
 
-  earlier_kept : (m : ℕ) (s : AbstractState) (u : ℕ) (other : AbstractState) → m < length nodes → IsEarlier nodes parent m s u other → IsEarlier nodes' parent' m s u other
+  earlier_kept : (m : ℕ) (s : AbstractState) (u : ℕ) (other : AbstractState) → m < length nodes → IsEarlier nodes parent m s u other
+      → IsEarlier nodes' parent' m s u other
   earlier_kept m s u other l h = record {
     by = h.by;
     is = g.kept u other h.by (other_than u other h.by h.is (λ e. todo_not_expanded h.by e h.expanded)) h.is;
@@ -65,13 +70,27 @@ module _ (rules : GrowthRules) (nodes nodes' : List GraphNode) (parent parent' :
     positions = h.positions;
   }
 
-  match_was : (m : ℕ) (s : AbstractState) (u : ℕ) → m < length nodes → (IsBefore nodes parent n m → ⊥) → IsMatch rules nodes' parent' m s u → IsMatch rules nodes parent m s u
-  match_was m s u l none h = record { other = h.other; earlier = earlier_was m s u h.other l none h.earlier; entries = h.entries; instance = h.instance }
+  match_was : (m : ℕ) (s : AbstractState) (u : ℕ) → m < length nodes → (IsBefore nodes parent n m → ⊥)
+      → IsMatch rules nodes' parent' m s u → IsMatch rules nodes parent m s u
+  match_was m s u l none h = record {
+    other = h.other;
+    earlier = earlier_was m s u h.other l none h.earlier;
+    entries = h.entries;
+    instance = h.instance;
+  }
 
-  match_kept : (m : ℕ) (s : AbstractState) (u : ℕ) → m < length nodes → IsMatch rules nodes parent m s u → IsMatch rules nodes' parent' m s u
-  match_kept m s u l h = record { other = h.other; earlier = earlier_kept m s u h.other l h.earlier; entries = h.entries; instance = h.instance }
+  match_kept : (m : ℕ) (s : AbstractState) (u : ℕ) → m < length nodes → IsMatch rules nodes parent m s u
+      → IsMatch rules nodes' parent' m s u
+  match_kept m s u l h = record {
+    other = h.other;
+    earlier = earlier_kept m s u h.other l h.earlier;
+    entries = h.entries;
+    instance =
+        h.instance;
+  }
 
-  alike_was : (m : ℕ) (s : AbstractState) (u : ℕ) → m < length nodes → (IsBefore nodes parent n m → ⊥) → IsAlikeAbove nodes' parent' m s u → IsAlikeAbove nodes parent m s u
+  alike_was : (m : ℕ) (s : AbstractState) (u : ℕ) → m < length nodes → (IsBefore nodes parent n m → ⊥)
+      → IsAlikeAbove nodes' parent' m s u → IsAlikeAbove nodes parent m s u
   alike_was m s u l none h = record {
     other = h.other;
     earlier = earlier_was m s u h.other l none h.earlier;
@@ -87,12 +106,14 @@ module _ (rules : GrowthRules) (nodes nodes' : List GraphNode) (parent parent' :
 
   widening_was : (m : ℕ) → m < length nodes → IsWidening nodes' parent' m → IsWidening nodes parent m
   widening_was m l h =
-      let is : IsNode nodes' (parent m) h.state (Instance m h.entries) = subst (λ (x : ℕ). IsNode nodes' x h.state (Instance m h.entries)) (g.same m l) h.is in
+      let is : IsNode nodes' (parent m) h.state (Instance m h.entries) = subst
+      (λ (x : ℕ). IsNode nodes' x h.state (Instance m h.entries)) (g.same m l) h.is in
       record {
         positive = h.positive;
         state = h.state;
         entries = h.entries;
-        is = g.back (parent m) h.state (Instance m h.entries) (λ e. childless nodes parent tree n state g.was m h.positive l e) (omega (arith, tree.lower m h.positive l, l)) is;
+        is = g.back (parent m) h.state (Instance m h.entries) (λ e. childless nodes parent tree n state g.was m h.positive l e)
+            (omega (arith, tree.lower m h.positive l, l)) is;
       }
 
   widening_kept : (m : ℕ) → m < length nodes → IsWidening nodes parent m → IsWidening nodes' parent' m
@@ -100,7 +121,9 @@ module _ (rules : GrowthRules) (nodes nodes' : List GraphNode) (parent parent' :
     positive = h.positive;
     state = h.state;
     entries = h.entries;
-    is = subst (λ (x : ℕ). IsNode nodes' x h.state (Instance m h.entries)) (sym (g.same m l)) (g.kept (parent m) h.state (Instance m h.entries) (other_than (parent m) h.state (Instance m h.entries) h.is (instance_not_todo m h.entries)) h.is);
+    is = subst (λ (x : ℕ). IsNode nodes' x h.state (Instance m h.entries)) (sym (g.same m l))
+        (g.kept (parent m) h.state (Instance m h.entries)
+        (other_than (parent m) h.state (Instance m h.entries) h.is (instance_not_todo m h.entries)) h.is);
   }
 
   seeking_kept : (m : ℕ) (s : AbstractState) → m < length nodes → IsSeeking rules nodes parent m s → IsSeeking rules nodes' parent' m s
@@ -108,7 +131,8 @@ module _ (rules : GrowthRules) (nodes nodes' : List GraphNode) (parent parent' :
 
   -- ---- what is due
 
-  pub due_kept : (m : ℕ) (s : AbstractState) (due : Due) → m < length nodes → (IsBefore nodes parent n m → ⊥) → IsDueAt rules nodes parent m s due → IsDueAt rules nodes' parent' m s due
+  pub due_kept : (m : ℕ) (s : AbstractState) (due : Due) → m < length nodes → (IsBefore nodes parent n m → ⊥)
+      → IsDueAt rules nodes parent m s due → IsDueAt rules nodes' parent' m s due
   due_kept m s growing l none (inl h) = inl h
   due_kept m s growing l none (inr (inl w)) = inr (inl (widening_kept m l w))
   due_kept m s growing l none (inr (inr a)) = inr (inr (record {
@@ -141,18 +165,32 @@ module _ (rules : GrowthRules) (nodes nodes' : List GraphNode) (parent parent' :
     | inl e ↦
         let is : IsNode nodes n s h.by = subst (λ (x : ℕ). IsNode nodes x s h.by) e h.is in
         let same : state ≡ s = same_state nodes n state s Todo h.by g.was is in
-        record { by = by; is = subst (λ (x : ℕ). IsNode nodes' x s by) (sym e) (subst (λ (x : AbstractState). IsNode nodes' n x by) same g.now) }
+        record {
+          by = by;
+          is = subst (λ (x : ℕ). IsNode nodes' x s by) (sym e)
+              (subst (λ (x : AbstractState). IsNode nodes' n x by) same g.now);
+        }
     | inr e ↦ record { by = h.by; is = g.kept m s h.by e h.is }
   ]
 
-  pub states_kept : (states : List AbstractState) (named : List ℕ) → AllZip (IsStateAt nodes) states named → AllZip (IsStateAt nodes') states named
+  pub states_kept : (states : List AbstractState) (named : List ℕ) → AllZip (IsStateAt nodes) states named
+      → AllZip (IsStateAt nodes') states named
   states_kept [] [] h = tt
   states_kept [] (m ∷ ms) h = absurd h
   states_kept (s ∷ ss) [] h = absurd h
   states_kept (s ∷ ss) (m ∷ ms) h = (state_kept s m h.0, states_kept ss ms h.1)
 
-  left_kept : (m : ℕ) (s : AbstractState) (b : By) → m < length nodes → (IsBefore nodes parent n m → ⊥) → IsLeftAsDue rules nodes parent m s b → IsLeftAsDue rules nodes' parent' m s b
-  left_kept m s (Expand named) l none h = (due_kept m s growing l none h.0, record { children = h.1.children; are = h.1.are; names = states_kept h.1.children named h.1.names })
+  left_kept : (m : ℕ) (s : AbstractState) (b : By) → m < length nodes → (IsBefore nodes parent n m → ⊥)
+      → IsLeftAsDue rules nodes parent m s b → IsLeftAsDue rules nodes' parent' m s b
+  left_kept m s (Expand named) l none h = (
+    due_kept m s growing l none h.0,
+    record {
+      children = h.1.children;
+      are = h.1.are;
+      names = states_kept h.1.children named
+          h.1.names;
+    },
+  )
   left_kept m s End l none h = (due_kept m s growing l none h.0, h.1)
   left_kept m s (Instance target entries) l none (inl h) = inl (record {
     due = due_kept m s (matching target) l none h.due;
@@ -175,7 +213,8 @@ module _ (rules : GrowthRules) (nodes nodes' : List GraphNode) (parent parent' :
 
   -- ---- the graph
 
-  module _ (root : AbstractState) (d : IsDisciplinedBy rules root nodes parent) (first : (m : ℕ) (s : AbstractState) → IsNode nodes m s Todo → m ≢ n → IsBefore nodes parent n m) (left : IsLeftAsDue rules nodes' parent' n state by) where
+  module _ (root : AbstractState) (d : IsDisciplinedBy rules root nodes parent) (first : (m : ℕ) (s : AbstractState)
+      → IsNode nodes m s Todo → m ≢ n → IsBefore nodes parent n m) (left : IsLeftAsDue rules nodes' parent' n state by) where
     -- the growing node is before none that is known
     not_before : (m : ℕ) (s : AbstractState) (b : By) → IsNode nodes m s b → b ≢ Todo → IsBefore nodes parent n m → ⊥
     not_before m s b is done h = one_is_before nodes parent tree n m inside (node_within m s b is) h (d.later n m state s b g.was is done)
@@ -185,7 +224,8 @@ module _ (rules : GrowthRules) (nodes nodes' : List GraphNode) (parent parent' :
         let c = tree.comes b p l in
         not_before (parent b) c.state c.by c.is (names_no_todo c.by b c.names) h
 
-    rise : (u v a b : ℕ) → IsBefore nodes' parent' u v → 0 < a → a < length nodes' → parent' a ≡ u → 0 < b → b < length nodes' → parent' b ≡ v → (a < length nodes) ⊎ (length nodes ≤ a) → (b < length nodes) ⊎ (length nodes ≤ b) → a < b
+    rise : (u v a b : ℕ) → IsBefore nodes' parent' u v → 0 < a → a < length nodes' → parent' a ≡ u → 0 < b → b < length nodes'
+        → parent' b ≡ v → (a < length nodes) ⊎ (length nodes ≤ a) → (b < length nodes) ⊎ (length nodes ≤ b) → a < b
     rise u v a b h pa la ea pb lb eb (inl ka) (inl kb) =
         let u_is : parent a ≡ u = sym (g.same a ka) ∙ ea in
         let v_is : parent b ≡ v = sym (g.same b kb) ∙ eb in
@@ -196,18 +236,23 @@ module _ (rules : GrowthRules) (nodes nodes' : List GraphNode) (parent parent' :
     rise u v a b h pa la ea pb lb eb (inr ka) (inl kb) =
         let u_is : n ≡ u = sym (g.fresh a ka la) ∙ ea in
         let v_is : parent b ≡ v = sym (g.same b kb) ∙ eb in
-        let moved : IsBefore nodes' parent' n (parent b) = subst (λ (x : ℕ). IsBefore nodes' parent' n x) (sym v_is) (subst (λ (x : ℕ). IsBefore nodes' parent' x v) (sym u_is) h) in
+        let moved : IsBefore nodes' parent' n (parent b) = subst (λ (x : ℕ). IsBefore nodes' parent' n x) (sym v_is)
+        (subst (λ (x : ℕ). IsBefore nodes' parent' x v) (sym u_is) h) in
         absurd (before_none b pb kb (before_was n (parent b) inside (omega (arith, tree.lower b pb kb, kb)) moved))
     rise u v a b h pa la ea pb lb eb (inr ka) (inr kb) =
         let u_is : n ≡ u = sym (g.fresh a ka la) ∙ ea in
         let v_is : n ≡ v = sym (g.fresh b kb lb) ∙ eb in
-        let moved : IsBefore nodes' parent' n n = subst (λ (x : ℕ). IsBefore nodes' parent' n x) (sym v_is) (subst (λ (x : ℕ). IsBefore nodes' parent' x v) (sym u_is) h) in
+        let moved : IsBefore nodes' parent' n n = subst (λ (x : ℕ). IsBefore nodes' parent' n x) (sym v_is)
+        (subst (λ (x : ℕ). IsBefore nodes' parent' x v) (sym u_is) h) in
         let in_new : n < length nodes' = omega (arith, inside, g.more) in
         absurd (one_is_before nodes' parent' grown_tree n n in_new in_new moved moved)
 
     each_old : (m : ℕ) (s : AbstractState) (b : By) → IsNode nodes m s b → IsLeftAsDue rules nodes' parent' m s b
-    each_old m s (Expand named) is = left_kept m s (Expand named) (node_within m s (Expand named) is) (not_before m s (Expand named) is (λ e. false≢true (sym (ap is_expanded e)))) (d.each m s (Expand named) is)
-    each_old m s (Instance target entries) is = left_kept m s (Instance target entries) (node_within m s (Instance target entries) is) (not_before m s (Instance target entries) is (instance_not_todo target entries)) (d.each m s (Instance target entries) is)
+    each_old m s (Expand named) is = left_kept m s (Expand named) (node_within m s (Expand named) is)
+        (not_before m s (Expand named) is (λ e. false≢true (sym (ap is_expanded e)))) (d.each m s (Expand named) is)
+    each_old m s (Instance target entries) is = left_kept m s (Instance target entries)
+        (node_within m s (Instance target entries) is)
+        (not_before m s (Instance target entries) is (instance_not_todo target entries)) (d.each m s (Instance target entries) is)
     each_old m s End is = left_kept m s End (node_within m s End is) (not_before m s End is end_not_todo) (d.each m s End is)
     each_old m s Todo is = tt
 
@@ -224,19 +269,25 @@ module _ (rules : GrowthRules) (nodes nodes' : List GraphNode) (parent parent' :
       ]
     ]
 
-    later_old : (k m : ℕ) (s other : AbstractState) (b : By) → IsNode nodes k s Todo → k ≢ n → IsNode nodes' m other b → b ≢ Todo → IsBefore nodes' parent' m k
+    later_old : (k m : ℕ) (s other : AbstractState) (b : By) → IsNode nodes k s Todo → k ≢ n → IsNode nodes' m other b → b ≢ Todo
+        → IsBefore nodes' parent' m k
     later_old k m s other b is e known done = elim (expanded_was m other b known done) as (λ o. IsBefore nodes' parent' m k) [
-      | inl same ↦ subst (λ (x : ℕ). IsBefore nodes' parent' x k) (sym same) (before_kept n k inside (node_within k s Todo is) (first k s is e))
+      | inl same ↦ subst (λ (x : ℕ). IsBefore nodes' parent' x k) (sym same)
+          (before_kept n k inside (node_within k s Todo is) (first k s is e))
       | inr old ↦ before_kept m k (node_within m other b old.1) (node_within k s Todo is) (d.later k m s other b is old.1 done)
     ]
 
-    later_fresh : (k m : ℕ) (other : AbstractState) (b : By) → length nodes ≤ k → k < length nodes' → IsNode nodes' m other b → b ≢ Todo → IsBefore nodes' parent' m k
+    later_fresh : (k m : ℕ) (other : AbstractState) (b : By) → length nodes ≤ k → k < length nodes' → IsNode nodes' m other b
+        → b ≢ Todo → IsBefore nodes' parent' m k
     later_fresh k m other b l r known done = elim (expanded_was m other b known done) as (λ o. IsBefore nodes' parent' m k) [
-      | inl same ↦ subst (λ (x : ℕ). IsBefore nodes' parent' x k) (sym same) (extending.growing_before nodes nodes' parent parent' n state by tree g k l r)
-      | inr old ↦ extending.before_fresh nodes nodes' parent parent' n state by tree g m k (node_within m other b old.1) l r (d.later n m state other b g.was old.1 done)
+      | inl same ↦ subst (λ (x : ℕ). IsBefore nodes' parent' x k) (sym same)
+          (extending.growing_before nodes nodes' parent parent' n state by tree g k l r)
+      | inr old ↦ extending.before_fresh nodes nodes' parent parent' n state by tree g m k (node_within m other b old.1) l r
+          (d.later n m state other b g.was old.1 done)
     ]
 
-    later : (k m : ℕ) (s other : AbstractState) (b : By) → IsNode nodes' k s Todo → IsNode nodes' m other b → b ≢ Todo → IsBefore nodes' parent' m k
+    later : (k m : ℕ) (s other : AbstractState) (b : By) → IsNode nodes' k s Todo → IsNode nodes' m other b → b ≢ Todo
+        → IsBefore nodes' parent' m k
     later k m s other b is known done = elim (cases_eq k n) as (λ o. IsBefore nodes' parent' m k) [
       | inl e ↦ absurd (g.done (same_by nodes' n state s by Todo g.now (subst (λ (x : ℕ). IsNode nodes' x s Todo) e is)))
       | inr e ↦ elim (cases_lt k (length nodes)) as (λ o. IsBefore nodes' parent' m k) [

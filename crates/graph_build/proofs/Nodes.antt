@@ -1,5 +1,6 @@
 -- The nodes of a graph after one growth.
-use Rattle.std.proofs.Common.{◌≡◌, ◌≢◌, ℕ, zero, suc, ◌+◌, ◌-◌, ◌<◌, ◌≤◌, List, [], ◌∷◌, ◌++◌, length, get_or, map, replicate, Some, ap, arith, refl, ◌∙◌, sym, length-append}
+use Rattle.std.proofs.Common.{◌≡◌, ◌≢◌, ℕ, zero, suc, ◌+◌, ◌-◌, ◌<◌, ◌≤◌, List, [], ◌∷◌, ◌++◌, length, get_or, map, replicate, Some}
+use Rattle.std.proofs.Common.{ap, arith, refl, ◌∙◌, sym, length-append}
 use Rattle.std.specs.Prelude.{slice_get}
 use Rattle.std.proofs.lemmas.List.{get_or-replicate}
 use Rattle.std.proofs.lemmas.Option.{slice_get_within, same_Some}
@@ -25,7 +26,8 @@ or_right_part (x ∷ xs) ys m =
     let next : length (x ∷ xs) + m ≡ suc (length xs + m) = omega arith in
     ap (λ (k : ℕ). get_or (x ∷ (xs ++ ys)) k 0) next ∙ or_right_part xs ys m
 
-pub node_is : (nodes : List GraphNode) (n : ℕ) (node : GraphNode) (s : AbstractState) → slice_get nodes n ≡ Some node → s ≡ node.state → IsNode nodes n s node.by
+pub node_is : (nodes : List GraphNode) (n : ℕ) (node : GraphNode) (s : AbstractState) → slice_get nodes n ≡ Some node
+    → s ≡ node.state → IsNode nodes n s node.by
 node_is nodes n node s h e = h ∙ ap (λ (x : AbstractState). Some (record { state = x; by = node.by })) (sym e)
 
 -- ---- a node that is left in another way
@@ -35,9 +37,11 @@ length_left [] n by = refl
 length_left (node ∷ nodes) zero by = refl
 length_left (node ∷ nodes) (suc n) by = ap suc (length_left nodes n by)
 
-pub left_here : (nodes : List GraphNode) (n : ℕ) (by : By) (s : AbstractState) (b : By) → IsNode nodes n s b → IsNode (left_by nodes n by) n s by
+pub left_here : (nodes : List GraphNode) (n : ℕ) (by : By) (s : AbstractState) (b : By) → IsNode nodes n s b
+    → IsNode (left_by nodes n by) n s by
 left_here [] n by s b h = absurd (omega (arith, slice_get_within {A = GraphNode} [] n (record { state = s; by = b }) h))
-left_here (node ∷ nodes) zero by s b h = ap (λ (x : GraphNode). Some (record { state = x.state; by = by })) (same_Some node (record { state = s; by = b }) h)
+left_here (node ∷ nodes) zero by s b h = ap (λ (x : GraphNode). Some (record { state = x.state; by = by }))
+    (same_Some node (record { state = s; by = b }) h)
 left_here (node ∷ nodes) (suc n) by s b h = left_here nodes n by s b h
 
 pub left_elsewhere : (nodes : List GraphNode) (n m : ℕ) (by : By) → m ≢ n → slice_get (left_by nodes n by) m ≡ slice_get nodes m
@@ -62,12 +66,15 @@ todo_at (x ∷ xs) (suc i) s b h = todo_at xs i s b h
 pub record Fresh (from count : ℕ) (by : By) : Type 0 where
   pub done : by ≢ Todo
   pub named : (m : ℕ) → from ≤ m → m < from + count → Names by m
-  pub names : (list : List ℕ) (place child : ℕ) → by ≡ Expand list → slice_get list place ≡ Some child → (from ≤ child) × (child < from + count)
+  pub names : (list : List ℕ) (place child : ℕ) → by ≡ Expand list → slice_get list place ≡ Some child → (from ≤ child)
+      × (child < from + count)
   pub in_order : (list : List ℕ) (i j a b : ℕ) → by ≡ Expand list → i < j → slice_get list i ≡ Some a → slice_get list j ≡ Some b → a < b
 
-module _ (nodes : List GraphNode) (parents : List ℕ) (n : ℕ) (state : AbstractState) (by : By) (states : List AbstractState) (was : IsNode nodes n state Todo) (same_length : length parents ≡ length nodes) (f : Fresh (length nodes) (length states) by) where
+module _ (nodes : List GraphNode) (parents : List ℕ) (n : ℕ) (state : AbstractState) (by : By) (states : List AbstractState)
+    (was : IsNode nodes n state Todo) (same_length : length parents ≡ length nodes) (f : Fresh (length nodes) (length states) by) where
   pub count : length (left_by (nodes ++ map todo states) n by) ≡ length nodes + length states
-  count = length_left (nodes ++ map todo states) n by ∙ length-append nodes (map todo states) ∙ ap (λ (k : ℕ). length nodes + k) (length_map_todo states)
+  count = length_left (nodes ++ map todo states) n by ∙ length-append nodes (map todo states)
+      ∙ ap (λ (k : ℕ). length nodes + k) (length_map_todo states)
 
   low : n < length nodes
   low = slice_get_within nodes n (record { state = state; by = Todo }) was
@@ -84,14 +91,16 @@ module _ (nodes : List GraphNode) (parents : List ℕ) (n : ℕ) (state : Abstra
       ∙ ap (λ (k : ℕ). slice_get (nodes ++ map todo states) k) place
       ∙ sym (left_elsewhere (nodes ++ map todo states) n m by d) ∙ h)
 
-  fresh : (m : ℕ) → length nodes ≤ m → m < length (left_by (nodes ++ map todo states) n by) → parent_in (parents ++ replicate (length states) n) m ≡ n
+  fresh : (m : ℕ) → length nodes ≤ m → m < length (left_by (nodes ++ map todo states) n by)
+      → parent_in (parents ++ replicate (length states) n) m ≡ n
   fresh m l r =
       let place : length parents + (m - length nodes) ≡ m = omega (arith, l, same_length) in
       ap (λ (k : ℕ). get_or (parents ++ replicate (length states) n) k 0) (sym place)
       ∙ or_right_part parents (replicate (length states) n) (m - length nodes)
       ∙ get_or-replicate (length states) (m - length nodes) n 0 (omega (arith, l, r, count))
 
-  pub extends : Extends nodes (left_by (nodes ++ map todo states) n by) (parent_in parents) (parent_in (parents ++ replicate (length states) n)) n state by
+  pub extends : Extends nodes (left_by (nodes ++ map todo states) n by) (parent_in parents)
+      (parent_in (parents ++ replicate (length states) n)) n state by
   extends = record {
     was = was;
     now = left_here (nodes ++ map todo states) n by state Todo (get_front nodes (map todo states) n low ∙ was);

@@ -25,7 +25,8 @@ pub record HasManyChildren (rules : GrowthRules) (nodes : List GraphNode) (state
   pub are : rules.HasChildren state children
   pub many : limit < length nodes + length children
 
-pub record HasWide (rules : GrowthRules) (nodes : List GraphNode) (parent : ℕ → ℕ) (n : ℕ) (state : AbstractState) (Is : AbstractState → Type 0) : Type 0 where
+pub record HasWide (rules : GrowthRules) (nodes : List GraphNode) (parent : ℕ → ℕ) (n : ℕ) (state : AbstractState)
+    (Is : AbstractState → Type 0) : Type 0 where
   pub u : ℕ
   pub due : IsDueAt rules nodes parent n state (widening u)
   pub above : AbstractState
@@ -48,7 +49,8 @@ HasLarge rules nodes parent n state =
     ⊎ HasWide rules nodes parent n state (λ above. rules.HasLargeWidening above state)
 
 -- a disciplined graph whose first open node has a growth that is not to be
-pub record IsStopped (rules : GrowthRules) (root : AbstractState) (nodes : List GraphNode) (Why : (ℕ → ℕ) → ℕ → AbstractState → Type 0) : Type 0 where
+pub record IsStopped (rules : GrowthRules) (root : AbstractState) (nodes : List GraphNode) (Why : (ℕ → ℕ) → ℕ → AbstractState
+    → Type 0) : Type 0 where
   pub parent : ℕ → ℕ
   pub by : IsDisciplinedBy rules root nodes parent
   pub n : ℕ
@@ -60,6 +62,8 @@ pub record IsStopped (rules : GrowthRules) (root : AbstractState) (nodes : List 
 -- ids. Want of memory says nothing
 abbrev pub BuildsOr : {P : Type 0} → GrowthRules → AbstractState → ℕ → Result (Built P) BuildFault → Type 0
 BuildsOr rules root limit (Ok (built.Closed nodes)) = (IsDisciplined rules root nodes × IsClosed nodes) × (length nodes ≤ limit)
-BuildsOr rules root limit (Ok (built.Nodes nodes)) = IsStopped rules root nodes (λ parent n state. PassesLimit rules nodes parent n state limit) × (length nodes ≤ limit)
-BuildsOr rules root limit (Ok (built.Ids nodes)) = IsStopped rules root nodes (λ parent n state. HasLarge rules nodes parent n state) × (length nodes ≤ limit)
+BuildsOr rules root limit (Ok (built.Nodes nodes)) = IsStopped rules root nodes
+    (λ parent n state. PassesLimit rules nodes parent n state limit) × (length nodes ≤ limit)
+BuildsOr rules root limit (Ok (built.Ids nodes)) = IsStopped rules root nodes
+    (λ parent n state. HasLarge rules nodes parent n state) × (length nodes ≤ limit)
 BuildsOr rules root limit (Err fault) = Unit {0}

@@ -32,8 +32,10 @@ pub record ComesFrom (nodes : List GraphNode) (n from : ℕ) : Type 0 where
 pub record IsTree (nodes : List GraphNode) (parent : ℕ → ℕ) : Type 0 where
   pub comes : (n : ℕ) → 0 < n → n < length nodes → ComesFrom nodes n (parent n)
   pub lower : (n : ℕ) → 0 < n → n < length nodes → parent n < n
-  pub children : (n place child : ℕ) (state : AbstractState) (named : List ℕ) → IsNode nodes n state (Expand named) → slice_get named place ≡ Some child → (0 < child) × (child < length nodes) × (parent child ≡ n)
-  pub in_order : (n i j a b : ℕ) (state : AbstractState) (named : List ℕ) → IsNode nodes n state (Expand named) → i < j → slice_get named i ≡ Some a → slice_get named j ≡ Some b → a < b
+  pub children : (n place child : ℕ) (state : AbstractState) (named : List ℕ) → IsNode nodes n state (Expand named)
+      → slice_get named place ≡ Some child → (0 < child) × (child < length nodes) × (parent child ≡ n)
+  pub in_order : (n i j a b : ℕ) (state : AbstractState) (named : List ℕ) → IsNode nodes n state (Expand named) → i < j
+      → slice_get named i ≡ Some a → slice_get named j ≡ Some b → a < b
 
 -- a node is above another one: its parent, or above that, with so many nodes between
 abbrev pub IsAboveBy : (ℕ → ℕ) → ℕ → ℕ → ℕ → Type 0
@@ -82,7 +84,8 @@ pub record IsWidening (nodes : List GraphNode) (parent : ℕ → ℕ) (n : ℕ) 
   pub is : IsNode nodes (parent n) state (Instance n entries)
 
 -- an expanded node before another one, with the positions of that one's state
-pub record IsEarlier (nodes : List GraphNode) (parent : ℕ → ℕ) (n : ℕ) (state : AbstractState) (u : ℕ) (other : AbstractState) : Type 0 where
+pub record IsEarlier (nodes : List GraphNode) (parent : ℕ → ℕ) (n : ℕ) (state : AbstractState) (u : ℕ) (other : AbstractState) :
+    Type 0 where
   pub by : By
   pub is : IsNode nodes u other by
   pub expanded : is_expanded by ≡ true
@@ -113,7 +116,8 @@ pub record IsSeeking (rules : GrowthRules) (nodes : List GraphNode) (parent : �
   pub no_widening : IsWidening nodes parent n → ⊥
 
 -- the match with the least number
-pub record IsFirstMatch (rules : GrowthRules) (nodes : List GraphNode) (parent : ℕ → ℕ) (n : ℕ) (state : AbstractState) (u : ℕ) : Type 0 where
+pub record IsFirstMatch (rules : GrowthRules) (nodes : List GraphNode) (parent : ℕ → ℕ) (n : ℕ) (state : AbstractState) (u : ℕ) :
+    Type 0 where
   pub seeks : IsSeeking rules nodes parent n state
   pub met : IsMatch rules nodes parent n state u
   pub least : (other : ℕ) → IsMatch rules nodes parent n state other → u ≤ other
@@ -122,7 +126,8 @@ abbrev pub HasNoMatch : GrowthRules → List GraphNode → (ℕ → ℕ) → ℕ
 HasNoMatch rules nodes parent n state = (u : ℕ) → IsMatch rules nodes parent n state u → ⊥
 
 -- no match, and the nearest expanded node above with the same positions
-pub record IsWidenedBy (rules : GrowthRules) (nodes : List GraphNode) (parent : ℕ → ℕ) (n : ℕ) (state : AbstractState) (u : ℕ) : Type 0 where
+pub record IsWidenedBy (rules : GrowthRules) (nodes : List GraphNode) (parent : ℕ → ℕ) (n : ℕ) (state : AbstractState) (u : ℕ) :
+    Type 0 where
   pub seeks : IsSeeking rules nodes parent n state
   pub unmatched : HasNoMatch rules nodes parent n state
   pub alike : IsAlikeAbove nodes parent n state u
@@ -135,7 +140,8 @@ pub record IsAlone (rules : GrowthRules) (nodes : List GraphNode) (parent : ℕ 
 
 -- what is due at a node: to be expanded, to be an instance of an earlier node, or of the widening of that node's state by its own
 abbrev pub IsDueAt : GrowthRules → List GraphNode → (ℕ → ℕ) → ℕ → AbstractState → Due → Type 0
-IsDueAt rules nodes parent n state growing = (rules.is_head state ≡ false) ⊎ (IsWidening nodes parent n ⊎ IsAlone rules nodes parent n state)
+IsDueAt rules nodes parent n state growing = (rules.is_head state ≡ false)
+    ⊎ (IsWidening nodes parent n ⊎ IsAlone rules nodes parent n state)
 IsDueAt rules nodes parent n state (matching u) = IsFirstMatch rules nodes parent n state u
 IsDueAt rules nodes parent n state (widening u) = IsWidenedBy rules nodes parent n state u
 
@@ -151,13 +157,15 @@ pub record IsGrown (rules : GrowthRules) (nodes : List GraphNode) (state : Abstr
   pub are : rules.HasChildren state children
   pub names : AllZip (IsStateAt nodes) children named
 
-pub record IsMatched (rules : GrowthRules) (nodes : List GraphNode) (parent : ℕ → ℕ) (n : ℕ) (state : AbstractState) (target : ℕ) (entries : List (ℕ × ℕ)) : Type 0 where
+pub record IsMatched (rules : GrowthRules) (nodes : List GraphNode) (parent : ℕ → ℕ) (n : ℕ) (state : AbstractState) (target : ℕ)
+    (entries : List (ℕ × ℕ)) : Type 0 where
   pub due : IsDueAt rules nodes parent n state (matching target)
   pub other : AbstractState
   pub is : IsStateAt nodes other target
   pub instance : rules.IsInstance state other entries
 
-pub record IsWidened (rules : GrowthRules) (nodes : List GraphNode) (parent : ℕ → ℕ) (n : ℕ) (state : AbstractState) (target : ℕ) (entries : List (ℕ × ℕ)) : Type 0 where
+pub record IsWidened (rules : GrowthRules) (nodes : List GraphNode) (parent : ℕ → ℕ) (n : ℕ) (state : AbstractState) (target : ℕ)
+    (entries : List (ℕ × ℕ)) : Type 0 where
   pub u : ℕ
   pub due : IsDueAt rules nodes parent n state (widening u)
   pub above : AbstractState
@@ -172,7 +180,8 @@ pub record IsWidened (rules : GrowthRules) (nodes : List GraphNode) (parent : �
 abbrev pub IsLeftAsDue : GrowthRules → List GraphNode → (ℕ → ℕ) → ℕ → AbstractState → By → Type 0
 IsLeftAsDue rules nodes parent n state (Expand named) = IsDueAt rules nodes parent n state growing × IsGrown rules nodes state named
 IsLeftAsDue rules nodes parent n state End = IsDueAt rules nodes parent n state growing × rules.Ends state
-IsLeftAsDue rules nodes parent n state (Instance target entries) = IsMatched rules nodes parent n state target entries ⊎ IsWidened rules nodes parent n state target entries
+IsLeftAsDue rules nodes parent n state (Instance target entries) = IsMatched rules nodes parent n state target entries
+    ⊎ IsWidened rules nodes parent n state target entries
 IsLeftAsDue rules nodes parent n state Todo = Unit {0}
 
 -- A tree whose node 0 has the root's state, and whose numbers rise in the order of growth. Each node is left as is due; one that is not
@@ -180,9 +189,11 @@ IsLeftAsDue rules nodes parent n state Todo = Unit {0}
 pub record IsDisciplinedBy (rules : GrowthRules) (root : AbstractState) (nodes : List GraphNode) (parent : ℕ → ℕ) : Type 0 where
   pub rooted : IsStateAt nodes root 0
   pub tree : IsTree nodes parent
-  pub rise : (u v a b : ℕ) → IsBefore nodes parent u v → 0 < a → a < length nodes → parent a ≡ u → 0 < b → b < length nodes → parent b ≡ v → a < b
+  pub rise : (u v a b : ℕ) → IsBefore nodes parent u v → 0 < a → a < length nodes → parent a ≡ u → 0 < b → b < length nodes
+      → parent b ≡ v → a < b
   pub each : (n : ℕ) (state : AbstractState) (by : By) → IsNode nodes n state by → IsLeftAsDue rules nodes parent n state by
-  pub later : (n m : ℕ) (state other : AbstractState) (by : By) → IsNode nodes n state Todo → IsNode nodes m other by → by ≢ Todo → IsBefore nodes parent m n
+  pub later : (n m : ℕ) (state other : AbstractState) (by : By) → IsNode nodes n state Todo → IsNode nodes m other by → by ≢ Todo
+      → IsBefore nodes parent m n
 
 pub record IsDisciplined (rules : GrowthRules) (root : AbstractState) (nodes : List GraphNode) : Type 0 where
   pub parent : ℕ → ℕ

@@ -1,5 +1,6 @@
 -- A graph that grows, with what is kept beside it, and the steps of its growth.
-use Rattle.std.specs.Prelude.{◌≡◌, ℕ, ◌+◌, ◌-◌, ◌<◌, ◌≤◌, Bool, true, false, List, [], ◌∷◌, ◌++◌, length, Option, Some, None, Result, Ok, Err, slice_get, get_or}
+use Rattle.std.specs.Prelude.{◌≡◌, ℕ, ◌+◌, ◌-◌, ◌<◌, ◌≤◌, Bool, true, false, List, [], ◌∷◌, ◌++◌, length, Option, Some, None}
+use Rattle.std.specs.Prelude.{Result, Ok, Err, slice_get, get_or}
 use Rattle.std.specs.List.{AllByRecursion}
 use Rattle.list_views.specs.Lists.{Has, numbers_from}
 use Rattle.abs_cells.specs.AbstractStates.{AbstractState}
@@ -53,7 +54,12 @@ of_root state = record { nodes = todo state ∷ []; parents = 0 ∷ []; waiting 
 
 -- with one more open node, the next one
 abbrev pub with_one : Work → AbstractState → ℕ → Work
-with_one work state parent = record { nodes = work.nodes ++ todo state ∷ []; parents = work.parents ++ parent ∷ []; waiting = length work.nodes ∷ work.waiting }
+with_one work state parent = record {
+  nodes = work.nodes ++ todo state ∷ [];
+  parents = work.parents ++ parent ∷ [];
+  waiting = length
+      work.nodes ∷ work.waiting;
+}
 
 -- with one more for each state, the last one next
 abbrev pub with_all : Work → List AbstractState → ℕ → Work
@@ -92,10 +98,12 @@ NodeMatches rules state node None = IsNodeAlike state node → (entries : List (
 
 -- the node of a number is no expanded one with the positions of a state of which the state is an instance
 abbrev pub IsPassed : GrowthRules → List GraphNode → AbstractState → ℕ → Type 0
-IsPassed rules nodes state u = (other : AbstractState) (by : By) → IsNode nodes u other by → is_expanded by ≡ true → HaveSamePositions state other → (entries : List (ℕ × ℕ)) → rules.IsInstance state other entries → ⊥
+IsPassed rules nodes state u = (other : AbstractState) (by : By) → IsNode nodes u other by → is_expanded by ≡ true
+    → HaveSamePositions state other → (entries : List (ℕ × ℕ)) → rules.IsInstance state other entries → ⊥
 
 -- it is the first such one
-pub record IsFirstFound (rules : GrowthRules) (nodes : List GraphNode) (state : AbstractState) (u : ℕ) (entries : List (ℕ × ℕ)) : Type 0 where
+pub record IsFirstFound (rules : GrowthRules) (nodes : List GraphNode) (state : AbstractState) (u : ℕ) (entries : List (ℕ × ℕ)) :
+    Type 0 where
   pub other : AbstractState
   pub by : By
   pub is : IsNode nodes u other by
@@ -143,7 +151,8 @@ pub record IsSound (rules : GrowthRules) (good : AbstractState → Type 0) (root
   pub order : AreInOrder work.nodes (parent_in work.parents) work.waiting
 
 -- the next open node of a sound graph
-pub record IsNextOpen (rules : GrowthRules) (good : AbstractState → Type 0) (nodes : List GraphNode) (parents : List ℕ) (n : ℕ) (state : AbstractState) : Type 0 where
+pub record IsNextOpen (rules : GrowthRules) (good : AbstractState → Type 0) (nodes : List GraphNode) (parents : List ℕ) (n : ℕ)
+    (state : AbstractState) : Type 0 where
   pub root : AbstractState
   pub disciplined : IsDisciplinedBy rules root nodes (parent_in parents)
   pub parents_are : length parents ≡ length nodes
@@ -153,7 +162,8 @@ pub record IsNextOpen (rules : GrowthRules) (good : AbstractState → Type 0) (n
 -- what is due next, and the instance where it is to be one
 abbrev pub NextOr : {E : Type 0} → GrowthRules → List GraphNode → (ℕ → ℕ) → ℕ → AbstractState → Result Next E → Type 0
 NextOr rules nodes parent n state (Ok next.Growing) = IsDueAt rules nodes parent n state growing
-NextOr rules nodes parent n state (Ok (next.Matching u entries)) = IsDueAt rules nodes parent n state (matching u) × IsFirstFound rules nodes state u entries
+NextOr rules nodes parent n state (Ok (next.Matching u entries)) = IsDueAt rules nodes parent n state (matching u)
+    × IsFirstFound rules nodes state u entries
 NextOr rules nodes parent n state (Ok (next.Widening u)) = IsDueAt rules nodes parent n state (widening u)
 NextOr rules nodes parent n state (Err fault) = Unit {0}
 
@@ -165,7 +175,8 @@ pub record IsMatchedTo (rules : GrowthRules) (work : Work) (n : ℕ) (state : Ab
   pub is : IsStateAt work.nodes other u
   pub instance : rules.IsInstance state other entries
 
-pub record IsWidenedTo (rules : GrowthRules) (good : AbstractState → Type 0) (work : Work) (n : ℕ) (state wide : AbstractState) (entries : List (ℕ × ℕ)) : Type 0 where
+pub record IsWidenedTo (rules : GrowthRules) (good : AbstractState → Type 0) (work : Work) (n : ℕ) (state wide : AbstractState)
+    (entries : List (ℕ × ℕ)) : Type 0 where
   pub u : ℕ
   pub due : IsDueAt rules work.nodes (parent_in work.parents) n state (widening u)
   pub above : AbstractState
@@ -176,12 +187,15 @@ pub record IsWidenedTo (rules : GrowthRules) (good : AbstractState → Type 0) (
 
 abbrev pub MayGrow : {P : Type 0} → GrowthRules → (AbstractState → Type 0) → Work → ℕ → AbstractState → ℕ → Plan P → Type 0
 MayGrow rules good work n state limit plan.End = IsDueAt rules work.nodes (parent_in work.parents) n state growing × rules.Ends state
-MayGrow rules good work n state limit (plan.Children states) = IsDueAt rules work.nodes (parent_in work.parents) n state growing × ((rules.HasChildren state states × AllByRecursion good states) × (length work.nodes + length states ≤ limit))
+MayGrow rules good work n state limit (plan.Children states) = IsDueAt rules work.nodes (parent_in work.parents) n state growing
+    × ((rules.HasChildren state states × AllByRecursion good states) × (length work.nodes + length states ≤ limit))
 MayGrow rules good work n state limit (plan.Join u entries) = IsMatchedTo rules work n state u entries
-MayGrow rules good work n state limit (plan.Open wide entries) = IsWidenedTo rules good work n state wide entries × (length work.nodes + 1 ≤ limit)
+MayGrow rules good work n state limit (plan.Open wide entries) = IsWidenedTo rules good work n state wide entries
+    × (length work.nodes + 1 ≤ limit)
 
 -- the next growth, or why there is none
-abbrev pub PlanOr : {P : Type 0} → GrowthRules → (AbstractState → Type 0) → Work → ℕ → AbstractState → ℕ → Result (Plan P) GrowthLimit → Type 0
+abbrev pub PlanOr : {P : Type 0} → GrowthRules → (AbstractState → Type 0) → Work → ℕ → AbstractState → ℕ
+    → Result (Plan P) GrowthLimit → Type 0
 PlanOr rules good work n state limit (Ok growth) = MayGrow rules good work n state limit growth
 PlanOr rules good work n state limit (Err limits.Nodes) = PassesLimit rules work.nodes (parent_in work.parents) n state limit
 PlanOr rules good work n state limit (Err limits.Ids) = HasLarge rules work.nodes (parent_in work.parents) n state

@@ -4,7 +4,8 @@ ghost use Rattle.abs_cells.specs.AbstractStates.{AbstractState};
 ghost use Rattle.term_graph.specs.declared.nodes.By.{By};
 ghost use Rattle.graph_build.specs.Rules.{HaveSamePositions};
 ghost use Rattle.graph_build.specs.Disciplined.{IsNode, is_expanded};
-ghost use Rattle.graph_build.specs.Working.{is_instance, is_instance_at, parent_in, IsFound, NearestOr, NextOr, IsNextOpen, IsNodeAlike, NodeMatches};
+ghost use Rattle.graph_build.specs.Working.{is_instance, is_instance_at, parent_in, IsFound, NearestOr, NextOr, IsNextOpen};
+ghost use Rattle.graph_build.specs.Working.{IsNodeAlike, NodeMatches};
 
 use crate::grower::Grower;
 use abs_cells::{AbsState, Id, Pairs};
@@ -138,7 +139,8 @@ fn is_seeking<P: Pairs, G: Grower<P>>(
     requires within { n < length graph.now }
     requires parents { length parents.now ≡ length graph.now }
     requires lower { (m : ℕ) → 0 < m → m < length graph.now → parent_in parents.now m < m }
-    ensures { result ≡ ((G.rules (G.meaning grower.now)).is_head state.now && not (nat_lt 0 n && is_instance_at graph.now (parent_in parents.now n))) }
+    ensures { result ≡ ((G.rules (G.meaning grower.now)).is_head state.now && not
+        (nat_lt 0 n && is_instance_at graph.now (parent_in parents.now n))) }
 {
     grower.is_head(state) && !(n > 0 && is_instance_at(graph, parents[n as usize]))
 }

@@ -78,7 +78,8 @@ impl<P: Pairs> Growing<P> {
         state: &AbsState<P>,
         limit: u32,
     ) -> Result<Plan<P>, GrowthLimit>
-        requires next { IsNextOpen (G.rules (G.meaning grower.old)) (G.good (G.meaning grower.old)) self.now.graph self.now.parents n state.now }
+        requires next { IsNextOpen (G.rules (G.meaning grower.old)) (G.good (G.meaning grower.old)) self.now.graph self.now.parents
+            n state.now }
         requires due { IsDueAt (G.rules (G.meaning grower.old)) self.now.graph (parent_in self.now.parents) n state.now growing }
         ensures plan { PlanOr (G.rules (G.meaning grower.old)) (G.good (G.meaning grower.old)) (seen self.now) n state.now limit result }
         ensures same { G.meaning grower.new ≡ G.meaning grower.old }
@@ -107,7 +108,8 @@ impl<P: Pairs> Growing<P> {
         state: &AbsState<P>,
         limit: u32,
     ) -> Result<Plan<P>, GrowthLimit>
-        requires next { IsNextOpen (G.rules (G.meaning grower.old)) (G.good (G.meaning grower.old)) self.now.graph self.now.parents n state.now }
+        requires next { IsNextOpen (G.rules (G.meaning grower.old)) (G.good (G.meaning grower.old)) self.now.graph self.now.parents
+            n state.now }
         requires due { IsDueAt (G.rules (G.meaning grower.old)) self.now.graph (parent_in self.now.parents) n state.now (widening u) }
         ensures plan { PlanOr (G.rules (G.meaning grower.old)) (G.good (G.meaning grower.old)) (seen self.now) n state.now limit result }
         ensures same { G.meaning grower.new ≡ G.meaning grower.old }
@@ -137,7 +139,8 @@ impl<P: Pairs> Growing<P> {
         state: &AbsState<P>,
         limit: u32,
     ) -> Result<Plan<P>, GrowthLimit>
-        requires next { IsNextOpen (G.rules (G.meaning grower.old)) (G.good (G.meaning grower.old)) self.now.graph self.now.parents n state.now }
+        requires next { IsNextOpen (G.rules (G.meaning grower.old)) (G.good (G.meaning grower.old)) self.now.graph self.now.parents
+            n state.now }
         ensures plan { PlanOr (G.rules (G.meaning grower.old)) (G.good (G.meaning grower.old)) (seen self.now) n state.now limit result }
         ensures same { G.meaning grower.new ≡ G.meaning grower.old }
     {

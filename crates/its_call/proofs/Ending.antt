@@ -22,12 +22,15 @@ not_one e = absurd cc
 no_yes : (text rest : List ℕ) → codes "MAYBE component\n" ++ text ≡ yes_line ++ rest → ⊥
 no_yes text rest e = absurd cc
 
-left_is_no_yes : (its : Its) (answer : ItsAnswer) (proof : proofs.Proof) (rules : List _) → Tells its (Left proof rules) answer → SaysYes answer → ⊥
+left_is_no_yes : (its : Its) (answer : ItsAnswer) (proof : proofs.Proof) (rules : List _) → Tells its (Left proof rules) answer
+    → SaysYes answer → ⊥
 left_is_no_yes its answer proof rules e (inl status) = not_one (sym (ap (λ (a : ItsAnswer). a.status) e) ∙ status)
 left_is_no_yes its answer proof rules e (inr (rest, out)) = no_yes _ rest (sym (ap (λ (a : ItsAnswer). a.out) e) ∙ out)
 
-pub ends : (text : List ℕ) (its : Its) (found : ItsFound) (answer : ItsAnswer) → ClosedProofsEnd → ChainsEndSteps → StepsEndWalks → rules_of text ≡ Ok its → IsSystem its → Finds its.rules found → Tells its found answer → SaysYes answer → IsEnding text
+pub ends : (text : List ℕ) (its : Its) (found : ItsFound) (answer : ItsAnswer) → ClosedProofsEnd → ChainsEndSteps → StepsEndWalks
+    → rules_of text ≡ Ok its → IsSystem its → Finds its.rules found → Tells its found answer → SaysYes answer → IsEnding text
 ends text its (Proof proof) answer closed chains walks said system finds tells says =
     let steps = chains its system (closed its.rules proof (system_rules_are its system) finds.0 finds.1) in
     record { its = its; said = said; ends = steps; no_infinite = walks its steps }
-ends text its (Left proof rules) answer closed chains walks said system finds tells says = absurd (left_is_no_yes its answer proof rules tells says)
+ends text its (Left proof rules) answer closed chains walks said system finds tells says = absurd
+    (left_is_no_yes its answer proof rules tells says)

@@ -16,7 +16,8 @@ place_name places n = option_map_or (λ (name : List ℕ). name) (slice_get plac
 
 -- a rule, by its number and the locations at its ends: `rule R FROM TO` and a newline
 abbrev pub rule_line : List (List ℕ) → LeftRule → List ℕ
-rule_line places left = joined (codes "rule " ∷ decimal left.rule ∷ codes " " ∷ place_name places left.from ∷ codes " " ∷ place_name places left.to ∷ codes "\n" ∷ [])
+rule_line places left = joined (codes "rule " ∷ decimal left.rule ∷ codes " " ∷ place_name places left.from ∷ codes " " ∷ place_name
+    places left.to ∷ codes "\n" ∷ [])
 
 -- the rules that are left
 abbrev pub maybe_text : List (List ℕ) → List LeftRule → List ℕ

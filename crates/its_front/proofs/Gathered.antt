@@ -14,7 +14,8 @@ pub begins : {A : Type 0} (o : Option (List A)) → behind [] o ≡ o
 begins None = refl
 begins (Some items) = refl
 
-pub goes_on : {A : Type 0} (front : List A) (item : A) (rest : Option (List A)) → behind front (before (Some item) rest) ≡ behind (front ++ item ∷ []) rest
+pub goes_on : {A : Type 0} (front : List A) (item : A) (rest : Option (List A))
+    → behind front (before (Some item) rest) ≡ behind (front ++ item ∷ []) rest
 goes_on front item None = refl
 goes_on front item (Some items) = ap Some (sym (append_assoc front (item ∷ []) items))
 
@@ -22,9 +23,11 @@ pub stops : {A : Type 0} (front : List A) (rest : Option (List A)) → behind fr
 stops front rest = refl
 
 -- a term more, unless its coefficient is 0
-pub more_terms : (front : List (ℕ × ℤ)) (n : ℕ) (c : ℤ) (rest : Option (List (ℕ × ℤ))) → behind front (with_coefficient n c rest) ≡ behind (if int_eq c (pos 0) then front else front ++ (n, c) ∷ []) rest
+pub more_terms : (front : List (ℕ × ℤ)) (n : ℕ) (c : ℤ) (rest : Option (List (ℕ × ℤ)))
+    → behind front (with_coefficient n c rest) ≡ behind (if int_eq c (pos 0) then front else front ++ (n, c) ∷ []) rest
 more_terms front n c rest = by (int_eq c (pos 0))
   where
-    by : (b : Bool) → behind front (if b then rest else before (Some (n, c)) rest) ≡ behind (if b then front else front ++ (n, c) ∷ []) rest
+    by : (b : Bool) → behind front (if b then rest else before (Some (n, c)) rest) ≡ behind
+        (if b then front else front ++ (n, c) ∷ []) rest
     by true = refl
     by false = goes_on front (n, c) rest

@@ -1,5 +1,6 @@
 -- Names by their numbers.
-use Rattle.std.proofs.Common.{◌≡◌, ◌∙◌, ◌+◌, ◌<◌, ◌≤◌, ℕ, zero, suc, Bool, true, false, not, cond, ltb, List, [], ◌∷◌, length, drop, Option, Some, None, refl, sym, ap, arith}
+use Rattle.std.proofs.Common.{◌≡◌, ◌∙◌, ◌+◌, ◌<◌, ◌≤◌, ℕ, zero, suc, Bool, true, false, not, cond, ltb, List, [], ◌∷◌, length, drop}
+use Rattle.std.proofs.Common.{Option, Some, None, refl, sym, ap, arith}
 use Rattle.std.specs.Prelude.{position}
 use Rattle.std.specs.List.{position_or_len}
 use Rattle.std.proofs.lemmas.List.Quantifiers.{position-Some}
@@ -17,7 +18,8 @@ never_past test (name ∷ rest) = by (test name) (never_past test rest)
     by false later = omega (arith, later)
 
 pub found_number : (test : List ℕ → Bool) (names : List (List ℕ)) (i : ℕ) → position test names ≡ Some i → i ≡ position_or_len test names
-found_number test names i e = same (position_or_len test names) i (cond_guarded (ltb (position_or_len test names) (length names)) (Some (position_or_len test names)) i e).1
+found_number test names i e = same (position_or_len test names) i
+    (cond_guarded (ltb (position_or_len test names) (length names)) (Some (position_or_len test names)) i e).1
   where
     same : (a b : ℕ) → ◌≡◌ {A = Option ℕ} (Some a) (Some b) → b ≡ a
     same a b e = cc

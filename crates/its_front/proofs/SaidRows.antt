@@ -1,5 +1,6 @@
 -- What is known of a row that is read: it is over the values of the variables, and within its limits.
-use Rattle.std.proofs.Common.{◌≡◌, ◌∙◌, ◌+◌, ◌≤◌, ◌<◌, ◌^◌, ℕ, zero, suc, Bool, true, false, cond, List, [], ◌∷◌, length, replicate, ℤ, pos, Option, Some, None, Result, Ok, Err, refl, sym, ap, subst, arith}
+use Rattle.std.proofs.Common.{◌≡◌, ◌∙◌, ◌+◌, ◌≤◌, ◌<◌, ◌^◌, ℕ, zero, suc, Bool, true, false, cond, List, [], ◌∷◌, length, replicate}
+use Rattle.std.proofs.Common.{ℤ, pos, Option, Some, None, Result, Ok, Err, refl, sym, ap, subst, arith}
 use Rattle.std.specs.Prelude.{slice_get, slice_set, unsigned_abs, nat_le}
 use Rattle.std.specs.Ordering.{int_eq}
 use Rattle.std.specs.Option.{option_and_then}
@@ -58,10 +59,13 @@ rises_later : (low end : ℕ) (terms : List (ℕ × ℤ)) → RiseFrom (suc low)
 rises_later low end [] h = tt
 rises_later low end (term ∷ rest) h = let first = h.0 in (omega (arith, first), h.1, h.2)
 
-with_rises : (n end : ℕ) (c : ℤ) (rest : Option (List (ℕ × ℤ))) (terms : List (ℕ × ℤ)) → n < end → ((more : List (ℕ × ℤ)) → rest ≡ Some more → RiseFrom (suc n) end more) → with_coefficient n c rest ≡ Some terms → RiseFrom n end terms
+with_rises : (n end : ℕ) (c : ℤ) (rest : Option (List (ℕ × ℤ))) (terms : List (ℕ × ℤ)) → n < end
+    → ((more : List (ℕ × ℤ)) → rest ≡ Some more → RiseFrom (suc n) end more) → with_coefficient n c rest ≡ Some terms
+    → RiseFrom n end terms
 with_rises n end c rest terms l h e = by (int_eq c (pos 0)) rest h e
   where
-    by : (b : Bool) (others : Option (List (ℕ × ℤ))) → ((more : List (ℕ × ℤ)) → others ≡ Some more → RiseFrom (suc n) end more) → cond b others (before (Some (n, c)) others) ≡ Some terms → RiseFrom n end terms
+    by : (b : Bool) (others : Option (List (ℕ × ℤ))) → ((more : List (ℕ × ℤ)) → others ≡ Some more → RiseFrom (suc n) end more)
+        → cond b others (before (Some (n, c)) others) ≡ Some terms → RiseFrom n end terms
     by true others g f = rises_later n end terms (g terms f)
     by false None g f = absurd cc
     by false (Some more) g f = subst (RiseFrom n end) (same ((n, c) ∷ more) terms f) (omega arith, l, g more refl)
@@ -69,7 +73,8 @@ with_rises n end c rest terms l h e = by (int_eq c (pos 0)) rest h e
         same : (a b : List (ℕ × ℤ)) → ◌≡◌ {A = Option (List (ℕ × ℤ))} (Some a) (Some b) → a ≡ b
         same a b e = cc
 
-coefficients_rise : (n end : ℕ) (table : Table) (terms : List (ℕ × ℤ)) → n + length table ≤ end → coefficients n table ≡ Some terms → RiseFrom n end terms
+coefficients_rise : (n end : ℕ) (table : Table) (terms : List (ℕ × ℤ)) → n + length table ≤ end → coefficients n table ≡ Some terms
+    → RiseFrom n end terms
 coefficients_rise n end [] terms l e = subst (RiseFrom n end) (same [] terms e) tt
   where
     same : (a b : List (ℕ × ℤ)) → ◌≡◌ {A = Option (List (ℕ × ℤ))} (Some a) (Some b) → a ≡ b
@@ -77,7 +82,8 @@ coefficients_rise n end [] terms l e = subst (RiseFrom n end) (same [] terms e) 
 coefficients_rise n end (None ∷ rest) terms l e = rises_later n end terms (coefficients_rise (suc n) end rest terms (omega (arith, l)) e)
 coefficients_rise n end (Some number ∷ rest) terms l e =
     let found = then_some (λ c. with_coefficient n c (coefficients (suc n) rest)) (ranged most_coefficient number) terms e in
-    with_rises n end found.0 (coefficients (suc n) rest) terms (omega (arith, l)) (λ more g. coefficients_rise (suc n) end rest more (omega (arith, l)) g) found.1.1
+    with_rises n end found.0 (coefficients (suc n) rest) terms (omega (arith, l))
+    (λ more g. coefficients_rise (suc n) end rest more (omega (arith, l)) g) found.1.1
 
 -- ---- rows
 
@@ -85,7 +91,8 @@ pub record IsSaidRow (end : ℕ) (row : WRow) : Type 0 where
   pub is_row : IsRow end row
   pub weightless : IsWeightless row
 
-said_in : (end line : ℕ) (kind : RowKind) (number : Number) (table : Table) (row : WRow) → length table ≤ end → row_in line kind number table ≡ Ok row → IsSaidRow end row
+said_in : (end line : ℕ) (kind : RowKind) (number : Number) (table : Table) (row : WRow) → length table ≤ end
+    → row_in line kind number table ≡ Ok row → IsSaidRow end row
 unfolding row_in
 said_in end line kind number table row l e =
     let first = bind_ok (wanted _ (ranged most_constant number)) _ row e in
@@ -100,11 +107,13 @@ said_in end line kind number table row l e =
       weightless = refl;
     })
 
-pub said_row_is : (vars : List (List ℕ)) (line : ℕ) (kind : RowKind) (words : Number × List Term) (row : WRow) → row_of vars line kind words ≡ Ok row → IsSaidRow (length vars + length vars) row
+pub said_row_is : (vars : List (List ℕ)) (line : ℕ) (kind : RowKind) (words : Number × List Term) (row : WRow)
+    → row_of vars line kind words ≡ Ok row → IsSaidRow (length vars + length vars) row
 unfolding row_of
 said_row_is vars line kind words row e =
     let first = bind_ok (wanted _ (numbered vars words.1)) _ row e in
     let second = bind_ok (table_of line (length vars) first.0) _ row first.2 in
     let filled = wanted_is _ (placed (replicate (length vars + length vars) None) first.0) second.0 second.1 in
-    let long : length second.0 ≡ length vars + length vars = placed_length (replicate (length vars + length vars) None) first.0 second.0 filled ∙ length-replicate (length vars + length vars) None in
+    let long : length second.0 ≡ length vars + length vars = placed_length (replicate (length vars + length vars) None) first.0
+    second.0 filled ∙ length-replicate (length vars + length vars) None in
     said_in (length vars + length vars) line kind words.0 second.0 row (omega (arith, long)) second.2

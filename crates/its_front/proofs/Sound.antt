@@ -1,5 +1,7 @@
 -- What is read is a system of rules, line by line.
-use Rattle.std.proofs.Common.{◌≡◌, ◌∙◌, ◌⊎◌, inl, inr, ◌+◌, ◌≤◌, ◌<◌, ◌==◌, ◌&&◌, ◌||◌, not, ◌++◌, ℕ, zero, suc, Bool, true, false, cond, List, [], ◌∷◌, length, length-append, drop, get_or, Option, Some, None, is_some, Result, Ok, Err, refl, sym, ap, subst, arith}
+use Rattle.std.proofs.Common.{◌≡◌, ◌∙◌, ◌⊎◌, inl, inr, ◌+◌, ◌≤◌, ◌<◌, ◌==◌, ◌&&◌, ◌||◌, not, ◌++◌, ℕ, zero, suc, Bool, true, false}
+use Rattle.std.proofs.Common.{cond, List, [], ◌∷◌, length, length-append, drop, get_or, Option, Some, None, is_some, Result, Ok}
+use Rattle.std.proofs.Common.{Err, refl, sym, ap, subst, arith}
 use Rattle.std.specs.Prelude.{nat_le, nat_lt, codes, IsErrAnd}
 use Rattle.std.specs.List.{All, list_any, list_all, position_or_len}
 use Rattle.std.specs.Str.{bytes_eq}
@@ -22,7 +24,9 @@ use Rattle.its_front.specs.Faults.{Said, is_memory, Gives}
 use Rattle.its_front.specs.Names.{Names, added, with_name, number_of}
 use Rattle.its_front.specs.Words.{Words, are_names, row_words, two_names}
 use Rattle.its_front.specs.Rows.{row_of}
-use Rattle.its_front.specs.Reading.{most_variables, most_rules, most_rows, rule_of, unread, is_begun, is_whole, vars_line, open_rule, opened, rule_line, with_row, longer, said_row, row_in, row_line, closed, end_line, skipped_line, is_skipped, said_line, with_line, with_lines, system_of, lines_said, rules_of}
+use Rattle.its_front.specs.Reading.{most_variables, most_rules, most_rows, rule_of, unread, is_begun, is_whole, vars_line}
+use Rattle.its_front.specs.Reading.{open_rule, opened, rule_line, with_row, longer, said_row, row_in, row_line, closed, end_line}
+use Rattle.its_front.specs.Reading.{skipped_line, is_skipped, said_line, with_line, with_lines, system_of, lines_said, rules_of}
 use Rattle.its_front.specs.Systems.{IsWeightless, IsSystemRule, IsBetween, IsSystem}
 use Rattle.its_front.proofs.Placing.{never_past}
 use Rattle.its_front.proofs.SaidRows.{wanted_is, required_is, IsSaidRow, said_row_is}
@@ -33,7 +37,8 @@ any_within : (test : List ℕ → Bool) (names : Names) → list_any test names 
 any_within test [] e = absurd (false≢true e)
 any_within test (name ∷ rest) e = by (test name) e (any_within test rest)
   where
-    by : (b : Bool) → (b || list_any test rest) ≡ true → (list_any test rest ≡ true → position_or_len test rest < length rest) → cond (not b) (1 + position_or_len test rest) 0 < suc (length rest)
+    by : (b : Bool) → (b || list_any test rest) ≡ true → (list_any test rest ≡ true → position_or_len test rest < length rest)
+        → cond (not b) (1 + position_or_len test rest) 0 < suc (length rest)
     by true f later = omega arith
     by false f later = let l = later f in omega (arith, l)
 
@@ -97,15 +102,18 @@ not_begun count b e = by (nat_lt 0 count) refl (and_parts (not (nat_lt 0 count))
     by true f g = absurd (false≢true g)
     by false f g = let most = ltb-false 0 count f in omega (arith, most)
 
-vars_read : (reading : Reading) (line : ℕ) (words : Words) (next : Reading) → IsRead reading → vars_line reading line words ≡ Ok next → IsRead next
+vars_read : (reading : Reading) (line : ℕ) (words : Words) (next : Reading) → IsRead reading
+    → vars_line reading line words ≡ Ok next → IsRead next
 unfolding vars_line
 vars_read reading line words next read e =
     let first = bind_ok (required _ (not (is_begun reading) && are_names words)) _ next e in
     let second = bind_ok (wanted _ (added reading.vars words)) _ next first.2 in
     let third = bind_ok (required _ (nat_le (length second.0) most_variables)) _ next second.2 in
-    let none = not_begun (length reading.vars) (are_names words) (required_is _ (not (is_begun reading) && are_names words) first.0 first.1) in
+    let none = not_begun (length reading.vars) (are_names words)
+    (required_is _ (not (is_begun reading) && are_names words) first.0 first.1) in
     let bare = read.bare none in
-    let few : length second.0 ≤ most_variables = leb-true (length second.0) most_variables (required_is _ (nat_le (length second.0) most_variables) third.0 third.1) in
+    let few : length second.0 ≤ most_variables = leb-true (length second.0) most_variables
+    (required_is _ (nat_le (length second.0) most_variables) third.0 third.1) in
     subst IsRead (ok_is (record reading { vars = second.0 }) next third.2) (record {
       small = few;
       few = read.few;
@@ -127,9 +135,11 @@ whole_is reading b e =
     ltb-true 0 (length reading.vars) begun
 
 wider : (a b : ℕ) → a ≤ b → (rules : List PathRule) → All (IsBetween a) rules → All (IsBetween b) rules
-wider a b l rules are = λ i d w. let is = are i d w in record { from = let f = is.from in omega (arith, f, l); to = let t = is.to in omega (arith, t, l) }
+wider a b l rules are = λ i d w. let is = are i d w in record
+    { from = let f = is.from in omega (arith, f, l); to = let t = is.to in omega (arith, t, l) }
 
-opened_is : (reading : Reading) (ends : List ℕ × List ℕ) → IsRead reading → 0 < length reading.vars → length reading.rules < most_rules → IsRead (opened reading ends)
+opened_is : (reading : Reading) (ends : List ℕ × List ℕ) → IsRead reading → 0 < length reading.vars
+    → length reading.rules < most_rules → IsRead (opened reading ends)
 opened_is reading ends read begun fewer =
     let one = with_name reading.places ends.0 in
     let grown : length reading.places ≤ length one = names_grow reading.places ends.0 in
@@ -156,7 +166,8 @@ opened_is reading ends read begun fewer =
     same : (a b : OpenRule) → ◌≡◌ {A = Option OpenRule} (Some a) (Some b) → a ≡ b
     same a b e = cc
 
-rule_read : (reading : Reading) (is_last : Bool) (line : ℕ) (words : Words) (next : Reading) → IsRead reading → rule_line reading is_last line words ≡ Ok next → IsRead next
+rule_read : (reading : Reading) (is_last : Bool) (line : ℕ) (words : Words) (next : Reading) → IsRead reading
+    → rule_line reading is_last line words ≡ Ok next → IsRead next
 unfolding rule_line
 rule_read reading is_last line words next read e =
     let first = bind_ok (required _ (is_whole reading && not is_last)) _ next e in
@@ -168,7 +179,8 @@ rule_read reading is_last line words next read e =
 
 -- ---- rows
 
-longer_is : (reading : Reading) (unended : OpenRule) (row : WRow) → IsRead reading → reading.unended ≡ Some unended → IsSaidRow (length reading.vars + length reading.vars) row → reading.rows < most_rows → IsRead (longer reading unended row)
+longer_is : (reading : Reading) (unended : OpenRule) (row : WRow) → IsRead reading → reading.unended ≡ Some unended
+    → IsSaidRow (length reading.vars + length reading.vars) row → reading.rows < most_rows → IsRead (longer reading unended row)
 longer_is reading unended row read at said less_rows =
     let is = read.unended unended at in
     record {
@@ -182,7 +194,8 @@ longer_is reading unended row read at said less_rows =
         to = is.to;
         rows = All-push (IsRow (length reading.vars + length reading.vars)) unended.rows row is.rows said.is_row;
         weightless = All-push IsWeightless unended.rows row is.weightless said.weightless;
-        few = let few = is.few in let long : length (unended.rows ++ row ∷ []) ≡ length unended.rows + 1 = length-append unended.rows (row ∷ []) in omega (arith, few, long);
+        few = let few = is.few in let long : length (unended.rows ++ row ∷ []) ≡ length unended.rows + 1 = length-append
+            unended.rows (row ∷ []) in omega (arith, few, long);
         fewer = is.fewer;
       });
       bare = λ e. absurd (none_open unended (sym (read.bare e).1 ∙ at));
@@ -194,7 +207,8 @@ longer_is reading unended row read at said less_rows =
     none_open : (unended : OpenRule) → ◌≡◌ {A = Option OpenRule} None (Some unended) → ⊥
     none_open unended e = absurd cc
 
-row_read : (reading : Reading) (is_last : Bool) (line : ℕ) (kind : RowKind) (words : Words) (next : Reading) → IsRead reading → row_line reading is_last line kind words ≡ Ok next → IsRead next
+row_read : (reading : Reading) (is_last : Bool) (line : ℕ) (kind : RowKind) (words : Words) (next : Reading) → IsRead reading
+    → row_line reading is_last line kind words ≡ Ok next → IsRead next
 unfolding row_line row_in said_row
 row_read reading is_last line kind words next read e =
     let first = bind_ok (wanted _ reading.unended) _ next e in
@@ -204,7 +218,8 @@ row_read reading is_last line kind words next read e =
     let said = bind_ok (wanted _ (row_words words)) _ third.0 third.1 in
     let fewer = ltb-true reading.rows most_rows (required_is _ (nat_lt reading.rows most_rows) fourth.0 fourth.1) in
     subst IsRead (ok_is (longer reading first.0 third.0) next fourth.2)
-    (longer_is reading first.0 third.0 read (wanted_is _ reading.unended first.0 first.1) (said_row_is reading.vars line kind said.0 third.0 said.2) fewer)
+    (longer_is reading first.0 third.0 read (wanted_is _ reading.unended first.0 first.1)
+    (said_row_is reading.vars line kind said.0 third.0 said.2) fewer)
 
 -- ---- `end`
 
@@ -214,7 +229,8 @@ closed_is reading unended read at =
     let rule = rule_of (length reading.vars) unended in
     record {
       small = read.small;
-      few = let fewer = is.fewer in let long : length (reading.rules ++ rule ∷ []) ≡ length reading.rules + 1 = length-append reading.rules (rule ∷ []) in omega (arith, fewer, long);
+      few = let fewer = is.fewer in let long : length (reading.rules ++ rule ∷ []) ≡ length reading.rules + 1 = length-append
+          reading.rules (rule ∷ []) in omega (arith, fewer, long);
       rows = read.rows;
       each = All-push (IsSystemRule (length reading.vars)) reading.rules rule read.each (record {
         vars = refl;
@@ -232,30 +248,40 @@ closed_is reading unended read at =
     none_open : (unended : OpenRule) → ◌≡◌ {A = Option OpenRule} None (Some unended) → ⊥
     none_open unended e = absurd cc
 
-end_read : (reading : Reading) (line : ℕ) (words : Words) (next : Reading) → IsRead reading → end_line reading line words ≡ Ok next → IsRead next
+end_read : (reading : Reading) (line : ℕ) (words : Words) (next : Reading) → IsRead reading → end_line reading line words ≡ Ok next
+    → IsRead next
 unfolding end_line
 end_read reading line words next read e =
     let first = bind_ok (wanted _ reading.unended) _ next e in
     let second = bind_ok (required _ (length words == 0)) _ next first.2 in
-    subst IsRead (ok_is (closed reading first.0) next second.2) (closed_is reading first.0 read (wanted_is _ reading.unended first.0 first.1))
+    subst IsRead (ok_is (closed reading first.0) next second.2)
+    (closed_is reading first.0 read (wanted_is _ reading.unended first.0 first.1))
 
 -- ---- lines
 
-skipped_read : (reading : Reading) (is_last : Bool) (line : ℕ) (next : Reading) → IsRead reading → skipped_line reading is_last line ≡ Ok next → IsRead next
+skipped_read : (reading : Reading) (is_last : Bool) (line : ℕ) (next : Reading) → IsRead reading
+    → skipped_line reading is_last line ≡ Ok next → IsRead next
 skipped_read reading is_last line next read e =
     let first = bind_ok (required _ (not is_last || is_whole reading)) _ next e in
     subst IsRead (ok_is reading next first.2) read
 
-said_read : (reading : Reading) (is_last : Bool) (line : ℕ) (words : Words) (next : Reading) → IsRead reading → said_line reading is_last line words ≡ Ok next → IsRead next
+said_read : (reading : Reading) (is_last : Bool) (line : ℕ) (words : Words) (next : Reading) → IsRead reading
+    → said_line reading is_last line words ≡ Ok next → IsRead next
 unfolding said_line
 said_read reading is_last line [] next read e = absurd cc
 said_read reading is_last line (word ∷ words) next read e =
-    by (bytes_eq word (codes "vars")) (bytes_eq word (codes "rule")) (bytes_eq word (codes "geq")) (bytes_eq word (codes "eq")) (bytes_eq word (codes "end")) e
+    by (bytes_eq word (codes "vars")) (bytes_eq word (codes "rule")) (bytes_eq word (codes "geq")) (bytes_eq word (codes "eq"))
+    (bytes_eq word (codes "end")) e
   where
     none : Said Reading
     none = Err (ItsFault.Syntax line)
 
-    by : (a b c d f : Bool) → cond a (vars_line reading line words) (cond b (rule_line reading is_last line words) (cond c (row_line reading is_last line RowKind.AtLeastZero words) (cond d (row_line reading is_last line RowKind.IsZero words) (cond f (end_line reading line words) (Err (ItsFault.Syntax line)))))) ≡ Ok next → IsRead next
+    by : (a b c d f : Bool)
+        → cond a (vars_line reading line words)
+        (cond b (rule_line reading is_last line words)
+        (cond c (row_line reading is_last line RowKind.AtLeastZero words)
+        (cond d (row_line reading is_last line RowKind.IsZero words)
+        (cond f (end_line reading line words) (Err (ItsFault.Syntax line)))))) ≡ Ok next → IsRead next
     by true b c d f g = vars_read reading line words next read g
     by false true c d f g = rule_read reading is_last line words next read g
     by false false true d f g = row_read reading is_last line RowKind.AtLeastZero words next read g
@@ -263,36 +289,49 @@ said_read reading is_last line (word ∷ words) next read e =
     by false false false false true g = end_read reading line words next read g
     by false false false false false g = absurd cc
 
-pub line_read : (reading : Reading) (is_last : Bool) (line : ℕ) (text : List ℕ) (next : Reading) → IsRead reading → with_line reading is_last line text ≡ Ok next → IsRead next
+pub line_read : (reading : Reading) (is_last : Bool) (line : ℕ) (text : List ℕ) (next : Reading) → IsRead reading
+    → with_line reading is_last line text ≡ Ok next → IsRead next
 line_read reading is_last line text next read e = by (is_skipped text (words_of text)) e
   where
     by : (b : Bool) → cond b (skipped_line reading is_last line) (said_line reading is_last line (words_of text)) ≡ Ok next → IsRead next
     by true f = skipped_read reading is_last line next read f
     by false f = said_read reading is_last line (words_of text) next read f
 
-lines_read : (count line : ℕ) (reading : Reading) (texts : List (List ℕ)) (next : Reading) → IsRead reading → with_lines count line reading texts ≡ Ok next → IsRead next
+lines_read : (count line : ℕ) (reading : Reading) (texts : List (List ℕ)) (next : Reading) → IsRead reading
+    → with_lines count line reading texts ≡ Ok next → IsRead next
 lines_read count line reading [] next read e = subst IsRead (ok_is reading next e) read
 lines_read count line reading (text ∷ rest) next read e =
-    let first = bind_ok (with_line reading (line == count) line text) (λ (after : Reading). with_lines count (line + 1) after rest) next e in
+    let first = bind_ok (with_line reading (line == count) line text) (λ (after : Reading). with_lines count (line + 1) after rest)
+    next e in
     lines_read count (line + 1) first.0 rest next (line_read reading (line == count) line text first.0 read first.1) first.2
 
 -- one line of a loop over them
-pub goes_on : (count line i : ℕ) (reading next : Reading) (texts : List (List ℕ)) (text : List ℕ) → i < length texts → text ≡ get_or texts i text → with_line reading (line == count) line text ≡ Ok next → with_lines count line reading (drop i texts) ≡ with_lines count (line + 1) next (drop (i + 1) texts)
+pub goes_on : (count line i : ℕ) (reading next : Reading) (texts : List (List ℕ)) (text : List ℕ) → i < length texts
+    → text ≡ get_or texts i text → with_line reading (line == count) line text ≡ Ok next
+    → with_lines count line reading (drop i texts) ≡ with_lines count (line + 1) next (drop (i + 1) texts)
 goes_on count line i reading next texts text l is e =
     at_drop_more (with_lines count line reading) texts i text l
-    ∙ ap (λ (t : List ℕ). with_line reading (line == count) line t >>= λ after. with_lines count (line + 1) after (drop (i + 1) texts)) (sym is)
+    ∙ ap (λ (t : List ℕ). with_line reading (line == count) line t >>= λ after. with_lines count (line + 1) after
+    (drop (i + 1) texts)) (sym is)
     ∙ ap (λ (r : Said Reading). r >>= λ after. with_lines count (line + 1) after (drop (i + 1) texts)) e
 
-pub stops : (count line i : ℕ) (reading : Reading) (texts : List (List ℕ)) (text : List ℕ) (fault : ItsFault) → i < length texts → text ≡ get_or texts i text → with_line reading (line == count) line text ≡ Err fault → with_lines count line reading (drop i texts) ≡ Err fault
+pub stops : (count line i : ℕ) (reading : Reading) (texts : List (List ℕ)) (text : List ℕ) (fault : ItsFault) → i < length texts
+    → text ≡ get_or texts i text → with_line reading (line == count) line text ≡ Err fault
+    → with_lines count line reading (drop i texts) ≡ Err fault
 stops count line i reading texts text fault l is e =
     at_drop_more (with_lines count line reading) texts i text l
-    ∙ ap (λ (t : List ℕ). with_line reading (line == count) line t >>= λ after. with_lines count (line + 1) after (drop (i + 1) texts)) (sym is)
+    ∙ ap (λ (t : List ℕ). with_line reading (line == count) line t >>= λ after. with_lines count (line + 1) after
+    (drop (i + 1) texts)) (sym is)
     ∙ ap (λ (r : Said Reading). r >>= λ after. with_lines count (line + 1) after (drop (i + 1) texts)) e
 
-pub stops_so : (count line i : ℕ) (reading : Reading) (texts : List (List ℕ)) (text : List ℕ) (fault : ItsFault) (whole : Said Reading) → i < length texts → text ≡ get_or texts i text → with_lines count line reading (drop i texts) ≡ whole → IsDue is_memory fault (with_line reading (line == count) line text) → IsDue is_memory fault whole
-stops_so count line i reading texts text fault whole l is e due = handed_on is_memory fault (with_line reading (line == count) line text) whole (λ f. sym e ∙ stops count line i reading texts text fault l is f) due
+pub stops_so : (count line i : ℕ) (reading : Reading) (texts : List (List ℕ)) (text : List ℕ) (fault : ItsFault)
+    (whole : Said Reading) → i < length texts → text ≡ get_or texts i text → with_lines count line reading (drop i texts) ≡ whole
+    → IsDue is_memory fault (with_line reading (line == count) line text) → IsDue is_memory fault whole
+stops_so count line i reading texts text fault whole l is e due = handed_on is_memory fault
+    (with_line reading (line == count) line text) whole (λ f. sym e ∙ stops count line i reading texts text fault l is f) due
 
-pub given_on : (result : Result Reading ItsFault) (fault : ItsFault) (whole : Said Reading) → IsErrAnd result (λ e. e ≡ fault) → IsDue is_memory fault whole → Gives (λ x. x) result whole
+pub given_on : (result : Result Reading ItsFault) (fault : ItsFault) (whole : Said Reading) → IsErrAnd result (λ e. e ≡ fault)
+    → IsDue is_memory fault whole → Gives (λ x. x) result whole
 given_on (Ok value) fault whole h due = absurd h
 given_on (Err e) fault whole h due = subst (λ (f : ItsFault). IsDue is_memory f whole) (sym h) due
 
@@ -305,4 +344,5 @@ pub systems : (text : List ℕ) (its : Its) → rules_of text ≡ Ok its → IsS
 systems text its e =
     let first = bind_ok (required _ (not (length (lines_of text) == 0))) _ its e in
     let second = bind_ok (with_lines (length (lines_of text)) 1 unread (lines_of text)) _ its first.2 in
-    subst IsSystem (ok_is (system_of second.0) its second.2) (system_is second.0 (lines_read (length (lines_of text)) 1 unread (lines_of text) second.0 unread_is second.1))
+    subst IsSystem (ok_is (system_of second.0) its second.2)
+    (system_is second.0 (lines_read (length (lines_of text)) 1 unread (lines_of text) second.0 unread_is second.1))

@@ -1,6 +1,7 @@
 -- Texts of rules, line by line. The text is `vars NAME..`, and then rules: `rule FROM TO`, rows `geq K C NAME ..` and `eq K C NAME ..`,
 -- and `end`. A row says that K plus the sum of C times NAME is at least 0, or is 0.
-use Rattle.std.specs.Prelude.{ℕ, ◌+◌, pos, Bool, true, false, ◌&&◌, ◌||◌, ◌==◌, not, nat_le, nat_lt, List, [], ◌∷◌, ◌++◌, length, map, Option, Some, None, is_some, Ok, Err, codes, if◌then◌else◌}
+use Rattle.std.specs.Prelude.{ℕ, ◌+◌, pos, Bool, true, false, ◌&&◌, ◌||◌, ◌==◌, not, nat_le, nat_lt, List, [], ◌∷◌, ◌++◌, length}
+use Rattle.std.specs.Prelude.{map, Option, Some, None, is_some, Ok, Err, codes, if◌then◌else◌}
 use Rattle.std.specs.List.{list_all}
 use Rattle.std.specs.Option.{option_map_or}
 use Rattle.std.specs.Str.{bytes_eq}
@@ -156,7 +157,8 @@ said_line reading is_last line (word ∷ words) =
     else Err (Syntax line)))))
 
 abbrev pub with_line : Reading → Bool → ℕ → List ℕ → Said Reading
-with_line reading is_last line text = if is_skipped text (words_of text) then skipped_line reading is_last line else said_line reading is_last line (words_of text)
+with_line reading is_last line text = if is_skipped text (words_of text) then skipped_line reading is_last line else said_line
+    reading is_last line (words_of text)
 
 -- the lines from one on, one after another; of so many lines the last one has this number
 abbrev pub with_lines : ℕ → ℕ → Reading → List (List ℕ) → Said Reading
@@ -168,7 +170,8 @@ system_of reading = record { vars = reading.vars; places = reading.places; rules
 
 -- A text has one line at least.
 abbrev pub lines_said : List (List ℕ) → Said Its
-lines_said lines = required (Syntax 1) (not (length lines == 0)) >>= λ _. with_lines (length lines) 1 unread lines >>= λ reading. Ok (system_of reading)
+lines_said lines = required (Syntax 1) (not (length lines == 0)) >>= λ _. with_lines (length lines) 1 unread lines >>= λ reading. Ok
+    (system_of reading)
 
 -- the rules that a text says, or its first fault
 abbrev pub rules_of : List ℕ → Said Its

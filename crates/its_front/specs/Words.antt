@@ -1,5 +1,6 @@
 -- The words of a line: names, numbers, and the terms of a row.
-use Rattle.std.specs.Prelude.{ℕ, ◌-◌, ◌^◌, ℤ, Bool, true, false, ◌&&◌, ◌||◌, ◌==◌, nat_le, nat_lt, not, List, [], ◌∷◌, length, take, drop, Option, Some, None, codes, unsigned_abs, if◌then◌else◌}
+use Rattle.std.specs.Prelude.{ℕ, ◌-◌, ◌^◌, ℤ, Bool, true, false, ◌&&◌, ◌||◌, ◌==◌, nat_le, nat_lt, not, List, [], ◌∷◌, length, take}
+use Rattle.std.specs.Prelude.{drop, Option, Some, None, codes, unsigned_abs, if◌then◌else◌}
 use Rattle.std.specs.List.{list_all}
 use Rattle.std.specs.Str.{bytes_eq}
 use Rattle.list_views.specs.Options.{◌>>=◌}

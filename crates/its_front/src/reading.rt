@@ -4,7 +4,9 @@ ghost use Rattle.std.specs.List.{list_all};
 ghost use Rattle.std.specs.Str.{bytes_eq};
 ghost use Rattle.its_front.specs.Faults.{Gives};
 ghost use Rattle.its_front.specs.Names.{added};
-ghost use Rattle.its_front.specs.Reading.{unread, is_begun, is_whole, opened, closed, longer, vars_line, rule_line, said_row, row_in, row_line, end_line, skipped_line, is_low, is_skipped, said_line, with_line, with_lines, system_of, lines_said, rules_of};
+ghost use Rattle.its_front.specs.Reading.{unread, is_begun, is_whole, opened, closed, longer, vars_line, rule_line, said_row};
+ghost use Rattle.its_front.specs.Reading.{row_in, row_line, end_line, skipped_line, is_low, is_skipped, said_line, with_line};
+ghost use Rattle.its_front.specs.Reading.{with_lines, system_of, lines_said, rules_of};
 ghost use Rattle.its_front.specs.Systems.{IsSystem};
 
 use crate::fault::ItsFault;

@@ -1,5 +1,6 @@
 //! The rows of rules.
-ghost use Rattle.std.specs.Prelude.{◌≡◌, ◌<◌, ◌≤◌, ◌++◌, ◌∷◌, [], pos, true, false, length, replicate, Some, None, IfOk, OnOk, IsTrue, MatchBool, slice_get, slice_set, if◌then◌else◌};
+ghost use Rattle.std.specs.Prelude.{◌≡◌, ◌<◌, ◌≤◌, ◌++◌, ◌∷◌, [], pos, true, false, length, replicate, Some, None, IfOk, OnOk};
+ghost use Rattle.std.specs.Prelude.{IsTrue, MatchBool, slice_get, slice_set, if◌then◌else◌};
 ghost use Rattle.std.specs.Ordering.{int_eq};
 ghost use Rattle.its_front.specs.Faults.{Gives};
 ghost use Rattle.its_front.specs.Terms.{value_number, number_in, numbered_term, numbered, is_free, placed, coefficients};
@@ -94,7 +95,8 @@ fn is_free(table: &[Option<Number>], number: u32) -> bool
 
 /// Puts a term to its place; false where that is taken.
 fn place_one(table: &mut Vec<Option<Number>>, term: &(u32, Number)) -> bool
-    ensures placed { MatchBool result (table.new.items ≡ slice_set table.old.items term.now.0 (Some term.now.1)) (is_free (slice_get table.old.items term.now.0) ≡ false) }
+    ensures placed { MatchBool result (table.new.items ≡ slice_set table.old.items term.now.0 (Some term.now.1))
+        (is_free (slice_get table.old.items term.now.0) ≡ false) }
     ensures free { IsTrue result → is_free (slice_get table.old.items term.now.0) ≡ true }
 {
     if !is_free(table, term.0) {

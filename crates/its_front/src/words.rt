@@ -1,7 +1,8 @@
 //! The words of a line: names, numbers, and the terms of a row.
 ghost use Rattle.std.specs.Prelude.{◌≡◌, ◌<◌, ◌+◌, length, drop, true, false, Some, None, IfOk, MatchOption};
 ghost use Rattle.std.specs.List.{list_all};
-ghost use Rattle.its_front.specs.Words.{is_letter, is_name_byte, is_name, are_names, front, is_primed, term_of, before, pair_of, terms_of, row_words, two_names, ranged};
+ghost use Rattle.its_front.specs.Words.{is_letter, is_name_byte, is_name, are_names, front, is_primed, term_of, before, pair_of};
+ghost use Rattle.its_front.specs.Words.{terms_of, row_words, two_names, ranged};
 
 use list_views::{Bytes, Seq};
 use std::alloc::{AllocError, Global};
@@ -95,7 +96,8 @@ fn pair_of<'a>(number: &'a [u8], value: &'a [u8]) -> Option<Term<'a>>
 /// The term of the first two words; None where they are none.
 fn first_term<'a>(words: &[Bytes<'a>]) -> Option<Term<'a>>
     requires { 0 < length words.now }
-    ensures { MatchOption result (terms_of words.now ≡ None) (λ term. terms_of words.now ≡ before (Some term) (terms_of (drop 2 words.now))) }
+    ensures { MatchOption result (terms_of words.now ≡ None)
+        (λ term. terms_of words.now ≡ before (Some term) (terms_of (drop 2 words.now))) }
 {
     let (number, rest) = words.split_first()?;
     let (value, _) = rest.split_first()?;
@@ -106,7 +108,8 @@ fn first_term<'a>(words: &[Bytes<'a>]) -> Option<Term<'a>>
 #[tactic(auto, using(crate::proofs::Placing::two_more))]
 fn term_at<'a>(words: &[Bytes<'a>], n: usize) -> Option<Term<'a>>
     requires { n < length words.now }
-    ensures { MatchOption result (terms_of (drop n words.now) ≡ None) (λ term. terms_of (drop n words.now) ≡ before (Some term) (terms_of (drop (n + 2) words.now))) }
+    ensures { MatchOption result (terms_of (drop n words.now) ≡ None)
+        (λ term. terms_of (drop n words.now) ≡ before (Some term) (terms_of (drop (n + 2) words.now))) }
 {
     let (_, rest) = words.split_at(n);
     first_term(rest)

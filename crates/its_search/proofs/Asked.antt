@@ -1,5 +1,6 @@
 -- The rules of systems are such as the search for proofs takes, and so are those of each set of them.
-use Rattle.std.proofs.Common.{◌≡◌, ◌∙◌, inl, inr, ◌+◌, ◌<◌, ◌≤◌, ℕ, zero, suc, true, false, List, [], ◌∷◌, length, map, Option, Some, None, Result, Ok, Err, IfOk, IfSome, slice_get, get_or, refl, sym, ap, subst, arith}
+use Rattle.std.proofs.Common.{◌≡◌, ◌∙◌, inl, inr, ◌+◌, ◌<◌, ◌≤◌, ℕ, zero, suc, true, false, List, [], ◌∷◌, length, map, Option}
+use Rattle.std.proofs.Common.{Some, None, Result, Ok, Err, IfOk, IfSome, slice_get, get_or, refl, sym, ap, subst, arith}
 use Rattle.std.specs.List.{All}
 use Rattle.std.proofs.lemmas.List.Elements.{All-nil, All-from_recursion}
 use Rattle.std.proofs.lemmas.Option.{slice_get-get_or}
@@ -48,17 +49,21 @@ no_sizes from low (suc count) = no_sizes from (suc low) count
 named : (from count : ℕ) → count ≤ 65536 → AreNamed (slots_of count from)
 named from count l = (ids_rise from 0 count (omega (arith, l)), subst (RiseFrom 0 65536) (sym (no_sizes from 0 count)) tt)
 
-same_heads : (from other low count : ℕ) → heads (map (slot_of from) (numbers_from low count)) ≡ heads (map (slot_of other) (numbers_from low count))
+same_heads : (from other low count : ℕ) → heads (map (slot_of from) (numbers_from low count)) ≡ heads
+    (map (slot_of other) (numbers_from low count))
 same_heads from other low zero = refl
-same_heads from other low (suc count) = ap (λ (rest : _). (low, false, record { frame = 0; stack = false; index = low } ∷ []) ∷ rest) (same_heads from other (suc low) count)
+same_heads from other low (suc count) = ap (λ (rest : _). (low, false, record { frame = 0; stack = false; index = low } ∷ [])
+    ∷ rest) (same_heads from other (suc low) count)
 
 -- ---- rules
 
 rule_is : (count : ℕ) (rule : PathRule) → IsSystemRule count rule → IsRule rule
 rule_is count rule is = record {
   rows = subst (λ (n : ℕ). AreRows n rule.rows) (sym is.vars) is.rows;
-  first = subst (λ (n : ℕ). AreSlots n rule.first) (sym is.vars) (subst (AreSlots (count + count)) (sym is.first) (slots_are (count + count) 0 count (omega arith)));
-  last = subst (λ (n : ℕ). AreSlots n rule.last) (sym is.vars) (subst (AreSlots (count + count)) (sym is.last) (slots_are (count + count) count count (omega arith)));
+  first = subst (λ (n : ℕ). AreSlots n rule.first) (sym is.vars)
+      (subst (AreSlots (count + count)) (sym is.first) (slots_are (count + count) 0 count (omega arith)));
+  last = subst (λ (n : ℕ). AreSlots n rule.last) (sym is.vars)
+      (subst (AreSlots (count + count)) (sym is.last) (slots_are (count + count) count count (omega arith)));
 }
 
 path_rule_is : (count : ℕ) (rule : PathRule) → count ≤ 256 → IsSystemRule count rule → IsPathRule rule
@@ -75,9 +80,12 @@ all_of rules f are = λ i d w. f (get_or rules i d) (are i d w)
 pub are_rules : (rules : List PathRule) → AreSystemRules rules → AreRules rules
 are_rules rules are = all_of rules (rule_is are.count) are.each
 
-end_heads : (count cut : ℕ) (rules : List PathRule) (slots : List SlotForm) → All (IsSystemRule count) rules → IsEndAt rules cut slots → heads slots ≡ heads (slots_of count 0)
-end_heads count cut rules slots are (n, rule, at, inl starts) = ap heads (sym starts.1 ∙ (all_at (IsSystemRule count) rules n rule are at).first)
-end_heads count cut rules slots are (n, rule, at, inr ends) = ap heads (sym ends.1 ∙ (all_at (IsSystemRule count) rules n rule are at).last) ∙ same_heads count 0 0 count
+end_heads : (count cut : ℕ) (rules : List PathRule) (slots : List SlotForm) → All (IsSystemRule count) rules
+    → IsEndAt rules cut slots → heads slots ≡ heads (slots_of count 0)
+end_heads count cut rules slots are (n, rule, at, inl starts) = ap heads
+    (sym starts.1 ∙ (all_at (IsSystemRule count) rules n rule are at).first)
+end_heads count cut rules slots are (n, rule, at, inr ends) = ap heads
+    (sym ends.1 ∙ (all_at (IsSystemRule count) rules n rule are at).last) ∙ same_heads count 0 0 count
 
 pub are_path_rules : (rules : List PathRule) → AreSystemRules rules → ArePathRules rules
 are_path_rules rules are = record {
@@ -88,7 +96,8 @@ are_path_rules rules are = record {
 }
 
 pub path_rules_of : (rules : List PathRule) (count : ℕ) → length rules ≤ 4096 → IsCounted rules count → ArePathRules rules
-path_rules_of rules count short counted = are_path_rules rules (record { count = count; small = counted.few; few = short; each = counted.each })
+path_rules_of rules count short counted = are_path_rules rules
+    (record { count = count; small = counted.few; few = short; each = counted.each })
 
 -- ---- sets of rules
 
@@ -109,7 +118,9 @@ all_asked rules are set own rise h = record {
 pub plain_found : (rules : List PathRule) (step : RankStep) → IsRankStep rules step → RanksOwn HasNoForm rules (Some step)
 plain_found rules step is = is.limits
 
-pub linear_found : {E : Type 0} (rules : List PathRule) (result : Result (Option RankStep) E) → NoPlainForm rules → IfOk result (λ found. IfSome found (λ step. IsRankStep rules step)) → IfOk result (λ found. found ≡ None → NoStepwiseForm rules) → IfOk result (RanksOwn HasNoForm rules)
+pub linear_found : {E : Type 0} (rules : List PathRule) (result : Result (Option RankStep) E) → NoPlainForm rules
+    → IfOk result (λ found. IfSome found (λ step. IsRankStep rules step))
+    → IfOk result (λ found. found ≡ None → NoStepwiseForm rules) → IfOk result (RanksOwn HasNoForm rules)
 linear_found rules (Ok (Some step)) none found missing = found.limits
 linear_found rules (Ok None) none found missing = record { plain = none; stepwise = missing refl }
 linear_found rules (Err e) none found missing = tt
@@ -120,9 +131,11 @@ pub slots_long : (from low count : ℕ) → length (map (slot_of from) (numbers_
 slots_long from low zero = refl
 slots_long from low (suc count) = ap suc (slots_long from (suc low) count)
 
-pub counted : (rules rest : List PathRule) (rule : PathRule) (count : ℕ) → rules ≡ rule ∷ rest → count ≡ length rule.first → AreSystemRules rules → IsCounted rules count
+pub counted : (rules rest : List PathRule) (rule : PathRule) (count : ℕ) → rules ≡ rule ∷ rest → count ≡ length rule.first
+    → AreSystemRules rules → IsCounted rules count
 counted rules rest rule count e long are =
-    let own : IsSystemRule are.count rule = all_at (IsSystemRule are.count) rules 0 rule are.each (ap (λ (all : List PathRule). slice_get all 0) e) in
+    let own : IsSystemRule are.count rule = all_at (IsSystemRule are.count) rules 0 rule are.each
+    (ap (λ (all : List PathRule). slice_get all 0) e) in
     let same : are.count ≡ count = sym (long ∙ ap length own.first ∙ slots_long 0 0 are.count) in
     let small = are.small in
     record { few = omega (arith, same, small); each = subst (λ (n : ℕ). All (IsSystemRule n) rules) same are.each }

@@ -34,7 +34,8 @@ plain_short count (one ∷ other ∷ more ∷ rest) h = absurd h
 pub first_unit : (count : ℕ) (form rest : Form) (term : ℕ × ℤ) → form ≡ term ∷ rest → All (IsUnitTerm count) form → IsUnitTerm count term
 first_unit count form rest term e h = (subst (All (IsUnitTerm count)) e h) 0 term (omega arith)
 
-pub other_units : (count : ℕ) (form rest : Form) (term : ℕ × ℤ) → form ≡ term ∷ rest → All (IsUnitTerm count) form → All (IsUnitTerm count) rest
+pub other_units : (count : ℕ) (form rest : Form) (term : ℕ × ℤ) → form ≡ term ∷ rest → All (IsUnitTerm count) form
+    → All (IsUnitTerm count) rest
 other_units count form rest term e h = λ i d w. (subst (All (IsUnitTerm count)) e h) (suc i) d (omega (arith, w))
 
 -- ---- the forms that are tried

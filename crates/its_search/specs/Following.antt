@@ -29,7 +29,8 @@ reasons_of count rows (term ∷ rest) = before (reason_from count term 0 rows) (
 -- the first row that bounds a form
 abbrev pub bound_from : Form → ℕ → List WRow → Option Bound
 bound_from form n [] = None
-bound_from form n (row ∷ rest) = if is_bound form row then Some (record { rows = (n, pos 1) ∷ []; base = row.constant }) else bound_from form (suc n) rest
+bound_from form n (row ∷ rest) = if is_bound form row then Some (record { rows = (n, pos 1) ∷ []; base = row.constant }) else
+    bound_from form (suc n) rest
 
 -- what a form falls by along a rule, and the rows that show it
 abbrev pub followed_with : Form → List WRow → Option ℤ → Option (List (ℕ × ℤ)) → Option Followed

@@ -1,5 +1,6 @@
 -- Plain forms of systems: a variable, its negative, or the difference of two variables, the same at every location; and when one ranks rules.
-use Rattle.std.specs.Prelude.{ℕ, ◌<◌, ℤ, pos, negsuc, ◌≡◌, ◌⊎◌, Bool, true, false, ◌==◌, ◌&&◌, not, int_le, List, [], ◌∷◌, Option, Some, None}
+use Rattle.std.specs.Prelude.{ℕ, ◌<◌, ℤ, pos, negsuc, ◌≡◌, ◌⊎◌, Bool, true, false, ◌==◌, ◌&&◌, not, int_le, List, [], ◌∷◌, Option}
+use Rattle.std.specs.Prelude.{Some, None}
 use Rattle.std.specs.Ordering.{int_eq}
 use Rattle.std.specs.List.{All, list_all, list_any}
 use Rattle.lin_core.specs.declared.rows.RowKind.{RowKind}
@@ -58,7 +59,8 @@ ranks count rules form = list_all (fits count form) rules && list_any (falls cou
 
 -- no plain form ranks the rules
 abbrev pub NoPlainForm : List PathRule → Type 0
-NoPlainForm rules = (count : ℕ) → All (IsSystemRule count) rules → (form : Form) → IsPlainForm count form → ranks count rules form ≡ true → ⊥
+NoPlainForm rules = (count : ℕ) → All (IsSystemRule count) rules → (form : Form) → IsPlainForm count form
+    → ranks count rules form ≡ true → ⊥
 
 -- neither a plain form of systems nor a stepwise one ranks the rules
 pub record HasNoForm (rules : List PathRule) : Type 0 where

@@ -7,7 +7,8 @@ ghost use Rattle.its_front.specs.Systems.{IsSystemRule};
 ghost use Rattle.its_search.specs.Changes.{IsUnit, IsUnitTerm};
 ghost use Rattle.its_search.specs.Forms.{IsPlainForm, ranks};
 ghost use Rattle.its_search.specs.Tried.{IsCounted};
-ghost use Rattle.its_search.specs.Following.{IsFit, follow_each, first_coefficient, reason_from, reasons_of, bound_from, followed_of, part_of};
+ghost use Rattle.its_search.specs.Following.{IsFit, follow_each, first_coefficient, reason_from, reasons_of, bound_from};
+ghost use Rattle.its_search.specs.Following.{followed_of, part_of};
 
 use crate::changes::{change_of_row, form_change};
 use crate::plain_forms::is_bound;

@@ -1,5 +1,6 @@
 -- The cuts that are found are all cuts of the rules.
-use Rattle.std.proofs.Common.{◌≡◌, inl, inr, ℕ, zero, suc, ◌-◌, ◌<◌, ◌≤◌, Bool, true, false, cond, List, [], ◌∷◌, ◌++◌, Option, Some, None, subst, arith, refl, sym}
+use Rattle.std.proofs.Common.{◌≡◌, inl, inr, ℕ, zero, suc, ◌-◌, ◌<◌, ◌≤◌, Bool, true, false, cond, List, [], ◌∷◌, ◌++◌, Option}
+use Rattle.std.proofs.Common.{Some, None, subst, arith, refl, sym}
 use Rattle.std.specs.Prelude.{◌⊎◌, nat_lt, slice_get}
 use Rattle.std.proofs.lemmas.Bool.{cases_lt, ltb-true}
 use Rattle.std.proofs.lemmas.Bool.Decides.{nat_tests}
@@ -65,7 +66,8 @@ new_by false best c low e h = less_new best c
 lesser_new : (best : Option ℕ) (c low : ℕ) → low ≤ c → IsUnder (lesser best c low) c
 lesser_new best c low h = new_by (nat_lt c low) best c low refl h
 
-over_by : (test : Bool) (best : Option ℕ) (c low : ℕ) → nat_lt c low ≡ test → IsOver low best → IsOver low (cond test best (less_of best c))
+over_by : (test : Bool) (best : Option ℕ) (c low : ℕ) → nat_lt c low ≡ test → IsOver low best
+    → IsOver low (cond test best (less_of best c))
 over_by true best c low e h = h
 over_by false best c low e h = less_over low best c (not_less c low e) h
   where
@@ -77,20 +79,29 @@ lesser_over best c low h = over_by (nat_lt c low) best c low refl h
 
 next_old : (low x : ℕ) (best : Option ℕ) (rules : List PathRule) → IsUnder best x → IsUnder (next_from low best rules) x
 next_old low x best [] h = h
-next_old low x best (rule ∷ rest) h = next_old low x (lesser (lesser best rule.from low) rule.to low) rest (lesser_old (lesser best rule.from low) rule.to low x (lesser_old best rule.from low x h))
+next_old low x best (rule ∷ rest) h = next_old low x (lesser (lesser best rule.from low) rule.to low) rest
+    (lesser_old (lesser best rule.from low) rule.to low x (lesser_old best rule.from low x h))
 
 next_over : (low : ℕ) (best : Option ℕ) (rules : List PathRule) → IsOver low best → IsOver low (next_from low best rules)
 next_over low best [] h = h
-next_over low best (rule ∷ rest) h = next_over low (lesser (lesser best rule.from low) rule.to low) rest (lesser_over (lesser best rule.from low) rule.to low (lesser_over best rule.from low h))
+next_over low best (rule ∷ rest) h = next_over low (lesser (lesser best rule.from low) rule.to low) rest
+    (lesser_over (lesser best rule.from low) rule.to low (lesser_over best rule.from low h))
 
-next_at_from : (low : ℕ) (best : Option ℕ) (rules : List PathRule) (n : ℕ) (rule : PathRule) → slice_get rules n ≡ Some rule → low ≤ rule.from → IsUnder (next_from low best rules) rule.from
+next_at_from : (low : ℕ) (best : Option ℕ) (rules : List PathRule) (n : ℕ) (rule : PathRule) → slice_get rules n ≡ Some rule
+    → low ≤ rule.from → IsUnder (next_from low best rules) rule.from
 next_at_from low best [] n rule e h = absurd (none-some rule e)
-next_at_from low best (first ∷ rest) zero rule e h = next_old low rule.from (lesser (lesser best first.from low) first.to low) rest (lesser_old (lesser best first.from low) first.to low rule.from (subst (λ (r : PathRule). IsUnder (lesser best r.from low) rule.from) (sym (same_Some first rule e)) (lesser_new best rule.from low h)))
+next_at_from low best (first ∷ rest) zero rule e h = next_old low rule.from (lesser (lesser best first.from low) first.to low) rest
+    (lesser_old (lesser best first.from low) first.to low rule.from
+    (subst (λ (r : PathRule). IsUnder (lesser best r.from low) rule.from) (sym (same_Some first rule e))
+    (lesser_new best rule.from low h)))
 next_at_from low best (first ∷ rest) (suc n) rule e h = next_at_from low (lesser (lesser best first.from low) first.to low) rest n rule e h
 
-next_at_to : (low : ℕ) (best : Option ℕ) (rules : List PathRule) (n : ℕ) (rule : PathRule) → slice_get rules n ≡ Some rule → low ≤ rule.to → IsUnder (next_from low best rules) rule.to
+next_at_to : (low : ℕ) (best : Option ℕ) (rules : List PathRule) (n : ℕ) (rule : PathRule) → slice_get rules n ≡ Some rule
+    → low ≤ rule.to → IsUnder (next_from low best rules) rule.to
 next_at_to low best [] n rule e h = absurd (none-some rule e)
-next_at_to low best (first ∷ rest) zero rule e h = next_old low rule.to (lesser (lesser best first.from low) first.to low) rest (subst (λ (r : PathRule). IsUnder (lesser (lesser best r.from low) r.to low) rule.to) (sym (same_Some first rule e)) (lesser_new (lesser best rule.from low) rule.to low h))
+next_at_to low best (first ∷ rest) zero rule e h = next_old low rule.to (lesser (lesser best first.from low) first.to low) rest
+    (subst (λ (r : PathRule). IsUnder (lesser (lesser best r.from low) r.to low) rule.to) (sym (same_Some first rule e))
+    (lesser_new (lesser best rule.from low) rule.to low h))
 next_at_to low best (first ∷ rest) (suc n) rule e h = next_at_to low (lesser (lesser best first.from low) first.to low) rest n rule e h
 
 less_is_cases : (test : Bool) (best c x : ℕ) → cond test (Some c) (Some best) ≡ Some x → (Some best ≡ Some x) ⊎ (c ≡ x)
@@ -108,11 +119,13 @@ lesser_is_cases false best c x e = less_is best c x e
 lesser_is : (best : Option ℕ) (c low x : ℕ) → lesser best c low ≡ Some x → (best ≡ Some x) ⊎ (c ≡ x)
 lesser_is best c low x e = lesser_is_cases (nat_lt c low) best c x e
 
-either_is : (best : Option ℕ) (rule : PathRule) (rest : List PathRule) (low x : ℕ) → lesser (lesser best rule.from low) rule.to low ≡ Some x → (best ≡ Some x) ⊎ IsCutOf (rule ∷ rest) x
-either_is best rule rest low x e = elim (lesser_is (lesser best rule.from low) rule.to low x e) as (λ o. (best ≡ Some x) ⊎ IsCutOf (rule ∷ rest) x) [
-  | inl before ↦ from_is (lesser_is best rule.from low x before)
-  | inr to ↦ inr (0, rule, refl, inr to)
-]
+either_is : (best : Option ℕ) (rule : PathRule) (rest : List PathRule) (low x : ℕ)
+    → lesser (lesser best rule.from low) rule.to low ≡ Some x → (best ≡ Some x) ⊎ IsCutOf (rule ∷ rest) x
+either_is best rule rest low x e = elim (lesser_is (lesser best rule.from low) rule.to low x e) as
+    (λ o. (best ≡ Some x) ⊎ IsCutOf (rule ∷ rest) x) [
+      | inl before ↦ from_is (lesser_is best rule.from low x before)
+      | inr to ↦ inr (0, rule, refl, inr to)
+    ]
   where
     from_is : (best ≡ Some x) ⊎ (rule.from ≡ x) → (best ≡ Some x) ⊎ IsCutOf (rule ∷ rest) x
     from_is (inl first) = inl first
@@ -120,10 +133,11 @@ either_is best rule rest low x e = elim (lesser_is (lesser best rule.from low) r
 
 next_is : (low x : ℕ) (best : Option ℕ) (rules : List PathRule) → next_from low best rules ≡ Some x → (best ≡ Some x) ⊎ IsCutOf rules x
 next_is low x best [] e = inl e
-next_is low x best (rule ∷ rest) e = elim (next_is low x (lesser (lesser best rule.from low) rule.to low) rest e) as (λ o. (best ≡ Some x) ⊎ IsCutOf (rule ∷ rest) x) [
-  | inl was ↦ either_is best rule rest low x was
-  | inr later ↦ inr (suc later.0, later.1, later.2, later.3)
-]
+next_is low x best (rule ∷ rest) e = elim (next_is low x (lesser (lesser best rule.from low) rule.to low) rest e) as
+    (λ o. (best ≡ Some x) ⊎ IsCutOf (rule ∷ rest) x) [
+      | inl was ↦ either_is best rule rest low x was
+      | inr later ↦ inr (suc later.0, later.1, later.2, later.3)
+    ]
 
 found_cut : (low x : ℕ) (rules : List PathRule) → next_from low None rules ≡ Some x → IsCutOf rules x
 found_cut low x rules e = elim (next_is low x None rules e) as (λ o. IsCutOf rules x) [
@@ -131,7 +145,8 @@ found_cut low x rules e = elim (next_is low x None rules e) as (λ o. IsCutOf ru
   | inr is ↦ is
 ]
 
-only_more : (rules : List PathRule) (cuts : List ℕ) (cut : ℕ) → IsCutOf rules cut → ((k x : ℕ) → slice_get cuts k ≡ Some x → IsCutOf rules x) → (k x : ℕ) → slice_get (cuts ++ cut ∷ []) k ≡ Some x → IsCutOf rules x
+only_more : (rules : List PathRule) (cuts : List ℕ) (cut : ℕ) → IsCutOf rules cut
+    → ((k x : ℕ) → slice_get cuts k ≡ Some x → IsCutOf rules x) → (k x : ℕ) → slice_get (cuts ++ cut ∷ []) k ≡ Some x → IsCutOf rules x
 only_more rules [] cut here each zero x e = subst (IsCutOf rules) (same_Some cut x e) here
 only_more rules [] cut here each (suc k) x e = absurd (none-some x e)
 only_more rules (first ∷ rest) cut here each zero x e = each 0 x e
@@ -175,13 +190,17 @@ under_none found x e h = subst (λ (o : Option ℕ). IsUnder o x) e h
 pub next_low : (rules : List PathRule) (low cut : ℕ) → next_from low None rules ≡ Some cut → low ≤ cut
 next_low rules low cut e = over_some (next_from low None rules) cut low e (next_over low None rules tt)
 
-pub cuts_more : (rules : List PathRule) (cuts new : List ℕ) (low cut next : ℕ) → next_from low None rules ≡ Some cut → new ≡ cuts ++ cut ∷ [] → next ≡ suc cut → AreCutsTo rules cuts low → AreCutsTo rules new next
-cuts_more rules cuts new low cut next e n f h = subst (λ (l : List ℕ). AreCutsTo rules l next) (sym n) (subst (AreCutsTo rules (cuts ++ cut ∷ [])) (sym f) (record {
-  rise = rise_more 0 cuts low cut h.rise (next_low rules low cut e);
-  from = λ k rule at less. at_cut cuts cut low rule.from (h.from k rule at) (λ past. under_some (next_from low None rules) cut rule.from e (next_at_from low None rules k rule at past)) less;
-  to = λ k rule at less. at_cut cuts cut low rule.to (h.to k rule at) (λ past. under_some (next_from low None rules) cut rule.to e (next_at_to low None rules k rule at past)) less;
-  only = only_more rules cuts cut (found_cut low cut rules e) h.only;
-}))
+pub cuts_more : (rules : List PathRule) (cuts new : List ℕ) (low cut next : ℕ) → next_from low None rules ≡ Some cut
+    → new ≡ cuts ++ cut ∷ [] → next ≡ suc cut → AreCutsTo rules cuts low → AreCutsTo rules new next
+cuts_more rules cuts new low cut next e n f h = subst (λ (l : List ℕ). AreCutsTo rules l next) (sym n)
+    (subst (AreCutsTo rules (cuts ++ cut ∷ [])) (sym f) (record {
+      rise = rise_more 0 cuts low cut h.rise (next_low rules low cut e);
+      from = λ k rule at less. at_cut cuts cut low rule.from (h.from k rule at)
+          (λ past. under_some (next_from low None rules) cut rule.from e (next_at_from low None rules k rule at past)) less;
+      to = λ k rule at less. at_cut cuts cut low rule.to (h.to k rule at)
+          (λ past. under_some (next_from low None rules) cut rule.to e (next_at_to low None rules k rule at past)) less;
+      only = only_more rules cuts cut (found_cut low cut rules e) h.only;
+    }))
 
 pub cuts_first : (rules : List PathRule) (cuts : List ℕ) → cuts ≡ [] → AreCutsTo rules cuts 0
 cuts_first rules cuts e = subst (λ (l : List ℕ). AreCutsTo rules l 0) (sym e) (record {
@@ -191,7 +210,8 @@ cuts_first rules cuts e = subst (λ (l : List ℕ). AreCutsTo rules l 0) (sym e)
   only = λ k x at. absurd (none-some x at);
 })
 
-pub cuts_last : (rules : List PathRule) (cuts : List ℕ) (low : ℕ) → next_from low None rules ≡ None → AreCutsTo rules cuts low → AreCuts rules cuts
+pub cuts_last : (rules : List PathRule) (cuts : List ℕ) (low : ℕ) → next_from low None rules ≡ None → AreCutsTo rules cuts low
+    → AreCuts rules cuts
 cuts_last rules cuts low e h = record {
   end = low;
   rise = h.rise;

@@ -1,5 +1,6 @@
 -- Words for the functions of this crate and of `rank_search`: how what stands at a place is followed along a rule, and what shows that it falls.
-use Rattle.std.specs.Prelude.{ℕ, suc, ℤ, pos, negsuc, ◌≡◌, ◌≤◌, ◌^◌, ◌+ℤ◌, ◌-ℤ◌, ◌≤ℤ◌, Bool, false, List, [], ◌∷◌, Option, Some, None, if◌then◌else◌, length, unsigned_abs}
+use Rattle.std.specs.Prelude.{ℕ, suc, ℤ, pos, negsuc, ◌≡◌, ◌≤◌, ◌^◌, ◌+ℤ◌, ◌-ℤ◌, ◌≤ℤ◌, Bool, false, List, [], ◌∷◌, Option, Some}
+use Rattle.std.specs.Prelude.{None, if◌then◌else◌, length, unsigned_abs}
 use Rattle.std.specs.List.{All}
 use Rattle.lin_core.specs.declared.rows.WRow.{WRow}
 use Rattle.lin_core.specs.Combination.{summed_coefficient, summed_constant, first_fault}
@@ -44,14 +45,16 @@ pub record IsBoundAt (rows : List Row) (start : List (ℕ × ℤ)) (bound : Boun
 pub record IsFollowed (rows : List Row) (start finish : List (ℕ × ℤ)) (followed : Followed) : Type 0 where
   pub fault : first_fault rows followed.fall ≡ None
   pub few : length followed.fall ≤ length rows
-  pub coefficients : (variable : ℕ) → summed_coefficient rows followed.fall variable ≡ coefficient_of variable start -ℤ coefficient_of variable finish
+  pub coefficients : (variable : ℕ) → summed_coefficient rows followed.fall variable ≡ coefficient_of variable start -ℤ
+      coefficient_of variable finish
   pub constant : summed_constant rows followed.fall +ℤ followed.falls ≡ pos 0
   pub bound : (bound : Bound) → followed.bound ≡ Some bound → IsBoundAt rows start bound
 
 -- the first row that bounds a start; the rows are counted from n
 abbrev pub bound_from : Bool → ℕ → ℕ → List WRow → Option BoundRow
 bound_from negative start n [] = None
-bound_from negative start n (row ∷ rest) = if bounds negative start row then Some (record { row = n; base = row.constant }) else bound_from negative start (suc n) rest
+bound_from negative start n (row ∷ rest) = if bounds negative start row then Some (record { row = n; base = row.constant }) else
+    bound_from negative start (suc n) rest
 
 abbrev pub bounded_by : Option BoundRow → Option Bound
 bounded_by None = None

@@ -1,5 +1,6 @@
 -- Words for the functions of this crate and of `rank_search`: the form of each cut that is made of multiples of what stands at places, and the listed rules.
-use Rattle.std.specs.Prelude.{ℕ, suc, ℤ, pos, ◌+ℤ◌, ◌≡◌, ◌⊎◌, ◌≤◌, ◌==◌, Bool, List, [], ◌∷◌, ◌++◌, Option, Some, None, if◌then◌else◌, nat_lt, int_lt, slice_get, length}
+use Rattle.std.specs.Prelude.{ℕ, suc, ℤ, pos, ◌+ℤ◌, ◌≡◌, ◌⊎◌, ◌≤◌, ◌==◌, Bool, List, [], ◌∷◌, ◌++◌, Option, Some, None}
+use Rattle.std.specs.Prelude.{if◌then◌else◌, nat_lt, int_lt, slice_get, length}
 use Rattle.std.specs.Ordering.{int_eq}
 use Rattle.descent.specs.declared.proof.CutForm.{CutForm}
 use Rattle.descent.specs.declared.proof.RankRule.{RankRule}
@@ -65,7 +66,8 @@ abbrev pub alone : ℕ → ℤ → List (ℕ × ℤ)
 alone id times = if int_eq times (pos 0) then [] else (id, times) ∷ []
 
 abbrev pub pair_of : ℕ × ℤ → ℕ × ℤ → List (ℕ × ℤ)
-pair_of one other = if nat_lt one.0 other.0 then one ∷ other ∷ [] else (if nat_lt other.0 one.0 then other ∷ one ∷ [] else alone one.0 (one.1 +ℤ other.1))
+pair_of one other = if nat_lt one.0 other.0 then one ∷ other ∷ [] else
+    (if nat_lt other.0 one.0 then other ∷ one ∷ [] else alone one.0 (one.1 +ℤ other.1))
 
 abbrev pub joined : List (ℕ × ℤ) → List (ℕ × ℤ)
 joined [] = []
@@ -86,7 +88,8 @@ form_of cut slots size parts constant = record {
 
 abbrev pub forms_over : List PathRule → Bool → List (Place × ℤ) → ℤ → List ℕ → List CutForm
 forms_over rules size parts constant [] = []
-forms_over rules size parts constant (cut ∷ cuts) = form_of cut (slots_for rules cut) size parts constant ∷ forms_over rules size parts constant cuts
+forms_over rules size parts constant (cut ∷ cuts) = form_of cut (slots_for rules cut) size parts constant ∷ forms_over rules size
+    parts constant cuts
 
 -- the bound, where there is a fall
 abbrev pub strict_bound : Followed → Option Bound
@@ -124,9 +127,11 @@ list_from number (followed ∷ rest) = listed_as number followed ∷ list_from (
 -- what is followed along each of the rules
 pub record AreFollowed (negative : Bool) (rules : List PathRule) (place : Place) (all : List Followed) : Type 0 where
   pub count : length all ≡ length rules
-  pub each : (n : ℕ) (rule : PathRule) (followed : Followed) → slice_get rules n ≡ Some rule → slice_get all n ≡ Some followed → IsAlong negative rule place followed
+  pub each : (n : ℕ) (rule : PathRule) (followed : Followed) → slice_get rules n ≡ Some rule → slice_get all n ≡ Some followed
+      → IsAlong negative rule place followed
 
 -- nothing only where no steps lead along one of them
 abbrev pub TellsAll : Bool → List PathRule → Place → Option (List Followed) → Type 0
-TellsAll negative rules place None = (n : ℕ) × (rule : PathRule) × (slice_get rules n ≡ Some rule) × ((c : ℤ) → StepsDown negative rule place c → ⊥)
+TellsAll negative rules place None = (n : ℕ) × (rule : PathRule) × (slice_get rules n ≡ Some rule)
+    × ((c : ℤ) → StepsDown negative rule place c → ⊥)
 TellsAll negative rules place (Some all) = AreFollowed negative rules place all

@@ -1,5 +1,6 @@
 -- Rules as a graph's paths have them, which the search asks for.
-use Rattle.std.specs.Prelude.{ℕ, ℤ, pos, negsuc, ◌≡◌, ◌⊎◌, ◌≤◌, ◌^◌, unsigned_abs, Bool, true, false, List, [], ◌∷◌, ◌++◌, Some, if◌then◌else◌, map, length, slice_get}
+use Rattle.std.specs.Prelude.{ℕ, ℤ, pos, negsuc, ◌≡◌, ◌⊎◌, ◌≤◌, ◌^◌, unsigned_abs, Bool, true, false, List, [], ◌∷◌, ◌++◌, Some}
+use Rattle.std.specs.Prelude.{if◌then◌else◌, map, length, slice_get}
 use Rattle.std.specs.List.{All}
 use Rattle.lin_core.specs.declared.rows.RowKind.TheVariants.{IsZero}
 use Rattle.lin_core.specs.declared.rows.WRow.{WRow}
@@ -29,7 +30,8 @@ pub record IsPathRule (rule : PathRule) : Type 0 where
 
 -- the slots of an end of a rule at a cut
 abbrev pub IsEndAt : List PathRule → ℕ → List SlotForm → Type 0
-IsEndAt rules cut slots = (n : ℕ) × (rule : PathRule) × (slice_get rules n ≡ Some rule) × (((rule.from ≡ cut) × (rule.first ≡ slots)) ⊎ ((rule.to ≡ cut) × (rule.last ≡ slots)))
+IsEndAt rules cut slots = (n : ℕ) × (rule : PathRule) × (slice_get rules n ≡ Some rule)
+    × (((rule.from ≡ cut) × (rule.first ≡ slots)) ⊎ ((rule.to ≡ cut) × (rule.last ≡ slots)))
 
 -- of each slot the id, the kind and the places
 abbrev pub head_of : SlotForm → ℕ × Bool × List Place
@@ -53,22 +55,26 @@ pub record HasClose (rows : List WRow) (variable : ℕ) (times : ℤ) : Type 0 w
 
 -- an int that is one variable is bounded on both sides, as by an interval
 abbrev pub IsCloseInt : List WRow → SlotForm → Type 0
-IsCloseInt rows slot = slot.size ≡ false → (variable : ℕ) → IsVariable slot variable → HasClose rows variable (pos 1) × HasClose rows variable (negsuc 0)
+IsCloseInt rows slot = slot.size ≡ false → (variable : ℕ) → IsVariable slot variable → HasClose rows variable (pos 1)
+    × HasClose rows variable (negsuc 0)
 
 -- an equation of three variables without weights has coefficients of at most 4,096 in size
 pub record IsShort (row : WRow) : Type 0 where
-  pub low : row.kind ≡ IsZero → row.weights ≡ [] → (a b c : ℕ × ℤ) → row.terms ≡ a ∷ b ∷ c ∷ [] → (unsigned_abs a.1 ≤ 4096) × (unsigned_abs b.1 ≤ 4096) × (unsigned_abs c.1 ≤ 4096)
+  pub low : row.kind ≡ IsZero → row.weights ≡ [] → (a b c : ℕ × ℤ) → row.terms ≡ a ∷ b ∷ c ∷ [] → (unsigned_abs a.1 ≤ 4096)
+      × (unsigned_abs b.1 ≤ 4096) × (unsigned_abs c.1 ≤ 4096)
 
 -- some variables stand for sizes: those of the size slots that are one variable, each of which is at least 0 by a row. An equation
 -- that has a size has sizes alone, with coefficients of at most 4,096 in size
 abbrev pub IsSizeSlot : List WRow → (ℕ → Bool) → SlotForm → Type 0
-IsSizeSlot rows sizes slot = slot.size ≡ true → (variable : ℕ) → IsVariable slot variable → (sizes variable ≡ true) × HasBound rows variable (pos 1) (pos 0)
+IsSizeSlot rows sizes slot = slot.size ≡ true → (variable : ℕ) → IsVariable slot variable → (sizes variable ≡ true)
+    × HasBound rows variable (pos 1) (pos 0)
 
 abbrev pub AreSizeTerms : (ℕ → Bool) → List (ℕ × ℤ) → Type 0
 AreSizeTerms sizes terms = All (λ (term : ℕ × ℤ). (sizes term.0 ≡ true) × (unsigned_abs term.1 ≤ 4096)) terms
 
 pub record IsOneKind (sizes : ℕ → Bool) (row : WRow) : Type 0 where
-  pub alike : row.kind ≡ IsZero → (n : ℕ) (term : ℕ × ℤ) → slice_get row.terms n ≡ Some term → sizes term.0 ≡ true → AreSizeTerms sizes row.terms
+  pub alike : row.kind ≡ IsZero → (n : ℕ) (term : ℕ × ℤ) → slice_get row.terms n ≡ Some term → sizes term.0 ≡ true
+      → AreSizeTerms sizes row.terms
 
 pub record AreSizes (rule : PathRule) : Type 0 where
   pub sizes : ℕ → Bool

@@ -1,5 +1,6 @@
 -- Words for the functions of this crate and of `rank_search`: why a form falls along a rule, and why it is bounded where the rule starts.
-use Rattle.std.specs.Prelude.{ℕ, suc, ℤ, pos, negsuc, ◌≡◌, ◌+ℤ◌, ◌-ℤ◌, ◌*ℤ◌, ◌==◌, ◌&&◌, ◌++◌, not, Bool, false, List, [], ◌∷◌, Option, Some, None, if◌then◌else◌, nat_lt, int_lt, slice_get, get_or, length, unsigned_abs}
+use Rattle.std.specs.Prelude.{ℕ, suc, ℤ, pos, negsuc, ◌≡◌, ◌+ℤ◌, ◌-ℤ◌, ◌*ℤ◌, ◌==◌, ◌&&◌, ◌++◌, not, Bool, false, List, [], ◌∷◌}
+use Rattle.std.specs.Prelude.{Option, Some, None, if◌then◌else◌, nat_lt, int_lt, slice_get, get_or, length, unsigned_abs}
 use Rattle.lin_core.specs.declared.rows.WRow.{WRow}
 use Rattle.descent.specs.declared.rules.PathRule.{PathRule}
 use Rattle.descent.specs.declared.rules.Place.{Place}
@@ -18,7 +19,12 @@ use Rattle.rule_links.specs.Searching.{IsFinished, Known, is_bound, ties_from, t
 
 -- ---- reasons
 abbrev pub both_reasons : Reasons → Reasons → Reasons
-both_reasons one other = record { falls = one.falls +ℤ other.falls; fall = one.fall ++ other.fall; base = one.base +ℤ other.base; bound = one.bound ++ other.bound }
+both_reasons one other = record {
+  falls = one.falls +ℤ other.falls;
+  fall = one.fall ++ other.fall;
+  base = one.base +ℤ other.base;
+  bound = one.bound ++ other.bound;
+}
 
 abbrev pub both_of : Option Reasons → Option Reasons → Option Reasons
 both_of None other = None
@@ -26,7 +32,8 @@ both_of (Some one) None = None
 both_of (Some one) (Some other) = Some (both_reasons one other)
 
 abbrev pub followed_by : ℕ → Reasons → Followed
-followed_by rows reasons = made reasons.falls (multipliers_of rows reasons.fall) (Some (record { rows = multipliers_of rows reasons.bound; base = reasons.base }))
+followed_by rows reasons = made reasons.falls (multipliers_of rows reasons.fall)
+    (Some (record { rows = multipliers_of rows reasons.bound; base = reasons.base }))
 
 abbrev pub followed_of : ℕ → Option Reasons → Option Followed
 followed_of rows None = None
@@ -46,7 +53,8 @@ is_close variable times row = is_bound variable times row && not (nat_lt 2147483
 
 abbrev pub close_from : ℕ → ℤ → ℕ → List WRow → Option BoundRow
 close_from variable times n [] = None
-close_from variable times n (row ∷ rest) = if is_close variable times row then Some (record { row = n; base = row.constant }) else close_from variable times (suc n) rest
+close_from variable times n (row ∷ rest) = if is_close variable times row then Some (record { row = n; base = row.constant }) else
+    close_from variable times (suc n) rest
 
 -- the rows of a tie: its equation, and the row that takes out the variable beside
 abbrev pub signed : ℤ → Bool → ℤ
@@ -67,7 +75,13 @@ int_entries times [] = []
 int_entries times (tie ∷ rest) = int_tie_entries times tie ++ int_entries times rest
 
 abbrev pub int_made : Come → BoundRow → ℤ → Known → ℕ → Reasons
-int_made come row times known finish = record { falls = pos 0 -ℤ times *ℤ come.by; fall = int_entries times (trail_from (length known) known finish); base = often times *ℤ row.base; bound = (row.row, often times) ∷ [] }
+int_made come row times known finish = record {
+  falls = pos 0 -ℤ times *ℤ come.by;
+  fall = int_entries times (trail_from (length known) known finish);
+  base = often times *ℤ
+      row.base;
+  bound = (row.row, often times) ∷ [];
+}
 
 abbrev pub int_reasons_by : Option Come → Option BoundRow → ℤ → Known → ℕ → Option Reasons
 int_reasons_by None row times known finish = None
@@ -75,26 +89,33 @@ int_reasons_by (Some come) None times known finish = None
 int_reasons_by (Some come) (Some row) times known finish = Some (int_made come row times known finish)
 
 abbrev pub TellsInt : List WRow → List Tie → ℕ → ℕ → ℤ → Option Reasons → Type 0
-TellsInt rows ties start finish times found = (known : Known) × IsFinished ties start known × (found ≡ int_reasons_by (get_or known finish None) (close_from start (side times) 0 rows) times known finish)
+TellsInt rows ties start finish times found = (known : Known) × IsFinished ties start known
+    × (found ≡ int_reasons_by (get_or known finish None) (close_from start (side times) 0 rows) times known finish)
 
 -- the same at the ends of a rule, where one variable stands alone at each; nothing where none does at one of them
 abbrev pub TellsIntAt : PathRule → List Tie → Place × ℤ → Option Reasons → Type 0
-TellsIntAt rule ties term found = ((start finish : ℕ) → AreEnds rule false term.0 start finish → TellsInt rule.rows ties start finish term.1 found) × (((start finish : ℕ) → AreEnds rule false term.0 start finish → ⊥) → found ≡ None)
+TellsIntAt rule ties term found = ((start finish : ℕ) → AreEnds rule false term.0 start finish
+    → TellsInt rule.rows ties start finish term.1 found)
+    × (((start finish : ℕ) → AreEnds rule false term.0 start finish → ⊥) → found ≡ None)
 
 -- and of a form of one or two ints; nothing of other forms
 abbrev pub TellsForm : PathRule → List Tie → List (Place × ℤ) → Option Reasons → Type 0
 TellsForm rule ties [] found = found ≡ None
 TellsForm rule ties (one ∷ []) found = TellsIntAt rule ties one found
-TellsForm rule ties (one ∷ other ∷ []) found = (a : Option Reasons) × (b : Option Reasons) × TellsIntAt rule ties one a × TellsIntAt rule ties other b × (found ≡ both_of a b)
+TellsForm rule ties (one ∷ other ∷ []) found = (a : Option Reasons) × (b : Option Reasons) × TellsIntAt rule ties one a
+    × TellsIntAt rule ties other b × (found ≡ both_of a b)
 TellsForm rule ties (one ∷ other ∷ more ∷ rest) found = found ≡ None
 
 abbrev pub TellsInts : List (Place × ℤ) → PathRule → Option Followed → Type 0
-TellsInts form rule found = (reasons : Option Reasons) × TellsForm rule (ties_from rule.rows 0 rule.rows) form reasons × (found ≡ followed_of (length rule.rows) reasons)
+TellsInts form rule found = (reasons : Option Reasons) × TellsForm rule (ties_from rule.rows 0 rule.rows) form reasons
+    × (found ≡ followed_of (length rule.rows) reasons)
 
 -- ---- each of the rules: nothing where nothing is found along one of them
 abbrev pub TellsEach : (PathRule → Option Followed → Type 0) → List PathRule → Option (List Followed) → Type 0
 TellsEach tells rules None = (n : ℕ) × (rule : PathRule) × (slice_get rules n ≡ Some rule) × tells rule None
-TellsEach tells rules (Some all) = (length all ≡ length rules) × ((n : ℕ) (rule : PathRule) (followed : Followed) → slice_get rules n ≡ Some rule → slice_get all n ≡ Some followed → tells rule (Some followed))
+TellsEach tells rules (Some all) = (length all ≡ length rules)
+    × ((n : ℕ) (rule : PathRule) (followed : Followed) → slice_get rules n ≡ Some rule → slice_get all n ≡ Some followed
+    → tells rule (Some followed))
 
 -- ---- sizes
 abbrev pub row_times : Option ℕ → ℤ → List (ℕ × ℤ)
@@ -117,7 +138,8 @@ terms_at None = []
 terms_at (Some row) = row.terms
 
 abbrev pub size_tie_entries : List WRow → Tie → List (ℕ × ℤ)
-size_tie_entries rows tie = (tie.row, step_times tie) ∷ (if tie.back then [] else part_entries rows tie.link (terms_at (slice_get rows tie.row)))
+size_tie_entries rows tie = (tie.row, step_times tie)
+    ∷ (if tie.back then [] else part_entries rows tie.link (terms_at (slice_get rows tie.row)))
 
 abbrev pub size_entries : List WRow → List Tie → List (ℕ × ℤ)
 size_entries rows [] = []

@@ -16,7 +16,12 @@ use Rattle.rule_links.specs.Rising.{AreRising, IsLongest, IsSizeTie, zero_from}
 use Rattle.rule_links.specs.Searching.{InTies, Known, trail_from}
 
 abbrev pub size_made : List WRow → Come → ℕ → Known → ℕ → Reasons
-size_made rows come row known finish = record { falls = come.by; fall = size_entries rows (trail_from (length known) known finish); base = pos 0; bound = (row, pos 1) ∷ [] }
+size_made rows come row known finish = record {
+  falls = come.by;
+  fall = size_entries rows (trail_from (length known) known finish);
+  base = pos 0;
+  bound = (row, pos 1) ∷ [];
+}
 
 abbrev pub size_reasons_by : List WRow → Option Come → Option ℕ → Known → ℕ → Option Reasons
 size_reasons_by rows None row known finish = None
@@ -30,8 +35,11 @@ pub record AreSizeTies (rows : List WRow) (ties : List Tie) : Type 0 where
   pub in_rows : All (IsSizeTie rows) ties
 
 abbrev pub TellsSizeReasons : List WRow → ℕ → ℕ → Option Reasons → Type 0
-TellsSizeReasons rows start finish found = (ties : List Tie) × (known : Known) × AreSizeTies rows ties × IsLongest ties start known × (found ≡ size_reasons_by rows (get_or known finish None) (zero_from start 0 rows) known finish)
+TellsSizeReasons rows start finish found = (ties : List Tie) × (known : Known) × AreSizeTies rows ties × IsLongest ties start known
+    × (found ≡ size_reasons_by rows (get_or known finish None) (zero_from start 0 rows) known finish)
 
 -- at the ends of a rule, where one variable stands alone at each; nothing where none does at one of them
 abbrev pub TellsSizeAt : Place → PathRule → Option Followed → Type 0
-TellsSizeAt place rule found = ((start finish : ℕ) → AreEnds rule true place start finish → (reasons : Option Reasons) × TellsSizeReasons rule.rows start finish reasons × (found ≡ followed_of (length rule.rows) reasons)) × (((start finish : ℕ) → AreEnds rule true place start finish → ⊥) → found ≡ None)
+TellsSizeAt place rule found = ((start finish : ℕ) → AreEnds rule true place start finish → (reasons : Option Reasons)
+    × TellsSizeReasons rule.rows start finish reasons × (found ≡ followed_of (length rule.rows) reasons))
+    × (((start finish : ℕ) → AreEnds rule true place start finish → ⊥) → found ≡ None)

@@ -1,7 +1,8 @@
 //! How what stands at a place is followed along a rule, and what shows that it falls.
 ghost use Rattle.std.specs.Prelude.{◌≡◌, ◌<◌, ◌∷◌, [], pos, IfOk};
 ghost use Rattle.descent.specs.Conditions.{IsRule};
-ghost use Rattle.rank_forms.specs.Following.{IsFew, SmallConstants, TellsBetween, TellsFollowed, bound_from, bounded_by, made, step_entries, step_times};
+ghost use Rattle.rank_forms.specs.Following.{IsFew, SmallConstants, TellsBetween, TellsFollowed, bound_from, bounded_by, made};
+ghost use Rattle.rank_forms.specs.Following.{step_entries, step_times};
 
 use descent::{PathRule, Place};
 use lin_core::WRow;

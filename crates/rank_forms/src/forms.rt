@@ -1,6 +1,7 @@
 //! The form of each cut that is made of multiples of what stands at places.
 ghost use Rattle.std.specs.Prelude.{◌≡◌, ◌≤◌, ◌∷◌, ◌++◌, [], ℕ, suc, List, None, IfOk, OnOk};
-ghost use Rattle.rank_forms.specs.Forms.{AreCuts, alone, form_of, forms_over, id_of, ids_at, joined, less_of, lesser, next_from, pair_of, slots_for};
+ghost use Rattle.rank_forms.specs.Forms.{AreCuts, alone, form_of, forms_over, id_of, ids_at, joined, less_of, lesser, next_from};
+ghost use Rattle.rank_forms.specs.Forms.{pair_of, slots_for};
 ghost use Rattle.rule_links.specs.Positions.{slot_at};
 
 use descent::{CutForm, PathRule, Place, SlotForm};
@@ -217,7 +218,8 @@ pub fn forms_of(
     parts: &[(Place, i64)],
     constant: &i64,
 ) -> Result<Seq<CutForm>, AllocError>
-    ensures { IfOk result (λ forms. (cuts : List ℕ) × AreCuts rules.now cuts × (forms ≡ forms_over rules.now size parts.now constant.now cuts)) }
+    ensures { IfOk result (λ forms. (cuts : List ℕ) × AreCuts rules.now cuts
+        × (forms ≡ forms_over rules.now size parts.now constant.now cuts)) }
 {
     let cuts = cuts_of(alloc, rules)?;
     forms_over(alloc, rules, size, parts, constant, cuts.as_slice())

@@ -1,6 +1,8 @@
 //! Why multiples of ints fall along a rule, by the equations of its links.
 ghost use Rattle.std.specs.Prelude.{◌≡◌, ◌++◌, ◌∷◌, ◌*ℤ◌, ◌-ℤ◌, [], pos, IfOk, IfSome, OnOk};
-ghost use Rattle.rank_forms.specs.Reasons.{TellsForm, TellsInt, TellsIntAt, TellsInts, beside_entries, both_of, close_from, followed_of, int_entries, int_made, int_tie_entries, is_close, often, side, signed, taken_out};
+ghost use Rattle.rank_forms.specs.Reasons.{TellsForm, TellsInt, TellsIntAt, TellsInts, beside_entries, both_of, close_from};
+ghost use Rattle.rank_forms.specs.Reasons.{followed_of, int_entries, int_made, int_tie_entries, is_close, often, side, signed};
+ghost use Rattle.rank_forms.specs.Reasons.{taken_out};
 
 use crate::following::{BoundRow, Followed};
 use crate::reasons::{Reasons, both, followed_by, reasons_of};

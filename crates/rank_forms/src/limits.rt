@@ -201,7 +201,8 @@ fn has_strict(listed: &[RankRule]) -> bool
 fn is_taken(alloc: Global, rules: &[PathRule], step: &RankStep) -> Result<bool, AllocError>
     requires rules { AreRules rules.now }
     requires step { IsRanked step.now }
-    ensures { IfOk result (λ taken. IsTrue taken → ranking_fault (ranking_of step.now) rules.now (numbers_from 0 (length rules.now)) step.now.rules ≡ None) }
+    ensures { IfOk result (λ taken. IsTrue taken → ranking_fault (ranking_of step.now) rules.now (numbers_from 0 (length rules.now))
+        step.now.rules ≡ None) }
 {
     let Ok(count) = u32::try_from(rules.len()) else {
         return Ok(false);

@@ -9,7 +9,8 @@ use Rattle.rank_forms.specs.Forms.{slots_for}
 use Rattle.rank_forms.specs.Graphs.{ArePathRules, IsEndAt, IsPathRule, heads}
 use Rattle.rank_search.specs.Heads.{HasHeads}
 
-stands_head : (rules : List PathRule) (cut : ℕ) (slots : List SlotForm) → All (HasHeads rules) rules → IsEndAt rules cut slots → heads slots ≡ heads (slots_for rules cut)
+stands_head : (rules : List PathRule) (cut : ℕ) (slots : List SlotForm) → All (HasHeads rules) rules → IsEndAt rules cut slots
+    → heads slots ≡ heads (slots_for rules cut)
 stands_head rules cut slots all stands =
     let has = all_at (HasHeads rules) rules stands.0 stands.1 all stands.2 in
     elim stands.3 as (λ o. heads slots ≡ heads (slots_for rules cut)) [
@@ -17,7 +18,8 @@ stands_head rules cut slots all stands =
       | inr b ↦ ap heads (sym b.1) ∙ has.1 ∙ ap (λ (c : ℕ). heads (slots_for rules c)) b.0
     ]
 
-pub path_rules : (rules : List PathRule) → AreRules rules → length rules ≤ 4096 → All IsPathRule rules → All (HasHeads rules) rules → ArePathRules rules
+pub path_rules : (rules : List PathRule) → AreRules rules → length rules ≤ 4096 → All IsPathRule rules → All (HasHeads rules) rules
+    → ArePathRules rules
 path_rules rules limits few each all = record {
   limits = limits;
   few = few;

@@ -1,5 +1,6 @@
 -- A form of ints that never rises, by the numbers that are found, is shown on each rule.
-use Rattle.std.proofs.Common.{◌≡◌, ℕ, suc, ◌≤◌, Bool, true, false, cond, List, [], ◌∷◌, length, get_or, ℤ, pos, negsuc, ◌+ℤ◌, ◌-ℤ◌, ◌*ℤ◌, Option, Some, None, subst, ap, arith, refl, ◌∙◌, sym}
+use Rattle.std.proofs.Common.{◌≡◌, ℕ, suc, ◌≤◌, Bool, true, false, cond, List, [], ◌∷◌, length, get_or, ℤ, pos, negsuc, ◌+ℤ◌, ◌-ℤ◌}
+use Rattle.std.proofs.Common.{◌*ℤ◌, Option, Some, None, subst, ap, arith, refl, ◌∙◌, sym}
 use Rattle.std.specs.Prelude.{unsigned_abs, int_lt}
 use Rattle.std.specs.List.{All, list_any}
 use Rattle.std.proofs.lemmas.Bool.{and_parts}
@@ -20,7 +21,8 @@ use Rattle.rank_forms.specs.Following.{IsFollowed}
 use Rattle.rank_forms.specs.Graphs.{HasClose, IsCloseInt, IsPathRule, IsPlainRule}
 use Rattle.rank_search.specs.Plain.{FormMoves, IsIntForm}
 use Rattle.rule_links.specs.Positions.{AreEnds, is_at, is_place, same, slot_at}
-use Rattle.rank_forms.specs.Reasons.{TellsForm, TellsIntAt, TellsInts, both_of, both_reasons, close_from, followed_by, followed_of, int_made, int_reasons_by, side}
+use Rattle.rank_forms.specs.Reasons.{TellsForm, TellsIntAt, TellsInts, both_of, both_reasons, close_from, followed_by, followed_of}
+use Rattle.rank_forms.specs.Reasons.{int_made, int_reasons_by, side}
 use Rattle.rule_links.specs.Searching.{IsMoved, Known, ties_from}
 use Rattle.rank_forms.proofs.Along.{variable_low}
 use Rattle.rule_links.proofs.Changed.{stands_is}
@@ -34,13 +36,19 @@ use Rattle.rank_forms.proofs.Reasoned.{IsReasoned, both_reasoned, reasoned_follo
 abbrev HasKind : (SlotForm → Type 0) → Bool → SlotForm → Type 0
 HasKind P size slot = P slot × (same slot.size size ≡ true)
 
-has_cases : (P : SlotForm → Type 0) (here size : Bool) (place : Place) (first slot : SlotForm) (later : Option SlotForm) → is_at size place first ≡ here → P first → (later ≡ Some slot → HasKind P size slot) → cond here (Some first) later ≡ Some slot → HasKind P size slot
-has_cases P true size place first slot later t h more e = subst (HasKind P size) (same_Some first slot e) (h, (and_parts (same first.size size) (list_any (λ (other : Place). is_place other place) first.places) t).0)
+has_cases : (P : SlotForm → Type 0) (here size : Bool) (place : Place) (first slot : SlotForm) (later : Option SlotForm)
+    → is_at size place first ≡ here → P first → (later ≡ Some slot → HasKind P size slot) → cond here (Some first) later ≡ Some slot
+    → HasKind P size slot
+has_cases P true size place first slot later t h more e = subst (HasKind P size) (same_Some first slot e)
+    (h, (and_parts (same first.size size) (list_any (λ (other : Place). is_place other place) first.places) t).0)
 has_cases P false size place first slot later t h more e = more e
 
-pub slot_has : (P : SlotForm → Type 0) (size : Bool) (place : Place) (slots : List SlotForm) (slot : SlotForm) → All P slots → slot_at slots size place ≡ Some slot → HasKind P size slot
+pub slot_has : (P : SlotForm → Type 0) (size : Bool) (place : Place) (slots : List SlotForm) (slot : SlotForm) → All P slots
+    → slot_at slots size place ≡ Some slot → HasKind P size slot
 slot_has P size place [] slot all e = absurd (none-some slot e)
-slot_has P size place (first ∷ rest) slot all e = has_cases P (is_at size place first) size place first slot (slot_at rest size place) refl (all 0 first (omega arith)) (λ f. slot_has P size place rest slot (λ i d low. all (suc i) d (omega (arith, low))) f) e
+slot_has P size place (first ∷ rest) slot all e = has_cases P (is_at size place first) size place first slot
+    (slot_at rest size place) refl (all 0 first (omega arith))
+    (λ f. slot_has P size place rest slot (λ i d low. all (suc i) d (omega (arith, low))) f) e
 
 pub not_size : (size : Bool) → same size false ≡ true → size ≡ false
 not_size true e = absurd (cc)
@@ -51,7 +59,8 @@ is_size true e = refl
 is_size false e = absurd (cc)
 
 -- ---- an int
-side_close : (test : Bool) (rows : List WRow) (variable : ℕ) → HasClose rows variable (pos 1) → HasClose rows variable (negsuc 0) → HasClose rows variable (cond test (negsuc 0) (pos 1))
+side_close : (test : Bool) (rows : List WRow) (variable : ℕ) → HasClose rows variable (pos 1) → HasClose rows variable (negsuc 0)
+    → HasClose rows variable (cond test (negsuc 0) (pos 1))
 side_close true rows variable up down = down
 side_close false rows variable up down = up
 
@@ -64,7 +73,9 @@ pub record IsIntTold (rule : PathRule) (place : Place) (times c : ℤ) (found : 
   pub reasoned : IsReasoned (rows_under unweighed rule.rows) ((start, times) ∷ []) ((finish, times) ∷ []) 1073725440 8589934592 reasons
   pub falls : reasons.falls ≡ pos 0 -ℤ times *ℤ c
 
-int_told : (rule : PathRule) (term : Place × ℤ) (c : ℤ) (found : Option Reasons) → IsRule rule → IsPathRule rule → IsPlainRule rule → unsigned_abs term.1 ≤ 4 → IsMoved rule term.0 c → TellsIntAt rule (ties_from rule.rows 0 rule.rows) term found → IsIntTold rule term.0 term.1 c found
+int_told : (rule : PathRule) (term : Place × ℤ) (c : ℤ) (found : Option Reasons) → IsRule rule → IsPathRule rule → IsPlainRule rule
+    → unsigned_abs term.1 ≤ 4 → IsMoved rule term.0 c → TellsIntAt rule (ties_from rule.rows 0 rule.rows) term found
+    → IsIntTold rule term.0 term.1 c found
 int_told rule term c found is path plain small moved tells =
     let start = moved.start in
     let finish = moved.finish in
@@ -80,11 +91,13 @@ int_told rule term c found is path plain small moved tells =
     let reasons = int_made by.come bound.0 term.1 told.0 finish in
     record {
       reasons = reasons;
-      is = told.2 ∙ ap (λ (o : Option Come). int_reasons_by o (close_from start (side term.1) 0 rule.rows) term.1 told.0 finish) come ∙ ap (λ (o : Option BoundRow). int_reasons_by (Some by.come) o term.1 told.0 finish) bound.1;
+      is = told.2 ∙ ap (λ (o : Option Come). int_reasons_by o (close_from start (side term.1) 0 rule.rows) term.1 told.0 finish)
+          come ∙ ap (λ (o : Option BoundRow). int_reasons_by (Some by.come) o term.1 told.0 finish) bound.1;
       start = start;
       finish = finish;
       ends = moved.ends;
-      reasoned = int_reasoned rule.vars rule.rows start finish term.1 told.0 by.come bound.0 is.rows path.variables plain.short small (let few = path.variables in omega (arith, low, few)) told.1 come bound.1;
+      reasoned = int_reasoned rule.vars rule.rows start finish term.1 told.0 by.come bound.0 is.rows path.variables plain.short
+          small (let few = path.variables in omega (arith, low, few)) told.1 come bound.1;
       falls = ap (λ (z : ℤ). pos 0 -ℤ term.1 *ℤ z) by.adds;
     }
 
@@ -98,7 +111,8 @@ pub record IsFormTold (rule : PathRule) (form : List (Place × ℤ)) (c : ℤ) (
   pub reasoned : IsReasoned (rows_under unweighed rule.rows) start finish 2147450880 17179869184 reasons
   pub falls : reasons.falls ≡ pos 0 -ℤ c
 
-wider : (rule : PathRule) (start finish : List (ℕ × ℤ)) (reasons : Reasons) → IsReasoned (rows_under unweighed rule.rows) start finish 1073725440 8589934592 reasons → IsReasoned (rows_under unweighed rule.rows) start finish 2147450880 17179869184 reasons
+wider : (rule : PathRule) (start finish : List (ℕ × ℤ)) (reasons : Reasons) → IsReasoned (rows_under unweighed rule.rows) start
+    finish 1073725440 8589934592 reasons → IsReasoned (rows_under unweighed rule.rows) start finish 2147450880 17179869184 reasons
 wider rule start finish reasons h = record {
   coefficients = h.coefficients;
   constant = h.constant;
@@ -111,7 +125,9 @@ wider rule start finish reasons h = record {
   base = let b = h.base in omega (arith, b);
 }
 
-one_form : (rule : PathRule) (one : Place × ℤ) (c : ℤ) (found : Option Reasons) → IsRule rule → IsPathRule rule → IsPlainRule rule → unsigned_abs one.1 ≤ 4 → FormMoves IsMoved rule (one ∷ []) c → TellsIntAt rule (ties_from rule.rows 0 rule.rows) one found → IsFormTold rule (one ∷ []) c found
+one_form : (rule : PathRule) (one : Place × ℤ) (c : ℤ) (found : Option Reasons) → IsRule rule → IsPathRule rule → IsPlainRule rule
+    → unsigned_abs one.1 ≤ 4 → FormMoves IsMoved rule (one ∷ []) c → TellsIntAt rule (ties_from rule.rows 0 rule.rows) one found
+    → IsFormTold rule (one ∷ []) c found
 one_form rule one c found is path plain small moves tells =
     let told = int_told rule one moves.0 found is path plain small moves.2 tells in
     record {
@@ -127,7 +143,9 @@ one_form rule one c found is path plain small moves tells =
     alone : (a e c : ℤ) → e ≡ pos 0 → c ≡ a +ℤ e → pos 0 -ℤ a ≡ pos 0 -ℤ c
     alone a e c z h = omega (arith, ints)
 
-two_form : (rule : PathRule) (one other : Place × ℤ) (c : ℤ) (found : Option Reasons) → IsRule rule → IsPathRule rule → IsPlainRule rule → unsigned_abs one.1 ≤ 4 → unsigned_abs other.1 ≤ 4 → FormMoves IsMoved rule (one ∷ other ∷ []) c → TellsForm rule (ties_from rule.rows 0 rule.rows) (one ∷ other ∷ []) found → IsFormTold rule (one ∷ other ∷ []) c found
+two_form : (rule : PathRule) (one other : Place × ℤ) (c : ℤ) (found : Option Reasons) → IsRule rule → IsPathRule rule
+    → IsPlainRule rule → unsigned_abs one.1 ≤ 4 → unsigned_abs other.1 ≤ 4 → FormMoves IsMoved rule (one ∷ other ∷ []) c
+    → TellsForm rule (ties_from rule.rows 0 rule.rows) (one ∷ other ∷ []) found → IsFormTold rule (one ∷ other ∷ []) c found
 two_form rule one other c found is path plain small too moves tells =
     let more = moves.3 in
     let a = int_told rule one moves.0 tells.0 is path plain small moves.2 tells.2 in
@@ -138,8 +156,11 @@ two_form rule one other c found is path plain small too moves tells =
       start = (a.start, one.1) ∷ (b.start, other.1) ∷ [];
       finish = (a.finish, one.1) ∷ (b.finish, other.1) ∷ [];
       ends = record { first = (a.ends.first, refl, (b.ends.first, refl, tt)); last = (a.ends.last, refl, (b.ends.last, refl, tt)) };
-      reasoned = both_reasoned (rows_under unweighed rule.rows) ((a.start, one.1) ∷ []) ((a.finish, one.1) ∷ []) ((b.start, other.1) ∷ []) ((b.finish, other.1) ∷ []) 1073725440 8589934592 1073725440 8589934592 a.reasons b.reasons a.reasoned b.reasoned;
-      falls = ap (λ (z : ℤ). z +ℤ b.reasons.falls) a.falls ∙ ap (λ (z : ℤ). (pos 0 -ℤ one.1 *ℤ moves.0) +ℤ z) b.falls ∙ together (one.1 *ℤ moves.0) (other.1 *ℤ more.0) moves.1 more.1 c more.3 more.4 moves.4;
+      reasoned = both_reasoned (rows_under unweighed rule.rows) ((a.start, one.1) ∷ []) ((a.finish, one.1) ∷ [])
+          ((b.start, other.1) ∷ []) ((b.finish, other.1) ∷ []) 1073725440 8589934592 1073725440 8589934592 a.reasons b.reasons
+          a.reasoned b.reasoned;
+      falls = ap (λ (z : ℤ). z +ℤ b.reasons.falls) a.falls ∙ ap (λ (z : ℤ). (pos 0 -ℤ one.1 *ℤ moves.0) +ℤ z) b.falls
+          ∙ together (one.1 *ℤ moves.0) (other.1 *ℤ more.0) moves.1 more.1 c more.3 more.4 moves.4;
     }
   where
     together : (a b e z c : ℤ) → z ≡ pos 0 → e ≡ b +ℤ z → c ≡ a +ℤ e → (pos 0 -ℤ a) +ℤ (pos 0 -ℤ b) ≡ pos 0 -ℤ c
@@ -148,10 +169,14 @@ two_form rule one other c found is path plain small too moves tells =
 one_low : (times : ℤ) → unsigned_abs times ≡ 1 → unsigned_abs times ≤ 4
 one_low times e = omega (arith, e)
 
-pub form_told : (rule : PathRule) (form : List (Place × ℤ)) (c : ℤ) (found : Option Reasons) → IsRule rule → IsPathRule rule → IsPlainRule rule → IsIntForm form → FormMoves IsMoved rule form c → TellsForm rule (ties_from rule.rows 0 rule.rows) form found → IsFormTold rule form c found
+pub form_told : (rule : PathRule) (form : List (Place × ℤ)) (c : ℤ) (found : Option Reasons) → IsRule rule → IsPathRule rule
+    → IsPlainRule rule → IsIntForm form → FormMoves IsMoved rule form c → TellsForm rule (ties_from rule.rows 0 rule.rows) form
+    found → IsFormTold rule form c found
 form_told rule [] c found is path plain shape moves tells = absurd shape
-form_told rule (one ∷ []) c found is path plain shape moves tells = one_form rule one c found is path plain (one_low one.1 shape) moves tells
-form_told rule (one ∷ other ∷ []) c found is path plain shape moves tells = two_form rule one other c found is path plain shape.0.0 shape.1.0 moves tells
+form_told rule (one ∷ []) c found is path plain shape moves tells = one_form rule one c found is path plain (one_low one.1 shape)
+    moves tells
+form_told rule (one ∷ other ∷ []) c found is path plain shape moves tells = two_form rule one other c found is path plain shape.0.0
+    shape.1.0 moves tells
 form_told rule (one ∷ other ∷ more ∷ rest) c found is path plain shape moves tells = absurd shape
 
 pub form_parts : (form : List (Place × ℤ)) → IsIntForm form → AreParts form
@@ -170,7 +195,8 @@ pub record IsIntsTold (rule : PathRule) (form : List (Place × ℤ)) (c : ℤ) (
   pub shown : IsFollowed (rows_under unweighed rule.rows) start finish followed
   pub falls : followed.falls ≡ pos 0 -ℤ c
 
-pub ints_told : (rule : PathRule) (form : List (Place × ℤ)) (c : ℤ) (found : Option Followed) → IsRule rule → IsPathRule rule → IsPlainRule rule → IsIntForm form → FormMoves IsMoved rule form c → TellsInts form rule found → IsIntsTold rule form c found
+pub ints_told : (rule : PathRule) (form : List (Place × ℤ)) (c : ℤ) (found : Option Followed) → IsRule rule → IsPathRule rule
+    → IsPlainRule rule → IsIntForm form → FormMoves IsMoved rule form c → TellsInts form rule found → IsIntsTold rule form c found
 ints_told rule form c found is path plain shape moves tells =
     let told = form_told rule form c tells.0 is path plain shape moves tells.1 in
     record {
@@ -179,6 +205,7 @@ ints_told rule form c found is path plain shape moves tells =
       start = told.start;
       finish = told.finish;
       ends = told.ends;
-      shown = reasoned_followed (rows_under unweighed rule.rows) told.start told.finish 2147450880 17179869184 (length rule.rows) told.reasons told.reasoned (sym (length-map rule.rows (row_under unweighed))) (omega arith) (omega arith);
+      shown = reasoned_followed (rows_under unweighed rule.rows) told.start told.finish 2147450880 17179869184 (length rule.rows)
+          told.reasons told.reasoned (sym (length-map rule.rows (row_under unweighed))) (omega arith) (omega arith);
       falls = told.falls;
     }

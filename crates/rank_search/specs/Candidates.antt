@@ -1,5 +1,6 @@
 -- Words for this crate's own functions: the forms of one place and of two that come into question, by the numbers of a table.
-use Rattle.std.specs.Prelude.{ℕ, ℤ, pos, negsuc, ◌≡◌, ◌<◌, ◌+ℤ◌, ◌*ℤ◌, ◌==◌, ◌&&◌, Bool, true, false, List, [], ◌∷◌, Option, Some, None, if◌then◌else◌, get_or, ◌||◌, int_le, int_lt, unsigned_abs}
+use Rattle.std.specs.Prelude.{ℕ, ℤ, pos, negsuc, ◌≡◌, ◌<◌, ◌+ℤ◌, ◌*ℤ◌, ◌==◌, ◌&&◌, Bool, true, false, List, [], ◌∷◌, Option, Some}
+use Rattle.std.specs.Prelude.{None, if◌then◌else◌, get_or, ◌||◌, int_le, int_lt, unsigned_abs}
 use Rattle.descent.specs.declared.rules.PathRule.{PathRule}
 use Rattle.descent.specs.declared.rules.Place.{Place}
 use Rattle.rank_search.specs.declared.candidates.Candidate.{Candidate}
@@ -39,11 +40,15 @@ ranks_by form table = never_rises form table && falls form table
 
 -- the multiples from -4 to 4 other than 0
 abbrev pub multiple_of : ℕ → ℤ
-multiple_of n = if n == 0 then pos 1 else (if n == 1 then negsuc 0 else (if n == 2 then pos 2 else (if n == 3 then negsuc 1 else (if n == 4 then pos 3 else (if n == 5 then negsuc 2 else (if n == 6 then pos 4 else negsuc 3))))))
+multiple_of n = if n == 0 then pos 1 else
+    (if n == 1 then negsuc 0 else
+    (if n == 2 then pos 2 else
+    (if n == 3 then negsuc 1 else (if n == 4 then pos 3 else (if n == 5 then negsuc 2 else (if n == 6 then pos 4 else negsuc 3))))))
 
 -- no sum of multiples of two of the first places ranks the rules
 abbrev pub NoneOfPair : List (List (Option ℤ)) → ℕ → ℕ → ℕ → Type 0
-NoneOfPair table one other count = (n k : ℕ) → n < count → k < 8 → ranks_by (record { one = one; times = multiple_of n; other = other; more = multiple_of k }) table ≡ false
+NoneOfPair table one other count = (n k : ℕ) → n < count → k < 8
+    → ranks_by (record { one = one; times = multiple_of n; other = other; more = multiple_of k }) table ≡ false
 
 abbrev pub NoneWithOne : List (List (Option ℤ)) → ℕ → ℕ → Type 0
 NoneWithOne table one count = (other : ℕ) → other < count → NoneOfPair table one other 8
@@ -53,7 +58,8 @@ NoSum table ones count = (one : ℕ) → one < ones → NoneWithOne table one co
 
 -- no int and no negative of one ranks the rules
 abbrev pub NoOne : List (List (Option ℤ)) → ℕ → Type 0
-NoOne table count = (i n : ℕ) → i < count → n < 2 → ranks_by (record { one = i; times = multiple_of n; other = i; more = pos 0 }) table ≡ false
+NoOne table count = (i n : ℕ) → i < count → n < 2 → ranks_by (record { one = i; times = multiple_of n; other = i; more = pos 0 })
+    table ≡ false
 
 -- a form of one int, or of two, that ranks the rules by the table; the places are below a number
 pub record IsOneFound (table : List (List (Option ℤ))) (count : ℕ) (form : Candidate) : Type 0 where

@@ -1,6 +1,7 @@
 //! Forms of ints that may rank rules.
 ghost use Rattle.std.specs.Prelude.{◌≡◌, ◌<◌, ◌+ℤ◌, ◌*ℤ◌, ℕ, false, pos, None, Some, IfOk, IfSome, get_or, ◌&&◌, true, unsigned_abs};
-ghost use Rattle.rank_search.specs.Candidates.{value_of, form_value, is_weak, is_fall, never_rises, falls, ranks_by, multiple_of, IsOneFound, IsSumFound, NoneOfPair, NoneWithOne, NoOne, NoSum, falling_form, NoFall};
+ghost use Rattle.rank_search.specs.Candidates.{value_of, form_value, is_weak, is_fall, never_rises, falls, ranks_by, multiple_of};
+ghost use Rattle.rank_search.specs.Candidates.{IsOneFound, IsSumFound, NoneOfPair, NoneWithOne, NoOne, NoSum, falling_form, NoFall};
 ghost use Rattle.rank_search.specs.Plain.{IsMultiple};
 
 use list_views::Seq;
@@ -158,8 +159,11 @@ fn with_times(
     times: &i64,
     other: usize,
 ) -> Result<Option<Candidate>, AllocError>
-    ensures some { IfOk result (λ found. IfSome found (λ form. (form.one ≡ one) × (form.times ≡ times.now) × (form.other ≡ other) × IsMultiple form.more × (ranks_by form table.now ≡ true))) }
-    ensures none { IfOk result (λ found. found ≡ None → (k : ℕ) → k < 8 → ranks_by (record { one = one; times = times.now; other = other; more = multiple_of k }) table.now ≡ false) }
+    ensures some { IfOk result
+        (λ found. IfSome found (λ form. (form.one ≡ one) × (form.times ≡ times.now) × (form.other ≡ other) × IsMultiple form.more
+        × (ranks_by form table.now ≡ true))) }
+    ensures none { IfOk result (λ found. found ≡ None → (k : ℕ) → k < 8
+        → ranks_by (record { one = one; times = times.now; other = other; more = multiple_of k }) table.now ≡ false) }
 {
     for k in 0..8 {
         let form = Candidate {
@@ -181,7 +185,9 @@ fn of_pair(
     one: usize,
     other: usize,
 ) -> Result<Option<Candidate>, AllocError>
-    ensures some { IfOk result (λ found. IfSome found (λ form. (form.one ≡ one) × IsMultiple form.times × (form.other ≡ other) × IsMultiple form.more × (ranks_by form table.now ≡ true))) }
+    ensures some { IfOk result
+        (λ found. IfSome found (λ form. (form.one ≡ one) × IsMultiple form.times × (form.other ≡ other) × IsMultiple form.more
+        × (ranks_by form table.now ≡ true))) }
     ensures none { IfOk result (λ found. found ≡ None → NoneOfPair table.now one other 8) }
 {
     for n in 0..8 {
@@ -200,7 +206,9 @@ fn with_one(
     one: usize,
     count: usize,
 ) -> Result<Option<Candidate>, AllocError>
-    ensures some { IfOk result (λ found. IfSome found (λ form. (form.one ≡ one) × IsMultiple form.times × (form.other < count) × IsMultiple form.more × (ranks_by form table.now ≡ true))) }
+    ensures some { IfOk result
+        (λ found. IfSome found (λ form. (form.one ≡ one) × IsMultiple form.times × (form.other < count) × IsMultiple form.more
+        × (ranks_by form table.now ≡ true))) }
     ensures none { IfOk result (λ found. found ≡ None → NoneWithOne table.now one count) }
 {
     for other in 0..count {
@@ -240,8 +248,11 @@ fn unit_of(number: u32) -> i64
 
 /// The int at a place, or its negative, if that ranks the rules.
 fn of_one(table: &[Seq<Option<i64>>], one: usize) -> Result<Option<Candidate>, AllocError>
-    ensures some { IfOk result (λ found. IfSome found (λ form. (form.one ≡ one) × (unsigned_abs form.times ≡ 1) × (form.other ≡ one) × (form.more ≡ pos 0) × (ranks_by form table.now ≡ true))) }
-    ensures none { IfOk result (λ found. found ≡ None → (n : ℕ) → n < 2 → ranks_by (record { one = one; times = multiple_of n; other = one; more = pos 0 }) table.now ≡ false) }
+    ensures some { IfOk result
+        (λ found. IfSome found (λ form. (form.one ≡ one) × (unsigned_abs form.times ≡ 1) × (form.other ≡ one)
+        × (form.more ≡ pos 0) × (ranks_by form table.now ≡ true))) }
+    ensures none { IfOk result (λ found. found ≡ None → (n : ℕ) → n < 2
+        → ranks_by (record { one = one; times = multiple_of n; other = one; more = pos 0 }) table.now ≡ false) }
 {
     for n in 0..2 {
         let form = Candidate {
@@ -281,7 +292,9 @@ pub(crate) fn first_falling(
     strict: &[Seq<Option<i64>>],
     count: usize,
 ) -> Result<Option<usize>, AllocError>
-    ensures some { IfOk result (λ found. IfSome found (λ one. (one < count) × ((never_rises (falling_form one) weak.now && falls (falling_form one) strict.now) ≡ true))) }
+    ensures some { IfOk result
+        (λ found. IfSome found
+        (λ one. (one < count) × ((never_rises (falling_form one) weak.now && falls (falling_form one) strict.now) ≡ true))) }
     ensures none { IfOk result (λ found. found ≡ None → NoFall weak.now strict.now count) }
 {
     for one in 0..count {

@@ -1,5 +1,6 @@
 -- Lists of ties that lead to greater numbers.
-use Rattle.std.proofs.Common.{◌≡◌, ◌⊎◌, inl, inr, ℕ, zero, suc, ◌<◌, Bool, true, false, cond, List, [], ◌∷◌, ◌++◌, ℤ, Some, None, subst, arith, refl, sym, IsPermutation}
+use Rattle.std.proofs.Common.{◌≡◌, ◌⊎◌, inl, inr, ℕ, zero, suc, ◌<◌, Bool, true, false, cond, List, [], ◌∷◌, ◌++◌, ℤ, Some, None}
+use Rattle.std.proofs.Common.{subst, arith, refl, sym, IsPermutation}
 use Rattle.std.specs.Prelude.{nat_lt, slice_get}
 use Rattle.std.specs.List.{All}
 use Rattle.std.proofs.lemmas.Bool.{lt-ltb, ltb-true}
@@ -35,7 +36,8 @@ rising_cases true tie h = (h refl, tt)
 rising_cases false tie h = tt
 
 pub one_rises : (from to : ℕ) (by : ℤ) (row : ℕ) (back : Bool) → Rises (rising_tie from to by row back)
-one_rises from to by row back = rising_cases (nat_lt from to) (record { link = record { from = from; to = to; by = by }; row = row; back = back; beside = None }) (λ e. ltb-true from to e)
+one_rises from to by row back = rising_cases (nat_lt from to)
+    (record { link = record { from = from; to = to; by = by }; row = row; back = back; beside = None }) (λ e. ltb-true from to e)
 
 pub chosen_rise : (test : Bool) (a b : List Tie) → Rises a → Rises b → Rises (cond test a b)
 chosen_rise true a b h k = h
@@ -54,12 +56,15 @@ in_rising false tie link e same = absurd (cc)
 link_is : (link : Link) → ◌≡◌ {A = Link} (record { from = link.from; to = link.to; by = link.by }) link
 link_is link = refl
 
-pub rising_in : (from to : ℕ) (by : ℤ) (row : ℕ) (back : Bool) (link : Link) → link.from < link.to → from ≡ link.from → to ≡ link.to → by ≡ link.by → InTies (rising_tie from to by row back) link
+pub rising_in : (from to : ℕ) (by : ℤ) (row : ℕ) (back : Bool) (link : Link) → link.from < link.to → from ≡ link.from → to ≡ link.to
+    → by ≡ link.by → InTies (rising_tie from to by row back) link
 rising_in from to by row back link less e f g =
     subst (λ (x : ℕ). InTies (rising_tie x to by row back) link) (sym e)
     (subst (λ (x : ℕ). InTies (rising_tie link.from x by row back) link) (sym f)
     (subst (λ (x : ℤ). InTies (rising_tie link.from link.to x row back) link) (sym g)
-    (in_rising (nat_lt link.from link.to) (record { link = record { from = link.from; to = link.to; by = link.by }; row = row; back = back; beside = None }) link (lt-ltb link.from link.to less) (link_is link))))
+    (in_rising (nat_lt link.from link.to)
+    (record { link = record { from = link.from; to = link.to; by = link.by }; row = row; back = back; beside = None }) link
+    (lt-ltb link.from link.to less) (link_is link))))
 
 -- in another order the links are the same
 each_in : (ties all : List Tie) → ((link : Link) → InTies ties link → InTies all link) → All (λ (tie : Tie). InTies all tie.link) ties
@@ -76,7 +81,9 @@ in_all (tie ∷ rest) all link each h = elim h as (λ o. InTies all link) [
 
 pub moved_in : (before after : List Tie) (link : Link) → IsPermutation before after → InTies before link → InTies after link
 moved_in before after link moves h =
-    in_all before after link (All-permutation (λ (tie : Tie). InTies after tie.link) after before (IsPermutation-sym before after moves) (each_in after after (λ other i. i))) h
+    in_all before after link
+    (All-permutation (λ (tie : Tie). InTies after tie.link) after before (IsPermutation-sym before after moves)
+    (each_in after after (λ other i. i))) h
 
 pub moved_rise : (before after : List Tie) → IsPermutation before after → Rises before → AreRising after
 moved_rise before after moves h = All-permutation (λ (tie : Tie). tie.link.from < tie.link.to) before after moves (all_rise before h)
@@ -88,14 +95,17 @@ pub record IsRising (from to : ℕ) (by : ℤ) (link : Link) : Type 0 where
   pub ends : link.to ≡ to
   pub adds : link.by ≡ by
 
-rising_is_cases : (test : Bool) (from to : ℕ) (by : ℤ) (row : ℕ) (back : Bool) (link : Link) → nat_lt from to ≡ test → InTies (cond test (record { link = record { from = from; to = to; by = by }; row = row; back = back; beside = None } ∷ []) []) link → IsRising from to by link
+rising_is_cases : (test : Bool) (from to : ℕ) (by : ℤ) (row : ℕ) (back : Bool) (link : Link) → nat_lt from to ≡ test
+    → InTies (cond test (record { link = record { from = from; to = to; by = by }; row = row; back = back; beside = None } ∷ []) [])
+    link → IsRising from to by link
 rising_is_cases false from to by row back link e h = absurd h
 rising_is_cases true from to by row back link e h = elim h as (λ o. IsRising from to by link) [
   | inl s ↦ subst (λ (l : Link). IsRising from to by l) s (record { less = ltb-true from to e; starts = refl; ends = refl; adds = refl })
   | inr r ↦ absurd r
 ]
 
-pub rising_is : (from to : ℕ) (by : ℤ) (row : ℕ) (back : Bool) (link : Link) → InTies (rising_tie from to by row back) link → IsRising from to by link
+pub rising_is : (from to : ℕ) (by : ℤ) (row : ℕ) (back : Bool) (link : Link) → InTies (rising_tie from to by row back) link
+    → IsRising from to by link
 rising_is from to by row back link h = rising_is_cases (nat_lt from to) from to by row back link refl h
 
 pub in_cases : (a b : List Tie) (link : Link) → InTies (a ++ b) link → InTies a link ⊎ InTies b link

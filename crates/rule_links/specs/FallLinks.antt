@@ -19,14 +19,16 @@ lower false link = link.to
 
 -- the row is upper - lower - k and nothing else
 pub record SaysFall (negative : Bool) (row : WRow) (link : Link) (by : ℤ) : Type 0 where
-  pub terms : (row.terms ≡ (upper negative link, pos 1) ∷ (lower negative link, negsuc 0) ∷ []) ⊎ (row.terms ≡ (lower negative link, negsuc 0) ∷ (upper negative link, pos 1) ∷ [])
+  pub terms : (row.terms ≡ (upper negative link, pos 1) ∷ (lower negative link, negsuc 0) ∷ [])
+      ⊎ (row.terms ≡ (lower negative link, negsuc 0) ∷ (upper negative link, pos 1) ∷ [])
   pub constant : row.constant +ℤ by ≡ pos 0
   pub weights : row.weights ≡ []
 
 -- an equation says so too where it is taken with -1
 pub record SaysBack (negative : Bool) (row : WRow) (link : Link) (by : ℤ) : Type 0 where
   pub equation : row.kind ≡ IsZero
-  pub terms : (row.terms ≡ (upper negative link, negsuc 0) ∷ (lower negative link, pos 1) ∷ []) ⊎ (row.terms ≡ (lower negative link, pos 1) ∷ (upper negative link, negsuc 0) ∷ [])
+  pub terms : (row.terms ≡ (upper negative link, negsuc 0) ∷ (lower negative link, pos 1) ∷ [])
+      ⊎ (row.terms ≡ (lower negative link, pos 1) ∷ (upper negative link, negsuc 0) ∷ [])
   pub constant : row.constant ≡ by
   pub weights : row.weights ≡ []
 

@@ -1,5 +1,7 @@
 -- Words for the functions of this crate and of those above: links to variables of greater numbers, and the greatest falls.
-use Rattle.std.specs.Prelude.{ℕ, suc, ℤ, pos, negsuc, ◌≡◌, ◌⊎◌, ◌<◌, ◌+ℤ◌, ◌-ℤ◌, ◌≤ℤ◌, ◌==◌, ◌&&◌, ◌||◌, ◌++◌, Bool, true, false, List, [], ◌∷◌, Option, Some, None, if◌then◌else◌, slice_get, slice_set, get_or, nat_lt, int_lt, length}
+use Rattle.std.specs.Prelude.{ℕ, suc, ℤ, pos, negsuc, ◌≡◌, ◌⊎◌, ◌<◌, ◌+ℤ◌, ◌-ℤ◌, ◌≤ℤ◌, ◌==◌, ◌&&◌, ◌||◌, ◌++◌, Bool, true, false}
+use Rattle.std.specs.Prelude.{List, [], ◌∷◌, Option, Some, None, if◌then◌else◌, slice_get, slice_set, get_or, nat_lt, int_lt}
+use Rattle.std.specs.Prelude.{length}
 use Rattle.std.specs.List.{All, list_any}
 use Rattle.std.specs.Ordering.{int_eq}
 use Rattle.lin_core.specs.Rows.{coefficient_of}
@@ -24,7 +26,9 @@ is_more (Some come) sum low = int_lt come.by sum && low
 
 abbrev pub raised_by : Option Come → Tie → Known → Known
 raised_by None tie known = known
-raised_by (Some come) tie known = if is_more (get_or known tie.link.to None) (come.by +ℤ tie.link.by) (nat_lt tie.link.to (length known)) then slice_set known tie.link.to (Some (record { by = come.by +ℤ tie.link.by; last = Some tie })) else known
+raised_by (Some come) tie known = if is_more (get_or known tie.link.to None) (come.by +ℤ tie.link.by)
+    (nat_lt tie.link.to (length known)) then slice_set known tie.link.to
+    (Some (record { by = come.by +ℤ tie.link.by; last = Some tie })) else known
 
 abbrev pub raised : Tie → Known → Known
 raised tie known = raised_by (get_or known tie.link.from None) tie known
@@ -40,15 +44,18 @@ IsAtLeast (Some come) by = by ≤ℤ come.by
 
 -- each list of links from the first variable adds up to at most what is known of its end
 abbrev pub IsGreatest : List Tie → ℕ → Known → Type 0
-IsGreatest ties first known = (links : List Link) (variable : ℕ) → IsWay (InTies ties) first links variable → IsAtLeast (get_or known variable None) (total links)
+IsGreatest ties first known = (links : List Link) (variable : ℕ) → IsWay (InTies ties) first links variable
+    → IsAtLeast (get_or known variable None) (total links)
 
 -- by the last of the ties that lead to a variable, if there is one, it is as much more as the one before says
 abbrev pub ComesBy : List Tie → ℕ → Known → ℕ → ℤ → Option Tie → Type 0
 ComesBy ties first known variable by None = (variable ≡ first) × (by ≡ pos 0)
-ComesBy ties first known variable by (Some tie) = (k : ℕ) × (slice_get ties k ≡ Some tie) × (tie.link.to ≡ variable) × (come : Come) × (get_or known tie.link.from None ≡ Some come) × (by ≡ come.by +ℤ tie.link.by)
+ComesBy ties first known variable by (Some tie) = (k : ℕ) × (slice_get ties k ≡ Some tie) × (tie.link.to ≡ variable) × (come : Come)
+    × (get_or known tie.link.from None ≡ Some come) × (by ≡ come.by +ℤ tie.link.by)
 
 abbrev pub AreLinked : List Tie → ℕ → Known → Type 0
-AreLinked ties first known = (variable : ℕ) (come : Come) → get_or known variable None ≡ Some come → ComesBy ties first known variable come.by come.last
+AreLinked ties first known = (variable : ℕ) (come : Come) → get_or known variable None ≡ Some come
+    → ComesBy ties first known variable come.by come.last
 
 -- and what is known of a variable is what links add up to
 pub record IsLongest (ties : List Tie) (first : ℕ) (known : Known) : Type 0 where
@@ -58,7 +65,8 @@ pub record IsLongest (ties : List Tie) (first : ℕ) (known : Known) : Type 0 wh
 
 -- a link to a variable of a greater number
 abbrev pub rising_tie : ℕ → ℕ → ℤ → ℕ → Bool → List Tie
-rising_tie from to by row back = if nat_lt from to then record { link = record { from = from; to = to; by = by }; row = row; back = back; beside = None } ∷ [] else []
+rising_tie from to by row back = if nat_lt from to then record
+    { link = record { from = from; to = to; by = by }; row = row; back = back; beside = None } ∷ [] else []
 
 -- the two variables of a row of two terms with the coefficients 1 and -1, that with 1 first
 abbrev pub order_in : List (ℕ × ℤ) → Option (ℕ × ℕ)
@@ -107,7 +115,8 @@ back_ties None k row = []
 back_ties (Some order) k row = rising_tie order.1 order.0 k row true
 
 abbrev pub size_row_ties : List WRow → ℕ → WRow → List Tie
-size_row_ties rows n row = if is_inequality row.kind then [] else given_ties rows (pos 0 -ℤ size_constant row) n row.terms row.terms ++ back_ties (order_in row.terms) (size_constant row) n
+size_row_ties rows n row = if is_inequality row.kind then [] else given_ties rows (pos 0 -ℤ size_constant row) n row.terms row.terms
+    ++ back_ties (order_in row.terms) (size_constant row) n
 
 abbrev pub size_ties_from : List WRow → ℕ → List WRow → List Tie
 size_ties_from rows n [] = []
@@ -122,10 +131,12 @@ led negative order = if negative then order.0 else order.1
 
 abbrev pub fall_links : Bool → Bool → Option (ℕ × ℕ) → ℤ → ℕ → List Tie
 fall_links negative inequality None k row = []
-fall_links negative inequality (Some order) k row = rising_tie (leading negative order) (led negative order) (pos 0 -ℤ k) row false ++ (if inequality then [] else rising_tie (led negative order) (leading negative order) k row true)
+fall_links negative inequality (Some order) k row = rising_tie (leading negative order) (led negative order) (pos 0 -ℤ k) row false
+    ++ (if inequality then [] else rising_tie (led negative order) (leading negative order) k row true)
 
 abbrev pub fall_row_ties : Bool → ℕ → WRow → List Tie
-fall_row_ties negative n row = if has_none row.weights then fall_links negative (is_inequality row.kind) (order_in row.terms) row.constant n else []
+fall_row_ties negative n row = if has_none row.weights then fall_links negative (is_inequality row.kind) (order_in row.terms)
+    row.constant n else []
 
 abbrev pub fall_ties_from : Bool → ℕ → List WRow → List Tie
 fall_ties_from negative n [] = []
@@ -158,14 +169,17 @@ pub record TellsSteps (bounded negative : Bool) (rule : PathRule) (place : Place
 
 -- a list has what is told of each place, a table the list of each rule
 abbrev pub TellAll : (Place → Option ℤ → Type 0) → List Place → List (Option ℤ) → Type 0
-TellAll tells places told = (length told ≡ length places) × ((k : ℕ) (place : Place) → slice_get places k ≡ Some place → tells place (get_or told k None))
+TellAll tells places told = (length told ≡ length places)
+    × ((k : ℕ) (place : Place) → slice_get places k ≡ Some place → tells place (get_or told k None))
 
 abbrev pub IsTableOf : (PathRule → Place → Option ℤ → Type 0) → List PathRule → List Place → List (List (Option ℤ)) → Type 0
-IsTableOf tells rules places table = (length table ≡ length rules) × ((n : ℕ) (rule : PathRule) → slice_get rules n ≡ Some rule → TellAll (tells rule) places (get_or table n []))
+IsTableOf tells rules places table = (length table ≡ length rules)
+    × ((n : ℕ) (rule : PathRule) → slice_get rules n ≡ Some rule → TellAll (tells rule) places (get_or table n []))
 
 -- each place of the kind at which one variable stands alone is among the places
 abbrev pub ArePlaces : List SlotForm → Bool → List Place → Type 0
-ArePlaces slots size places = (place : Place) (variable : ℕ) → StandsAt slots size place variable → (k : ℕ) × (slice_get places k ≡ Some place)
+ArePlaces slots size places = (place : Place) (variable : ℕ) → StandsAt slots size place variable → (k : ℕ)
+    × (slice_get places k ≡ Some place)
 
 abbrev pub ArePlacesOf : List PathRule → Bool → List Place → Type 0
 ArePlacesOf rules size places = (rule : PathRule) → slice_get rules 0 ≡ Some rule → ArePlaces rule.first size places
@@ -185,7 +199,8 @@ places_at_start size (rule ∷ rest) = places_in size rule.first
 
 -- each list of links from the one end of a rule to the other adds up to at most what is told
 pub record TellsWays (size : Bool) (ties : List Tie) (rule : PathRule) (place : Place) (fall : Option ℤ) : Type 0 where
-  pub told : (start finish : ℕ) (links : List Link) → AreEnds rule size place start finish → IsWay (InTies ties) start links finish → IsFall fall (total links)
+  pub told : (start finish : ℕ) (links : List Link) → AreEnds rule size place start finish → IsWay (InTies ties) start links finish
+      → IsFall fall (total links)
   pub says : (c : ℤ) → fall ≡ Some c → (start : ℕ) × (finish : ℕ) × AreEnds rule size place start finish × IsReached ties start finish c
 
 -- a fall, where the start is bounded
@@ -217,8 +232,10 @@ pub record IsFallTie (negative : Bool) (rows : List WRow) (tie : Tie) : Type 0 w
 
 -- a row that gives the size of the link's start, or, taken back, one of two sizes
 abbrev pub SaysSize : List WRow → WRow → Bool → Link → Type 0
-SaysSize rows row false link = GivesSize rows row link.from × (coefficient_of link.to row.terms ≤ℤ negsuc 0) × (link.by +ℤ size_constant row ≡ pos 0)
-SaysSize rows row true link = ((row.terms ≡ (link.from, negsuc 0) ∷ (link.to, pos 1) ∷ []) ⊎ (row.terms ≡ (link.to, pos 1) ∷ (link.from, negsuc 0) ∷ [])) × (link.by ≡ size_constant row)
+SaysSize rows row false link = GivesSize rows row link.from × (coefficient_of link.to row.terms ≤ℤ negsuc 0)
+    × (link.by +ℤ size_constant row ≡ pos 0)
+SaysSize rows row true link = ((row.terms ≡ (link.from, negsuc 0) ∷ (link.to, pos 1) ∷ [])
+    ⊎ (row.terms ≡ (link.to, pos 1) ∷ (link.from, negsuc 0) ∷ [])) × (link.by ≡ size_constant row)
 
 -- a tie with its row
 pub record IsSizeTie (rows : List WRow) (tie : Tie) : Type 0 where

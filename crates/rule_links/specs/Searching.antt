@@ -1,5 +1,7 @@
 -- Words for the functions of this crate and of those above: how the links of a path are found.
-use Rattle.std.specs.Prelude.{ℕ, zero, suc, ℤ, replicate, pos, negsuc, ◌≡◌, ◌⊎◌, ◌<◌, ◌+ℤ◌, ◌-ℤ◌, ◌*ℤ◌, ◌==◌, ◌&&◌, ◌++◌, Bool, true, false, List, [], ◌∷◌, Option, Some, None, if◌then◌else◌, slice_get, slice_set, get_or, nat_lt, is_none, sum_by, ◌||◌, length}
+use Rattle.std.specs.Prelude.{ℕ, zero, suc, ℤ, replicate, pos, negsuc, ◌≡◌, ◌⊎◌, ◌<◌, ◌+ℤ◌, ◌-ℤ◌, ◌*ℤ◌, ◌==◌, ◌&&◌, ◌++◌, Bool}
+use Rattle.std.specs.Prelude.{true, false, List, [], ◌∷◌, Option, Some, None, if◌then◌else◌, slice_get, slice_set, get_or, nat_lt}
+use Rattle.std.specs.Prelude.{is_none, sum_by, ◌||◌, length}
 use Rattle.std.specs.List.{All}
 use Rattle.std.specs.Ordering.{int_eq}
 use Rattle.lin_core.specs.declared.rows.RowKind.{RowKind}
@@ -74,7 +76,8 @@ constant_at (Some row) = Some row.constant
 
 -- of two terms the one with the coefficient 1 and the one with -1
 abbrev pub order_of : ℕ × ℤ → ℕ × ℤ → Option (ℕ × ℕ)
-order_of one other = if int_eq one.1 (pos 1) && int_eq other.1 (negsuc 0) then Some (one.0, other.0) else (if int_eq one.1 (negsuc 0) && int_eq other.1 (pos 1) then Some (other.0, one.0) else None)
+order_of one other = if int_eq one.1 (pos 1) && int_eq other.1 (negsuc 0) then Some (one.0, other.0) else
+    (if int_eq one.1 (negsuc 0) && int_eq other.1 (pos 1) then Some (other.0, one.0) else None)
 
 -- the links of an equation plus - minus + k = 0, there and back
 abbrev pub both_ways : ℕ → ℕ → ℤ → ℕ → Option Beside → List Tie
@@ -90,7 +93,8 @@ ties_of (Some order) k row beside = both_ways order.0 order.1 k row beside
 -- the same where a third term's variable is a number
 abbrev pub ties_at : Option ℤ → ℕ × ℕ → ℕ × ℤ → ℕ × ℤ → ℕ × ℤ → ℤ → ℕ → List Tie
 ties_at None rows third one other k row = []
-ties_at (Some number) rows third one other k row = ties_of (order_of one other) (k +ℤ third.1 *ℤ number) row (Some (record { least = rows.0; most = rows.1; times = third.1 }))
+ties_at (Some number) rows third one other k row = ties_of (order_of one other) (k +ℤ third.1 *ℤ number) row
+    (Some (record { least = rows.0; most = rows.1; times = third.1 }))
 
 abbrev pub ties_beside : List WRow → Option (ℕ × ℕ) → ℕ × ℤ → ℕ × ℤ → ℕ × ℤ → ℤ → ℕ → List Tie
 ties_beside rows None third one other k row = []
@@ -107,7 +111,8 @@ terms_ties rows (a ∷ b ∷ c ∷ []) k row = beside_ties rows a b c k row ++ (
 terms_ties rows (a ∷ b ∷ c ∷ d ∷ rest) k row = []
 
 abbrev pub row_ties : List WRow → ℕ → WRow → List Tie
-row_ties rows n row = if is_inequality row.kind then [] else (if has_none row.weights then terms_ties rows row.terms row.constant n else [])
+row_ties rows n row = if is_inequality row.kind then [] else
+    (if has_none row.weights then terms_ties rows row.terms row.constant n else [])
 
 -- the ties of all rows, which are counted from n
 abbrev pub ties_from : List WRow → ℕ → List WRow → List Tie
@@ -132,7 +137,8 @@ by_of None = pos 0
 by_of (Some come) = come.by
 
 abbrev pub step : Tie → Known → Known
-step tie known = if moves tie known then slice_set known tie.link.to (Some (record { by = by_of (get_or known tie.link.from None) +ℤ tie.link.by; last = Some tie })) else known
+step tie known = if moves tie known then slice_set known tie.link.to
+    (Some (record { by = by_of (get_or known tie.link.from None) +ℤ tie.link.by; last = Some tie })) else known
 
 -- all ties, one after another
 abbrev pub relaxed : List Tie → Known → Known
@@ -234,7 +240,9 @@ pub record TellsChange (rule : PathRule) (place : Place) (change : Option ℤ) :
 
 -- the same for a list of places, and for each of the rules
 abbrev pub TellChanges : PathRule → List Place → List (Option ℤ) → Type 0
-TellChanges rule places changes = (length changes ≡ length places) × ((k : ℕ) (place : Place) → slice_get places k ≡ Some place → TellsChange rule place (get_or changes k None))
+TellChanges rule places changes = (length changes ≡ length places)
+    × ((k : ℕ) (place : Place) → slice_get places k ≡ Some place → TellsChange rule place (get_or changes k None))
 
 abbrev pub IsTable : List PathRule → List Place → List (List (Option ℤ)) → Type 0
-IsTable rules places table = (length table ≡ length rules) × ((n : ℕ) (rule : PathRule) → slice_get rules n ≡ Some rule → TellChanges rule places (get_or table n []))
+IsTable rules places table = (length table ≡ length rules)
+    × ((n : ℕ) (rule : PathRule) → slice_get rules n ≡ Some rule → TellChanges rule places (get_or table n []))

@@ -111,8 +111,10 @@ pub(crate) fn none_known(alloc: Global, count: usize) -> Result<Vec<Option<Come>
 ///
 /// Want of memory, which also answers a number of more than 64 bits.
 pub fn reach(alloc: Global, ties: &[Tie], first: u32) -> Result<Vec<Option<Come>>, AllocError>
-    ensures sound { IfOk result (λ known. (variable : ℕ) (come : Come) → get_or known.items variable None ≡ Some come → IsReached ties.now first variable come.by) }
-    ensures complete { IfOk result (λ known. (variable : ℕ) (by : ℤ) → IsReached ties.now first variable by → (come : Come) × (get_or known.items variable None ≡ Some come)) }
+    ensures sound { IfOk result (λ known. (variable : ℕ) (come : Come) → get_or known.items variable None ≡ Some come
+        → IsReached ties.now first variable come.by) }
+    ensures complete { IfOk result (λ known. (variable : ℕ) (by : ℤ) → IsReached ties.now first variable by → (come : Come)
+        × (get_or known.items variable None ≡ Some come)) }
     ensures finished { IfOk result (λ known. IsFinished ties.now first known.items) }
 {
     let mut known = none_known(alloc, span(ties, first))?;

@@ -5,7 +5,8 @@ ghost use Rattle.lin_core.specs.Weights.{AreRows};
 ghost use Rattle.rule_links.specs.declared.links.Link.{Link};
 ghost use Rattle.rule_links.specs.declared.links.Tie.{Tie};
 ghost use Rattle.rule_links.specs.SizeLinks.{IsSizeLink, weighed_once};
-ghost use Rattle.rule_links.specs.Rising.{AreRising, back_ties, gives, given_by, given_ties, has_zero, is_part, is_zero, order_in, part_ties, rising_tie, size_constant, size_row_ties, size_ties_from, IsSizeTie, zero_from};
+ghost use Rattle.rule_links.specs.Rising.{AreRising, back_ties, gives, given_by, given_ties, has_zero, is_part, is_zero, order_in};
+ghost use Rattle.rule_links.specs.Rising.{part_ties, rising_tie, size_constant, size_row_ties, size_ties_from, IsSizeTie, zero_from};
 ghost use Rattle.rule_links.specs.Searching.{InTies};
 
 use crate::links::{Link, Tie};
@@ -216,7 +217,9 @@ fn add_back(
 
 /// Adds the links that an equation says.
 fn add_equation(rows: &[WRow], n: usize, row: &WRow, ties: &mut Seq<Tie>) -> Result<(), AllocError>
-    ensures { OnOk result (ties.new ≡ ties.old ++ (given_ties rows.now (pos 0 -ℤ size_constant row.now) n row.now.terms row.now.terms ++ back_ties (order_in row.now.terms) (size_constant row.now) n)) }
+    ensures { OnOk result
+        (ties.new ≡ ties.old ++ (given_ties rows.now (pos 0 -ℤ size_constant row.now) n row.now.terms row.now.terms ++ back_ties
+        (order_in row.now.terms) (size_constant row.now) n)) }
 {
     let constant = size_constant(row)?;
     let Some(less) = negated(&constant) else {

@@ -3,7 +3,8 @@ ghost use Rattle.std.specs.Prelude.{All, ◌≡◌, ◌++◌, [], true, false, S
 ghost use Rattle.std.specs.List.Sorted.{IsNonDecreasingBy};
 ghost use Rattle.rule_links.specs.declared.links.Link.{Link};
 ghost use Rattle.rule_links.specs.declared.links.Tie.{Tie};
-ghost use Rattle.rule_links.specs.Rising.{IsFallTie, AreRising, bounds, fall_links, fall_row_ties, fall_ties_from, has_bound, leading, led, rising_tie};
+ghost use Rattle.rule_links.specs.Rising.{IsFallTie, AreRising, bounds, fall_links, fall_row_ties, fall_ties_from, has_bound};
+ghost use Rattle.rule_links.specs.Rising.{leading, led, rising_tie};
 ghost use Rattle.rule_links.specs.Searching.{InTies};
 ghost use Rattle.rule_links.specs.FallLinks.{IsFallLink};
 
@@ -38,7 +39,8 @@ fn add_again(
     row: usize,
     ties: &mut Seq<Tie>,
 ) -> Result<(), AllocError>
-    ensures { OnOk result (ties.new ≡ ties.old ++ (if inequality then [] else rising_tie (led negative order) (leading negative order) k.now row true)) }
+    ensures { OnOk result
+        (ties.new ≡ ties.old ++ (if inequality then [] else rising_tie (led negative order) (leading negative order) k.now row true)) }
 {
     if inequality {
         return Ok(());

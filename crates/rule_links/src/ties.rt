@@ -4,7 +4,9 @@ ghost use Rattle.std.specs.Int.{w64};
 ghost use Rattle.std.specs.Ordering.{int_eq};
 ghost use Rattle.rule_links.specs.declared.links.Link.{Link};
 ghost use Rattle.rule_links.specs.Links.{IsIntLink};
-ghost use Rattle.rule_links.specs.Searching.{is_inequality, is_alone, is_bound, is_opposite, most_from, most_of, fixed_from, constant_at, order_of, both_ways, ties_of, ties_at, beside_ties, terms_ties, row_ties, ties_from, InTies, Covers};
+ghost use Rattle.rule_links.specs.Searching.{is_inequality, is_alone, is_bound, is_opposite, most_from, most_of, fixed_from};
+ghost use Rattle.rule_links.specs.Searching.{constant_at, order_of, both_ways, ties_of, ties_at, beside_ties, terms_ties, row_ties};
+ghost use Rattle.rule_links.specs.Searching.{ties_from, InTies, Covers};
 
 use crate::links::{Beside, Link, Tie};
 use lin_core::{RowKind, WRow};
@@ -121,7 +123,8 @@ pub fn negated(number: &i64) -> Option<i64>
 
 /// A number and so many times another one, where both the product and the sum are numbers of 64 bits.
 pub fn with_times(number: &i64, times: &i64, other: &i64) -> Option<i64>
-    ensures { SomeIff result (FitsSigned w64 (times.now *ℤ other.now) × FitsSigned w64 (number.now +ℤ times.now *ℤ other.now)) (number.now +ℤ times.now *ℤ other.now) }
+    ensures { SomeIff result (FitsSigned w64 (times.now *ℤ other.now) × FitsSigned w64 (number.now +ℤ times.now *ℤ other.now))
+        (number.now +ℤ times.now *ℤ other.now) }
 {
     let product = times.checked_mul(*other)?;
     number.checked_add(product)

@@ -10,7 +10,11 @@ use Rattle.class_program.specs.declared.op.Op.{Op}
 use Rattle.class_program.specs.declared.op.Op.TheVariants as ops
 use Rattle.class_program.specs.Programs.{Program}
 use Rattle.op_forms.specs.Forms.{Form, form_of}
-use Rattle.op_forms.specs.Forms.Form.{Nop, AconstNull, Iconst, Iload, Aload, Istore, Astore, Iinc, Shuffle, Arith, Ineg, Narrow, If, IfIcmp, IfAcmpeq, IfAcmpne, Ifnull, Ifnonnull, Goto, Tableswitch, Lookupswitch, Ireturn, Areturn, Return, Getstatic, Putstatic, Getfield, Putfield, Invokevirtual, Invokespecial, Invokestatic, Invokeinterface, New, Newarray, Anewarray, Arraylength, NumberLoad, Aaload, NumberStore, Aastore, Athrow, Checkcast, Instanceof}
+use Rattle.op_forms.specs.Forms.Form.{Nop, AconstNull, Iconst, Iload, Aload, Istore, Astore, Iinc, Shuffle, Arith, Ineg, Narrow, If}
+use Rattle.op_forms.specs.Forms.Form.{IfIcmp, IfAcmpeq, IfAcmpne, Ifnull, Ifnonnull, Goto, Tableswitch, Lookupswitch, Ireturn}
+use Rattle.op_forms.specs.Forms.Form.{Areturn, Return, Getstatic, Putstatic, Getfield, Putfield, Invokevirtual, Invokespecial}
+use Rattle.op_forms.specs.Forms.Form.{Invokestatic, Invokeinterface, New, Newarray, Anewarray, Arraylength, NumberLoad, Aaload}
+use Rattle.op_forms.specs.Forms.Form.{NumberStore, Aastore, Athrow, Checkcast, Instanceof}
 use Rattle.op_forms.specs.Widths.{IsFormInWidth}
 use Rattle.op_forms.proofs.Widths.{increment_int}
 use Rattle.op_forms.proofs.Plain.{is_of_two, is_plain, plain_forms}
@@ -23,7 +27,9 @@ use Rattle.access_steps.proofs.Arrays.{numbers_made, references_made, number_rea
 use Rattle.object_steps.proofs.Calls.{static_called, special_called, selecting_called}
 use Rattle.object_steps.proofs.Casts.{cast_checked, type_tested}
 use Rattle.frame_steps.proofs.IntSteps.{is_operator}
-use Rattle.frame_steps.proofs.Moves.{nothing_done, pushed_null, constant, load_int, load_reference, store_int, store_reference, increment, shuffle, arithmetic, negation, narrowing, comparing_zero, comparing, jumping, table_switching, lookup_switching}
+use Rattle.frame_steps.proofs.Moves.{nothing_done, pushed_null, constant, load_int, load_reference, store_int, store_reference}
+use Rattle.frame_steps.proofs.Moves.{increment, shuffle, arithmetic, negation, narrowing, comparing_zero, comparing, jumping}
+use Rattle.frame_steps.proofs.Moves.{table_switching, lookup_switching}
 use Rattle.object_steps.proofs.Objects.{field_read, length_taken, thrown, made}
 use Rattle.frame_steps.proofs.Returns.{int_returned, reference_returned, nothing_returned}
 use Rattle.access_steps.proofs.Fields.{field_put}
@@ -64,8 +70,10 @@ op_of_two (ops.Anewarray x) operator e = absurd cc
 op_of_two (ops.Checkcast x) operator e = absurd cc
 op_of_two (ops.Instanceof x) operator e = absurd cc
 
-module _ (p : Program) (typing : ℕ → CodeTypes) (state : AbstractState) (machine : MachineState) (meaning : Meaning) (s : Stands p typing state machine meaning) (widths : IsFormInWidth s.form) where
-  is_effect : (f : Form) → s.form ≡ f → effect_of p s.method s.form (Work_ p typing state machine meaning s) ≡ effect_of p s.method f (Work_ p typing state machine meaning s)
+module _ (p : Program) (typing : ℕ → CodeTypes) (state : AbstractState) (machine : MachineState) (meaning : Meaning)
+    (s : Stands p typing state machine meaning) (widths : IsFormInWidth s.form) where
+  is_effect : (f : Form) → s.form ≡ f → effect_of p s.method s.form (Work_ p typing state machine meaning s) ≡ effect_of p s.method
+      f (Work_ p typing state machine meaning s)
   is_effect f e = ap (λ (g : Form). effect_of p s.method g (Work_ p typing state machine meaning s)) e
 
   types_of_form : (f : Form) → s.form ≡ f → types_after p s.method f s.there ≡ Some s.after
@@ -82,9 +90,11 @@ module _ (p : Program) (typing : ℕ → CodeTypes) (state : AbstractState) (mac
   covered (Aload n) e = load_reference p typing state machine meaning s n (types_of_form (Aload n) e) (is_effect (Aload n) e)
   covered (Istore n) e = store_int p typing state machine meaning s n (is_effect (Istore n) e)
   covered (Astore n) e = store_reference p typing state machine meaning s n (is_effect (Astore n) e)
-  covered (Iinc n by) e = increment p typing state machine meaning s n by (increment_int by (subst IsFormInWidth e widths)) (types_of_form (Iinc n by) e) (is_effect (Iinc n by) e)
+  covered (Iinc n by) e = increment p typing state machine meaning s n by (increment_int by (subst IsFormInWidth e widths))
+      (types_of_form (Iinc n by) e) (is_effect (Iinc n by) e)
   covered (Shuffle shuffle_) e = shuffle p typing state machine meaning s shuffle_ (is_effect (Shuffle shuffle_) e)
-  covered (Arith o) e = arithmetic p typing state machine meaning s o (op_of_two s.op o (s.runs.is_form ∙ ap Some e)) (is_effect (Arith o) e)
+  covered (Arith o) e = arithmetic p typing state machine meaning s o (op_of_two s.op o (s.runs.is_form ∙ ap Some e))
+      (is_effect (Arith o) e)
   covered Ineg e = negation p typing state machine meaning s (is_effect Ineg e)
   covered (Narrow kind) e = narrowing p typing state machine meaning s kind (is_effect (Narrow kind) e)
   covered (If condition place) e = comparing_zero p typing state machine meaning s condition place (is_effect (If condition place) e)
@@ -94,8 +104,10 @@ module _ (p : Program) (typing : ℕ → CodeTypes) (state : AbstractState) (mac
   covered (Ifnull place) e = null_test p typing state machine meaning s true place (is_effect (Ifnull place) e)
   covered (Ifnonnull place) e = null_test p typing state machine meaning s false place (is_effect (Ifnonnull place) e)
   covered (Goto place) e = jumping p typing state machine meaning s place (is_effect (Goto place) e)
-  covered (Tableswitch default low targets) e = table_switching p typing state machine meaning s default low targets (is_effect (Tableswitch default low targets) e)
-  covered (Lookupswitch default cases) e = lookup_switching p typing state machine meaning s default cases (is_effect (Lookupswitch default cases) e)
+  covered (Tableswitch default low targets) e = table_switching p typing state machine meaning s default low targets
+      (is_effect (Tableswitch default low targets) e)
+  covered (Lookupswitch default cases) e = lookup_switching p typing state machine meaning s default cases
+      (is_effect (Lookupswitch default cases) e)
   covered Ireturn e = int_returned p typing state machine meaning s (is_effect Ireturn e)
   covered Areturn e = reference_returned p typing state machine meaning s (is_effect Areturn e)
   covered Return e = nothing_returned p typing state machine meaning s (is_effect Return e)
@@ -103,10 +115,12 @@ module _ (p : Program) (typing : ℕ → CodeTypes) (state : AbstractState) (mac
   covered (Putstatic place) e = static_put p typing state machine meaning s place (is_effect (Putstatic place) e)
   covered (Getfield used) e = field_read p typing state machine meaning s used (is_effect (Getfield used) e)
   covered (Putfield used) e = field_put p typing state machine meaning s used (named_as (Putfield used) e) (is_effect (Putfield used) e)
-  covered (Invokevirtual call) e = selecting_called p typing state machine meaning s (ops.Invokevirtual call) call (is_effect (Invokevirtual call) e)
+  covered (Invokevirtual call) e = selecting_called p typing state machine meaning s (ops.Invokevirtual call) call
+      (is_effect (Invokevirtual call) e)
   covered (Invokespecial call) e = special_called p typing state machine meaning s call (is_effect (Invokespecial call) e)
   covered (Invokestatic call) e = static_called p typing state machine meaning s call (is_effect (Invokestatic call) e)
-  covered (Invokeinterface call) e = selecting_called p typing state machine meaning s (ops.Invokeinterface call) call (is_effect (Invokeinterface call) e)
+  covered (Invokeinterface call) e = selecting_called p typing state machine meaning s (ops.Invokeinterface call) call
+      (is_effect (Invokeinterface call) e)
   covered (New t) e = made p typing state machine meaning s t (named_as (New t) e) (is_effect (New t) e)
   covered (Newarray kind) e = numbers_made p typing state machine meaning s kind (is_effect (Newarray kind) e)
   covered (Anewarray t) e = references_made p typing state machine meaning s t (named_as (Anewarray t) e) (is_effect (Anewarray t) e)

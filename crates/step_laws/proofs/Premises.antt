@@ -22,12 +22,19 @@ plain_none (cells.Unk bound nullable shape) plain = absurd plain
 
 pub fresh_ids : ValuesGoOn → FreshIdsGoOn
 fresh_ids values types state child machine meaning id cell value formed fits plain described fresh given =
-    values types state child machine meaning id cell value formed fits (plain_none cell plain) described (All-head (λ (k : ℕ). cell_at state k ≡ None) id [] fresh.free) given
+    values types state child machine meaning id cell value formed fits (plain_none cell plain) described
+    (All-head (λ (k : ℕ). cell_at state k ≡ None) id [] fresh.free) given
 
 pub sizes_kept : DroppedIdsKeepSizes → DroppedKeepSized
 sizes_kept alike whole part id dropped own sized =
     let same = alike whole part id dropped own in
-    record { finite = same.finite.0 sized.finite; pattern = sized.pattern; is = (same.pattern sized.pattern).0 sized.is; small = sized.small }
+    record {
+      finite = same.finite.0 sized.finite;
+      pattern = sized.pattern;
+      is = (same.pattern sized.pattern).0 sized.is;
+      small =
+          sized.small;
+    }
 
 pub throwables_erased : ((world : World) → IsWorld world → HasNoInterfacesBelow world) → (p : Program) → IsClosed p → AreThrowablesErased p
 throwables_erased below p closed t e = (below p.world closed.known).throwable_type t e

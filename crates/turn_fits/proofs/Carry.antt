@@ -25,7 +25,8 @@ use Rattle.turn_fits.proofs.Fitted.{FitsBy, fits_given}
 use Rattle.turn_fits.proofs.SameTerms.{size_kept}
 
 -- what holds of each id and cell of a list
-pub in_list : (P : ℕ → Cell → Type 0) (list : List (ℕ × Cell)) (k : ℕ) (cell : Cell) → AllByRecursion (λ (c : ℕ × Cell). P c.0 c.1) list → cell_in list k ≡ Some cell → P k cell
+pub in_list : (P : ℕ → Cell → Type 0) (list : List (ℕ × Cell)) (k : ℕ) (cell : Cell)
+    → AllByRecursion (λ (c : ℕ × Cell). P c.0 c.1) list → cell_in list k ≡ Some cell → P k cell
 in_list P [] k cell all e = absurd (none-some cell e)
 in_list P (c ∷ list) k cell all e = elim (cases_Bool (eqb c.0 k)) [
   | inl t ↦
@@ -48,14 +49,18 @@ pub alike_itself : (state : AbstractState) (id : ℕ) (c : Cell) → cell_at sta
 alike_itself state id c e = record { old = c; is = e; known = refl; hazy = refl; shape = refl; int = refl; variable = refl }
 
 -- a cell of a list, or of the state
-pub alike_of : (state : AbstractState) (list : List (ℕ × Cell)) → AllByRecursion (λ (c : ℕ × Cell). IsAlike state c.0 c.1) list → (id : ℕ) (c : Cell) → with_cells list state id ≡ Some c → IsAlike state id c
+pub alike_of : (state : AbstractState) (list : List (ℕ × Cell)) → AllByRecursion (λ (c : ℕ × Cell). IsAlike state c.0 c.1) list
+    → (id : ℕ) (c : Cell) → with_cells list state id ≡ Some c → IsAlike state id c
 alike_of state list all id c e = at (cell_in list id) refl e
   where
     at : (o : Option Cell) → cell_in list id ≡ o → first_cell o (cell_at state id) ≡ Some c → IsAlike state id c
     at None f g = alike_itself state id c g
     at (Some d) f g = in_list (IsAlike state) list id c all (f ∙ g)
 
-pub described_of : (types : WorldTypes) (heap : Heap) (m : Meaning) (state : AbstractState) (list : List (ℕ × Cell)) → AllByRecursion (λ (c : ℕ × Cell). Describes types heap m c.1 (m c.0)) list → ((id : ℕ) (c : Cell) → cell_in list id ≡ None → cell_at state id ≡ Some c → Describes types heap m c (m id)) → (id : ℕ) (c : Cell) → with_cells list state id ≡ Some c → Describes types heap m c (m id)
+pub described_of : (types : WorldTypes) (heap : Heap) (m : Meaning) (state : AbstractState) (list : List (ℕ × Cell))
+    → AllByRecursion (λ (c : ℕ × Cell). Describes types heap m c.1 (m c.0)) list
+    → ((id : ℕ) (c : Cell) → cell_in list id ≡ None → cell_at state id ≡ Some c → Describes types heap m c (m id))
+    → (id : ℕ) (c : Cell) → with_cells list state id ≡ Some c → Describes types heap m c (m id)
 described_of types heap m state list all still id c e = at (cell_in list id) refl e
   where
     at : (o : Option Cell) → cell_in list id ≡ o → first_cell o (cell_at state id) ≡ Some c → Describes types heap m c (m id)
@@ -63,7 +68,8 @@ described_of types heap m state list all still id c e = at (cell_in list id) ref
     at (Some d) f g = in_list (λ n x. Describes types heap m x (m n)) list id c all (f ∙ g)
 
 -- an id of the state has one of those cells
-pub still_there : (state : AbstractState) (list : List (ℕ × Cell)) (id : ℕ) → HasCell (λ _. true) state id → (c : Cell) × (with_cells list state id ≡ Some c)
+pub still_there : (state : AbstractState) (list : List (ℕ × Cell)) (id : ℕ) → HasCell (λ _. true) state id → (c : Cell)
+    × (with_cells list state id ≡ Some c)
 still_there state list id h = at (cell_in list id) refl
   where
     at : (o : Option Cell) → cell_in list id ≡ o → (c : Cell) × (first_cell (cell_in list id) (cell_at state id) ≡ Some c)
@@ -71,15 +77,22 @@ still_there state list id h = at (cell_in list id) refl
     at (Some d) f = (d, ap (λ (o : Option Cell). first_cell o (cell_at state id)) f)
 
 -- an id that is in no cell of the changed state has none before
-pub sort_stays : (sort : Cell → Bool) (state : AbstractState) (list : List (ℕ × Cell)) (changed : AbstractState) → ((id : ℕ) → cell_at changed id ≡ with_cells list state id) → ((id : ℕ) (c : Cell) (a : IsAlike state id c) → sort c ≡ sort a.old) → AllByRecursion (λ (c : ℕ × Cell). IsAlike state c.0 c.1) list → (id : ℕ) → HasCell sort state id → HasCell sort changed id
+pub sort_stays : (sort : Cell → Bool) (state : AbstractState) (list : List (ℕ × Cell)) (changed : AbstractState)
+    → ((id : ℕ) → cell_at changed id ≡ with_cells list state id)
+    → ((id : ℕ) (c : Cell) (a : IsAlike state id c) → sort c ≡ sort a.old)
+    → AllByRecursion (λ (c : ℕ × Cell). IsAlike state c.0 c.1) list → (id : ℕ) → HasCell sort state id → HasCell sort changed id
 sort_stays sort state list changed cells keeps all id h =
     let there = still_there state list id (record { cell = h.cell; is = h.is; sort_is = refl }) in
     let a = alike_of state list all id there.0 there.1 in
     let same : a.old ≡ h.cell = some_is (sym a.is ∙ h.is) in
     record { cell = there.0; is = cells id ∙ there.1; sort_is = keeps id there.0 a ∙ ap sort same ∙ h.sort_is }
 
-module _ (types : WorldTypes) (state : AbstractState) (machine : MachineState) (m : Meaning) (good : IsWellFormed state) (fits : Fits types state machine m) (heap : Heap) (kept : (id : ℕ) → HasCell (λ _. true) state id → IsKept machine.heap heap (m id)) (cell : ℕ → Option Cell)
-    (alike : (id : ℕ) (c : Cell) → cell id ≡ Some c → IsAlike state id c) (described : (id : ℕ) (c : Cell) → cell id ≡ Some c → Describes types heap m c (m id)) (frames : List AbstractFrame) (throwing : Option ℕ) (running : List MachineFrame) (mode : Mode) (statics : List Value)
+module _ (types : WorldTypes) (state : AbstractState) (machine : MachineState) (m : Meaning) (good : IsWellFormed state)
+    (fits : Fits types state machine m) (heap : Heap) (kept : (id : ℕ) → HasCell (λ _. true) state id
+    → IsKept machine.heap heap (m id)) (cell : ℕ → Option Cell)
+    (alike : (id : ℕ) (c : Cell) → cell id ≡ Some c → IsAlike state id c) (described : (id : ℕ) (c : Cell) → cell id ≡ Some c
+    → Describes types heap m c (m id)) (frames : List AbstractFrame) (throwing : Option ℕ) (running : List MachineFrame)
+    (mode : Mode) (statics : List Value)
     (positions : AllZip (FitsFrame m) frames (with_statics statics running)) (moded : FitsMode m throwing mode) where
   abbrev pub After : MachineState
   After = record { frames = running; heap = heap; mode = mode; statics = statics }
@@ -103,12 +116,14 @@ module _ (types : WorldTypes) (state : AbstractState) (machine : MachineState) (
     cells = described;
     aliases = λ a b o c d e f n ta tb. inl (fits.aliases a b o (any a c e) (any b d f) n ta tb);
     apart = λ a b o c d e f k l n ta tb. known_apart types state machine m good fits a b o (known a c e k) (known b d f l) n ta tb;
-    meeting = λ a b o c d e f k l n ra rb. inl (fits.meeting a b o (hazy a c e k) (hazy b d f l) n (back a o (any a c e) ra) (back b o (any b d f) rb));
+    meeting = λ a b o c d e f k l n ra rb. inl
+        (fits.meeting a b o (hazy a c e k) (hazy b d f l) n (back a o (any a c e) ra) (back b o (any b d f) rb));
     inside = λ k b o c d e f p q t rb. inl (fits.inside k b o (known k c e p) (hazy b d f q) t (back b o (any b d f) rb));
     shapes = λ id c s e f. let a = alike id c e in ((kept id (any id c e)).shape s).1 (fits.shapes id a.old s a.is (sym a.shape ∙ f));
   }
 
-  pub given_fits : (changed : AbstractState) → IsGiven frames throwing cell (AreEqual state) (Share state) changed → Fits types changed After m
+  pub given_fits : (changed : AbstractState) → IsGiven frames throwing cell (AreEqual state) (Share state) changed
+      → Fits types changed After m
   given_fits changed g = fits_given types frames throwing cell (AreEqual state) (Share state) After m carried changed g
 
   -- each value keeps its size
@@ -117,4 +132,10 @@ module _ (types : WorldTypes) (state : AbstractState) (machine : MachineState) (
 
 -- values keep all in the same heap
 pub all_kept : (heap : Heap) (v : Value) → IsKept heap heap v
-all_kept heap v = record { region = λ b. (λ r. r, λ r. r); paths = λ a t p. refl; shape = λ s. (λ h. h, λ h. h); term = λ t. (λ h. h, λ h. h) }
+all_kept heap v = record {
+  region = λ b. (λ r. r, λ r. r);
+  paths = λ a t p. refl;
+  shape = λ s. (λ h. h, λ h. h);
+  term = λ t.
+      (λ h. h, λ h. h);
+}

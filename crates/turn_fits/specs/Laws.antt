@@ -27,12 +27,14 @@ abbrev pub FreshIdsGoOn : Type 0
 FreshIdsGoOn =
     (types : WorldTypes) (state child : AbstractState) (machine : MachineState) (meaning : Meaning) (id : ℕ) (cell : Cell) (value : Value)
     → IsWellFormed state → Fits types state machine meaning → IsPlainCell cell → Describes types machine.heap meaning cell value
-    → AreFresh state (id ∷ []) → IsGiven state.frames state.throwing (with_cells ((id, cell) ∷ []) state) (AreEqual state) (Share state) child
+    → AreFresh state (id ∷ []) → IsGiven state.frames state.throwing (with_cells ((id, cell) ∷ []) state) (AreEqual state)
+    (Share state) child
     → GoesWith types state machine meaning child machine id value
 
 -- An id that is sized after dropping was sized before.
 abbrev pub DroppedKeepSized : Type 0
-DroppedKeepSized = (whole part : AbstractState) (id : ℕ) → IsDropped whole part → HasCell (λ _. true) part id → IsSized part id → IsSized whole id
+DroppedKeepSized = (whole part : AbstractState) (id : ℕ) → IsDropped whole part → HasCell (λ _. true) part id → IsSized part id
+    → IsSized whole id
 
 -- a state with other frames and another thrown id
 abbrev pub Moved : AbstractState → List AbstractFrame → Option ℕ → AbstractState
@@ -41,6 +43,7 @@ Moved state frames throwing = record { frames = frames; throwing = throwing; cel
 -- What fits a state fits it with other frames that stand beside the machine's.
 abbrev pub MovedStatesFit : Type 0
 MovedStatesFit =
-    (types : WorldTypes) (state : AbstractState) (machine : MachineState) (meaning : Meaning) (frames : List AbstractFrame) (throwing : Option ℕ) (running : List MachineFrame) (mode : Mode) (statics : List Value)
+    (types : WorldTypes) (state : AbstractState) (machine : MachineState) (meaning : Meaning) (frames : List AbstractFrame)
+    (throwing : Option ℕ) (running : List MachineFrame) (mode : Mode) (statics : List Value)
     → Fits types state machine meaning → AllZip (FitsFrame meaning) frames (with_statics statics running) → FitsMode meaning throwing mode
     → Fits types (Moved state frames throwing) (record { frames = running; heap = machine.heap; mode = mode; statics = statics }) meaning

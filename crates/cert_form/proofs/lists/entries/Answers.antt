@@ -4,15 +4,20 @@ use Rattle.cert_form.proofs.Entries.{starts, goes_on, stops, is_read}
 use Rattle.cert_form.proofs.lists.entries.Goals as goal
 
 pub loop-n-init : goal.loop-n-init
-loop-n-init g c = rw c.new-front.ensures (starts (g.T.Said.reader c.args.context.now) (located c.args.view.now) c.args.count c.requires.list)
+loop-n-init g c = rw c.new-front.ensures (starts (g.T.Said.reader c.args.context.now) (located c.args.view.now) c.args.count
+    c.requires.list)
 
 pub loop-n-preserved : goal.loop-n-preserved
-loop-n-preserved g c = rw c.in_ok-push-in-Ok.ensures.items (goes_on (g.T.Said.reader c.args.context.now) (located c.args.view.now) (located c.item.result) c.loop-n.n c.loop-n.front c.as_slice.result.now c.in-Ok.entry c.loop-n.invariant c.item.ensures c.as_slice.ensures c.in-Ok.ensures)
+loop-n-preserved g c = rw c.in_ok-push-in-Ok.ensures.items
+    (goes_on (g.T.Said.reader c.args.context.now) (located c.args.view.now) (located c.item.result) c.loop-n.n c.loop-n.front
+    c.as_slice.result.now c.in-Ok.entry c.loop-n.invariant c.item.ensures c.as_slice.ensures c.in-Ok.ensures)
 
 pub returns-in-Err : goal.returns-in-Err
-returns-in-Err g c = stops (g.T.Said.reader c.args.context.now) (located c.args.view.now) (located c.item.result) c.loop-n.n c.loop-n.front c.as_slice.result.now c.in-Err.fault c.loop-n.invariant c.item.ensures c.as_slice.ensures c.in-Err.ensures
+returns-in-Err g c = stops (g.T.Said.reader c.args.context.now) (located c.args.view.now) (located c.item.result) c.loop-n.n
+    c.loop-n.front c.as_slice.result.now c.in-Err.fault c.loop-n.invariant c.item.ensures c.as_slice.ensures c.in-Err.ensures
 
 pub returns : goal.returns
 returns g c =
     let k : c.loop-n.n ≡ c.args.count = omega arith in
-    is_read (g.T.Said.reader c.args.context.now) (located c.args.view.now) c.loop-n.n c.loop-n.front c.loop-n.invariant (k ∙ c.requires.count)
+    is_read (g.T.Said.reader c.args.context.now) (located c.args.view.now) c.loop-n.n c.loop-n.front c.loop-n.invariant
+    (k ∙ c.requires.count)

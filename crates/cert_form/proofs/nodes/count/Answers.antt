@@ -7,4 +7,5 @@ use Rattle.cert_form.proofs.nodes.count.Goals as goal
 pub returns-in-Ok : goal.returns-in-Ok
 returns-in-Ok c =
     let few : c.in_ok-count.count ≤ 20000 = grind (arith, nat_tests) in
-    counted_is c.args.names.now c.args.second (located c.args.view.now) c.in_ok-count.count tt c.in_ok-count.ensures.answer few c.in_ok-count.ensures.count c.in-Ok.ensures
+    counted_is c.args.names.now c.args.second (located c.args.view.now) c.in_ok-count.count tt c.in_ok-count.ensures.answer few
+    c.in_ok-count.ensures.count c.in-Ok.ensures

@@ -12,5 +12,6 @@ pub returns : goal.returns
 unfolding maybe_number maybe_to
 returns c =
     ap (λ (r : Result ℤ CertFault). r >>= λ n. Ok (unless_negative n)) c.in_ok-number.ensures
-    ∙ ap (λ (z : ℤ). Ok (unless_negative z)) (sym (maybe_same 4294967295 c.in_ok-number.number (located c.args.view.now) (omega arith) c.in_ok-number.ensures))
+    ∙ ap (λ (z : ℤ). Ok (unless_negative z))
+    (sym (maybe_same 4294967295 c.in_ok-number.number (located c.args.view.now) (omega arith) c.in_ok-number.ensures))
     ∙ ap (λ x. Ok x) (sym c.unless_negative.ensures)

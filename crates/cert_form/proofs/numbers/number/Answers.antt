@@ -12,4 +12,5 @@ pub returns : goal.returns
 unfolding a_number number_to
 returns c =
     ap (λ (r : Result ℤ CertFault). r >>= λ n. Ok (nat_abs n)) c.in_ok-number.ensures
-    ∙ ap (λ (z : ℤ). Ok (nat_abs z)) (sym (number_same 4294967295 c.in_ok-number.number (located c.args.view.now) (omega arith) c.in_ok-number.ensures))
+    ∙ ap (λ (z : ℤ). Ok (nat_abs z))
+    (sym (number_same 4294967295 c.in_ok-number.number (located c.args.view.now) (omega arith) c.in_ok-number.ensures))

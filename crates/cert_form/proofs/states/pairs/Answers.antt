@@ -8,4 +8,5 @@ add-requires g c =
     record { differ = differ _ _ b.0; low = (low_first _ _ b.0 b.1, b.1) }
 
 pub loop-pair-preserved : goal.loop-pair-preserved
-loop-pair-preserved g c = c.in_ok-add.ensures.ok ∙ add_next c.args.rising.now (g.P.Pairs.pairs c.loop-pair.set) c.loop-pair.pair-index (0, 0) c.requires c.loop-pair-test.true c.loop-pair.invariant
+loop-pair-preserved g c = c.in_ok-add.ensures.ok ∙ add_next c.args.rising.now (g.P.Pairs.pairs c.loop-pair.set)
+    c.loop-pair.pair-index (0, 0) c.requires c.loop-pair-test.true c.loop-pair.invariant

@@ -8,10 +8,15 @@ use Rattle.cert_write.proofs.certs.all_parts.Goals as goal
 
 pub loop-n-preserved : goal.loop-n-preserved
 loop-n-preserved g c =
-    value_next (node c.args.words.now.names.now) (g.S.PartSource.parts c.args.source.now) c.loop-n.n (record { state = c.in_ok-state.state; by = c.in_ok-by.by }) c.loop-n.values.items _ c.in_ok-part.field-0
-    (part_at (g.S.PartSource.parts c.args.source.now) c.loop-n.n c.in_ok-by.by c.in_ok-state.state c.in_ok-by.ensures c.in_ok-state.ensures) c.loop-n.invariant c.in_ok-part.ensures c.in_ok-push.ensures.items
+    value_next (node c.args.words.now.names.now) (g.S.PartSource.parts c.args.source.now) c.loop-n.n
+    (record { state = c.in_ok-state.state; by = c.in_ok-by.by }) c.loop-n.values.items _ c.in_ok-part.field-0
+    (part_at (g.S.PartSource.parts c.args.source.now) c.loop-n.n c.in_ok-by.by c.in_ok-state.state c.in_ok-by.ensures
+    c.in_ok-state.ensures) c.loop-n.invariant c.in_ok-part.ensures c.in_ok-push.ensures.items
 
 pub returns : goal.returns
 returns g c =
     let past : length (g.S.PartSource.parts c.args.source.now) ≤ c.loop-n.n = omega arith in
-    view-Array c.loop-n.values ∙ ap (λ (ds : List Data). array (items_of ds)) (values_taken (node c.args.words.now.names.now) (g.S.PartSource.parts c.args.source.now) c.loop-n.n c.loop-n.values.items past c.loop-n.invariant)
+    view-Array c.loop-n.values
+    ∙ ap (λ (ds : List Data). array (items_of ds))
+    (values_taken (node c.args.words.now.names.now) (g.S.PartSource.parts c.args.source.now) c.loop-n.n c.loop-n.values.items
+    past c.loop-n.invariant)

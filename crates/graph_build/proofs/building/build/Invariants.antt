@@ -4,7 +4,8 @@ use Rattle.graph_build.proofs.building.build.Given as goal
 
 abbrev pub invariant-loop-alloc : goal.invariant-loop-alloc
 invariant-loop-alloc g l = record {
-  sound : IsSound (g.G.Grower.rules (g.G.Grower.meaning l.initial.grower)) (g.G.Grower.good (g.G.Grower.meaning l.initial.grower)) l.fn.root (seen l.growing);
+  sound : IsSound (g.G.Grower.rules (g.G.Grower.meaning l.initial.grower)) (g.G.Grower.good (g.G.Grower.meaning l.initial.grower))
+      l.fn.root (seen l.growing);
   same : g.G.Grower.meaning l.grower ≡ g.G.Grower.meaning l.initial.grower;
   few : length l.growing.graph ≤ l.limit;
 }

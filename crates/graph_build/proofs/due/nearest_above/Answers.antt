@@ -12,11 +12,16 @@ loop-at-init g c = record {
 }
 
 pub at-node-requires : goal.at-node-requires
-at-node-requires g c = omega (arith, c.requires.lower c.loop-at.at c.loop-at-test.true c.loop-at.invariant.within, c.loop-at.invariant.within)
+at-node-requires g c = omega (
+  arith,
+  c.requires.lower c.loop-at.at c.loop-at-test.true c.loop-at.invariant.within,
+  c.loop-at.invariant.within,
+)
 
 pub returns-then-is_alike : goal.returns-then-is_alike
 returns-then-is_alike g c =
-    is_nearest c.args.graph.now (parent_in c.args.parents.now) c.args.n c.args.state.now c.loop-at.at (parent_in c.args.parents.now c.loop-at.at) c.loop-at-test.true refl c.loop-at.invariant.way c.loop-at.invariant.passed
+    is_nearest c.args.graph.now (parent_in c.args.parents.now) c.args.n c.args.state.now c.loop-at.at
+    (parent_in c.args.parents.now c.loop-at.at) c.loop-at-test.true refl c.loop-at.invariant.way c.loop-at.invariant.passed
     c.at-node.result.now c.at-node.ensures (c.is_alike.ensures.0 c.if-is_alike.true)
 
 pub loop-at-smaller : goal.loop-at-smaller
@@ -24,12 +29,15 @@ loop-at-smaller g c = c.requires.lower c.loop-at.at c.loop-at-test.true c.loop-a
 
 pub loop-at-preserved : goal.loop-at-preserved
 loop-at-preserved g c = record {
-  way = inr (next_above c.args.graph.now (parent_in c.args.parents.now) c.args.n c.args.state.now c.loop-at.at (parent_in c.args.parents.now c.loop-at.at) c.loop-at-test.true refl c.loop-at.invariant.way c.loop-at.invariant.passed);
+  way = inr (next_above c.args.graph.now (parent_in c.args.parents.now) c.args.n c.args.state.now c.loop-at.at
+      (parent_in c.args.parents.now c.loop-at.at) c.loop-at-test.true refl c.loop-at.invariant.way c.loop-at.invariant.passed);
   passed =
-      next_passed c.args.graph.now (parent_in c.args.parents.now) c.args.n c.args.state.now c.loop-at.at (parent_in c.args.parents.now c.loop-at.at) c.loop-at-test.true refl c.loop-at.invariant.way c.loop-at.invariant.passed
+      next_passed c.args.graph.now (parent_in c.args.parents.now) c.args.n c.args.state.now c.loop-at.at
+      (parent_in c.args.parents.now c.loop-at.at) c.loop-at-test.true refl c.loop-at.invariant.way c.loop-at.invariant.passed
       c.at-node.result.now c.at-node.ensures (λ a. false≢true (sym c.if-is_alike.false ∙ c.is_alike.ensures.1 a));
   within = omega (arith, c.requires.lower c.loop-at.at c.loop-at-test.true c.loop-at.invariant.within, c.loop-at.invariant.within);
 }
 
 pub returns : goal.returns
-returns g c = λ u a. above_zero (parent_in c.args.parents.now) u c.loop-at.at (omega (arith, c.loop-at-test.false)) (c.loop-at.invariant.passed u a)
+returns g c = λ u a. above_zero (parent_in c.args.parents.now) u c.loop-at.at (omega (arith, c.loop-at-test.false))
+    (c.loop-at.invariant.passed u a)

@@ -9,7 +9,8 @@ returns-then-not-is_seeking g c =
     let rules = g.G.Grower.rules (g.G.Grower.meaning c.args.grower.now) in
     let good = g.G.Grower.good (g.G.Grower.meaning c.args.grower.now) in
     record {
-      next = not_seeking rules good c.args.graph.now c.args.parents.now c.args.n c.args.state.now c.requires.sound (sym c.is_seeking.ensures ∙ c.if-not-is_seeking.true);
+      next = not_seeking rules good c.args.graph.now c.args.parents.now c.args.n c.args.state.now c.requires.sound
+          (sym c.is_seeking.ensures ∙ c.if-not-is_seeking.true);
       same = refl;
     }
 
@@ -20,10 +21,16 @@ pub returns-in-Some : goal.returns-in-Some
 returns-in-Some g c =
     let rules = g.G.Grower.rules (g.G.Grower.meaning c.args.grower.now) in
     let good = g.G.Grower.good (g.G.Grower.meaning c.args.grower.now) in
-    let seeking = seeks rules good c.args.graph.now c.args.parents.now c.args.n c.args.state.now c.requires.sound (sym c.is_seeking.ensures ∙ c.if-not-is_seeking.false) in
-    let found = found_there rules c.args.graph.now c.args.state.now c.in_ok-u.field-0 (c.in-Some.u, c.in-Some.map) c.in-Some.is c.in_ok-u.ensures.found in
+    let seeking = seeks rules good c.args.graph.now c.args.parents.now c.args.n c.args.state.now c.requires.sound
+    (sym c.is_seeking.ensures ∙ c.if-not-is_seeking.false) in
+    let found = found_there rules c.args.graph.now c.args.state.now c.in_ok-u.field-0 (c.in-Some.u, c.in-Some.map) c.in-Some.is
+    c.in_ok-u.ensures.found in
     record {
-      next = (first_is_due rules good c.args.graph.now c.args.parents.now c.args.n c.args.state.now c.requires.sound c.in-Some.u c.in-Some.map seeking found, found);
+      next = (
+        first_is_due rules good c.args.graph.now c.args.parents.now c.args.n c.args.state.now c.requires.sound c.in-Some.u
+            c.in-Some.map seeking found,
+        found,
+      );
       same = c.first_found.ensures.same;
     }
 
@@ -31,13 +38,17 @@ pub returns-in-Some-nearest_above-clause-next : goal.returns-in-Some-nearest_abo
 returns-in-Some-nearest_above-clause-next g c =
     let rules = g.G.Grower.rules (g.G.Grower.meaning c.args.grower.now) in
     let good = g.G.Grower.good (g.G.Grower.meaning c.args.grower.now) in
-    let seeking = seeks rules good c.args.graph.now c.args.parents.now c.args.n c.args.state.now c.requires.sound (sym c.is_seeking.ensures ∙ c.if-not-is_seeking.false) in
-    let none = none_found rules good c.args.graph.now c.args.parents.now c.args.n c.args.state.now c.requires.sound (found_nowhere rules c.args.graph.now c.args.state.now c.in_ok-u.field-0 c.in_default.is c.in_ok-u.ensures.found) in
-    nearest_is_due rules good c.args.graph.now c.args.parents.now c.args.n c.args.state.now c.requires.sound c.in-Some-nearest_above.u seeking none c.in-Some-nearest_above.ensures
+    let seeking = seeks rules good c.args.graph.now c.args.parents.now c.args.n c.args.state.now c.requires.sound
+    (sym c.is_seeking.ensures ∙ c.if-not-is_seeking.false) in
+    let none = none_found rules good c.args.graph.now c.args.parents.now c.args.n c.args.state.now c.requires.sound
+    (found_nowhere rules c.args.graph.now c.args.state.now c.in_ok-u.field-0 c.in_default.is c.in_ok-u.ensures.found) in
+    nearest_is_due rules good c.args.graph.now c.args.parents.now c.args.n c.args.state.now c.requires.sound
+    c.in-Some-nearest_above.u seeking none c.in-Some-nearest_above.ensures
 
 pub returns-in-None-clause-next : goal.returns-in-None-clause-next
 returns-in-None-clause-next g c =
     let rules = g.G.Grower.rules (g.G.Grower.meaning c.args.grower.now) in
     let good = g.G.Grower.good (g.G.Grower.meaning c.args.grower.now) in
-    let none = none_found rules good c.args.graph.now c.args.parents.now c.args.n c.args.state.now c.requires.sound (found_nowhere rules c.args.graph.now c.args.state.now c.in_ok-u.field-0 c.in_default.is c.in_ok-u.ensures.found) in
+    let none = none_found rules good c.args.graph.now c.args.parents.now c.args.n c.args.state.now c.requires.sound
+    (found_nowhere rules c.args.graph.now c.args.state.now c.in_ok-u.field-0 c.in_default.is c.in_ok-u.ensures.found) in
     alone_is_due rules good c.args.graph.now c.args.parents.now c.args.n c.args.state.now c.requires.sound none c.in-None.ensures

@@ -3,8 +3,10 @@ use Rattle.its_search.proofs.changes.+form_change.Goals as goal
 
 -- src/changes.rt:102:13
 pub change_of-requires-clause-one : goal.change_of-requires-clause-one
-change_of-requires-clause-one t c = (first_unit c.args.count c.args.form.now c.in-Some.rest.now c.in-Some.term.now c.in-Some.ensures.cases.0 c.requires.units).0
+change_of-requires-clause-one t c =
+    (first_unit c.args.count c.args.form.now c.in-Some.rest.now c.in-Some.term.now c.in-Some.ensures.cases.0 c.requires.units).0
 
 -- src/changes.rt:100:31
 pub added-requires-clause-unit : goal.added-requires-clause-unit
-added-requires-clause-unit t c = (first_unit c.args.count c.args.form.now c.in-Some.rest.now c.in-Some.term.now c.in-Some.ensures.cases.0 c.requires.units).1
+added-requires-clause-unit t c =
+    (first_unit c.args.count c.args.form.now c.in-Some.rest.now c.in-Some.term.now c.in-Some.ensures.cases.0 c.requires.units).1

@@ -3,4 +3,5 @@ use Rattle.rank_search.specs.Candidates.{ranks_by, multiple_of}
 use Rattle.rank_search.proofs.candidates.one_int.Given as goal
 
 abbrev pub invariant-loop-one : goal.invariant-loop-one
-invariant-loop-one l = (i n : ℕ) → i < l.one → n < 2 → ranks_by (record { one = i; times = multiple_of n; other = i; more = pos 0 }) l.table ≡ false
+invariant-loop-one l = (i n : ℕ) → i < l.one → n < 2 → ranks_by (record { one = i; times = multiple_of n; other = i; more = pos 0 })
+    l.table ≡ false

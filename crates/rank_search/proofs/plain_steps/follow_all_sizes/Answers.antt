@@ -7,16 +7,24 @@ use Rattle.rule_links.proofs.Told.{told_first, told_more}
 use Rattle.rank_search.proofs.plain_steps.follow_all_sizes.Goals as goal
 
 pub loop-rule-init : goal.loop-rule-init
-loop-rule-init c = told_first (λ rule followed. TellsSizeAt c.args.place.now rule (Some followed)) c.args.rules.now nothing _ c.new-all.ensures
+loop-rule-init c = told_first (λ rule followed. TellsSizeAt c.args.place.now rule (Some followed)) c.args.rules.now nothing _
+    c.new-all.ensures
 
 pub follow_size-requires : goal.follow_size-requires
 follow_size-requires c = subst IsRule (sym c.rule-item.is) (c.requires c.loop-rule.rule-index c.rule-item.result c.loop-rule-test.true)
 
 pub loop-rule-preserved : goal.loop-rule-preserved
-loop-rule-preserved c = told_more (λ rule followed. TellsSizeAt c.args.place.now rule (Some followed)) c.args.rules.now nothing c.loop-rule.all _ c.in-Some.followed c.rule-item.result c.loop-rule.rule-index c.in_ok-push-in-Some.ensures.items (item_at c.args.rules.now c.loop-rule.rule-index c.rule-item.result c.loop-rule-test.true c.rule-item.is) (some_followed (TellsSizeAt c.args.place.now) c.rule-item.result c.in_ok-followed.field-0 c.in-Some.followed c.in-Some.is c.in_ok-followed.ensures) c.loop-rule.invariant
+loop-rule-preserved c = told_more (λ rule followed. TellsSizeAt c.args.place.now rule (Some followed)) c.args.rules.now nothing
+    c.loop-rule.all _ c.in-Some.followed c.rule-item.result c.loop-rule.rule-index c.in_ok-push-in-Some.ensures.items
+    (item_at c.args.rules.now c.loop-rule.rule-index c.rule-item.result c.loop-rule-test.true c.rule-item.is)
+    (some_followed (TellsSizeAt c.args.place.now) c.rule-item.result c.in_ok-followed.field-0 c.in-Some.followed c.in-Some.is
+    c.in_ok-followed.ensures) c.loop-rule.invariant
 
 pub returns-in-None : goal.returns-in-None
-returns-in-None c = none_followed (TellsSizeAt c.args.place.now) c.args.rules.now c.loop-rule.rule-index c.rule-item.result c.in_ok-followed.field-0 (item_at c.args.rules.now c.loop-rule.rule-index c.rule-item.result c.loop-rule-test.true c.rule-item.is) c.in-None.is c.in_ok-followed.ensures
+returns-in-None c = none_followed (TellsSizeAt c.args.place.now) c.args.rules.now c.loop-rule.rule-index c.rule-item.result
+    c.in_ok-followed.field-0 (item_at c.args.rules.now c.loop-rule.rule-index c.rule-item.result c.loop-rule-test.true
+    c.rule-item.is) c.in-None.is c.in_ok-followed.ensures
 
 pub returns : goal.returns
-returns c = each_followed (TellsSizeAt c.args.place.now) c.args.rules.now c.loop-rule.all c.loop-rule.rule-index c.loop-rule-test.false c.loop-rule.invariant
+returns c = each_followed (TellsSizeAt c.args.place.now) c.args.rules.now c.loop-rule.all c.loop-rule.rule-index
+    c.loop-rule-test.false c.loop-rule.invariant

@@ -7,4 +7,8 @@ pub returns : goal.returns
 returns c =
     let other : FitsSigned w64 c.or_zero-constant.result = record { sfits = c.or_zero-constant.type_inv } in
     let base : to_z w64 (of_z w64 c.or_zero-constant.result) ≡ c.or_zero-constant.result = to_z-of_z other in
-    ints_step_is c.args.rules.now c.args.form.now c.args.all.now c.or_zero-constant.result c.in_ok-forms.ensures.0 c.in_ok-forms.forms c.in_ok-listed.listed c.new.result c.requires.rules c.requires.form c.requires.followed (c.or_zero-constant.ensures ∙ ap or_zero c.needed.ensures) c.in_ok-forms.ensures.1 (c.in_ok-forms.ensures.2 ∙ ap (λ (k : ℤ). forms_over c.args.rules.now false c.args.form.now k c.in_ok-forms.ensures.0) base) c.in_ok-listed.ensures c.new.ensures
+    ints_step_is c.args.rules.now c.args.form.now c.args.all.now c.or_zero-constant.result c.in_ok-forms.ensures.0
+    c.in_ok-forms.forms c.in_ok-listed.listed c.new.result c.requires.rules c.requires.form c.requires.followed
+    (c.or_zero-constant.ensures ∙ ap or_zero c.needed.ensures) c.in_ok-forms.ensures.1
+    (c.in_ok-forms.ensures.2 ∙ ap (λ (k : ℤ). forms_over c.args.rules.now false c.args.form.now k c.in_ok-forms.ensures.0) base)
+    c.in_ok-listed.ensures c.new.ensures

@@ -6,6 +6,7 @@ use Rattle.rank_search.proofs.searching.plain_form.Goals as goal
 
 pub returns : goal.returns
 returns c = record {
-  found = if_ok_then _ _ c.told_form.result _ (λ found. IfSome found (λ form. IsFound c.args.rules.now form)) c.told_form.ensures.found (λ found h. some_found c.args.rules.now found h);
+  found = if_ok_then _ _ c.told_form.result _ (λ found. IfSome found (λ form. IsFound c.args.rules.now form))
+      c.told_form.ensures.found (λ found h. some_found c.args.rules.now found h);
   none = c.told_form.ensures.none;
 }

@@ -7,4 +7,6 @@ pub returns : goal.returns
 returns c =
     let f : FitsSigned w64 c.args.form.now.times = search rules in
     let g : FitsSigned w64 c.args.form.now.more = search rules in
-    two_told c.args.rules.now c.args.places.now c.args.table.now c.args.form.now c.place_at.result c.place_at-2.result _ _ _ _ _ c.new-terms.ensures c.in_ok-push.ensures.items c.in_ok-push-2.ensures.items (omega (arith, ints)) (omega (arith, ints)) c.requires.table c.requires.found c.place_at.ensures c.place_at-2.ensures
+    two_told c.args.rules.now c.args.places.now c.args.table.now c.args.form.now c.place_at.result c.place_at-2.result _ _ _ _ _
+    c.new-terms.ensures c.in_ok-push.ensures.items c.in_ok-push-2.ensures.items (omega (arith, ints)) (omega (arith, ints))
+    c.requires.table c.requires.found c.place_at.ensures c.place_at-2.ensures

@@ -4,4 +4,5 @@ use Rattle.rule_links.proofs.Told.{AreTold}
 use Rattle.rank_search.proofs.stepping.follow_all.Given as goal
 
 abbrev pub invariant-loop-rule : goal.invariant-loop-rule
-invariant-loop-rule l = AreTold (λ rule followed. IsAlong l.negative rule l.place followed) l.rules (made (pos 0) [] None) l.all l.rule-index
+invariant-loop-rule l = AreTold (λ rule followed. IsAlong l.negative rule l.place followed) l.rules (made (pos 0) [] None) l.all
+    l.rule-index

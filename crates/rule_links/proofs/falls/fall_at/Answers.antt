@@ -7,4 +7,10 @@ use Rattle.rule_links.proofs.Falling.{ways_told}
 use Rattle.rule_links.proofs.falls.fall_at.Goals as goal
 
 pub returns : goal.returns
-returns c = if_ok_then _ _ c.fall_between.result _ (λ fall. TellsWays c.args.size c.args.ties.now c.args.rule.now c.args.place.now fall) c.fall_between.ensures (λ fall tells. ways_told c.args.size c.args.ties.now c.args.rule.now c.args.place.now c.in-Some.start c.in-Some-variable_at.finish fall (ap (λ (l : List SlotForm). variable_at l c.args.size c.args.place.now) (sym c.as_slice.ensures) ∙ sym c.variable_at.ensures ∙ c.in-Some.is) (ap (λ (l : List SlotForm). variable_at l c.args.size c.args.place.now) (sym c.as_slice-2.ensures) ∙ sym c.variable_at-2.ensures ∙ c.in-Some-variable_at.is) tells)
+returns c = if_ok_then _ _ c.fall_between.result _
+    (λ fall. TellsWays c.args.size c.args.ties.now c.args.rule.now c.args.place.now fall) c.fall_between.ensures
+    (λ fall tells. ways_told c.args.size c.args.ties.now c.args.rule.now c.args.place.now c.in-Some.start
+    c.in-Some-variable_at.finish fall
+    (ap (λ (l : List SlotForm). variable_at l c.args.size c.args.place.now) (sym c.as_slice.ensures) ∙ sym c.variable_at.ensures
+    ∙ c.in-Some.is) (ap (λ (l : List SlotForm). variable_at l c.args.size c.args.place.now) (sym c.as_slice-2.ensures)
+    ∙ sym c.variable_at-2.ensures ∙ c.in-Some-variable_at.is) tells)

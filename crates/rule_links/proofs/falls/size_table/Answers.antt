@@ -12,7 +12,11 @@ pub size_falls_of-requires : goal.size_falls_of-requires
 size_falls_of-requires c = subst IsRule (sym c.rule-item.is) (c.requires c.loop-rule.rule-index c.rule-item.result c.loop-rule-test.true)
 
 pub loop-rule-preserved : goal.loop-rule-preserved
-loop-rule-preserved c = told_more (λ rule. TellAll (TellsSize rule) c.args.places.now) c.args.rules.now [] c.loop-rule.table _ c.in_ok-size_falls_of.field-0 _ c.loop-rule.rule-index c.in_ok-push.ensures.items (slice_get_read c.args.rules.now _ c.loop-rule.rule-index c.rule-item.result refl c.loop-rule-test.true c.rule-item.is) c.in_ok-size_falls_of.ensures c.loop-rule.invariant
+loop-rule-preserved c = told_more (λ rule. TellAll (TellsSize rule) c.args.places.now) c.args.rules.now [] c.loop-rule.table _
+    c.in_ok-size_falls_of.field-0 _ c.loop-rule.rule-index c.in_ok-push.ensures.items
+    (slice_get_read c.args.rules.now _ c.loop-rule.rule-index c.rule-item.result refl c.loop-rule-test.true c.rule-item.is)
+    c.in_ok-size_falls_of.ensures c.loop-rule.invariant
 
 pub returns : goal.returns
-returns c = told_all (λ rule. TellAll (TellsSize rule) c.args.places.now) c.args.rules.now [] c.loop-rule.table c.loop-rule.rule-index c.loop-rule-test.false c.loop-rule.invariant
+returns c = told_all (λ rule. TellAll (TellsSize rule) c.args.places.now) c.args.rules.now [] c.loop-rule.table
+    c.loop-rule.rule-index c.loop-rule-test.false c.loop-rule.invariant

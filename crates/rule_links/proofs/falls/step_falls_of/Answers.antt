@@ -5,4 +5,7 @@ use Rattle.rule_links.proofs.Falling.{steps_told}
 use Rattle.rule_links.proofs.falls.step_falls_of.Goals as goal
 
 pub returns : goal.returns
-returns c = if_ok_then _ _ c.falls_at.result _ (λ falls. TellAll (TellsSteps false c.args.negative c.args.rule.now) c.args.places.now falls) c.falls_at.ensures (λ falls tells. steps_told c.args.negative c.args.rule.now _ c.in_ok-ties.ties.items _ c.args.places.now falls c.as_slice.ensures c.as_slice-2.ensures.value c.in_ok-ties.ensures.sound c.in_ok-ties.ensures.complete tells)
+returns c = if_ok_then _ _ c.falls_at.result _
+    (λ falls. TellAll (TellsSteps false c.args.negative c.args.rule.now) c.args.places.now falls) c.falls_at.ensures
+    (λ falls tells. steps_told c.args.negative c.args.rule.now _ c.in_ok-ties.ties.items _ c.args.places.now falls
+    c.as_slice.ensures c.as_slice-2.ensures.value c.in_ok-ties.ensures.sound c.in_ok-ties.ensures.complete tells)

@@ -5,4 +5,5 @@ use Rattle.rule_links.specs.Positions.{is_place}
 use Rattle.rule_links.proofs.positions.is_among.Given as goal
 
 abbrev pub invariant-loop-other : goal.invariant-loop-other
-invariant-loop-other l = list_any (λ (other : Place). is_place other l.place) (drop l.other-index l.places) ≡ list_any (λ (other : Place). is_place other l.place) l.places
+invariant-loop-other l = list_any (λ (other : Place). is_place other l.place) (drop l.other-index l.places) ≡ list_any
+    (λ (other : Place). is_place other l.place) l.places

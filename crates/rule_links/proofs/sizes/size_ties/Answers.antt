@@ -7,10 +7,13 @@ pub returns-clause-rising : goal.returns-clause-rising
 returns-clause-rising c = sizes_rise c.args.rows.now _ _ c.sort_ties.ensures.same (c.into_vec-ties.ensures ∙ c.in_ok-all_sizes.ensures)
 
 pub returns-clause-sound : goal.returns-clause-sound
-returns-clause-sound c = sizes_sound c.args.vars c.args.rows.now _ _ c.requires c.sort_ties.ensures.same (c.into_vec-ties.ensures ∙ c.in_ok-all_sizes.ensures)
+returns-clause-sound c = sizes_sound c.args.vars c.args.rows.now _ _ c.requires c.sort_ties.ensures.same
+    (c.into_vec-ties.ensures ∙ c.in_ok-all_sizes.ensures)
 
 pub returns-clause-complete : goal.returns-clause-complete
-returns-clause-complete c = sizes_complete c.args.vars c.args.rows.now _ _ c.requires c.sort_ties.ensures.same (c.into_vec-ties.ensures ∙ c.in_ok-all_sizes.ensures)
+returns-clause-complete c = sizes_complete c.args.vars c.args.rows.now _ _ c.requires c.sort_ties.ensures.same
+    (c.into_vec-ties.ensures ∙ c.in_ok-all_sizes.ensures)
 
 pub returns-clause-rows : goal.returns-clause-rows
-returns-clause-rows c = sizes_in_rows c.args.vars c.args.rows.now _ _ c.requires c.sort_ties.ensures.same (c.into_vec-ties.ensures ∙ c.in_ok-all_sizes.ensures)
+returns-clause-rows c = sizes_in_rows c.args.vars c.args.rows.now _ _ c.requires c.sort_ties.ensures.same
+    (c.into_vec-ties.ensures ∙ c.in_ok-all_sizes.ensures)

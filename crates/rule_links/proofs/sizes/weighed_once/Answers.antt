@@ -6,4 +6,6 @@ use Rattle.rule_links.proofs.sizes.weighed_once.Goals as goal
 pub loop-weight-preserved : goal.loop-weight-preserved
 loop-weight-preserved c =
     let f : FitsSigned w64 c.in-Some.more = search rules in
-    weighed_more c.args.weights.now c.loop-weight.weight-index _ (to_z w64 c.loop-weight.weighed-bits) _ _ (slice_get-get_or c.args.weights.now c.loop-weight.weight-index (0, pos 0) c.loop-weight-test.true) (to_z-of_z f ∙ c.in-Some.ensures.1) c.loop-weight.invariant
+    weighed_more c.args.weights.now c.loop-weight.weight-index _ (to_z w64 c.loop-weight.weighed-bits) _ _
+    (slice_get-get_or c.args.weights.now c.loop-weight.weight-index (0, pos 0) c.loop-weight-test.true)
+    (to_z-of_z f ∙ c.in-Some.ensures.1) c.loop-weight.invariant

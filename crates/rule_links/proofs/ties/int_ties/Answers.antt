@@ -9,7 +9,10 @@ use Rattle.rule_links.proofs.ties.int_ties.Goals as goal
 
 pub returns : goal.returns
 returns c = record {
-  sound = if_ok_then _ _ c.all_ties.result _ (λ ties. (link : Link) → InTies ties link → IsIntLink c.args.rows.now link) c.all_ties.ensures (λ ties e link h. sound_is c.args.rows.now link (subst (λ (l : List Tie). InTies l link) e h));
-  complete = if_ok_then _ _ c.all_ties.result _ (λ ties. (link : Link) → IsIntLink c.args.rows.now link → Covers ties link.from link.to) c.all_ties.ensures (λ ties e link h. subst (λ (l : List Tie). Covers l link.from link.to) (sym e) (complete_is c.args.rows.now link h));
+  sound = if_ok_then _ _ c.all_ties.result _ (λ ties. (link : Link) → InTies ties link → IsIntLink c.args.rows.now link)
+      c.all_ties.ensures (λ ties e link h. sound_is c.args.rows.now link (subst (λ (l : List Tie). InTies l link) e h));
+  complete = if_ok_then _ _ c.all_ties.result _ (λ ties. (link : Link) → IsIntLink c.args.rows.now link
+      → Covers ties link.from link.to) c.all_ties.ensures
+      (λ ties e link h. subst (λ (l : List Tie). Covers l link.from link.to) (sym e) (complete_is c.args.rows.now link h));
   is = c.all_ties.ensures;
 }

@@ -8,6 +8,11 @@ returns-else-has_room-clause-plan g c = inl (
   record {
     children = c.in-Ok-Children.children;
     are = (rw c.in-Ok-Children.field-0-is at c.in-Ok-Children.ensures.grown).0;
-    many = omega (arith, c.len.ensures, no_room c.has_room.result (length c.args.self.now.graph + c.len.result) c.args.limit c.has_room.ensures c.if-has_room.false);
+    many = omega (
+      arith,
+      c.len.ensures,
+      no_room c.has_room.result (length c.args.self.now.graph + c.len.result) c.args.limit
+          c.has_room.ensures c.if-has_room.false,
+    );
   },
 )

@@ -9,7 +9,11 @@ returns-then-not-has_room-clause-plan g c = inr (
     u = c.args.u;
     due = c.requires.due;
     above = c.state.result.now;
-    is_above = record { by = c.at.result.now.by; is = node_is c.args.self.now.graph c.args.u c.at.result.now c.state.result.now c.at.ensures c.state.ensures };
+    is_above = record {
+      by = c.at.result.now.by;
+      is = node_is c.args.self.now.graph c.args.u c.at.result.now c.state.result.now
+          c.at.ensures c.state.ensures;
+    };
     is = (c.in-Ok.wide, c.in-Ok.ensures.wide.widened);
   },
   no_room c.has_room.result _ c.args.limit c.has_room.ensures c.if-not-has_room.true,
