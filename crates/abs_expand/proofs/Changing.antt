@@ -1,5 +1,7 @@
 -- Cells that become others, or one that comes, in a well-formed state: its pairs are those that still may stand.
-use Rattle.std.proofs.Common.{◌≡◌, ◌≢◌, ◌∙◌, ◌<◌, ◌==◌, ◌&&◌, ◌||◌, ◌⊎◌, inl, inr, eqb, ℕ, zero, suc, Bool, true, false, not, if◌then◌else◌, List, [], ◌∷◌, ◌++◌, min, max, Option, Some, None, refl, sym, ap, subst, arith, take, drop, length, reverse, get_or, ◌+◌, ◌≤◌, slice_index_or}
+use Rattle.std.proofs.Common.{◌≡◌, ◌≢◌, ◌∙◌, ◌<◌, ◌==◌, ◌&&◌, ◌||◌, ◌⊎◌, inl, inr, eqb, ℕ, zero, suc, Bool, true, false, not}
+use Rattle.std.proofs.Common.{if◌then◌else◌, List, [], ◌∷◌, ◌++◌, min, max, Option, Some, None, refl, sym, ap, subst, arith, take}
+use Rattle.std.proofs.Common.{drop, length, reverse, get_or, ◌+◌, ◌≤◌, slice_index_or}
 use Rattle.std.specs.List.{AllByRecursion}
 use Rattle.std.specs.Prelude.{◌↔◌}
 use Rattle.std.proofs.lemmas.Bool.{false≢true, and_parts, and_from, eqb-true, eqb-false, cases_eq, ne_eqb, eq-eqb}
@@ -29,7 +31,8 @@ pub pair_rises : (p : ℕ × ℕ) (pairs : List (ℕ × ℕ)) → IsRising pairs
 pair_rises p [] r e = absurd (false≢true e)
 pair_rises p (q ∷ rest) r e = at (is_same p q) refl e (λ f. pair_rises p rest r.1.1 f)
   where
-    at : (b : Bool) → is_same p q ≡ b → (b || has_pair p rest) ≡ true → (has_pair p rest ≡ true → (p.0 < p.1) × (p.1 < 2048)) → (p.0 < p.1) × (p.1 < 2048)
+    at : (b : Bool) → is_same p q ≡ b → (b || has_pair p rest) ≡ true → (has_pair p rest ≡ true → (p.0 < p.1) × (p.1 < 2048))
+        → (p.0 < p.1) × (p.1 < 2048)
     at true f h rest = subst (λ (x : ℕ × ℕ). (x.0 < x.1) × (x.1 < 2048)) (sym (same_is p q f)) r.0
     at false f h rest = rest h
 
@@ -76,15 +79,19 @@ joined state good a b n s = ordered (AreJoined state) a b n
 
 -- ---- kept pairs
 
-kept_has : (set : List ℕ) (a b : ℕ) (pairs : List (ℕ × ℕ)) → has a b (kept set pairs) ≡ true → (has a b pairs ≡ true) × ((has_id set (min a b) ≡ true) × (has_id set (max a b) ≡ true))
+kept_has : (set : List ℕ) (a b : ℕ) (pairs : List (ℕ × ℕ)) → has a b (kept set pairs) ≡ true → (has a b pairs ≡ true)
+    × ((has_id set (min a b) ≡ true) × (has_id set (max a b) ≡ true))
 kept_has set a b pairs e =
-    let f = and_parts (has_id set (min a b) && has_id set (max a b)) (has a b pairs) (sym (has_filter (λ (p : ℕ × ℕ). has_id set p.0 && has_id set p.1) (pair_of a b) pairs) ∙ e) in
+    let f = and_parts (has_id set (min a b) && has_id set (max a b)) (has a b pairs)
+    (sym (has_filter (λ (p : ℕ × ℕ). has_id set p.0 && has_id set p.1) (pair_of a b) pairs) ∙ e) in
     (f.1, and_parts (has_id set (min a b)) (has_id set (max a b)) f.0)
 
-has_kept : (set : List ℕ) (a b : ℕ) (pairs : List (ℕ × ℕ)) → has a b pairs ≡ true → has_id set (min a b) ≡ true → has_id set (max a b) ≡ true → has a b (kept set pairs) ≡ true
+has_kept : (set : List ℕ) (a b : ℕ) (pairs : List (ℕ × ℕ)) → has a b pairs ≡ true → has_id set (min a b) ≡ true → has_id set (max a b)
+    ≡ true → has a b (kept set pairs) ≡ true
 has_kept set a b pairs h x y =
     has_filter (λ (p : ℕ × ℕ). has_id set p.0 && has_id set p.1) (pair_of a b) pairs
-    ∙ and_from (has_id set (min a b) && has_id set (max a b)) (has a b pairs) (and_from (has_id set (min a b)) (has_id set (max a b)) x y) h
+    ∙ and_from (has_id set (min a b) && has_id set (max a b)) (has a b pairs) (and_from (has_id set (min a b)) (has_id set (max a b))
+    x y) h
 
 least_or : (P : ℕ → Type 0) (a b : ℕ) → P (min a b) → P (max a b) → P a × P b
 least_or P a b l g = elim (cases_le a b) [
@@ -156,15 +163,19 @@ change_known old (Nums kind len) m k = absurd (false≢true (never old m))
 change_known old (Refs element len shape) m k = absurd (false≢true k)
 change_known old (Unk bound nullable shape) m k = absurd (false≢true k)
 
-changes_at : (state : AbstractState) (changed : List (ℕ × Cell)) (id : ℕ) (c : Cell) → AllByRecursion (IsChange state) changed → cell_in changed id ≡ Some c → IsChange state (id, c)
+changes_at : (state : AbstractState) (changed : List (ℕ × Cell)) (id : ℕ) (c : Cell) → AllByRecursion (IsChange state) changed
+    → cell_in changed id ≡ Some c → IsChange state (id, c)
 changes_at state [] id c a e = absurd (none-some c e)
 changes_at state (x ∷ changed) id c a e = at (x.0 == id) refl e (λ f. changes_at state changed id c a.1 f)
   where
-    at : (b : Bool) → eqb x.0 id ≡ b → (if b then Some x.1 else cell_in changed id) ≡ Some c → (cell_in changed id ≡ Some c → IsChange state (id, c)) → IsChange state (id, c)
-    at true f h rest = subst (λ (n : ℕ). IsChange state (n, c)) (eqb-true x.0 id f) (subst (λ (y : Cell). IsChange state (x.0, y)) (some_is h) a.0)
+    at : (b : Bool) → eqb x.0 id ≡ b → (if b then Some x.1 else cell_in changed id) ≡ Some c
+        → (cell_in changed id ≡ Some c → IsChange state (id, c)) → IsChange state (id, c)
+    at true f h rest = subst (λ (n : ℕ). IsChange state (n, c)) (eqb-true x.0 id f) (subst (λ (y : Cell). IsChange state (x.0, y))
+        (some_is h) a.0)
     at false f h rest = rest h
 
-module _ (state : AbstractState) (good : IsWellFormed state) (changed : List (ℕ × Cell)) (changes : AllByRecursion (IsChange state) changed) (set : List ℕ)
+module _ (state : AbstractState) (good : IsWellFormed state) (changed : List (ℕ × Cell)) (changes : AllByRecursion (IsChange state)
+    changed) (set : List ℕ)
     (set_is : (n : ℕ) → has_id set n ≡ is_of_sort is_reference (cell_in (changed_cells changed state.cells) n)) where
   abbrev Now : List (ℕ × Cell)
   Now = changed_cells changed state.cells
@@ -173,18 +184,21 @@ module _ (state : AbstractState) (good : IsWellFormed state) (changed : List (�
   was_known : (id : ℕ) → is_of_sort is_known (cell_in Now id) ≡ true → HasCell is_known state id
   was_known id e = at (cell_in changed id) refl (sym (ap (is_of_sort is_known) (changed_at state changed id changes)) ∙ e)
     where
-      at : (found : Option Cell) → cell_in changed id ≡ found → is_of_sort is_known (first_cell found (cell_at state id)) ≡ true → HasCell is_known state id
+      at : (found : Option Cell) → cell_in changed id ≡ found → is_of_sort is_known (first_cell found (cell_at state id)) ≡ true
+          → HasCell is_known state id
       at None f h = there_of is_known state id h
       at (Some c) f h =
           let change = changes_at state changed id c changes f in
           record { cell = change.old.cell; is = change.old.is; sort_is = change_known change.old.cell c change.old.sort_is h }
 
-  still_joins : (a b : ℕ) → a ≢ b → Share state a b → is_of_sort is_reference (cell_in Now a) ≡ true → is_of_sort is_reference (cell_in Now b) ≡ true → may_join Now a b ≡ true
+  still_joins : (a b : ℕ) → a ≢ b → Share state a b → is_of_sort is_reference (cell_in Now a) ≡ true
+      → is_of_sort is_reference (cell_in Now b) ≡ true → may_join Now a b ≡ true
   still_joins a b n s x y =
       let j = joined state good a b n s in
       and_from _ _ (and_from _ _ x y) (not_both _ _ (λ k l. j.not_both_known (was_known a k) (was_known b l)))
 
-  pairs_are : (old : List (ℕ × ℕ)) → IsRising old → ((a b : ℕ) → has a b old ≡ true → Share state a b) → (a b : ℕ) → (has a b (kept set old) ≡ true) ↔ IsPair (λ x y. has x y old ≡ true) Now a b
+  pairs_are : (old : List (ℕ × ℕ)) → IsRising old → ((a b : ℕ) → has a b old ≡ true → Share state a b) → (a b : ℕ)
+      → (has a b (kept set old) ≡ true) ↔ IsPair (λ x y. has x y old ≡ true) Now a b
   pairs_are old r shares a b = (
     λ e.
         let k = kept_has set a b old e in
@@ -201,7 +215,13 @@ module _ (state : AbstractState) (good : IsWellFormed state) (changed : List (�
 
   -- the state with the changed cells, and other frames and another thrown id
   abbrev Changed : List AbstractFrame → Option ℕ → AbstractState
-  Changed frames throwing = record { frames = frames; throwing = throwing; cells = Now; eq = kept set state.eq; share = kept set state.share }
+  Changed frames throwing = record {
+    frames = frames;
+    throwing = throwing;
+    cells = Now;
+    eq = kept set state.eq;
+    share = kept set state.share;
+  }
 
   pub changed_given : IsRising state.eq → IsRising state.share → (frames : List AbstractFrame) (throwing : Option ℕ)
       → IsGiven frames throwing (with_cells changed state) (AreEqual state) (Share state) (Changed frames throwing)
@@ -214,20 +234,24 @@ module _ (state : AbstractState) (good : IsWellFormed state) (changed : List (�
     share = pairs_are state.share rs (λ a b s. s);
   }
 
-  frames_as_ids : (frames : List AbstractFrame) → AllByRecursion (HoldsIds state) frames → AllByRecursion (λ frame. AllByRecursion (HasCell (λ _. true) state) (ids_of_frame frame)) frames
+  frames_as_ids : (frames : List AbstractFrame) → AllByRecursion (HoldsIds state) frames
+      → AllByRecursion (λ frame. AllByRecursion (HasCell (λ _. true) state) (ids_of_frame frame)) frames
   frames_as_ids frames h =
       all_weaker (HoldsIds state) (λ frame. AllByRecursion (HasCell (λ _. true) state) (ids_of_frame frame))
       (λ frame x. all_joined (HasCell (λ _. true) state) (given_ids frame.locals) frame.stack x.locals x.stack) frames h
 
-  pub changed_good : IsRising state.eq → IsRising state.share → (frames : List AbstractFrame) (throwing : Option ℕ) → AllByRecursion (HoldsIds state) frames
+  pub changed_good : IsRising state.eq → IsRising state.share → (frames : List AbstractFrame) (throwing : Option ℕ)
+      → AllByRecursion (HoldsIds state) frames
       → AllByRecursion (IsThere state) (given_ids (throwing ∷ [])) → IsWellFormed (Changed frames throwing)
   changed_good re rs frames throwing h t =
-      well_with state good changed frames throwing (AreEqual state) (Share state) (Changed frames throwing) (changed_given re rs frames throwing) good.shared (frames_as_ids frames h) t
+      well_with state good changed frames throwing (AreEqual state) (Share state) (Changed frames throwing)
+      (changed_given re rs frames throwing) good.shared (frames_as_ids frames h) t
       (λ id c e. all_still state good changed (ids_in c) (changes_at state changed id c changes e).names)
 
 -- ---- a state with one more cell
 
-module _ (state : AbstractState) (good : IsWellFormed state) (re : IsRising state.eq) (rs : IsRising state.share) (id : ℕ) (free : IsLeastFree state.cells id) (low : id < 2048) (cell : Cell)
+module _ (state : AbstractState) (good : IsWellFormed state) (re : IsRising state.eq) (rs : IsRising state.share) (id : ℕ)
+    (free : IsLeastFree state.cells id) (low : id < 2048) (cell : Cell)
     (names : ids_in cell ≡ []) where
   abbrev More : List (ℕ × Cell)
   More = inserted id cell state.cells
@@ -237,7 +261,8 @@ module _ (state : AbstractState) (good : IsWellFormed state) (re : IsRising stat
 
   -- an id of the state keeps its cell
   kept_at : (n : ℕ) (c : Cell) → cell_at state n ≡ Some c → cell_in More n ≡ cell_at state n
-  kept_at n c e = more_at n ∙ ap (λ (b : Bool). first_cell (if b then Some cell else None) (cell_at state n)) (ne_eqb id n (λ same. none-some c (sym free.none ∙ ap (cell_at state) same ∙ e)))
+  kept_at n c e = more_at n ∙ ap (λ (b : Bool). first_cell (if b then Some cell else None) (cell_at state n))
+      (ne_eqb id n (λ same. none-some c (sym free.none ∙ ap (cell_at state) same ∙ e)))
 
   sort_kept : (sort : Cell → Bool) (n : ℕ) → HasCell sort state n → is_of_sort sort (cell_in More n) ≡ true
   sort_kept sort n h = ap (is_of_sort sort) (kept_at n h.cell h.is) ∙ sort_of sort state n h
@@ -245,7 +270,8 @@ module _ (state : AbstractState) (good : IsWellFormed state) (re : IsRising stat
   known_before : (n : ℕ) → HasCell is_reference state n → is_of_sort is_known (cell_in More n) ≡ true → HasCell is_known state n
   known_before n h e = there_of is_known state n (sym (ap (is_of_sort is_known) (kept_at n h.cell h.is)) ∙ e)
 
-  pairs_stay : (old : List (ℕ × ℕ)) → IsRising old → ((a b : ℕ) → has a b old ≡ true → Share state a b) → (a b : ℕ) → (has a b old ≡ true) ↔ IsPair (λ x y. has x y old ≡ true) More a b
+  pairs_stay : (old : List (ℕ × ℕ)) → IsRising old → ((a b : ℕ) → has a b old ≡ true → Share state a b) → (a b : ℕ)
+      → (has a b old ≡ true) ↔ IsPair (λ x y. has x y old ≡ true) More a b
   pairs_stay old r shares a b = (
     λ e.
         let n = apart_pair a b old r e in
@@ -283,56 +309,95 @@ module _ (state : AbstractState) (good : IsWellFormed state) (re : IsRising stat
         inl (record { cell = found.0; is = found.1; sort_is = refl });
   }
 
-  pub one_made : AreFresh state (id ∷ []) × IsGiven state.frames state.throwing (with_cells ((id, cell) ∷ []) state) (AreEqual state) (Share state) WithOne
+  pub one_made : AreFresh state (id ∷ []) × IsGiven state.frames state.throwing (with_cells ((id, cell) ∷ []) state) (AreEqual state)
+      (Share state) WithOne
   one_made = (one_fresh, one_given)
 
   pub one_good : IsWellFormed WithOne
   one_good =
       well_new state good ((id, cell) ∷ []) (AreEqual state) (Share state) WithOne one_given good.shared (λ n c e. at n c (id == n) e)
     where
-      at : (n : ℕ) (c : Cell) (b : Bool) → (if b then Some cell else None) ≡ Some c → AllByRecursion (IsIn (with_cells ((id, cell) ∷ []) state)) (ids_in c)
+      at : (n : ℕ) (c : Cell) (b : Bool) → (if b then Some cell else None) ≡ Some c
+          → AllByRecursion (IsIn (with_cells ((id, cell) ∷ []) state)) (ids_in c)
       at n c true f =
           subst (λ (y : Cell). AllByRecursion (IsIn (with_cells ((id, cell) ∷ []) state)) (ids_in y)) (some_is f)
           (subst (AllByRecursion (IsIn (with_cells ((id, cell) ∷ []) state))) (sym names) tt)
       at n c false f = absurd (none-some c f)
 
   pub one_there : HasCell (λ _. true) WithOne id
-  one_there = record { cell = cell; is = more_at id ∙ ap (λ (b : Bool). first_cell (if b then Some cell else None) (cell_at state id)) (eq-eqb id id refl); sort_is = refl }
+  one_there = record {
+    cell = cell;
+    is = more_at id ∙ ap (λ (b : Bool). first_cell (if b then Some cell else None) (cell_at state id))
+        (eq-eqb id id refl);
+    sort_is = refl;
+  }
 
 -- ---- as the code has it
 
-pub state_as : (state made : AbstractState) (frames list : List AbstractFrame) (throwing given : Option ℕ) (listed wanted : List (ℕ × Cell)) (eq old_eq share old_share : List (ℕ × ℕ))
-    → made ≡ record { frames = reverse frames; throwing = throwing; cells = listed; eq = eq; share = share } → frames ≡ list → list ≡ reverse state.frames → throwing ≡ given
-    → given ≡ state.throwing → listed ≡ wanted → eq ≡ old_eq → old_eq ≡ state.eq → share ≡ old_share → old_share ≡ state.share → made ≡ record state { cells = wanted }
+pub state_as : (state made : AbstractState) (frames list : List AbstractFrame) (throwing given : Option ℕ)
+    (listed wanted : List (ℕ × Cell)) (eq old_eq share old_share : List (ℕ × ℕ))
+    → made ≡ record { frames = reverse frames; throwing = throwing; cells = listed; eq = eq; share = share } → frames ≡ list
+    → list ≡ reverse state.frames → throwing ≡ given
+    → given ≡ state.throwing → listed ≡ wanted → eq ≡ old_eq → old_eq ≡ state.eq → share ≡ old_share → old_share ≡ state.share
+    → made ≡ record state { cells = wanted }
 state_as state made frames list throwing given listed wanted eq old_eq share old_share m f l t g c e oe s os =
     m
-    ∙ ap (λ (fs : List AbstractFrame). record { frames = fs; throwing = throwing; cells = listed; eq = eq; share = share }) (ap reverse (f ∙ l) ∙ reverse-reverse state.frames)
+    ∙ ap (λ (fs : List AbstractFrame). record { frames = fs; throwing = throwing; cells = listed; eq = eq; share = share })
+    (ap reverse (f ∙ l) ∙ reverse-reverse state.frames)
     ∙ ap (λ (x : Option ℕ). record { frames = state.frames; throwing = x; cells = listed; eq = eq; share = share }) (t ∙ g)
     ∙ ap (λ (x : List (ℕ × Cell)). record { frames = state.frames; throwing = state.throwing; cells = x; eq = eq; share = share }) c
-    ∙ ap (λ (x : List (ℕ × ℕ)). record { frames = state.frames; throwing = state.throwing; cells = wanted; eq = x; share = share }) (e ∙ oe)
-    ∙ ap (λ (x : List (ℕ × ℕ)). record { frames = state.frames; throwing = state.throwing; cells = wanted; eq = state.eq; share = x }) (s ∙ os)
+    ∙ ap (λ (x : List (ℕ × ℕ)). record { frames = state.frames; throwing = state.throwing; cells = wanted; eq = x; share = share }) (e
+    ∙ oe)
+    ∙ ap (λ (x : List (ℕ × ℕ)). record { frames = state.frames; throwing = state.throwing; cells = wanted; eq = state.eq; share = x })
+    (s ∙ os)
 
-pub changed_as : (state made : AbstractState) (changed listed old : List (ℕ × Cell)) (set : List ℕ) (frames : List AbstractFrame) (throwing : Option ℕ) (eq old_eq share old_share : List (ℕ × ℕ))
-    → made ≡ record { frames = frames; throwing = throwing; cells = listed; eq = eq; share = share } → listed ≡ changed_cells changed old → old ≡ state.cells → eq ≡ kept set old_eq
+pub changed_as : (state made : AbstractState) (changed listed old : List (ℕ × Cell)) (set : List ℕ) (frames : List AbstractFrame)
+    (throwing : Option ℕ) (eq old_eq share old_share : List (ℕ × ℕ))
+    → made ≡ record { frames = frames; throwing = throwing; cells = listed; eq = eq; share = share }
+    → listed ≡ changed_cells changed old → old ≡ state.cells → eq ≡ kept set old_eq
     → old_eq ≡ state.eq → share ≡ kept set old_share → old_share ≡ state.share
-    → made ≡ record { frames = frames; throwing = throwing; cells = changed_cells changed state.cells; eq = kept set state.eq; share = kept set state.share }
+    → made ≡ record {
+      frames = frames;
+      throwing = throwing;
+      cells = changed_cells changed state.cells;
+      eq = kept set state.eq;
+      share = kept set state.share;
+    }
 changed_as state made changed listed old set frames throwing eq old_eq share old_share m c o e oe s os =
     m
-    ∙ ap (λ (x : List (ℕ × Cell)). record { frames = frames; throwing = throwing; cells = x; eq = eq; share = share }) (c ∙ ap (changed_cells changed) o)
-    ∙ ap (λ (x : List (ℕ × ℕ)). record { frames = frames; throwing = throwing; cells = changed_cells changed state.cells; eq = x; share = share }) (e ∙ ap (kept set) oe)
-    ∙ ap (λ (x : List (ℕ × ℕ)). record { frames = frames; throwing = throwing; cells = changed_cells changed state.cells; eq = kept set state.eq; share = x }) (s ∙ ap (kept set) os)
+    ∙ ap (λ (x : List (ℕ × Cell)). record { frames = frames; throwing = throwing; cells = x; eq = eq; share = share }) (c
+    ∙ ap (changed_cells changed) o)
+    ∙ ap (λ (x : List (ℕ × ℕ)). record {
+      frames = frames;
+      throwing = throwing;
+      cells = changed_cells changed state.cells;
+      eq = x;
+      share = share;
+    }) (e ∙ ap (kept set) oe)
+    ∙ ap (λ (x : List (ℕ × ℕ)). record {
+      frames = frames;
+      throwing = throwing;
+      cells = changed_cells changed state.cells;
+      eq = kept set state.eq;
+      share = x;
+    }) (s ∙ ap (kept set) os)
 
-each_above : (low : ℕ) (listed : List (ℕ × Cell)) (i : ℕ) (item : ℕ × Cell) → AreIdsRising low listed → i < length listed → item ≡ get_or listed i item → low ≤ item.0
+each_above : (low : ℕ) (listed : List (ℕ × Cell)) (i : ℕ) (item : ℕ × Cell) → AreIdsRising low listed → i < length listed
+    → item ≡ get_or listed i item → low ≤ item.0
 each_above low [] i item r l is = absurd (omega (arith, l))
 each_above low (c ∷ listed) zero item r l is = subst (λ (x : ℕ × Cell). low ≤ x.0) (sym is) r.0
-each_above low (c ∷ listed) (suc i) item r l is = let rest = each_above (suc c.0) listed i item r.1.1 (omega (arith, l)) is in omega (arith, rest, r.0)
+each_above low (c ∷ listed) (suc i) item r l is = let rest = each_above (suc c.0) listed i item r.1.1 (omega (arith, l)) is in
+    omega (arith, rest, r.0)
 
 -- the ids of references among the first cells
-pub refs_next : (low : ℕ) (listed : List (ℕ × Cell)) (i n : ℕ) (item : ℕ × Cell) (old new : Bool) → AreIdsRising low listed → i < length listed → item ≡ get_or listed i item
-    → new ≡ ((is_reference item.1 && (n == item.0)) || old) → old ≡ is_of_sort is_reference (cell_in (take i listed) n) → new ≡ is_of_sort is_reference (cell_in (take (i + 1) listed) n)
+pub refs_next : (low : ℕ) (listed : List (ℕ × Cell)) (i n : ℕ) (item : ℕ × Cell) (old new : Bool) → AreIdsRising low listed
+    → i < length listed → item ≡ get_or listed i item
+    → new ≡ ((is_reference item.1 && (n == item.0)) || old) → old ≡ is_of_sort is_reference (cell_in (take i listed) n)
+    → new ≡ is_of_sort is_reference (cell_in (take (i + 1) listed) n)
 refs_next low [] i n item old new r l is e o = absurd (omega (arith, l))
 refs_next low (c ∷ listed) zero n item old new r l is e o =
-    e ∙ ap (λ (b : Bool). (is_reference item.1 && (n == item.0)) || b) o ∙ ap (λ (x : ℕ × Cell). (is_reference x.1 && (n == x.0)) || false) is ∙ at (c.0 == n) refl
+    e ∙ ap (λ (b : Bool). (is_reference item.1 && (n == item.0)) || b) o
+    ∙ ap (λ (x : ℕ × Cell). (is_reference x.1 && (n == x.0)) || false) is ∙ at (c.0 == n) refl
   where
     at : (b : Bool) → eqb c.0 n ≡ b → ((is_reference c.1 && (n == c.0)) || false) ≡ is_of_sort is_reference (if b then Some c.1 else None)
     at true f = ap (λ (b : Bool). (is_reference c.1 && b) || false) (eq-eqb n c.0 (sym (eqb-true c.0 n f))) ∙ both (is_reference c.1)
@@ -340,7 +405,8 @@ refs_next low (c ∷ listed) zero n item old new r l is e o =
         both : (b : Bool) → ((b && true) || false) ≡ b
         both true = refl
         both false = refl
-    at false f = ap (λ (b : Bool). (is_reference c.1 && b) || false) (ne_eqb n c.0 (λ same. eqb-false c.0 n f (sym same))) ∙ none (is_reference c.1)
+    at false f = ap (λ (b : Bool). (is_reference c.1 && b) || false) (ne_eqb n c.0 (λ same. eqb-false c.0 n f (sym same)))
+        ∙ none (is_reference c.1)
       where
         none : (b : Bool) → ((b && false) || false) ≡ false
         none true = refl
@@ -348,7 +414,8 @@ refs_next low (c ∷ listed) zero n item old new r l is e o =
 refs_next low (c ∷ listed) (suc i) n item old new r l is e o =
     let after : suc i + 1 ≡ suc (i + 1) = omega arith in
     let below : i < length listed = omega (arith, l) in
-    at (c.0 == n) refl o (λ h. refs_next (suc c.0) listed i n item old new r.1.1 below is e h) ∙ ap (λ (k : ℕ). is_of_sort is_reference (cell_in (take k (c ∷ listed)) n)) (sym after)
+    at (c.0 == n) refl o (λ h. refs_next (suc c.0) listed i n item old new r.1.1 below is e h)
+    ∙ ap (λ (k : ℕ). is_of_sort is_reference (cell_in (take k (c ∷ listed)) n)) (sym after)
   where
     later : c.0 ≡ n → n ≡ item.0 → ⊥
     later same here =
@@ -358,17 +425,20 @@ refs_next low (c ∷ listed) (suc i) n item old new r l is e o =
     at : (b : Bool) → eqb c.0 n ≡ b → old ≡ is_of_sort is_reference (if b then Some c.1 else cell_in (take i listed) n)
         → (old ≡ is_of_sort is_reference (cell_in (take i listed) n) → new ≡ is_of_sort is_reference (cell_in (take (i + 1) listed) n))
         → new ≡ is_of_sort is_reference (if b then Some c.1 else cell_in (take (i + 1) listed) n)
-    at true f h rest = e ∙ ap (λ (b : Bool). (is_reference item.1 && b) || old) (ne_eqb n item.0 (later (eqb-true c.0 n f))) ∙ dropped (is_reference item.1) old ∙ h
+    at true f h rest = e ∙ ap (λ (b : Bool). (is_reference item.1 && b) || old) (ne_eqb n item.0 (later (eqb-true c.0 n f)))
+        ∙ dropped (is_reference item.1) old ∙ h
       where
         dropped : (b d : Bool) → ((b && false) || d) ≡ d
         dropped true d = refl
         dropped false d = refl
     at false f h rest = rest h
 
-pub each_low : (low : ℕ) (listed : List (ℕ × Cell)) (i : ℕ) (item : ℕ × Cell) → AreIdsRising low listed → i < length listed → item ≡ get_or listed i item → item.0 < 2048
+pub each_low : (low : ℕ) (listed : List (ℕ × Cell)) (i : ℕ) (item : ℕ × Cell) → AreIdsRising low listed → i < length listed
+    → item ≡ get_or listed i item → item.0 < 2048
 each_low low [] i item r l is = absurd (omega (arith, l))
 each_low low (c ∷ listed) zero item r l is = subst (λ (x : ℕ × Cell). x.0 < 2048) (sym is) r.1.0
 each_low low (c ∷ listed) (suc i) item r l is = each_low (suc c.0) listed i item r.1.1 (omega (arith, l)) is
 
-pub refs_all : (listed : List (ℕ × Cell)) (i n : ℕ) (b : Bool) → length listed ≤ i → b ≡ is_of_sort is_reference (cell_in (take i listed) n) → b ≡ is_of_sort is_reference (cell_in listed n)
+pub refs_all : (listed : List (ℕ × Cell)) (i n : ℕ) (b : Bool) → length listed ≤ i
+    → b ≡ is_of_sort is_reference (cell_in (take i listed) n) → b ≡ is_of_sort is_reference (cell_in listed n)
 refs_all listed i n b l e = e ∙ ap (λ (xs : List (ℕ × Cell)). is_of_sort is_reference (cell_in xs n)) (take_all i listed l)

@@ -1,5 +1,6 @@
 -- Programs and states that are about ints alone, by the tests of their instructions and of their cells.
-use Rattle.std.proofs.Common.{◌≡◌, ◌≤◌, ◌∙◌, ◌==◌, ℕ, zero, suc, Bool, true, false, cond, eqb, if◌then◌else◌, List, [], ◌∷◌, Option, Some, None, slice_get, refl, sym, ap, subst, arith, eq-eqb}
+use Rattle.std.proofs.Common.{◌≡◌, ◌≤◌, ◌∙◌, ◌==◌, ℕ, zero, suc, Bool, true, false, cond, eqb, if◌then◌else◌, List, [], ◌∷◌, Option}
+use Rattle.std.proofs.Common.{Some, None, slice_get, refl, sym, ap, subst, arith, eq-eqb}
 use Rattle.std.specs.List.{list_all}
 use Rattle.std.specs.Option.{option_map, is_none}
 use Rattle.std.proofs.lemmas.Bool.{false≢true, and_parts, and_from, ne_eqb, eqb-true}
@@ -17,22 +18,28 @@ use Rattle.class_program.specs.Instructions.{first_place, instruction_at}
 use Rattle.class_program.specs.Programs.{Program, insn_at}
 use Rattle.abs_expand.specs.IntForms.{has_int_form, are_int_insns, are_int_methods, has_ints, HasIntForms, IsIntState}
 
-insn_int : (insns : List (ℕ × Op)) (pc : ℕ) (x : Op × Option ℕ) → are_int_insns insns ≡ true → instruction_at insns pc ≡ Some x → has_int_form x.0 ≡ true
+insn_int : (insns : List (ℕ × Op)) (pc : ℕ) (x : Op × Option ℕ) → are_int_insns insns ≡ true → instruction_at insns pc ≡ Some x
+    → has_int_form x.0 ≡ true
 insn_int [] pc x h e = absurd (none-some x e)
 insn_int (y ∷ insns) pc x h e =
     let both = and_parts (has_int_form y.1) (are_int_insns insns) h in
     go (y.0 == pc) e both.0 (λ f. insn_int insns pc x both.1 f)
   where
-    go : (b : Bool) → (if b then Some (y.1, first_place insns) else instruction_at insns pc) ≡ Some x → has_int_form y.1 ≡ true → (instruction_at insns pc ≡ Some x → has_int_form x.0 ≡ true) → has_int_form x.0 ≡ true
+    go : (b : Bool) → (if b then Some (y.1, first_place insns) else instruction_at insns pc) ≡ Some x → has_int_form y.1 ≡ true
+        → (instruction_at insns pc ≡ Some x → has_int_form x.0 ≡ true) → has_int_form x.0 ≡ true
     go true f first rest = subst (λ (z : Op × Option ℕ). has_int_form z.0 ≡ true) (some_is f) first
     go false f first rest = rest f
 
-method_int : (methods : List Method) (number : ℕ) (m : Method) → are_int_methods methods ≡ true → slice_get methods number ≡ Some m → are_int_insns m.insns ≡ true
+method_int : (methods : List Method) (number : ℕ) (m : Method) → are_int_methods methods ≡ true → slice_get methods number ≡ Some m
+    → are_int_insns m.insns ≡ true
 method_int [] number m h e = absurd (none-some m e)
-method_int (x ∷ methods) zero m h e = subst (λ (y : Method). are_int_insns y.insns ≡ true) (some_is e) (and_parts (are_int_insns x.insns) (are_int_methods methods) h).0
-method_int (x ∷ methods) (suc number) m h e = method_int methods number m (and_parts (are_int_insns x.insns) (are_int_methods methods) h).1 e
+method_int (x ∷ methods) zero m h e = subst (λ (y : Method). are_int_insns y.insns ≡ true) (some_is e)
+    (and_parts (are_int_insns x.insns) (are_int_methods methods) h).0
+method_int (x ∷ methods) (suc number) m h e = method_int methods number m (and_parts (are_int_insns x.insns) (are_int_methods methods)
+    h).1 e
 
-found_int : (methods : List Method) (number pc : ℕ) (found : Option (Op × Option ℕ)) (op : Op) → are_int_methods methods ≡ true → insn_at methods number pc ≡ found → option_map (λ (x : Op × Option ℕ). x.0) found ≡ Some op → has_int_form op ≡ true
+found_int : (methods : List Method) (number pc : ℕ) (found : Option (Op × Option ℕ)) (op : Op) → are_int_methods methods ≡ true
+    → insn_at methods number pc ≡ found → option_map (λ (x : Op × Option ℕ). x.0) found ≡ Some op → has_int_form op ≡ true
 unfolding insn_at
 found_int methods number pc None op h e f = absurd (none-some op f)
 found_int methods number pc (Some x) op h e f =
@@ -44,13 +51,15 @@ program_int p h number pc op e = found_int p.methods number pc (insn_at p.method
 
 -- ---- states
 
-cell_int : (listed : List (ℕ × Cell)) (id : ℕ) (cell : Cell) → list_all (λ (c : ℕ × Cell). is_int c.1) listed ≡ true → cell_in listed id ≡ Some cell → is_int cell ≡ true
+cell_int : (listed : List (ℕ × Cell)) (id : ℕ) (cell : Cell) → list_all (λ (c : ℕ × Cell). is_int c.1) listed ≡ true
+    → cell_in listed id ≡ Some cell → is_int cell ≡ true
 cell_int [] id cell h e = absurd (none-some cell e)
 cell_int (c ∷ listed) id cell h e =
     let both = and_parts (is_int c.1) (list_all (λ (x : ℕ × Cell). is_int x.1) listed) h in
     go (c.0 == id) e both.0 (λ f. cell_int listed id cell both.1 f)
   where
-    go : (b : Bool) → (if b then Some c.1 else cell_in listed id) ≡ Some cell → is_int c.1 ≡ true → (cell_in listed id ≡ Some cell → is_int cell ≡ true) → is_int cell ≡ true
+    go : (b : Bool) → (if b then Some c.1 else cell_in listed id) ≡ Some cell → is_int c.1 ≡ true
+        → (cell_in listed id ≡ Some cell → is_int cell ≡ true) → is_int cell ≡ true
     go true f first rest = subst (λ (x : Cell). is_int x ≡ true) (some_is f) first
     go false f first rest = rest f
 
@@ -58,7 +67,8 @@ none_first : {X : Type 0} (xs : List X) → slice_get xs 0 ≡ None → xs ≡ [
 none_first [] e = refl
 none_first (x ∷ xs) e = absurd (none-some x (sym e))
 
-each_int : (low : ℕ) (cells : List (ℕ × Cell)) → AreIdsRising low cells → ((id : ℕ) (cell : Cell) → cell_in cells id ≡ Some cell → is_int cell ≡ true) → list_all (λ (c : ℕ × Cell). is_int c.1) cells ≡ true
+each_int : (low : ℕ) (cells : List (ℕ × Cell)) → AreIdsRising low cells → ((id : ℕ) (cell : Cell) → cell_in cells id ≡ Some cell
+    → is_int cell ≡ true) → list_all (λ (c : ℕ × Cell). is_int c.1) cells ≡ true
 each_int low [] rise ints = refl
 each_int low (c ∷ cells) rise ints =
     and_from (is_int c.1) (list_all (λ (x : ℕ × Cell). is_int x.1) cells) (ints c.0 c.1 (first_cell_is c cells))

@@ -16,9 +16,11 @@ use Rattle.abs_expand.specs.declared.fault.ExpandFault.TheVariants.{BadState, To
 -- first clause that the state breaks, or the first child with too many ids. Want of memory says nothing
 abbrev pub Answers : Program → (ℕ → CodeTypes) → AbstractState → Result (Option (List GraphChild)) ExpandFault → Type 0
 Answers p typing state (Ok None) = IsGoodState p typing state × (plan_of p typing state ≡ ends)
-Answers p typing state (Ok (Some children)) = IsGoodState p typing state × AreExpanded (types_of p.world) state (plan_of p typing state) children
+Answers p typing state (Ok (Some children)) = IsGoodState p typing state × AreExpanded (types_of p.world) state
+    (plan_of p typing state) children
 Answers p typing state (Err (BadState clause)) = IsBadState p typing state clause
-Answers p typing state (Err (TooManyIds child)) = IsGoodState p typing state × IsFirstTooMany (counts_of (types_of p.world) state (plan_of p typing state)) child
+Answers p typing state (Err (TooManyIds child)) = IsGoodState p typing state
+    × IsFirstTooMany (counts_of (types_of p.world) state (plan_of p typing state)) child
 Answers p typing state (Err Memory) = Unit {0}
 
 -- what an expansion answers where a state that has one has this plan, and the run doesn't end

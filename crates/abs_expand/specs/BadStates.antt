@@ -52,7 +52,8 @@ call_at p frame = option_map_or call_takes (op_at p.methods frame.method frame.p
 
 -- the typing has the frame's place; the method's locals, and after them in the bottom frame the ids of the static fields, are
 -- as many as they are and of their kinds
-pub record IsPlaced (p : Program) (typing : ℕ → CodeTypes) (state : AbstractState) (statics : List Slot) (frame : AbstractFrame) (there : PlaceTypes) : Type 0 where
+pub record IsPlaced (p : Program) (typing : ℕ → CodeTypes) (state : AbstractState) (statics : List Slot) (frame : AbstractFrame)
+    (there : PlaceTypes) : Type 0 where
   pub method : Method
   pub is_method : slice_get p.methods frame.method ≡ Some method
   pub is_there : typing frame.method frame.pc ≡ Some there
@@ -70,28 +71,32 @@ abbrev pub HasCallersStack : AbstractState → Option ℕ → List PlaceType →
 HasCallersStack state None wanted stack = Unit {0}
 HasCallersStack state (Some count) wanted stack = HasStackOf state (drop count wanted) stack
 
-pub record IsCallerPlaced (p : Program) (typing : ℕ → CodeTypes) (state : AbstractState) (statics : List Slot) (frame : AbstractFrame) : Type 0 where
+pub record IsCallerPlaced (p : Program) (typing : ℕ → CodeTypes) (state : AbstractState) (statics : List Slot)
+    (frame : AbstractFrame) : Type 0 where
   pub there : PlaceTypes
   pub placed : IsPlaced p typing state statics frame there
   pub stack : HasCallersStack state (call_at p frame) there.stack frame.stack
 
 abbrev pub AreCallersPlaced : Program → (ℕ → CodeTypes) → AbstractState → List AbstractFrame → Type 0
 AreCallersPlaced p typing state [] = Unit {0}
-AreCallersPlaced p typing state (frame ∷ below) = IsCallerPlaced p typing state (statics_under p below) frame × AreCallersPlaced p typing state below
+AreCallersPlaced p typing state (frame ∷ below) = IsCallerPlaced p typing state (statics_under p below) frame
+    × AreCallersPlaced p typing state below
 
 -- the running frame's stack has the types of its place; while a handler is looked for it is empty
 abbrev pub HasRunningStack : AbstractState → Option ℕ → List PlaceType → List ℕ → Type 0
 HasRunningStack state None wanted stack = HasStackOf state wanted stack
 HasRunningStack state (Some thrown) wanted stack = stack ≡ []
 
-pub record IsRunningPlaced (p : Program) (typing : ℕ → CodeTypes) (state : AbstractState) (statics : List Slot) (frame : AbstractFrame) : Type 0 where
+pub record IsRunningPlaced (p : Program) (typing : ℕ → CodeTypes) (state : AbstractState) (statics : List Slot)
+    (frame : AbstractFrame) : Type 0 where
   pub there : PlaceTypes
   pub placed : IsPlaced p typing state statics frame there
   pub stack : HasRunningStack state state.throwing there.stack frame.stack
 
 abbrev pub ArePlaced : Program → (ℕ → CodeTypes) → AbstractState → List AbstractFrame → Type 0
 ArePlaced p typing state [] = Unit {0}
-ArePlaced p typing state (frame ∷ below) = IsRunningPlaced p typing state (statics_under p below) frame × AreCallersPlaced p typing state below
+ArePlaced p typing state (frame ∷ below) = IsRunningPlaced p typing state (statics_under p below) frame
+    × AreCallersPlaced p typing state below
 
 -- each frame below the running one is at a call
 abbrev pub below_running : List AbstractFrame → List AbstractFrame
@@ -114,4 +119,5 @@ pub record IsGoodState (p : Program) (typing : ℕ → CodeTypes) (state : Abstr
 pub data IsBadState (p : Program) (typing : ℕ → CodeTypes) (state : AbstractState) : ℕ → Type 0 where
   unsound : (IsSound (types_of p.world) state → ⊥) → IsBadState p typing state 1
   misplaced : IsSound (types_of p.world) state → (ArePlaced p typing state state.frames → ⊥) → IsBadState p typing state 2
-  uncalled : IsSound (types_of p.world) state → ArePlaced p typing state state.frames → (AreAtCalls p state.frames → ⊥) → IsBadState p typing state 3
+  uncalled : IsSound (types_of p.world) state → ArePlaced p typing state state.frames → (AreAtCalls p state.frames → ⊥)
+      → IsBadState p typing state 3

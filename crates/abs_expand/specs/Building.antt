@@ -11,7 +11,8 @@ use Rattle.abs_reach.specs.Reached.{IsDropped}
 use Rattle.term_graph.specs.Graphs.{GraphChild}
 pub use Rattle.abs_turns.specs.GoodPlans.{HoldsIds}
 pub use Rattle.abs_expand.specs.Making.{frames_to}
-use Rattle.abs_turns.specs.Plans.{Act, nothing, makes, Goal, nowhere, on_stack, in_local, is_thrown, Turn, Plan, ends, steps, by_null, by_class, by_equal, ids_made}
+use Rattle.abs_turns.specs.Plans.{Act, nothing, makes, Goal, nowhere, on_stack, in_local, is_thrown, Turn, Plan, ends, steps, by_null}
+use Rattle.abs_turns.specs.Plans.{by_class, by_equal, ids_made}
 use Rattle.abs_heap.specs.declared.fault.SplitFault.{SplitFault}
 use Rattle.abs_heap.specs.declared.fault.SplitFault.TheVariants as splits
 use Rattle.abs_expand.specs.declared.fault.ExpandFault.{ExpandFault}

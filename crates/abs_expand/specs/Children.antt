@@ -14,15 +14,18 @@ use Rattle.abs_reach.specs.Reached.{IsDropped}
 use Rattle.term_graph.specs.Graphs.{GraphChild}
 use Rattle.abs_heap.specs.Given.{IsGiven, AreFresh, with_cells}
 use Rattle.abs_heap.specs.Writing.{IsWriteChild, IsItemChild, IsObjectChild, IsNewArrayChild}
-use Rattle.abs_turns.specs.Plans.{Act, nothing, makes, writes, item, object, array, Goal, nowhere, on_stack, in_local, in_bottom, in_field, is_thrown, Turn}
+use Rattle.abs_turns.specs.Plans.{Act, nothing, makes, writes, item, object, array, Goal, nowhere, on_stack, in_local, in_bottom}
+use Rattle.abs_turns.specs.Plans.{in_field, is_thrown, Turn}
 use Rattle.abs_turns.specs.Table.{bottom_with}
 
 -- an act gives a state from another one, with the id that it makes; one that makes none gives any
 abbrev pub IsActed : WorldTypes → Act → ℕ → AbstractState → AbstractState → Type 0
 IsActed types nothing id state after = after ≡ state
-IsActed types (makes cell) id state after = AreFresh state (id ∷ []) × IsGiven state.frames state.throwing (with_cells ((id, cell) ∷ []) state) (AreEqual state) (Share state) after
+IsActed types (makes cell) id state after = AreFresh state (id ∷ []) × IsGiven state.frames state.throwing
+    (with_cells ((id, cell) ∷ []) state) (AreEqual state) (Share state) after
 IsActed types (writes write) id state after = IsWriteChild state write after
-IsActed types (item k) id state after = (element : Ty) × (len : ℕ) × (shape : Shape) × ((cell_at state k ≡ Some (cells.Refs element len shape)) × IsItemChild types.sub state k element shape id after)
+IsActed types (item k) id state after = (element : Ty) × (len : ℕ) × (shape : Shape)
+    × ((cell_at state k ≡ Some (cells.Refs element len shape)) × IsItemChild types.sub state k element shape id after)
 IsActed types (object class) id state after = IsObjectChild types state class id after
 IsActed types (array slot len) id state after = IsNewArrayChild types.erase state slot len id after
 
@@ -42,7 +45,8 @@ field_with k place id c = (c.0, if c.0 == k then set_field place id c.1 else c.1
 abbrev pub gone_to : Goal → ℕ → AbstractState → AbstractState
 gone_to nowhere id state = state
 gone_to on_stack id state = record state { frames = top_with (λ frame. record frame { stack = id ∷ frame.stack }) state.frames }
-gone_to (in_local n) id state = record state { frames = top_with (λ frame. record frame { locals = slice_set frame.locals n (Some id) }) state.frames }
+gone_to (in_local n) id state = record state
+    { frames = top_with (λ frame. record frame { locals = slice_set frame.locals n (Some id) }) state.frames }
 gone_to (in_bottom n) id state = record state { frames = bottom_with n id state.frames }
 gone_to (in_field k place) id state = record state { cells = map (field_with k place id) state.cells }
 gone_to is_thrown id state = record state { throwing = Some id }

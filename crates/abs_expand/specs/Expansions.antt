@@ -19,7 +19,8 @@ use Rattle.abs_expand.specs.Children.{IsTurnChild, IsLean}
 
 -- ---- the children of a plan
 
--- the children of a plan in their order, before ids are dropped. A plan splits by null an id whose cell may be null, and by class one whose cell
+-- the children of a plan in their order, before ids are dropped. A plan splits by null an id whose cell may be null, and by class one
+-- whose cell
 -- is `Unk` and not nullable, as the splits of the abstract heap ask
 abbrev pub AreChildren : WorldTypes → AbstractState → Plan → List GraphChild → Type 0
 AreChildren types state ends children = ⊥
@@ -36,7 +37,8 @@ class_counts types state wanted (Some (cells.Unk bound nullable shape)) = case_c
 class_counts types state wanted _ = []
 
 abbrev pub equal_counts : WorldTypes → AbstractState → Option Cell → Option Cell → List ℕ
-equal_counts types state (Some c) (Some d) = if are_compatible types.sub c d then (length state.cells - 1) ∷ length state.cells ∷ [] else length state.cells ∷ []
+equal_counts types state (Some c) (Some d) = if are_compatible types.sub c d then (length state.cells - 1) ∷ length state.cells
+    ∷ [] else length state.cells ∷ []
 equal_counts types state _ _ = []
 
 abbrev pub counts_of : WorldTypes → AbstractState → Plan → List ℕ

@@ -11,7 +11,8 @@ use Rattle.class_program.specs.declared.op.Op.{Op}
 use Rattle.class_program.specs.declared.program.Method.{Method}
 use Rattle.class_program.specs.Programs.{Program, op_at}
 use Rattle.op_forms.specs.Forms.{Form, form_of}
-use Rattle.op_forms.specs.Forms.Form.{Nop, Iconst, Iload, Istore, Iinc, Shuffle, Arith, Ineg, Narrow, If, IfIcmp, Goto, Tableswitch, Lookupswitch, Ireturn, Return}
+use Rattle.op_forms.specs.Forms.Form.{Nop, Iconst, Iload, Istore, Iinc, Shuffle, Arith, Ineg, Narrow, If, IfIcmp, Goto, Tableswitch}
+use Rattle.op_forms.specs.Forms.Form.{Lookupswitch, Ireturn, Return}
 
 -- an operator that has a result for all ints: each but the two divisions
 abbrev pub is_total : IntOp → Bool
@@ -62,4 +63,5 @@ pub record IsIntState (state : AbstractState) : Type 0 where
 
 -- the test of it
 abbrev pub has_ints : AbstractState → Bool
-has_ints state = is_none (slice_get state.eq 0) && (is_none (slice_get state.share 0) && (is_none state.throwing && list_all (λ (c : ℕ × Cell). is_int c.1) state.cells))
+has_ints state = is_none (slice_get state.eq 0)
+    && (is_none (slice_get state.share 0) && (is_none state.throwing && list_all (λ (c : ℕ × Cell). is_int c.1) state.cells))

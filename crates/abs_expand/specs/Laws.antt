@@ -25,7 +25,8 @@ IsAfter p false machine after = after ≡ machine
 IsAfter p true machine after = step p machine ≡ Going after
 
 -- a child fits a state of the machine, and the edge to it holds
-pub record GoesToChild (p : Program) (state : AbstractState) (machine : MachineState) (meaning : Meaning) (children : List GraphChild) : Type 0 where
+pub record GoesToChild (p : Program) (state : AbstractState) (machine : MachineState) (meaning : Meaning)
+    (children : List GraphChild) : Type 0 where
   pub n : ℕ
   pub child : GraphChild
   pub is : slice_get children n ≡ Some child
@@ -50,6 +51,7 @@ EndsEnd =
 
 abbrev pub StepsFitChildren : Type 0
 StepsFitChildren =
-    (p : Program) (typing : ℕ → CodeTypes) (state : AbstractState) (machine : MachineState) (meaning : Meaning) (children : List GraphChild)
+    (p : Program) (typing : ℕ → CodeTypes) (state : AbstractState) (machine : MachineState) (meaning : Meaning)
+    (children : List GraphChild)
     → IsClosed p → HasWidths p → IsMet p typing state machine meaning
     → AreExpanded (types_of p.world) state (plan_of p typing state) children → GoesToChild p state machine meaning children

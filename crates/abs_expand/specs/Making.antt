@@ -50,7 +50,8 @@ GoesSomewhere nowhere = ⊥
 GoesSomewhere _ = Unit {0}
 
 -- the state of a step, before ids are dropped
-pub record IsTurnState (types : WorldTypes) (state : AbstractState) (changes : List (ℕ × Cell)) (frames : List AbstractFrame) (throwing : Option ℕ) (act : Act) (goal : Goal) (id : ℕ) (after : AbstractState) : Type 0 where
+pub record IsTurnState (types : WorldTypes) (state : AbstractState) (changes : List (ℕ × Cell)) (frames : List AbstractFrame)
+    (throwing : Option ℕ) (act : Act) (goal : Goal) (id : ℕ) (after : AbstractState) : Type 0 where
   pub changed : AbstractState
   pub is_changed : IsGiven frames throwing (with_cells changes state) (AreEqual state) (Share state) changed
   pub acted : AbstractState

@@ -1,5 +1,6 @@
 -- The tests of positions, as they run.
-use Rattle.std.specs.Prelude.{ℕ, ◌+◌, ◌==◌, Bool, true, false, ◌&&◌, if◌then◌else◌, List, [], ◌∷◌, length, map, take, drop, slice_get, Option, Some, None, option_and_then}
+use Rattle.std.specs.Prelude.{ℕ, ◌+◌, ◌==◌, Bool, true, false, ◌&&◌, if◌then◌else◌, List, [], ◌∷◌, length, map, take, drop, slice_get}
+use Rattle.std.specs.Prelude.{Option, Some, None, option_and_then}
 use Rattle.std.specs.Option.{option_map_or}
 use Rattle.jvm_values.specs.declared.types.Slot.{Slot}
 use Rattle.jvm_values.specs.declared.types.Slot.TheVariants as slots
@@ -40,14 +41,17 @@ are_of_fields cells statics locals = all_zip (is_of_field cells) (map (λ (field
 
 -- locals are as many as the method's and the static fields, and of their kinds
 abbrev pub has_locals : List (ℕ × Cell) → ℕ → List PlaceType → List StaticField → List (Option ℕ) → Bool
-has_locals cells max wanted statics locals = (length locals == max + length statics) && (all_zip (is_of_place cells) wanted (take max locals) && are_of_fields cells statics (drop max locals))
+has_locals cells max wanted statics locals = (length locals == max + length statics)
+    && (all_zip (is_of_place cells) wanted (take max locals) && are_of_fields cells statics (drop max locals))
 
 -- the types at a frame's place, where the typing has it and the locals are as it says
 abbrev pub if_locals : List (ℕ × Cell) → List StaticField → List (Option ℕ) → Method → PlaceTypes → Option PlaceTypes
 if_locals cells statics locals method there = if has_locals cells method.max_locals there.locals statics locals then Some there else None
 
 abbrev pub placed_at : Program → (ℕ → CodeTypes) → List (ℕ × Cell) → List StaticField → AbstractFrame → Option PlaceTypes
-placed_at p typing cells statics frame = option_and_then (λ (method : Method). option_and_then (if_locals cells statics frame.locals method) (typing frame.method frame.pc)) (slice_get p.methods frame.method)
+placed_at p typing cells statics frame = option_and_then
+    (λ (method : Method). option_and_then (if_locals cells statics frame.locals method) (typing frame.method frame.pc))
+    (slice_get p.methods frame.method)
 
 -- a stack without so many of its topmost entries
 abbrev pub is_stack_at : List (ℕ × Cell) → ℕ → PlaceTypes → List ℕ → Bool
@@ -62,10 +66,12 @@ is_running_stack cells None there stack = is_stack_at cells 0 there stack
 is_running_stack cells (Some thrown) there stack = length stack == 0
 
 abbrev pub caller_test : Program → (ℕ → CodeTypes) → List (ℕ × Cell) → List StaticField → AbstractFrame → Bool
-caller_test p typing cells statics frame = option_map_or (λ (there : PlaceTypes). is_callers_stack cells (call_at p frame) there frame.stack) (placed_at p typing cells statics frame) false
+caller_test p typing cells statics frame = option_map_or (λ (there : PlaceTypes). is_callers_stack cells (call_at p frame) there
+    frame.stack) (placed_at p typing cells statics frame) false
 
 abbrev pub running_test : Program → (ℕ → CodeTypes) → List (ℕ × Cell) → Option ℕ → List StaticField → AbstractFrame → Bool
-running_test p typing cells thrown statics frame = option_map_or (λ (there : PlaceTypes). is_running_stack cells thrown there frame.stack) (placed_at p typing cells statics frame) false
+running_test p typing cells thrown statics frame = option_map_or (λ (there : PlaceTypes). is_running_stack cells thrown there
+    frame.stack) (placed_at p typing cells statics frame) false
 
 -- the static fields at the bottom frame
 abbrev pub fields_under : Program → ℕ → List StaticField
@@ -73,8 +79,10 @@ fields_under p below = if below == 0 then p.statics else []
 
 abbrev pub callers_test : Program → (ℕ → CodeTypes) → List (ℕ × Cell) → List AbstractFrame → Bool
 callers_test p typing cells [] = true
-callers_test p typing cells (frame ∷ below) = caller_test p typing cells (fields_under p (length below)) frame && callers_test p typing cells below
+callers_test p typing cells (frame ∷ below) = caller_test p typing cells (fields_under p (length below)) frame
+    && callers_test p typing cells below
 
 abbrev pub placed_test : Program → (ℕ → CodeTypes) → AbstractState → List AbstractFrame → Bool
 placed_test p typing state [] = true
-placed_test p typing state (frame ∷ below) = running_test p typing state.cells state.throwing (fields_under p (length below)) frame && callers_test p typing state.cells below
+placed_test p typing state (frame ∷ below) = running_test p typing state.cells state.throwing (fields_under p (length below)) frame
+    && callers_test p typing state.cells below

@@ -84,7 +84,8 @@ fn beside(constant: &i64, times: &i64, n: i32) -> i64
 /// The constant of a row over operands.
 fn constant_over(left: Operand, right: Operand, row: &ShortRow) -> i64
     requires { IsTrue (is_short_row (operand_seen left) (operand_seen right) row.now) }
-    ensures { result ≡ row.now.constant +ℤ (constant_of (operand_seen left) row.now.left +ℤ constant_of (operand_seen right) row.now.right) }
+    ensures { result ≡ row.now.constant +ℤ (constant_of (operand_seen left) row.now.left +ℤ constant_of (operand_seen right)
+        row.now.right) }
 {
     match (left, right) {
         (Operand::Id(_), Operand::Id(_)) => row.constant,

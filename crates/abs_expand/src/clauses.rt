@@ -17,7 +17,8 @@ pub fn bad_clause<P: Pairs>(
     typing: &Typing,
     state: &AbsState<P>,
 ) -> Option<u8>
-    ensures { MatchOption result (IsGoodState (program_of program.now) (typing_at typing.now) state.now) (λ clause. IsBadState (program_of program.now) (typing_at typing.now) state.now clause) }
+    ensures { MatchOption result (IsGoodState (program_of program.now) (typing_at typing.now) state.now)
+        (λ clause. IsBadState (program_of program.now) (typing_at typing.now) state.now clause) }
 {
     if !is_sound(&program.world, state) {
         return Some(1);

@@ -53,7 +53,8 @@ fn first_too_many<P: Pairs>(
 ) -> Option<usize>
     requires few { count ≤ 2048 }
     requires turns { AllByRecursion (IsGoodTurn (types_of (program_of program.now).world) state.now) (map turn_seen turns.now) }
-    ensures { MatchOption result (AreFew (turn_counts (types_of (program_of program.now).world) count (map turn_seen turns.now))) (λ n. IsFirstTooMany (turn_counts (types_of (program_of program.now).world) count (map turn_seen turns.now)) n) }
+    ensures { MatchOption result (AreFew (turn_counts (types_of (program_of program.now).world) count (map turn_seen turns.now)))
+        (λ n. IsFirstTooMany (turn_counts (types_of (program_of program.now).world) count (map turn_seen turns.now)) n) }
 {
     for n in 0..turns.len() {
         if count + made(program, state, &turns[n]) > MOST_IDS {
@@ -73,8 +74,10 @@ fn children_of<P: Pairs>(
 ) -> Result<Seq<Child<P>>, HeapFault>
     requires good { IsWellFormed state.now }
     requires turns { AllByRecursion (λ turn. IsGoodTurn (types_of (program_of program.now).world) state.now (turn_seen turn)) turns }
-    requires room { AllByRecursion (λ turn. length state.now.cells + ids_made (types_of (program_of program.now).world) (turn_seen turn).act ≤ most_ids) turns }
-    ensures children { IfOk result (λ children. AllZip (λ turn child. IsChildOf (types_of (program_of program.now).world) state.now (turn_seen turn) child) turns children) }
+    requires room { AllByRecursion (λ turn. length state.now.cells + ids_made (types_of (program_of program.now).world)
+        (turn_seen turn).act ≤ most_ids) turns }
+    ensures children { IfOk result (λ children. AllZip (λ turn child. IsChildOf (types_of (program_of program.now).world) state.now
+        (turn_seen turn) child) turns children) }
     ensures never { result ≡ Err faults.TooManyIds → ⊥ }
 {
     let mut children = Seq::new(alloc);

@@ -6,7 +6,8 @@ ghost use Rattle.abs_cells.specs.Cells.{is_int};
 ghost use Rattle.abs_cells.specs.Sound.{AreIdsRising};
 ghost use Rattle.class_program.specs.Views.{program_of};
 ghost use Rattle.op_forms.specs.Forms.{form_seen};
-ghost use Rattle.abs_expand.specs.IntForms.{is_total, is_int_form, has_int_form, are_int_insns, are_int_methods, has_ints, HasIntForms, IsIntState};
+ghost use Rattle.abs_expand.specs.IntForms.{is_total, is_int_form, has_int_form, are_int_insns, are_int_methods, has_ints, HasIntForms};
+ghost use Rattle.abs_expand.specs.IntForms.{IsIntState};
 
 use abs_cells::{AbsState, Cell, Id, Pairs};
 use class_program::{Method, Op, Program};

@@ -1,5 +1,6 @@
 //! The state of a step, before ids are dropped.
-ghost use Rattle.std.specs.Prelude.{◌≡◌, ◌<◌, ◌≤◌, ◌+◌, ◌&&◌, ◌||◌, ◌==◌, ◌∷◌, [], ℕ, false, length, map, reverse, IfOk, MatchBool, Err, Some, None};
+ghost use Rattle.std.specs.Prelude.{◌≡◌, ◌<◌, ◌≤◌, ◌+◌, ◌&&◌, ◌||◌, ◌==◌, ◌∷◌, [], ℕ, false, length, map, reverse, IfOk, MatchBool};
+ghost use Rattle.std.specs.Prelude.{Err, Some, None};
 ghost use Rattle.std.specs.Option.{option_map};
 ghost use Rattle.std.specs.List.{AllByRecursion};
 ghost use Rattle.jvm_values.specs.TypedHeaps.{world_types};
@@ -14,7 +15,8 @@ ghost use Rattle.abs_turns.specs.Plans.{ids_made, nowhere, item, object, array};
 ghost use Rattle.abs_turns.specs.PlansSeen.{act_seen, goal_seen, write_seen};
 ghost use Rattle.abs_turns.specs.GoodPlans.{IsThere, HoldsIds, IsChange, IsGoodAct};
 ghost use Rattle.abs_expand.specs.Children.{IsActed, gone_to, set_field, field_with};
-ghost use Rattle.abs_expand.specs.Making.{IsLeastFree, changed_cell, changed_cells, inserted, frames_to, thrown_to, cells_to, is_at_bottom, GoesSomewhere, IsTurnState};
+ghost use Rattle.abs_expand.specs.Making.{IsLeastFree, changed_cell, changed_cells, inserted, frames_to, thrown_to, cells_to};
+ghost use Rattle.abs_expand.specs.Making.{is_at_bottom, GoesSomewhere, IsTurnState};
 
 use abs_cells::{
     AbsFrame, AbsState, Cell, Id, IdSet, Ids, Pairs, copied_cell, copied_cells, copied_frames,
@@ -123,7 +125,8 @@ fn changed_state<P: Pairs>(
     requires changes { AllByRecursion (IsChange state.now) changed.now }
     requires frames { AllByRecursion (HoldsIds state.now) (reverse frames) }
     requires thrown { AllByRecursion (IsThere state.now) (given_ids (throwing ∷ [])) }
-    ensures given { IfOk result (λ made. IsGiven (reverse frames) throwing (with_cells changed.now state.now) (AreEqual state.now) (Share state.now) made) }
+    ensures given { IfOk result (λ made. IsGiven (reverse frames) throwing (with_cells changed.now state.now) (AreEqual state.now)
+        (Share state.now) made) }
     ensures good { IfOk result (λ made. IsWellFormed made) }
     ensures count { IfOk result (λ made. length made.cells ≡ length state.now.cells) }
 {
@@ -159,7 +162,8 @@ fn with_one<P: Pairs>(
     requires free { IsLeastFree state.now.cells id }
     requires low { id < 2048 }
     requires names { ids_in cell ≡ [] }
-    ensures made { IfOk result (λ made. AreFresh state.now (id ∷ []) × IsGiven state.now.frames state.now.throwing (with_cells ((id, cell) ∷ []) state.now) (AreEqual state.now) (Share state.now) made) }
+    ensures made { IfOk result (λ made. AreFresh state.now (id ∷ []) × IsGiven state.now.frames state.now.throwing
+        (with_cells ((id, cell) ∷ []) state.now) (AreEqual state.now) (Share state.now) made) }
     ensures good { IfOk result (λ made. IsWellFormed made) }
     ensures there { IfOk result (λ made. IsThere made id) }
 {
@@ -336,7 +340,8 @@ fn made<P: Pairs>(
     requires good { IsWellFormed state.now }
     requires few { length state.now.cells + 1 ≤ most_ids }
     requires names { ids_in cell ≡ [] }
-    ensures acted { IfOk result (λ r. AreFresh state.now (r.1 ∷ []) × IsGiven state.now.frames state.now.throwing (with_cells ((r.1, cell) ∷ []) state.now) (AreEqual state.now) (Share state.now) r.0) }
+    ensures acted { IfOk result (λ r. AreFresh state.now (r.1 ∷ []) × IsGiven state.now.frames state.now.throwing
+        (with_cells ((r.1, cell) ∷ []) state.now) (AreEqual state.now) (Share state.now) r.0) }
     ensures good { IfOk result (λ r. IsWellFormed r.0) }
     ensures there { IfOk result (λ r. IsThere r.0 r.1) }
     ensures never { result ≡ Err TooManyIds → ⊥ }
@@ -416,7 +421,8 @@ fn loaded<T: Types, P: Pairs>(
     requires good { IsWellFormed state.now }
     requires few { length state.now.cells + 1 ≤ most_ids }
     requires array { HasCell is_array_of_references state.now k }
-    ensures acted { IfOk result (λ r. IsActed (world_types (T.sub types.now) (T.erase types.now) (T.classes types.now) (T.fields types.now) (T.can_be_made types.now)) (item k) r.1 state.now r.0) }
+    ensures acted { IfOk result (λ r. IsActed (world_types (T.sub types.now) (T.erase types.now) (T.classes types.now)
+        (T.fields types.now) (T.can_be_made types.now)) (item k) r.1 state.now r.0) }
     ensures good { IfOk result (λ r. IsWellFormed r.0) }
     ensures there { IfOk result (λ r. IsThere r.0 r.1) }
     ensures never { result ≡ Err TooManyIds → ⊥ }
@@ -436,7 +442,8 @@ fn with_object<T: Types, P: Pairs>(
     requires good { IsWellFormed state.now }
     requires few { length state.now.cells + (1 + length (T.fields types.now class)) ≤ most_ids }
     requires class { class < T.classes types.now }
-    ensures acted { IfOk result (λ r. IsActed (world_types (T.sub types.now) (T.erase types.now) (T.classes types.now) (T.fields types.now) (T.can_be_made types.now)) (object class) r.1 state.now r.0) }
+    ensures acted { IfOk result (λ r. IsActed (world_types (T.sub types.now) (T.erase types.now) (T.classes types.now)
+        (T.fields types.now) (T.can_be_made types.now)) (object class) r.1 state.now r.0) }
     ensures good { IfOk result (λ r. IsWellFormed r.0) }
     ensures there { IfOk result (λ r. IsThere r.0 r.1) }
     ensures never { result ≡ Err TooManyIds → ⊥ }
@@ -457,7 +464,8 @@ fn with_array<T: Types, P: Pairs>(
     requires good { IsWellFormed state.now }
     requires few { length state.now.cells + 1 ≤ most_ids }
     requires len { IsThere state.now len }
-    ensures acted { IfOk result (λ r. IsActed (world_types (T.sub types.now) (T.erase types.now) (T.classes types.now) (T.fields types.now) (T.can_be_made types.now)) (array slot len) r.1 state.now r.0) }
+    ensures acted { IfOk result (λ r. IsActed (world_types (T.sub types.now) (T.erase types.now) (T.classes types.now)
+        (T.fields types.now) (T.can_be_made types.now)) (array slot len) r.1 state.now r.0) }
     ensures good { IfOk result (λ r. IsWellFormed r.0) }
     ensures there { IfOk result (λ r. IsThere r.0 r.1) }
     ensures never { result ≡ Err TooManyIds → ⊥ }
@@ -476,9 +484,12 @@ fn acted<T: Types, P: Pairs>(
     goal: Goal,
 ) -> Result<(AbsState<P>, Id), HeapFault>
     requires good { IsWellFormed state }
-    requires few { length state.cells + ids_made (world_types (T.sub types.now) (T.erase types.now) (T.classes types.now) (T.fields types.now) (T.can_be_made types.now)) (act_seen act) ≤ most_ids }
-    requires act { IsGoodAct (world_types (T.sub types.now) (T.erase types.now) (T.classes types.now) (T.fields types.now) (T.can_be_made types.now)) state [] (act_seen act) (goal_seen goal) }
-    ensures acted { IfOk result (λ r. IsActed (world_types (T.sub types.now) (T.erase types.now) (T.classes types.now) (T.fields types.now) (T.can_be_made types.now)) (act_seen act) r.1 state r.0) }
+    requires few { length state.cells + ids_made (world_types (T.sub types.now) (T.erase types.now) (T.classes types.now)
+        (T.fields types.now) (T.can_be_made types.now)) (act_seen act) ≤ most_ids }
+    requires act { IsGoodAct (world_types (T.sub types.now) (T.erase types.now) (T.classes types.now) (T.fields types.now)
+        (T.can_be_made types.now)) state [] (act_seen act) (goal_seen goal) }
+    ensures acted { IfOk result (λ r. IsActed (world_types (T.sub types.now) (T.erase types.now) (T.classes types.now)
+        (T.fields types.now) (T.can_be_made types.now)) (act_seen act) r.1 state r.0) }
     ensures good { IfOk result (λ r. IsWellFormed r.0) }
     ensures there { IfOk result (λ r. GoesSomewhere (goal_seen goal) → IsThere r.0 r.1) }
     ensures never { result ≡ Err TooManyIds → ⊥ }
@@ -505,12 +516,16 @@ pub(crate) fn whole_state<T: Types, P: Pairs>(
     goal: Goal,
 ) -> Result<(AbsState<P>, Id), HeapFault>
     requires good { IsWellFormed state.now }
-    requires few { length state.now.cells + ids_made (world_types (T.sub types.now) (T.erase types.now) (T.classes types.now) (T.fields types.now) (T.can_be_made types.now)) (act_seen act) ≤ most_ids }
+    requires few { length state.now.cells + ids_made (world_types (T.sub types.now) (T.erase types.now) (T.classes types.now)
+        (T.fields types.now) (T.can_be_made types.now)) (act_seen act) ≤ most_ids }
     requires changes { AllByRecursion (IsChange state.now) changed.now }
     requires frames { AllByRecursion (HoldsIds state.now) (reverse frames) }
     requires thrown { AllByRecursion (IsThere state.now) (given_ids (throwing ∷ [])) }
-    requires act { IsGoodAct (world_types (T.sub types.now) (T.erase types.now) (T.classes types.now) (T.fields types.now) (T.can_be_made types.now)) state.now changed.now (act_seen act) (goal_seen goal) }
-    ensures is { IfOk result (λ r. IsTurnState (world_types (T.sub types.now) (T.erase types.now) (T.classes types.now) (T.fields types.now) (T.can_be_made types.now)) state.now changed.now (reverse frames) throwing (act_seen act) (goal_seen goal) r.1 r.0) }
+    requires act { IsGoodAct (world_types (T.sub types.now) (T.erase types.now) (T.classes types.now) (T.fields types.now)
+        (T.can_be_made types.now)) state.now changed.now (act_seen act) (goal_seen goal) }
+    ensures is { IfOk result (λ r. IsTurnState (world_types (T.sub types.now) (T.erase types.now) (T.classes types.now)
+        (T.fields types.now) (T.can_be_made types.now)) state.now changed.now (reverse frames) throwing (act_seen act)
+        (goal_seen goal) r.1 r.0) }
     ensures good { IfOk result (λ r. IsWellFormed r.0) }
     ensures never { result ≡ Err TooManyIds → ⊥ }
 {

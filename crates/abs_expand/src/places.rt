@@ -9,7 +9,8 @@ ghost use Rattle.abs_sound.specs.Zips.{all_zip};
 ghost use Rattle.class_program.specs.Views.{program_of};
 ghost use Rattle.code_verify.specs.Typings.{typing_at};
 ghost use Rattle.abs_expand.specs.BadStates.{call_takes, call_at, below_running};
-ghost use Rattle.abs_expand.specs.PlaceTests.{is_of_place, is_entry_of, is_of_field, are_of_fields, has_locals, placed_at, is_stack_at, caller_test, running_test, fields_under, callers_test, placed_test};
+ghost use Rattle.abs_expand.specs.PlaceTests.{is_of_place, is_entry_of, is_of_field, are_of_fields, has_locals, placed_at, is_stack_at};
+ghost use Rattle.abs_expand.specs.PlaceTests.{caller_test, running_test, fields_under, callers_test, placed_test};
 
 use abs_cells::{AbsFrame, AbsState, Cell, Id, Pairs};
 use abs_sound::{has_int, has_no_int};
@@ -130,7 +131,8 @@ fn placed<'t, P: Pairs>(
     frame: &AbsFrame,
 ) -> Option<&'t FrameType>
     requires { AreIdsRising 0 state.now.cells }
-    ensures { option_map (λ types. types_of types.now) result ≡ placed_at (program_of program.now) (typing_at typing.now) state.now.cells statics.now frame.now }
+    ensures { option_map (λ types. types_of types.now) result ≡ placed_at (program_of program.now) (typing_at typing.now)
+        state.now.cells statics.now frame.now }
 {
     let Some(method) = program.methods.get(frame.method() as usize) else {
         return None;
@@ -243,7 +245,8 @@ fn is_running_placed<P: Pairs>(
     frame: &AbsFrame,
 ) -> bool
     requires { AreIdsRising 0 state.now.cells }
-    ensures { result ≡ running_test (program_of program.now) (typing_at typing.now) state.now.cells state.now.throwing statics.now frame.now }
+    ensures { result ≡ running_test (program_of program.now) (typing_at typing.now) state.now.cells state.now.throwing statics.now
+        frame.now }
 {
     let Some(types) = placed(program, typing, state, statics, frame) else {
         return false;
@@ -302,7 +305,8 @@ fn are_at_calls(program: &Program<'_>, frames: &[AbsFrame]) -> bool
 
 /// Whether each frame below the running one is at a call.
 pub(crate) fn are_below_at_calls<P: Pairs>(program: &Program<'_>, state: &AbsState<P>) -> bool
-    ensures { result ≡ list_all (λ (frame : AbstractFrame). is_some (call_at (program_of program.now) frame)) (below_running state.now.frames) }
+    ensures { result ≡ list_all (λ (frame : AbstractFrame). is_some (call_at (program_of program.now) frame))
+        (below_running state.now.frames) }
 {
     let frames = state.frames();
     let count = frames.len();

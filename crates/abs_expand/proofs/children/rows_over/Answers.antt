@@ -15,7 +15,9 @@ loop-row-preserved c =
     let all = ap (λ (xs : List ShortRow). are_short left right xs) (sym c.in-Some.ensures) ∙ c.loop-row.invariant.are_short in
     record {
       so_far =
-          ap (λ (made : List LinkRow). made ++ map (row_over left right c.args.fresh) c.take_first.new.self) c.in_ok-push.ensures.items ∙ more_made (row_over left right c.args.fresh)
-          c.loop-row.made c.loop-row.short c.take_first.new.self c.in-Some.row c.in_ok-row_over.field-0 _ c.in-Some.ensures c.in_ok-row_over.ensures c.loop-row.invariant.so_far;
+          ap (λ (made : List LinkRow). made ++ map (row_over left right c.args.fresh) c.take_first.new.self)
+          c.in_ok-push.ensures.items ∙ more_made (row_over left right c.args.fresh)
+          c.loop-row.made c.loop-row.short c.take_first.new.self c.in-Some.row c.in_ok-row_over.field-0 _ c.in-Some.ensures
+          c.in_ok-row_over.ensures c.loop-row.invariant.so_far;
       are_short = (and_parts (is_short_row left right c.in-Some.row) (are_short left right c.take_first.new.self) all).1;
     }

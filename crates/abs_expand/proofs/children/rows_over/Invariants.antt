@@ -6,7 +6,8 @@ use Rattle.abs_expand.proofs.children.rows_over.Given as goal
 
 abbrev pub invariant-loop-row : goal.invariant-loop-row
 invariant-loop-row l = record {
-  so_far : l.made ++ rows_over (operand_seen l.left) (operand_seen l.right) l.short l.fresh ≡ rows_over (operand_seen l.left) (operand_seen l.right) l.fn.short l.fresh;
+  so_far : l.made ++ rows_over (operand_seen l.left) (operand_seen l.right) l.short l.fresh
+      ≡ rows_over (operand_seen l.left) (operand_seen l.right) l.fn.short l.fresh;
   are_short : are_short (operand_seen l.left) (operand_seen l.right) l.short ≡ true;
 }
 

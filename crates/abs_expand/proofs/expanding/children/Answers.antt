@@ -17,28 +17,33 @@ first_too_many-requires-clause-few g c = omega (arith, count_low c.args.state.no
 
 pub first_too_many-requires-clause-turns : goal.first_too_many-requires-clause-turns
 first_too_many-requires-clause-turns g c =
-    subst (λ (turns : List Turn). AllByRecursion (IsGoodTurn (types_of (program_of c.args.program.now).world) c.args.state.now) (map turn_seen turns)) (sym c.as_slice.ensures) c.requires.turns
+    subst (λ (turns : List Turn). AllByRecursion (IsGoodTurn (types_of (program_of c.args.program.now).world) c.args.state.now)
+    (map turn_seen turns)) (sym c.as_slice.ensures) c.requires.turns
 
 pub returns-in-Some : goal.returns-in-Some
 returns-in-Some g c =
     let types = types_of (program_of c.args.program.now).world in
     subst (λ (n : ℕ). IsFirstTooMany (turn_counts types n (map turn_seen c.args.turns)) c.in-Some.child) (ap length c.cells.ensures)
-    (subst (λ (turns : List Turn). IsFirstTooMany (turn_counts types (length c.cells.result.now) (map turn_seen turns)) c.in-Some.child) c.as_slice.ensures c.in-Some.ensures)
+    (subst (λ (turns : List Turn). IsFirstTooMany (turn_counts types (length c.cells.result.now) (map turn_seen turns))
+    c.in-Some.child) c.as_slice.ensures c.in-Some.ensures)
 
 pub children_of-requires-clause-turns : goal.children_of-requires-clause-turns
-children_of-requires-clause-turns g c = all_mapped (IsGoodTurn (types_of (program_of c.args.program.now).world) c.args.state.now) turn_seen c.args.turns c.requires.turns
+children_of-requires-clause-turns g c = all_mapped (IsGoodTurn (types_of (program_of c.args.program.now).world) c.args.state.now)
+    turn_seen c.args.turns c.requires.turns
 
 pub children_of-requires-clause-room : goal.children_of-requires-clause-room
 children_of-requires-clause-room g c =
     let types = types_of (program_of c.args.program.now).world in
     all_few types (length c.args.state.now.cells) c.args.turns
     (subst (λ (n : ℕ). AreFew (turn_counts types n (map turn_seen c.args.turns))) (ap length c.cells.ensures)
-    (subst (λ (turns : List Turn). AreFew (turn_counts types (length c.cells.result.now) (map turn_seen turns))) c.as_slice.ensures c.in_default.ensures))
+    (subst (λ (turns : List Turn). AreFew (turn_counts types (length c.cells.result.now) (map turn_seen turns))) c.as_slice.ensures
+    c.in_default.ensures))
 
 pub returns-in-Ok : goal.returns-in-Ok
 returns-in-Ok g c =
     let types = types_of (program_of c.args.program.now).world in
     expanded types c.args.state.now (map turn_seen c.args.turns) c.in-Ok.children
     (subst (λ (n : ℕ). AreFew (turn_counts types n (map turn_seen c.args.turns))) (ap length c.cells.ensures)
-    (subst (λ (turns : List Turn). AreFew (turn_counts types (length c.cells.result.now) (map turn_seen turns))) c.as_slice.ensures c.in_default.ensures))
+    (subst (λ (turns : List Turn). AreFew (turn_counts types (length c.cells.result.now) (map turn_seen turns))) c.as_slice.ensures
+    c.in_default.ensures))
     (zip_mapped (IsChildOf types c.args.state.now) turn_seen c.args.turns c.in-Ok.children c.in-Ok.ensures.children)

@@ -10,9 +10,11 @@ use Rattle.abs_expand.proofs.expanding.children_of.Goals as goal
 
 pub loop-turn-preserved : goal.loop-turn-preserved
 loop-turn-preserved g c =
-    let R : Turn → GraphChild → Type 0 = λ turn child. IsChildOf (types_of (program_of c.args.program.now).world) c.args.state.now (turn_seen turn) child in
+    let R : Turn → GraphChild → Type 0 = λ turn child. IsChildOf (types_of (program_of c.args.program.now).world) c.args.state.now
+    (turn_seen turn) child in
     record {
       sound = search rules;
       room = search rules;
-      done = pushed R c.loop-turn.yielded c.loop-turn.children _ c.in-Some.turn c.in_ok-child.field-0 c.in_ok-push.ensures.items c.loop-turn.invariant.done c.in_ok-child.ensures.child;
+      done = pushed R c.loop-turn.yielded c.loop-turn.children _ c.in-Some.turn c.in_ok-child.field-0 c.in_ok-push.ensures.items
+          c.loop-turn.invariant.done c.in_ok-child.ensures.child;
     }

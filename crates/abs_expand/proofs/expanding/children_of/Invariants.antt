@@ -11,7 +11,8 @@ use Rattle.abs_expand.proofs.expanding.children_of.Given as goal
 
 abbrev pub invariant-loop-turn : goal.invariant-loop-turn
 invariant-loop-turn g l = record {
-  sound : AllByRecursion (λ turn. IsGoodTurn (types_of (program_of l.program).world) l.state (turn_seen turn)) (into_iter_items l.turn-iterator);
+  sound : AllByRecursion (λ turn. IsGoodTurn (types_of (program_of l.program).world) l.state (turn_seen turn))
+      (into_iter_items l.turn-iterator);
   room : AllByRecursion (HasRoom (types_of (program_of l.program).world) (length l.state.cells)) (into_iter_items l.turn-iterator);
   done : AllZip (λ turn child. IsChildOf (types_of (program_of l.program).world) l.state (turn_seen turn) child) l.yielded l.children;
 }

@@ -8,4 +8,5 @@ pub returns-clause-exact : goal.returns-clause-exact
 returns-clause-exact c = c.are_int_methods.ensures ∙ ap are_int_methods c.as_slice.ensures
 
 pub returns-clause-forms : goal.returns-clause-forms
-returns-clause-forms c = λ h. program_int (program_of c.args.program.now) (sym (c.are_int_methods.ensures ∙ ap are_int_methods c.as_slice.ensures) ∙ h)
+returns-clause-forms c = λ h. program_int (program_of c.args.program.now) (sym (c.are_int_methods.ensures
+    ∙ ap are_int_methods c.as_slice.ensures) ∙ h)

@@ -23,10 +23,13 @@ returns g c =
     let changed = c.args.changed.now in
     let set = c.references-ids.result in
     let frames = reverse c.args.frames in
-    let now : c.in_ok-cells.cells ≡ changed_cells changed state.cells = c.in_ok-cells.ensures ∙ ap (changed_cells changed) c.cells.ensures in
-    let set_is : (n : ℕ) → has_id set n ≡ is_of_sort is_reference (cell_in (changed_cells changed state.cells) n) = λ n. c.references-ids.ensures n
+    let now : c.in_ok-cells.cells ≡ changed_cells changed state.cells = c.in_ok-cells.ensures
+    ∙ ap (changed_cells changed) c.cells.ensures in
+    let set_is : (n : ℕ) → has_id set n ≡ is_of_sort is_reference (cell_in (changed_cells changed state.cells) n) =
+    λ n. c.references-ids.ensures n
     ∙ ap (λ (xs : List (ℕ × Cell)). is_of_sort is_reference (cell_in xs n)) (c.as_slice.ensures ∙ now) in
-    let is = changed_as state c.new.result changed c.in_ok-cells.cells c.cells.result.now set frames c.args.throwing _ _ _ _ c.new.ensures c.in_ok-cells.ensures c.cells.ensures c.in_ok-eq.ensures
+    let is = changed_as state c.new.result changed c.in_ok-cells.cells c.cells.result.now set frames c.args.throwing _ _ _ _
+    c.new.ensures c.in_ok-cells.ensures c.cells.ensures c.in_ok-eq.ensures
     c.eq-equal.ensures c.in_ok-share.ensures c.share-shared.ensures in
     let re : IsRising state.eq = subst IsRising c.eq-equal.ensures c.nth-equal.ensures.rising in
     let rs : IsRising state.share = subst IsRising c.share-shared.ensures c.nth-shared.ensures.rising in
@@ -34,6 +37,7 @@ returns g c =
       given =
           subst (IsGiven frames c.args.throwing (with_cells changed state) (AreEqual state) (Share state)) (sym is)
           (changed_given state c.requires.good changed c.requires.changes set set_is re rs frames c.args.throwing);
-      good = subst IsWellFormed (sym is) (changed_good state c.requires.good changed c.requires.changes set set_is re rs frames c.args.throwing c.requires.frames c.requires.thrown);
+      good = subst IsWellFormed (sym is) (changed_good state c.requires.good changed c.requires.changes set set_is re rs frames
+          c.args.throwing c.requires.frames c.requires.thrown);
       count = ap (λ (s : AbstractState). length s.cells) is ∙ length-map state.cells (λ (x : ℕ × Cell). (x.0, changed_cell changed x));
     }

@@ -6,4 +6,5 @@ use Rattle.abs_expand.proofs.making.item_written.Goals as goal
 pub returns-clause-good : goal.returns-clause-good
 returns-clause-good g c =
     subst IsWellFormed (sym (ap (λ x. x.0) c.into_parts-after.ensures))
-    (well_write c.args.state.now c.requires.good (record { object = c.args.k; field = None; value = c.args.w }) c.in_ok-child.child.state c.requires.value c.in_ok-child.ensures.child)
+    (well_write c.args.state.now c.requires.good (record { object = c.args.k; field = None; value = c.args.w })
+    c.in_ok-child.child.state c.requires.value c.in_ok-child.ensures.child)

@@ -8,9 +8,11 @@ use Rattle.abs_expand.proofs.making.loaded.Goals as goal
 pub returns-clause-good : goal.returns-clause-good
 returns-clause-good g c =
     subst IsWellFormed (sym (ap (λ x. x.0) c.into_parts-after.ensures))
-    (loaded_good _ c.args.state.now c.in_ok-child.child.state c.args.k c.in_ok-child.id c.requires.good c.requires.array c.in_ok-child.ensures.child).0
+    (loaded_good _ c.args.state.now c.in_ok-child.child.state c.args.k c.in_ok-child.id c.requires.good c.requires.array
+    c.in_ok-child.ensures.child).0
 
 pub returns-clause-there : goal.returns-clause-there
 returns-clause-there g c =
     subst (λ (s : AbstractState). IsThere s c.in_ok-child.id) (sym (ap (λ x. x.0) c.into_parts-after.ensures))
-    (loaded_good _ c.args.state.now c.in_ok-child.child.state c.args.k c.in_ok-child.id c.requires.good c.requires.array c.in_ok-child.ensures.child).1
+    (loaded_good _ c.args.state.now c.in_ok-child.child.state c.args.k c.in_ok-child.id c.requires.good c.requires.array
+    c.in_ok-child.ensures.child).1

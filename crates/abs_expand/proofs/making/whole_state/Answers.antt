@@ -8,13 +8,15 @@ use Rattle.abs_expand.proofs.making.whole_state.Goals as goal
 
 pub acted-requires : goal.acted-requires
 acted-requires g c =
-    let t : WorldTypes = world_types (g.T.Types.sub c.args.types.now) (g.T.Types.erase c.args.types.now) (g.T.Types.classes c.args.types.now) (g.T.Types.fields c.args.types.now)
+    let t : WorldTypes = world_types (g.T.Types.sub c.args.types.now) (g.T.Types.erase c.args.types.now)
+    (g.T.Types.classes c.args.types.now) (g.T.Types.fields c.args.types.now)
     (g.T.Types.can_be_made c.args.types.now) in
     let before = c.in_ok-before.before in
     record {
       good = c.in_ok-before.ensures.good;
       few = subst (λ (n : ℕ). n + ids_made t (act_seen c.args.act) ≤ most_ids) (sym c.in_ok-before.ensures.count) c.requires.few;
       act =
-          act_moves t c.args.state.now before c.args.changed.now (reverse c.args.frames) c.args.throwing c.requires.good c.in_ok-before.ensures.given (act_seen c.args.act) (goal_seen c.args.goal)
+          act_moves t c.args.state.now before c.args.changed.now (reverse c.args.frames) c.args.throwing c.requires.good
+          c.in_ok-before.ensures.given (act_seen c.args.act) (goal_seen c.args.goal)
           c.requires.act;
     }

@@ -9,10 +9,12 @@ use Rattle.abs_expand.proofs.making.with_array.Goals as goal
 pub returns-clause-good : goal.returns-clause-good
 returns-clause-good g c =
     subst IsWellFormed (sym (ap (λ x. x.0) c.into_parts-after.ensures))
-    (well_new_array c.args.state.now c.requires.good _ c.args.slot c.args.len c.in_ok-child.id c.in_ok-child.child.state c.requires.len c.in_ok-child.ensures.child)
+    (well_new_array c.args.state.now c.requires.good _ c.args.slot c.args.len c.in_ok-child.id c.in_ok-child.child.state
+    c.requires.len c.in_ok-child.ensures.child)
 
 pub returns-clause-there : goal.returns-clause-there
 returns-clause-there g c =
     let h = c.in_ok-child.ensures.child in
     subst (λ (s : AbstractState). IsThere s c.in_ok-child.id) (sym (ap (λ x. x.0) c.into_parts-after.ensures))
-    (first_there c.args.state.now c.in_ok-child.child.state c.in_ok-child.id _ [] c.args.state.now.frames c.args.state.now.throwing _ _ h.is)
+    (first_there c.args.state.now c.in_ok-child.child.state c.in_ok-child.id _ [] c.args.state.now.frames c.args.state.now.throwing _
+    _ h.is)

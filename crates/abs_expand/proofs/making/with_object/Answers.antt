@@ -16,4 +16,5 @@ pub returns-clause-there : goal.returns-clause-there
 returns-clause-there g c =
     let h = c.in_ok-child.ensures.child in
     subst (λ (s : AbstractState). IsThere s c.in_ok-child.id) (sym (ap (λ x. x.0) c.into_parts-after.ensures))
-    (first_there c.args.state.now c.in_ok-child.child.state c.in_ok-child.id (Obj c.args.class h.ids) _ c.args.state.now.frames c.args.state.now.throwing _ _ h.is)
+    (first_there c.args.state.now c.in_ok-child.child.state c.in_ok-child.id (Obj c.args.class h.ids) _ c.args.state.now.frames
+    c.args.state.now.throwing _ _ h.is)

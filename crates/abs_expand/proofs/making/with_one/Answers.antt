@@ -21,14 +21,18 @@ returns g c =
     let id = c.args.id in
     let cell = c.args.cell in
     let cells = c.in_ok-cells.ensures ∙ ap (inserted id cell) (c.in_ok-copy.ensures ∙ c.cells.ensures) in
-    let is = state_as state c.new.result c.in_ok-frames.frames c.frames.result.now c.throwing.result c.throwing.result c.in_ok-cells.cells (inserted id cell state.cells) _ _ _ _ c.new.ensures
-    c.in_ok-frames.ensures c.frames.ensures refl c.throwing.ensures cells c.in_ok-eq.ensures c.eq-equal.ensures c.in_ok-share.ensures c.share-shared.ensures in
+    let is = state_as state c.new.result c.in_ok-frames.frames c.frames.result.now c.throwing.result c.throwing.result
+    c.in_ok-cells.cells (inserted id cell state.cells) _ _ _ _ c.new.ensures
+    c.in_ok-frames.ensures c.frames.ensures refl c.throwing.ensures cells c.in_ok-eq.ensures c.eq-equal.ensures c.in_ok-share.ensures
+    c.share-shared.ensures in
     let re : IsRising state.eq = subst IsRising c.eq-equal.ensures c.nth-equal.ensures.rising in
     let rs : IsRising state.share = subst IsRising c.share-shared.ensures c.nth-shared.ensures.rising in
     record {
       made =
-          subst (λ (s : AbstractState). AreFresh state (id ∷ []) × IsGiven state.frames state.throwing (with_cells ((id, cell) ∷ []) state) (AreEqual state) (Share state) s) (sym is)
+          subst (λ (s : AbstractState). AreFresh state (id ∷ []) × IsGiven state.frames state.throwing
+          (with_cells ((id, cell) ∷ []) state) (AreEqual state) (Share state) s) (sym is)
           (one_made state c.requires.good re rs id c.requires.free c.requires.low cell c.requires.names);
       good = subst IsWellFormed (sym is) (one_good state c.requires.good re rs id c.requires.free c.requires.low cell c.requires.names);
-      there = subst (λ (s : AbstractState). HasCell (λ _. true) s id) (sym is) (one_there state c.requires.good re rs id c.requires.free c.requires.low cell c.requires.names);
+      there = subst (λ (s : AbstractState). HasCell (λ _. true) s id) (sym is) (one_there state c.requires.good re rs id
+          c.requires.free c.requires.low cell c.requires.names);
     }

@@ -7,4 +7,5 @@ use Rattle.abs_expand.specs.BadStates.{call_at}
 use Rattle.abs_expand.proofs.places.are_at_calls.Given as goal
 
 abbrev pub invariant-loop-frame : goal.invariant-loop-frame
-invariant-loop-frame l = list_all (λ (frame : AbstractFrame). is_some (call_at (program_of l.program) frame)) (drop l.frame-index l.frames) ≡ list_all (λ (frame : AbstractFrame). is_some (call_at (program_of l.program) frame)) l.frames
+invariant-loop-frame l = list_all (λ (frame : AbstractFrame). is_some (call_at (program_of l.program) frame))
+    (drop l.frame-index l.frames) ≡ list_all (λ (frame : AbstractFrame). is_some (call_at (program_of l.program) frame)) l.frames

@@ -13,5 +13,9 @@ returns-then-not-is_caller_placed g c =
     let cells = c.args.state.now.cells in
     let n = c.loop-n.n - 1 in
     let up : n + 1 ≡ c.loop-n.n = omega arith in
-    sym (sym c.loop-n.invariant.rest ∙ ap (λ (k : ℕ). callers_test p typing cells (reverse (take k c.args.frames.now))) (sym up) ∙ callers_more p typing cells c.args.frames.now n c.index-frames-n.result (omega (arith, c.loop-n.invariant.within)) c.index-frames-n.is
-    ∙ ap (λ (b : Bool). b && callers_test p typing cells (reverse (take n c.args.frames.now))) (ap (λ (statics : List StaticField). caller_test p typing cells statics c.index-frames-n.result) (sym c.fields_under.ensures) ∙ sym c.is_caller_placed.ensures ∙ c.if-not-is_caller_placed.true))
+    sym (sym c.loop-n.invariant.rest ∙ ap (λ (k : ℕ). callers_test p typing cells (reverse (take k c.args.frames.now))) (sym up)
+    ∙ callers_more p typing cells c.args.frames.now n c.index-frames-n.result (omega (arith, c.loop-n.invariant.within))
+    c.index-frames-n.is
+    ∙ ap (λ (b : Bool). b && callers_test p typing cells (reverse (take n c.args.frames.now)))
+    (ap (λ (statics : List StaticField). caller_test p typing cells statics c.index-frames-n.result) (sym c.fields_under.ensures)
+    ∙ sym c.is_caller_placed.ensures ∙ c.if-not-is_caller_placed.true))

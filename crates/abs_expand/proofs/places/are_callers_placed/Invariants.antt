@@ -7,7 +7,8 @@ use Rattle.abs_expand.proofs.places.are_callers_placed.Given as goal
 abbrev pub invariant-loop-n : goal.invariant-loop-n
 invariant-loop-n g l = record {
   within : l.n ≤ length l.frames;
-  rest : callers_test (program_of l.program) (typing_at l.typing) l.state.cells (reverse (take l.n l.frames)) ≡ callers_test (program_of l.program) (typing_at l.typing) l.state.cells (reverse l.frames);
+  rest : callers_test (program_of l.program) (typing_at l.typing) l.state.cells (reverse (take l.n l.frames))
+      ≡ callers_test (program_of l.program) (typing_at l.typing) l.state.cells (reverse l.frames);
 }
 
 abbrev pub decreases-loop-n : goal.decreases-loop-n

@@ -9,5 +9,7 @@ use Rattle.abs_expand.proofs.places.is_stack_at.Goals as goal
 pub returns : goal.returns
 returns c =
     let types = (types_of c.args.types.now).stack in
-    c.is_stack_of.ensures ∙ stack_at (is_entry_of c.args.cells.now) types c.as_slice-places.result.now _ c.stack-stack.result.now c.args.count c.as_slice-places.ensures c.if-places-count.false refl
-    ∙ ap (all_zip (is_entry_of c.args.cells.now) (drop c.args.count types)) (ap reverse c.stack-stack.ensures ∙ reverse-reverse c.args.frame.now.stack)
+    c.is_stack_of.ensures ∙ stack_at (is_entry_of c.args.cells.now) types c.as_slice-places.result.now _ c.stack-stack.result.now
+    c.args.count c.as_slice-places.ensures c.if-places-count.false refl
+    ∙ ap (all_zip (is_entry_of c.args.cells.now) (drop c.args.count types)) (ap reverse c.stack-stack.ensures
+    ∙ reverse-reverse c.args.frame.now.stack)

@@ -10,7 +10,8 @@ use Rattle.abs_expand.proofs.SplitCounts.{class_told, class_expanded, no_first}
 use Rattle.abs_expand.proofs.splitting.class_children.Goals as goal
 
 pub lean_children-requires : goal.lean_children-requires
-lean_children-requires g c = class_well c.args.state.now c.requires.good (types_of (program_of c.args.program.now).world) c.args.x c.args.wanted c.in-Ok.children c.in-Ok.ensures.children
+lean_children-requires g c = class_well c.args.state.now c.requires.good (types_of (program_of c.args.program.now).world) c.args.x
+    c.args.wanted c.in-Ok.children c.in-Ok.ensures.children
 
 pub returns-in_ok-lean_children-in-Ok : goal.returns-in_ok-lean_children-in-Ok
 returns-in_ok-lean_children-in-Ok g c =
@@ -21,5 +22,6 @@ returns-in_ok-lean_children-in-Ok g c =
 pub returns-in-Err : goal.returns-in-Err
 returns-in-Err g c =
     let types = types_of (program_of c.args.program.now).world in
-    subst (λ (fault : ExpandFault). HasPlanChildren types c.args.state.now (by_class c.args.x c.args.wanted) (Err fault)) (sym c.fault_of_split.ensures)
+    subst (λ (fault : ExpandFault). HasPlanChildren types c.args.state.now (by_class c.args.x c.args.wanted) (Err fault))
+    (sym c.fault_of_split.ensures)
     (class_told types c.args.state.now c.args.x c.args.wanted c.in-Err.fault c.in-Err.ensures.too_many)

@@ -7,12 +7,15 @@ use Rattle.abs_expand.proofs.splitting.equal_children.Goals as goal
 
 pub returns-then-count-gt-MOST_IDS : goal.returns-then-count-gt-MOST_IDS
 returns-then-count-gt-MOST_IDS g c =
-    equal_crowded (types_of (program_of c.args.program.now).world) c.args.state.now c.args.x c.args.y c.in_ok-children.children c.first_too_many.result c.len.result (length c.cells-count.result.now)
-    c.in_ok-children.ensures (omega (arith, c.if-count-gt-MOST_IDS.true)) c.len.ensures (ap length c.cells-count.ensures) c.first_too_many.ensures
+    equal_crowded (types_of (program_of c.args.program.now).world) c.args.state.now c.args.x c.args.y c.in_ok-children.children
+    c.first_too_many.result c.len.result (length c.cells-count.result.now)
+    c.in_ok-children.ensures (omega (arith, c.if-count-gt-MOST_IDS.true)) c.len.ensures (ap length c.cells-count.ensures)
+    c.first_too_many.ensures
 
 pub lean_children-requires : goal.lean_children-requires
 lean_children-requires g c =
-    equal_well c.args.state.now c.requires.good (types_of (program_of c.args.program.now).world).sub c.args.x c.args.y c.requires.differ c.in_ok-children.children c.in_ok-children.ensures
+    equal_well c.args.state.now c.requires.good (types_of (program_of c.args.program.now).world).sub c.args.x c.args.y
+    c.requires.differ c.in_ok-children.children c.in_ok-children.ensures
 
 pub returns : goal.returns
 returns g c =
