@@ -17,7 +17,7 @@ use Rattle.term_graph.specs.Graphs.{GraphNode}
 use Rattle.path_rules.specs.Conditions.{HasIntsAlone, CutsRise, IsReady}
 use Rattle.abs_expand.specs.BadStates.{IsGoodState}
 use Rattle.abs_expand.specs.IntForms.{IsIntState}
-use Rattle.graph_check.specs.Conditions.{HasIntStates}
+use Rattle.cert_check.specs.IntStates.{HasIntStates}
 use Rattle.graph_check.specs.Good.{IsGoodNode, GraphOk}
 use Rattle.graph_check.proofs.Excluding.{good_by}
 use Rattle.plan_links.specs.Laws.{LinksFit}

@@ -1,3 +1,4 @@
+pub mod IntStates
 pub mod Certified
 pub mod Walks
 pub mod Valid

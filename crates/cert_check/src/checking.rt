@@ -4,8 +4,7 @@ ghost use Rattle.descent.specs.Conditions.{AreRules, AreSteps};
 ghost use Rattle.descent.specs.declared.proof.ProofStep.{ProofStep};
 ghost use Rattle.class_program.specs.Views.{program_of};
 ghost use Rattle.code_verify.specs.Typings.{typing_at};
-ghost use Rattle.abs_expand.specs.IntForms.{HasIntForms};
-ghost use Rattle.graph_check.specs.Conditions.{HasIntStates};
+ghost use Rattle.cert_check.specs.IntStates.{HasIntStates};
 ghost use Rattle.graph_check.specs.Good.{GraphOk};
 ghost use Rattle.cert_check.specs.Certified.{IsCertified};
 ghost use Rattle.cert_check.specs.Valid.{Tells};
@@ -25,8 +24,7 @@ use plan_links::links_fit;
 use std::alloc::Global;
 use term_graph::{Links, NodeSource};
 
-/// The links of a good graph with the root's state at node 0. The program's instructions are about ints alone, and so is each state that
-/// has an expansion.
+/// The links of a good graph with the root's state at node 0.
 ///
 /// # Errors
 ///
@@ -39,8 +37,6 @@ pub fn good_links<P: Pairs, S: NodeSource<P>>(
     source: &mut S,
     root: &AbsState<P>,
 ) -> Result<Links, Refusal>
-    requires forms { HasIntForms (program_of program.now) }
-    requires ints { HasIntStates (program_of program.now) (typing_at typing.now) (S.graph source.old) }
     ensures graph { (cuts : List ℕ) (steps : List ProofStep) → GraphOr (case_of (program_of program.now) (typing_at typing.now) root.now (S.graph source.old) cuts steps) result }
     ensures same { S.graph source.new ≡ S.graph source.old }
 {
@@ -87,7 +83,7 @@ pub fn rules_between<P: Pairs, S: NodeSource<P>>(
 
 /// Whether a certificate is valid: its graph is a good one with the root's state at node 0, its cuts rise, are nodes and begin with node 0,
 /// every cycle has one, the paths between them have rules, and the proof is closed for these. Then walks and runs end (`IsCertified`).
-/// The program's instructions are about ints alone, and so is each state that has an expansion.
+/// Each state that has an expansion is one of ints.
 ///
 /// # Errors
 ///
@@ -101,7 +97,6 @@ pub fn check_cert<P: Pairs, S: NodeSource<P>>(
     cuts: &[u32],
     proof: &Proof,
 ) -> Result<(), Refusal>
-    requires forms { HasIntForms (program_of program.now) }
     requires ints { HasIntStates (program_of program.now) (typing_at typing.now) (S.graph source.old) }
     requires few { length (S.graph source.old) ≤ 2 ^ 32 - 16 }
     requires steps { AreSteps proof.now.steps }

@@ -7,7 +7,7 @@ use Rattle.term_graph.specs.Graphs.{GraphNode}
 use Rattle.class_program.specs.Programs.{Program}
 use Rattle.frame_types.specs.Tables.{CodeTypes}
 use Rattle.abs_expand.specs.IntForms.{IsIntState}
-use Rattle.graph_check.specs.Conditions.{HasIntStates}
+use Rattle.cert_check.specs.IntStates.{HasIntStates}
 use Rattle.cert_tables.specs.Tests.{HaveIntStates}
 
 pub none : (graph : List GraphNode) → HaveIntStates graph 0

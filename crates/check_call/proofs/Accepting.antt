@@ -20,7 +20,7 @@ use Rattle.descent.specs.Conditions.{AreSteps}
 use Rattle.descent.proofs.Walked.{closed_ends}
 use Rattle.term_graph.specs.Graphs.{GraphNode}
 use Rattle.path_rules.specs.Bare.{AreBounded}
-use Rattle.graph_check.specs.Conditions.{HasIntStates}
+use Rattle.cert_check.specs.IntStates.{HasIntStates}
 use Rattle.plan_links.specs.Laws.{LinksFit}
 use Rattle.json_view.specs.Located.{root_of}
 use Rattle.cert_form.specs.Certificates.{CertContent}

@@ -1,12 +1,8 @@
 pub mod Accepted
 pub mod Accepting
-pub mod Children
 pub mod FileBytes
 pub mod FillSaying
 pub mod Forms
-pub mod Graphs
-pub mod Matching
-pub mod Nodes
 pub mod Numbers
 pub mod OneAnswer
 pub mod PathLimits
@@ -14,6 +10,5 @@ pub mod Paths
 pub mod ProgramNumbers
 pub mod Rules
 pub mod Saying
-pub mod Steady
 pub mod VerdictLaw
 pub mod Wholes

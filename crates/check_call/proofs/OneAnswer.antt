@@ -14,14 +14,11 @@ use Rattle.input_steps.specs.declared.refused.Refused.{Refused}
 use Rattle.input_steps.specs.declared.refused.Refused.TheVariants.{At, Memory}
 use Rattle.input_steps.proofs.OneAnswer.{IsExact, IsOne, then_one, ok_one, err_one, ok_err}
 use Rattle.desc_steps.specs.Names.{names_of}
-use Rattle.desc_steps.proofs.IntForms.{int_forms}
 use Rattle.desc_steps.proofs.OneAnswer.{files_one}
 use Rattle.term_graph.specs.Graphs.{GraphNode, GraphPart}
-use Rattle.abs_expand.specs.IntForms.{HasIntForms}
-use Rattle.graph_check.specs.Conditions.{HasIntStates}
+use Rattle.cert_check.specs.IntStates.{HasIntStates}
+use Rattle.cert_check.proofs.OtherStates.{other_or_none}
 use Rattle.graph_fill.proofs.Once.{filled_once}
-use Rattle.graph_fill.proofs.Plain.{int_graphs}
-use Rattle.graph_fill.proofs.Refusing.{refused_has_other}
 use Rattle.cert_form.specs.Answers.{Reader}
 use Rattle.cert_form.specs.declared.fault.CertFault.{CertFault}
 use Rattle.cert_form.specs.declared.fault.CertFault.TheVariants as certs
@@ -104,15 +101,15 @@ valid_known r e f = let k : valid ≡ Err refusals.Memory = sym e ∙ f in cc
 fails_known : (item : ℕ) (cause : Cause) (r : Verdict) → r ≡ fails_at item cause → r ≡ Err refusals.Memory → ⊥
 fails_known item cause r e f = let k : fails_at item cause ≡ Err refusals.Memory = sym e ∙ f in cc
 
-module _ (case : Case) (forms : HasIntForms case.program) (ints : HasIntStates case.program case.typing case.nodes) where
+module _ (case : Case) where
   valid_or_fault : (item : ℕ) (cause : Cause) → IsValid case → IsFirstFault case item cause → ⊥
   valid_or_fault item cause h k =
-      let e : valid ≡ fails_at item cause = verdicts_one case forms ints valid (fails_at item cause) h k (valid_known valid refl) (fails_known item cause (fails_at item cause) refl) in
+      let e : valid ≡ fails_at item cause = verdicts_one case valid (fails_at item cause) h k (valid_known valid refl) (fails_known item cause (fails_at item cause) refl) in
       cc
 
   fault_same : (item other : ℕ) (cause next : Cause) → IsFirstFault case item cause → IsFirstFault case other next → refused_at item (cause_text cause) ≡ refused_at other (cause_text next)
   fault_same item other cause next h k =
-      let e : fails_at item cause ≡ fails_at other next = verdicts_one case forms ints (fails_at item cause) (fails_at other next) h k (fails_known item cause (fails_at item cause) refl) (fails_known other next (fails_at other next) refl) in
+      let e : fails_at item cause ≡ fails_at other next = verdicts_one case (fails_at item cause) (fails_at other next) h k (fails_known item cause (fails_at item cause) refl) (fails_known other next (fails_at other next) refl) in
       let items : item ≡ other = cc in
       let causes : cause ≡ next = cc in
       λ i. refused_at (items i) (cause_text (causes i))
@@ -129,11 +126,13 @@ module _ (case : Case) (forms : HasIntForms case.program) (ints : HasIntStates c
 
 -- ---- what the certificate says
 
-module _ (p : Program) (typing : ℕ → CodeTypes) (forms : HasIntForms p) where
+module _ (p : Program) (typing : ℕ → CodeTypes) where
   filled_exact : (parts : List GraphPart) → IsExact {A = List GraphNode} (FillsInts p typing parts) (RefusesStates p typing parts)
   filled_exact parts = record {
-    one = λ nodes others h k. filled_once p typing parts nodes others (int_graphs p typing nodes forms h.1) h.0 k.0;
-    apart = λ nodes place fault h r. refused_has_other p typing parts r.cause nodes forms r.holds h.0 h.1;
+    one = λ nodes others h k. filled_once p typing parts nodes others h.0 k.0;
+    apart = λ nodes place fault h r.
+        let same = filled_once p typing parts nodes r.holds.nodes h.0 r.holds.filled in
+        other_or_none p typing r.holds.nodes r.cause (subst (HasIntStates p typing) same h.1) r.holds.first;
     named = λ a b f g h k. (h.place_is ∙ sym k.place_is, h.fault_is ∙ sym k.fault_is);
   }
 
@@ -141,7 +140,7 @@ module _ (p : Program) (typing : ℕ → CodeTypes) (forms : HasIntForms p) wher
     told_one : (content : CertContent) → IsOne (AnswersContent p typing desc content)
     told_one content =
         then_one {A = List GraphNode} (FillsInts p typing content.parts) (RefusesStates p typing content.parts) (λ nodes. AnswersChecked (case_of p typing (initial_of p desc) nodes content.cuts content.proof)) (filled_exact content.parts)
-        (λ nodes fills. checked_one (case_of p typing (initial_of p desc) nodes content.cuts content.proof) forms fills.1)
+        (λ nodes fills. checked_one (case_of p typing (initial_of p desc) nodes content.cuts content.proof))
 
     module _ (cert : List ℕ) where
       both_told : (a b : CertContent) (r s : Result Outcome Refused) → IsCertText p cert a → IsCertText p cert b → AnswersContent p typing desc a r → AnswersContent p typing desc b s → IsKnown r → IsKnown s → r ≡ s
@@ -167,4 +166,4 @@ module _ (p : Program) (typing : ℕ → CodeTypes) (forms : HasIntForms p) wher
 -- ---- the whole
 
 pub answers_one : AnswersAreOne
-answers_one cert desc files = files_one (AnswersCert cert) (λ p typing described ints. cert_one p typing (int_forms p ints) described cert) desc files
+answers_one cert desc files = files_one (AnswersCert cert) (λ p typing described ints. cert_one p typing described cert) desc files

@@ -15,7 +15,8 @@ use Rattle.desc_steps.specs.Answers.{AnswersAs}
 use Rattle.desc_steps.specs.Ints.{not_built}
 use Rattle.desc_steps.specs.Names.{names_of}
 use Rattle.term_graph.specs.Graphs.{GraphNode}
-use Rattle.graph_fill.specs.Answers.{IsRefused, FillsOr}
+use Rattle.graph_check.specs.Filling.{IsFilled}
+use Rattle.cert_check.specs.IntStates.{IsFirstOtherState}
 use Rattle.cert_form.specs.declared.fault.CertFault.{CertFault}
 use Rattle.cert_form.specs.declared.fault.CertFault.TheVariants as certs
 use Rattle.cert_form.specs.Certificates.{CertContent, cert_of, AnswersText}
@@ -75,11 +76,14 @@ module _ (p : Program) (typing : ℕ → CodeTypes) (desc : Desc) (content : Cer
   abbrev Next : List GraphNode → Answer → Type 0
   Next nodes = AnswersChecked (case_of p typing (initial_of p desc) nodes content.cuts content.proof)
 
-  pub filled_goes : (nodes : List GraphNode) (result : Answer) → FillsOr p typing content.parts (Ok nodes) → AnswersChecked (case_of p typing (initial_of p desc) nodes content.cuts content.proof) result → AnswersContent p typing desc content result
+  pub filled_goes : (nodes : List GraphNode) (result : Answer) → FillsInts p typing content.parts nodes → AnswersChecked (case_of p typing (initial_of p desc) nodes content.cuts content.proof) result → AnswersContent p typing desc content result
   filled_goes nodes result f h = then_goes {A = List GraphNode} (FillsInts p typing content.parts) (RefusesStates p typing content.parts) Next nodes result f h
 
-  pub states_refused : (node : ℕ) → IsRefused p typing content.parts node → AnswersContent p typing desc content (Err not_built)
-  states_refused node h = then_refused {A = List GraphNode} (FillsInts p typing content.parts) (RefusesStates p typing content.parts) Next not_built (record { cause = node; place_is = refl; fault_is = refl; holds = h })
+  pub states_refused : (nodes : List GraphNode) (node : ℕ) → IsFilled p typing content.parts nodes → IsFirstOtherState p typing nodes node
+      → AnswersContent p typing desc content (Err not_built)
+  states_refused nodes node filled first =
+      then_refused {A = List GraphNode} (FillsInts p typing content.parts) (RefusesStates p typing content.parts) Next not_built
+      (record { cause = node; place_is = refl; fault_is = refl; holds = record { nodes = nodes; filled = filled; first = first } })
 
 -- ---- the bytes
 

@@ -19,8 +19,7 @@ use Rattle.cert_check.specs.declared.refusal.Refusal.{Refusal}
 use Rattle.cert_check.specs.declared.refusal.Refusal.TheVariants.{Item, Memory}
 use Rattle.cert_check.specs.Valid.{Case, HasGoodGraph, AreCuts, HasPathRules, graph_item, Tells}
 use Rattle.check_call.specs.OneVerdict.{VerdictsAreOne}
-use Rattle.check_call.proofs.Children.{int_list}
-use Rattle.check_call.proofs.Graphs.{HaveOneList, links_one, fault_one, good_or_fault}
+use Rattle.graph_check.proofs.OneGraph.{links_one, fault_one, good_or_fault}
 use Rattle.check_call.proofs.Rules.{path_rules_one, path_rules_or_fault, path_fault_one}
 
 abbrev Verdict : Type 0
@@ -125,26 +124,24 @@ module _ (case : Case) where
     named = λ i j c d f g. (f.1.0 ∙ sym g.1.0, f.1.1 ∙ sym g.1.1);
   }
 
-  module _ (lists : HaveOneList case.program case.typing case.nodes) where
-    graph_exact : IsExact (HasGoodGraph case) GraphFails
-    graph_exact = record {
-      one = links_one case.program case.typing case.nodes lists case.root;
-      apart = λ links item cause h f. good_or_fault case.program case.typing case.nodes lists case.root links f.0 f.1.0 h f.1.1.0;
-      named = λ i j c d f g.
-          let e = fault_one case.program case.typing case.nodes lists case.root f.0 g.0 f.1.0 g.1.0 f.1.1.0 g.1.1.0 in
-          let item : graph_item f.0 f.1.0 ≡ graph_item g.0 g.1.0 = λ t. graph_item (e.0 t) (e.1 t) in
-          (f.1.1.1.0 ∙ (item ∙ sym g.1.1.1.0), f.1.1.1.1 ∙ (ap Graph e.1 ∙ sym g.1.1.1.1));
-    }
+  graph_exact : IsExact (HasGoodGraph case) GraphFails
+  graph_exact = record {
+    one = links_one case.program case.typing case.nodes case.root;
+    apart = λ links item cause h f. good_or_fault case.program case.typing case.nodes case.root links f.0 f.1.0 h f.1.1.0;
+    named = λ i j c d f g.
+        let e = fault_one case.program case.typing case.nodes case.root f.0 g.0 f.1.0 g.1.0 f.1.1.0 g.1.1.0 in
+        let item : graph_item f.0 f.1.0 ≡ graph_item g.0 g.1.0 = λ t. graph_item (e.0 t) (e.1 t) in
+        (f.1.1.1.0 ∙ (item ∙ sym g.1.1.1.0), f.1.1.1.1 ∙ (ap Graph e.1 ∙ sym g.1.1.1.1));
+  }
 
-    staged_one : IsOne Staged
-    staged_one =
-        after_one (HasGoodGraph case) GraphFails WithCuts graph_exact (λ links graph.
-        after_one {A = Unit {0}} (λ nothing. AreCuts case) CutsFail (λ nothing. WithPaths links) cuts_exact (λ nothing cuts.
-        after_one (HasPathRules case links) (PathsFail links) WithProof (paths_exact links) (λ rules are.
-        after_one {A = Unit {0}} (λ nothing. proof_fault rules case.steps ≡ None) (ProofFails rules) (λ nothing verdict. verdict ≡ Ok tt) (proof_exact rules) (λ nothing closed r s h k nr ns. h ∙ sym k))))
+  staged_one : IsOne Staged
+  staged_one =
+      after_one (HasGoodGraph case) GraphFails WithCuts graph_exact (λ links graph.
+      after_one {A = Unit {0}} (λ nothing. AreCuts case) CutsFail (λ nothing. WithPaths links) cuts_exact (λ nothing cuts.
+      after_one (HasPathRules case links) (PathsFail links) WithProof (paths_exact links) (λ rules are.
+      after_one {A = Unit {0}} (λ nothing. proof_fault rules case.steps ≡ None) (ProofFails rules) (λ nothing verdict. verdict ≡ Ok tt) (proof_exact rules) (λ nothing closed r s h k nr ns. h ∙ sym k))))
 
 -- ---- the law
 
 pub verdicts_one : VerdictsAreOne
-verdicts_one case forms ints a b g h na nb =
-    staged_one case (λ n node at. int_list case.program case.typing node.state forms (ints n node at)) a b (staged case a g) (staged case b h) na nb
+verdicts_one case a b g h na nb = staged_one case a b (staged case a g) (staged case b h) na nb

@@ -14,13 +14,12 @@ use Rattle.input_steps.specs.Steps.{IsAt, Then}
 use Rattle.desc_steps.specs.Answers.{OfFiles}
 use Rattle.desc_steps.specs.Names.{names_of}
 use Rattle.term_graph.specs.Graphs.{GraphNode, GraphPart}
-use Rattle.graph_check.specs.Conditions.{HasIntStates}
 use Rattle.graph_check.specs.Filling.{IsFilled}
-use Rattle.graph_fill.specs.Answers.{IsRefused}
 use Rattle.cert_form.specs.declared.fault.CertFault.{CertFault}
 use Rattle.cert_form.specs.declared.fault.CertFault.TheVariants as certs
 use Rattle.cert_form.specs.Certificates.{CertContent, cert_of, SaysOf, AnswersText}
 use Rattle.cert_form.specs.Faults.{fault_text}
+use Rattle.cert_check.specs.IntStates.{HasIntStates, IsFirstOtherState}
 use Rattle.cert_check.specs.declared.refusal.Cause.{Cause}
 use Rattle.cert_check.specs.Valid.{Case, IsValid, IsFirstFault}
 use Rattle.cert_check.specs.Parts.{case_of}
@@ -29,8 +28,13 @@ use Rattle.check_call.specs.Causes.{cause_text}
 use Rattle.check_call.specs.Lines.{accepted, refused_at}
 
 -- the first state of a certificate, filled, that has an expansion and isn't one of ints
+pub record HasOtherState (p : Program) (typing : ℕ → CodeTypes) (parts : List GraphPart) (number : ℕ) : Type 0 where
+  pub nodes : List GraphNode
+  pub filled : IsFilled p typing parts nodes
+  pub first : IsFirstOtherState p typing nodes number
+
 abbrev pub RefusesStates : Program → (ℕ → CodeTypes) → List GraphPart → Place → Fault → Type 0
-RefusesStates p typing parts = IsAt {C = ℕ} (λ node. places.Link) (λ node. faults.NotBuilt) (IsRefused p typing parts)
+RefusesStates p typing parts = IsAt {C = ℕ} (λ node. places.Link) (λ node. faults.NotBuilt) (HasOtherState p typing parts)
 
 -- ---- certificates
 

@@ -4,15 +4,15 @@ use Rattle.class_program.specs.Programs.{Program}
 use Rattle.frame_types.specs.Tables.{CodeTypes}
 use Rattle.input_steps.specs.declared.refused.Refused.{Refused}
 use Rattle.input_steps.specs.declared.refused.Refused.TheVariants.{At, Memory}
-use Rattle.input_steps.specs.Steps.{Then}
-use Rattle.desc_steps.specs.Answers.{AnswersAs, OfFiles}
+use Rattle.desc_steps.specs.Answers.{OfFiles}
 use Rattle.desc_steps.specs.Names.{names_of}
 use Rattle.term_graph.specs.Graphs.{GraphNode}
+use Rattle.graph_check.specs.Filling.{IsFilled}
 use Rattle.cert_form.specs.declared.fault.CertFault.{CertFault}
 use Rattle.cert_form.specs.Certificates.{CertContent}
 use Rattle.cert_form.specs.Faults.{fault_text}
 use Rattle.check_call.specs.declared.outcome.Outcome.{Outcome}
-use Rattle.check_call.specs.Answers.{RefusesStates, IsCertText, IsCertFault, FillsInts}
+use Rattle.check_call.specs.Answers.{IsCertText, IsCertFault}
 use Rattle.check_call.specs.Lines.{refused_at}
 use Rattle.check_call.specs.FillTexts.{filled_text}
 
@@ -20,17 +20,18 @@ use Rattle.check_call.specs.FillTexts.{filled_text}
 abbrev pub filled : Program → List GraphNode → CertContent → Outcome
 filled p nodes content = record { status = 0; out = filled_text (names_of p.world) nodes content.cuts content.proof }
 
--- of what a certificate says: the filled graph with the certificate's cuts and proof; or a state of it isn't built so far
+-- of what a certificate says: the filled graph with the certificate's cuts and proof
 abbrev pub AnswersContent : Program → (ℕ → CodeTypes) → CertContent → Result Outcome Refused → Type 0
-AnswersContent p typing content =
-    Then {A = List GraphNode} (FillsInts p typing content.parts) (RefusesStates p typing content.parts) (λ nodes. AnswersAs {X = Outcome} (filled p nodes content))
+AnswersContent p typing content (Ok outcome) = (nodes : List GraphNode) × (IsFilled p typing content.parts nodes × (outcome ≡ filled p nodes content))
+AnswersContent p typing content (Err (At place fault)) = ⊥
+AnswersContent p typing content (Err Memory) = Unit {0}
 
 -- of the bytes of a certificate: what it says is filled; or they say none, and its line is the one of `check`
 abbrev pub AnswersCert : List ℕ → Program → (ℕ → CodeTypes) → Result Outcome Refused → Type 0
 AnswersCert cert p typing (Ok outcome) =
     ((fault : CertFault) × (IsCertFault p cert fault × (outcome ≡ refused_at 0 (fault_text fault))))
     ⊎ ((content : CertContent) × (IsCertText p cert content × AnswersContent p typing content (Ok outcome)))
-AnswersCert cert p typing (Err (At place fault)) = (content : CertContent) × (IsCertText p cert content × AnswersContent p typing content (Err (At place fault)))
+AnswersCert cert p typing (Err (At place fault)) = ⊥
 AnswersCert cert p typing (Err Memory) = Unit {0}
 
 -- of the bytes of a certificate, of a description and of class files: the steps to a program with described inputs, in their order, and then

@@ -1,13 +1,10 @@
 -- A certificate has one verdict.
 use Rattle.std.specs.Prelude.{◌≡◌, ◌≢◌, Result, Err}
-use Rattle.abs_expand.specs.IntForms.{HasIntForms}
-use Rattle.graph_check.specs.Conditions.{HasIntStates}
 use Rattle.cert_check.specs.declared.refusal.Refusal.{Refusal}
 use Rattle.cert_check.specs.declared.refusal.Refusal.TheVariants.{Memory}
 use Rattle.cert_check.specs.Valid.{Case, Tells}
 
--- Over ints a certificate is valid, or it has one first item that fails, with one cause, and never both; want of memory aside.
+-- A certificate is valid, or it has one first item that fails, with one cause, and never both; want of memory aside.
 abbrev pub VerdictsAreOne : Type 0
 VerdictsAreOne =
-    (case : Case) → HasIntForms case.program → HasIntStates case.program case.typing case.nodes
-    → (a b : Result (Unit {0}) Refusal) → Tells case a → Tells case b → a ≢ Err Memory → b ≢ Err Memory → a ≡ b
+    (case : Case) (a b : Result (Unit {0}) Refusal) → Tells case a → Tells case b → a ≢ Err Memory → b ≢ Err Memory → a ≡ b

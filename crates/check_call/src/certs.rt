@@ -5,8 +5,7 @@ ghost use Rattle.code_verify.specs.Typings.{IsTypingOf, typing_at};
 ghost use Rattle.input_desc.specs.Descs.{IsOwnDesc, IsGoodDesc};
 ghost use Rattle.input_desc.specs.Initial.{initial_of};
 ghost use Rattle.descent.specs.Conditions.{AreSteps};
-ghost use Rattle.abs_expand.specs.IntForms.{HasIntForms};
-ghost use Rattle.graph_check.specs.Conditions.{HasIntStates};
+ghost use Rattle.cert_check.specs.IntStates.{HasIntStates};
 ghost use Rattle.cert_form.specs.Certificates.{LackingAreNamed};
 ghost use Rattle.cert_check.specs.Parts.{case_of};
 ghost use Rattle.term_graph.specs.Limits.{most_nodes};
@@ -17,13 +16,13 @@ ghost use Rattle.check_call.specs.Said.{IsSaid, IsSaidOfText};
 use crate::causes::cause_text;
 use crate::outcome::{Outcome, accepted, refused};
 use abs_cells::PackedPairs;
-use cert_check::{Refusal, certified_runs_end, check_cert};
+use cert_check::{Refusal, certified_runs_end, check_cert, first_other_state};
 use cert_form::{CertFault, CertText};
 use class_program::Program;
 use code_verify::Typing;
 use desc_steps::{class_names, not_built};
 use descent::Proof;
-use graph_fill::{FillFault, fill};
+use graph_fill::fill;
 use input_desc::{Desc, initial};
 use input_steps::Refused;
 use std::alloc::Global;
@@ -54,7 +53,6 @@ fn check_graph(
     cuts: &[u32],
     proof: &Proof,
 ) -> Result<Outcome, Refused>
-    requires forms { HasIntForms (program_of program.now) }
     requires typing { IsTypingOf (program_of program.now) (typing_at typing.now) }
     requires own { IsOwnDesc (program_of program.now) desc.now }
     requires good { IsGoodDesc (program_of program.now) desc.now }
@@ -80,7 +78,6 @@ fn check_content(
     desc: &Desc,
     cert: &CertText<'_>,
 ) -> Result<Outcome, Refused>
-    requires forms { HasIntForms (program_of program.now) }
     requires typing { IsTypingOf (program_of program.now) (typing_at typing.now) }
     requires own { IsOwnDesc (program_of program.now) desc.now }
     requires good { IsGoodDesc (program_of program.now) desc.now }
@@ -90,10 +87,10 @@ fn check_content(
     ensures content { AnswersContent (program_of program.now) (typing_at typing.now) desc.now cert.now result }
     ensures ends { EndsIfAccepted (program_of program.now) desc.now result }
 {
-    let filled: Result<Graph<PackedPairs>, FillFault> = fill(alloc, program, typing, cert);
-    match filled {
-        Ok(graph) => {
-            let mut graph = graph;
+    let mut graph: Graph<PackedPairs> = fill(alloc, program, typing, cert)?;
+    match first_other_state(alloc, program, typing, &mut graph)? {
+        Some(_) => Err(not_built()),
+        None => {
             check_graph(
                 alloc,
                 program,
@@ -104,8 +101,6 @@ fn check_content(
                 cert.proof(),
             )
         }
-        Err(FillFault::NotOfInts { .. }) => Err(not_built()),
-        Err(FillFault::Memory) => Err(Refused::Memory),
     }
 }
 
@@ -135,7 +130,6 @@ pub(crate) fn check_bytes(
     desc: &Desc,
     cert: &[u8],
 ) -> Result<Outcome, Refused>
-    requires forms { HasIntForms (program_of program.now) }
     requires typing { IsTypingOf (program_of program.now) (typing_at typing.now) }
     requires own { IsOwnDesc (program_of program.now) desc.now }
     requires good { IsGoodDesc (program_of program.now) desc.now }

@@ -5,7 +5,6 @@ ghost use Rattle.class_base.specs.ClassNames.{is_class_name};
 ghost use Rattle.class_world.specs.Worlds.{classes_of};
 ghost use Rattle.class_program.specs.Views.{program_of};
 ghost use Rattle.code_verify.specs.Typings.{typing_at};
-ghost use Rattle.abs_expand.specs.IntForms.{HasIntForms};
 ghost use Rattle.cert_form.specs.Certificates.{LackingAreNamed};
 ghost use Rattle.desc_steps.specs.Names.{names_of};
 ghost use Rattle.term_graph.specs.Limits.{most_nodes};
@@ -18,14 +17,14 @@ use abs_cells::PackedPairs;
 use cert_form::{CertText, ClassNames};
 use class_program::Program;
 use code_verify::Typing;
-use desc_steps::{class_names, not_built};
-use graph_fill::{FillFault, fill};
+use desc_steps::class_names;
+use graph_fill::fill;
 use input_steps::Refused;
 use std::alloc::Global;
 use term_graph::Graph;
 
 /// What is said of what a certificate says.
-#[tactic(auto, using(crate::proofs::FillSaying::filled_goes, crate::proofs::FillSaying::states_refused))]
+#[tactic(auto, using(crate::proofs::FillSaying::filled_goes))]
 fn fill_content(
     alloc: Global,
     program: &Program<'_>,
@@ -33,25 +32,18 @@ fn fill_content(
     names: &ClassNames,
     cert: &CertText<'_>,
 ) -> Result<Outcome, Refused>
-    requires forms { HasIntForms (program_of program.now) }
     requires names { names.now ≡ names_of (classes_of program.now.world) }
     requires are_names { IsTrue (list_all is_class_name names.now) }
     requires named { LackingAreNamed cert.now.parts }
     requires few { length cert.now.parts ≤ most_nodes }
     ensures { AnswersContent (program_of program.now) (typing_at typing.now) cert.now result }
 {
-    let filled: Result<Graph<PackedPairs>, FillFault> = fill(alloc, program, typing, cert);
-    match filled {
-        Ok(graph) => {
-            let out = filled_text(alloc, graph, cert.cuts(), cert.proof(), names)?;
-            Ok(Outcome { status: 0, out })
-        }
-        Err(FillFault::NotOfInts { .. }) => Err(not_built()),
-        Err(FillFault::Memory) => Err(Refused::Memory),
-    }
+    let graph: Graph<PackedPairs> = fill(alloc, program, typing, cert)?;
+    let out = filled_text(alloc, graph, cert.cuts(), cert.proof(), names)?;
+    Ok(Outcome { status: 0, out })
 }
 
-/// What is said of the bytes of a certificate for a program about ints.
+/// What is said of the bytes of a certificate.
 #[tactic(auto, using(crate::proofs::FillSaying::text_goes, crate::proofs::FillSaying::text_refused))]
 pub(crate) fn fill_bytes(
     alloc: Global,
@@ -59,7 +51,6 @@ pub(crate) fn fill_bytes(
     typing: &Typing,
     cert: &[u8],
 ) -> Result<Outcome, Refused>
-    requires forms { HasIntForms (program_of program.now) }
     requires names { IsTrue (list_all is_class_name (names_of (classes_of program.now.world))) }
     ensures { AnswersCert cert.now (program_of program.now) (typing_at typing.now) result }
 {

@@ -14,10 +14,10 @@ use Rattle.term_graph.specs.declared.nodes.By.TheVariants.{Expand, Instance, End
 use Rattle.term_graph.specs.Graphs.{GraphNode, GraphChild}
 use Rattle.abs_expand.specs.declared.fault.ExpandFault.{ExpandFault}
 use Rattle.abs_expand.specs.declared.fault.ExpandFault.TheVariants as expansion
-use Rattle.abs_expand.specs.Plans.{Plan, ends}
 use Rattle.abs_expand.specs.Answers.{Answers}
 use Rattle.abs_expand.specs.BadStates.{IsGoodState}
-use Rattle.abs_expand.specs.Expansions.{plan_of, counts_of, IsFirstTooMany, AreChildren}
+use Rattle.abs_expand.specs.Expansions.{plan_of}
+use Rattle.one_expansion.proofs.OneAnswer.{no_children, end_few}
 use Rattle.graph_check.specs.declared.fault.What.{What}
 use Rattle.graph_check.specs.declared.fault.What.TheVariants as whats
 use Rattle.graph_check.specs.declared.fault.CheckFault.{CheckFault}
@@ -55,17 +55,11 @@ module _ (p : Program) (typing : ℕ → CodeTypes) (nodes : List GraphNode) (st
   pub ends_well : HasEnded p typing state → LeavesOr p typing nodes state End (Ok [])
   ends_well ended = (ended, refl)
 
-  no_children : (plan : Plan) (wholes : List GraphChild) → plan ≡ ends → AreChildren (types_of p.world) state plan wholes → ⊥
-  no_children plan wholes e are = subst (λ (q : Plan). AreChildren (types_of p.world) state q wholes) e are
-
   pub not_ended : (children : List GraphChild) → HasChildren p typing state children → LeavesOr p typing nodes state End (Err (Fails whats.NotEnd))
-  not_ended children are = (are.0, λ ended. no_children (plan_of p typing state) are.1.wholes ended.1 are.1.are)
-
-  none_many : (plan : Plan) (n : ℕ) → plan ≡ ends → IsFirstTooMany (counts_of (types_of p.world) state plan) n → ⊥
-  none_many plan n e many = none-some many.count (subst (λ (q : Plan). slice_get (counts_of (types_of p.world) state q) n ≡ Some many.count) e many.is)
+  not_ended children are = (are.0, λ ended. no_children (types_of p.world) state (plan_of p typing state) children ended.1 are.1)
 
   pub not_ended_many : (child : ℕ) → Answers p typing state (Err (expansion.TooManyIds child)) → LeavesOr p typing nodes state End (Err (Fails whats.NotEnd))
-  not_ended_many child many = (many.0, λ ended. none_many (plan_of p typing state) child ended.1 many.1)
+  not_ended_many child many = (many.0, λ ended. end_few (types_of p.world) state (plan_of p typing state) child ended.1 many.1)
 
   -- a node that is an instance of another one
   pub matched_or : (target : ℕ) (entries : List (ℕ × ℕ)) (result : Result (List Link) Failure) → IsGoodState p typing state → MatchesOr p nodes state target entries result → LeavesOr p typing nodes state (Instance target entries) result

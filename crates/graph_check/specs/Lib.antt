@@ -1,6 +1,5 @@
 pub mod Good
 pub mod Laws
-pub mod Exclusion
+pub mod OneVerdict
 pub mod Filling
-pub mod Conditions
 pub mod Checked

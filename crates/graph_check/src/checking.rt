@@ -2,9 +2,7 @@
 ghost use Rattle.std.specs.Prelude.{◌≡◌};
 ghost use Rattle.class_program.specs.Views.{program_of};
 ghost use Rattle.code_verify.specs.Typings.{typing_at};
-ghost use Rattle.abs_expand.specs.IntForms.{HasIntForms};
 ghost use Rattle.graph_check.specs.Good.{Tells};
-ghost use Rattle.graph_check.specs.Conditions.{HasIntStates};
 ghost use Rattle.graph_check.specs.Checked.{GoodNodesOr};
 
 use crate::children::is_state_at;
@@ -26,8 +24,6 @@ fn all_links<P: Pairs, S: NodeSource<P>>(
     typing: &Typing,
     source: &mut S,
 ) -> Result<Seq<Seq<Link>>, CheckFault>
-    requires forms { HasIntForms (program_of program.now) }
-    requires ints { HasIntStates (program_of program.now) (typing_at typing.now) (S.graph source.old) }
     ensures nodes { GoodNodesOr (program_of program.now) (typing_at typing.now) (S.graph source.old) result }
     ensures same { S.graph source.new ≡ S.graph source.old }
 {
@@ -43,7 +39,7 @@ fn all_links<P: Pairs, S: NodeSource<P>>(
 }
 
 /// Whether a graph is a good one with the root's state at node 0: then the links of its nodes, one for each child, and none of
-/// a node that is not expanded. The program's instructions are about ints alone, and so is each state that has an expansion.
+/// a node that is not expanded.
 ///
 /// Each node is expanded once, and compared with the nodes that it names; two states at a time are held beside the links.
 ///
@@ -57,8 +53,6 @@ pub fn check_graph<P: Pairs, S: NodeSource<P>>(
     source: &mut S,
     root: &AbsState<P>,
 ) -> Result<Links, CheckFault>
-    requires forms { HasIntForms (program_of program.now) }
-    requires ints { HasIntStates (program_of program.now) (typing_at typing.now) (S.graph source.old) }
     ensures tells { Tells (program_of program.now) (typing_at typing.now) (S.graph source.old) root.now result }
     ensures same { S.graph source.new ≡ S.graph source.old }
 {

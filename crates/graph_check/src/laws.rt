@@ -1,6 +1,6 @@
 //! Laws of good graphs. They are calls that do nothing when they run.
 ghost use Rattle.graph_check.specs.Laws.{GraphsHoldRuns};
-ghost use Rattle.graph_check.specs.Exclusion.{GoodGraphsHaveNoFault};
+ghost use Rattle.graph_check.specs.OneVerdict.{GraphsHaveOneVerdict};
 
 use abs_match::matches_carry_fitting;
 use step_laws::{ends_end, steps_fit_children};
@@ -15,8 +15,8 @@ pub fn graphs_hold_runs()
     matches_carry_fitting();
 }
 
-/// A good graph has no fault, where the plan of each node's state is to end, or has steps that make one id at most: so a test that
-/// answers the one or the other answers rightly in both directions.
-pub fn good_graphs_have_no_fault()
-    ensures { GoodGraphsHaveNoFault }
+/// A graph is good, and its links are one list; or it has one first fault; and never both. So a test that answers the one or the other
+/// answers rightly in both directions.
+pub fn graphs_have_one_verdict()
+    ensures { GraphsHaveOneVerdict }
 {}

@@ -5,8 +5,6 @@ ghost use Rattle.code_verify.specs.Typings.{typing_at};
 ghost use Rattle.term_graph.specs.declared.nodes.By.TheVariants.{Expand, Instance, End};
 ghost use Rattle.abs_cells.specs.Sound.{IsWellFormed};
 ghost use Rattle.abs_expand.specs.BadStates.{IsGoodState};
-ghost use Rattle.abs_expand.specs.IntForms.{HasIntForms, IsIntState};
-ghost use Rattle.graph_check.specs.Conditions.{HasIntStates};
 ghost use Rattle.graph_check.specs.Checked.{MatchesOr, LeavesOr, NodeLeavesOr};
 
 use crate::children::named_links;
@@ -32,8 +30,6 @@ fn expanded<P: Pairs, S: NodeSource<P>>(
     named: &Seq<u32>,
     marks: &mut Marks,
 ) -> Result<Seq<Link>, Failure>
-    requires forms { HasIntForms (program_of program.now) }
-    requires ints { IsGoodState (program_of program.now) (typing_at typing.now) state.now → IsIntState state.now }
     ensures leaves { LeavesOr (program_of program.now) (typing_at typing.now) (S.graph source.old) state.now (Expand named.now) result }
     ensures same { S.graph source.new ≡ S.graph source.old }
 {
@@ -53,8 +49,6 @@ fn ended<P: Pairs, S: NodeSource<P>>(
     state: &AbsState<P>,
     marks: &mut Marks,
 ) -> Result<Seq<Link>, Failure>
-    requires forms { HasIntForms (program_of program.now) }
-    requires ints { IsGoodState (program_of program.now) (typing_at typing.now) state.now → IsIntState state.now }
     ensures leaves { LeavesOr (program_of program.now) (typing_at typing.now) (S.graph source.old) state.now End result }
     ensures same { S.graph source.new ≡ S.graph source.old }
 {
@@ -101,8 +95,6 @@ fn left_good<P: Pairs, S: NodeSource<P>>(
     marks: &mut Marks,
 ) -> Result<Seq<Link>, Failure>
     requires good { IsGoodState (program_of program.now) (typing_at typing.now) state.now }
-    requires forms { HasIntForms (program_of program.now) }
-    requires ints { IsIntState state.now }
     ensures leaves { LeavesOr (program_of program.now) (typing_at typing.now) (S.graph source.old) state.now by.now result }
     ensures same { S.graph source.new ≡ S.graph source.old }
 {
@@ -134,8 +126,6 @@ fn left_by<P: Pairs, S: NodeSource<P>>(
     by: &By,
     marks: &mut Marks,
 ) -> Result<Seq<Link>, Failure>
-    requires forms { HasIntForms (program_of program.now) }
-    requires ints { IsGoodState (program_of program.now) (typing_at typing.now) state.now → IsIntState state.now }
     ensures leaves { LeavesOr (program_of program.now) (typing_at typing.now) (S.graph source.old) state.now by.now result }
     ensures same { S.graph source.new ≡ S.graph source.old }
 {
@@ -155,8 +145,6 @@ pub(crate) fn node_links<P: Pairs, S: NodeSource<P>>(
     marks: &mut Marks,
 ) -> Result<Seq<Link>, Failure>
     requires there { number < length (S.graph source.old) }
-    requires forms { HasIntForms (program_of program.now) }
-    requires ints { HasIntStates (program_of program.now) (typing_at typing.now) (S.graph source.old) }
     ensures leaves { NodeLeavesOr (program_of program.now) (typing_at typing.now) (S.graph source.old) number result }
     ensures same { S.graph source.new ≡ S.graph source.old }
 {

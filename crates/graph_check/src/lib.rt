@@ -10,4 +10,4 @@ mod leaving;
 
 pub use checking::check_graph;
 pub use fault::{CheckFault, What};
-pub use laws::{good_graphs_have_no_fault, graphs_hold_runs};
+pub use laws::{graphs_have_one_verdict, graphs_hold_runs};

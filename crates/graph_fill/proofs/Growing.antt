@@ -1,5 +1,5 @@
 -- The first nodes of a filled graph, and one more.
-use Rattle.std.proofs.Common.{◌≡◌, ◌<◌, ◌≤◌, ◌+◌, ◌∙◌, ℕ, suc, false, List, [], ◌∷◌, ◌++◌, map, length, take, length-append, Option, Some, None, slice_get, slice_set, Err, ◌⊎◌, inl, inr, refl, sym, ap, subst, arith}
+use Rattle.std.proofs.Common.{◌≡◌, ◌<◌, ◌≤◌, ◌+◌, ◌∙◌, ℕ, suc, false, List, [], ◌∷◌, ◌++◌, map, length, take, length-append, Option, Some, None, slice_get, slice_set, ◌⊎◌, inl, inr, refl, sym, ap, subst, arith}
 use Rattle.std.specs.List.{list_any}
 use Rattle.std.specs.Option.{option_map, option_map_or}
 use Rattle.std.proofs.lemmas.Bool.{false≢true}
@@ -14,18 +14,12 @@ use Rattle.frame_types.specs.Tables.{CodeTypes}
 use Rattle.term_graph.specs.declared.nodes.By.{By}
 use Rattle.term_graph.specs.declared.nodes.By.TheVariants.{Expand, Instance, End, Todo}
 use Rattle.term_graph.specs.Graphs.{GraphNode, GraphChild, GraphPart, by_at}
-use Rattle.abs_expand.specs.BadStates.{IsGoodState}
-use Rattle.abs_expand.specs.IntForms.{HasIntForms, IsIntState}
-use Rattle.graph_check.specs.Conditions.{HasIntStates}
 use Rattle.graph_check.specs.Filling.{Names, IsFirstNamed, IsChildAt, StandsForNone, IsTakenState, HasStateOf, IsFilled, CanBeFilled}
 use Rattle.graph_check.specs.Good.{HasChildren}
 use Rattle.graph_check.proofs.Following.{mapped_at}
-use Rattle.graph_fill.specs.declared.fault.FillFault.{FillFault}
-use Rattle.graph_fill.specs.declared.fault.FillFault.TheVariants.{NotOfInts, Memory}
-use Rattle.graph_fill.specs.Answers.{IsRefused, FillsOr}
-use Rattle.graph_fill.specs.Words.{IsFull, is_wanted, taken_at, put_all, HasChildrenOrNone, Puts, Adds, HasNoInts, AddsOr}
+use Rattle.graph_fill.specs.Words.{IsFull, is_wanted, taken_at, put_all, HasChildrenOrNone, Puts, Adds}
 use Rattle.graph_fill.proofs.Lists.{of_front, in_more, of_take, in_take, set_other, paired}
-use Rattle.graph_fill.proofs.Plain.{int_plain, child_same}
+use Rattle.graph_fill.proofs.OwnChildren.{child_same}
 use Rattle.graph_fill.proofs.SlotStates.{wanted, all_length, all_keep, all_put}
 
 -- ---- what is known of a number is known when nodes come behind
@@ -91,7 +85,6 @@ module _ (p : Program) (typing : ℕ → CodeTypes) where
   pub record IsSoFar (parts : List GraphPart) (n : ℕ) (nodes : List GraphNode) (slots : List (Option AbstractState)) : Type 0 where
     pub count : length nodes ≡ n
     pub filled : IsFilled p typing (take n parts) nodes
-    pub ints : HasIntStates p typing nodes
     pub long : length slots ≡ length parts
     pub waits : (number : ℕ) (part : GraphPart) (slot : Option AbstractState) → n ≤ number → slice_get parts number ≡ Some part → slice_get slots number ≡ Some slot → WaitsFor nodes number part.state slot
 
@@ -105,7 +98,6 @@ module _ (p : Program) (typing : ℕ → CodeTypes) where
     start = record {
       count = refl;
       filled = record { ways = refl; states = λ number part node at there. absurd (none-some node there) };
-      ints = λ n node there. absurd (none-some node there);
       long = mapped_length parts;
       waits = λ number part slot l at there. start_waits number part.state slot (some_is (sym there ∙ mapped_at (λ (q : GraphPart). q.state) parts number part at));
     }
@@ -168,17 +160,6 @@ module _ (p : Program) (typing : ℕ → CodeTypes) where
         filled_more : IsFilled p typing (take (suc n) parts) (nodes ++ node ∷ [])
         filled_more = record { ways = ways_more; states = λ number q m there is. states_more number q m (of_take parts (suc n) number q there) is }
 
-        pub refused : IsGoodState p typing state → (IsIntState state → ⊥) → IsRefused p typing parts n
-        refused good fails = record { earlier = nodes; node = node; filled = filled_more; count = so.count; ints = so.ints; good = good; fails = fails }
-
-        ints_more : (IsGoodState p typing state → IsIntState state) → HasIntStates p typing (nodes ++ node ∷ [])
-        ints_more ints number m is good = elim (in_more nodes node m number is) [
-          | inl old ↦ so.ints number m old good
-          | inr new ↦
-              let whose : m.state ≡ state = ap (λ (o : GraphNode). o.state) new.1 in
-              subst IsIntState (sym whose) (ints (subst (IsGoodState p typing) whose good))
-        ]
-
         -- ---- the slots behind it
 
         at_node : slice_get (nodes ++ node ∷ []) n ≡ Some node
@@ -200,12 +181,11 @@ module _ (p : Program) (typing : ℕ → CodeTypes) where
           | inr new ↦ un new.1.0 place refl new.1.1.0 new.1.1.1
         ]
 
-        module _ (forms : HasIntForms p) (ints : IsGoodState p typing state → IsIntState state) (first : GraphNode) (is_first : slice_get (nodes ++ node ∷ []) 0 ≡ Some first) where
+        module _ (first : GraphNode) (is_first : slice_get (nodes ++ node ∷ []) 0 ≡ Some first) where
           -- the state that is put for a place is that of the child there, or stands for none
           none_there : (children others : List GraphChild) (place : ℕ) (child : GraphChild) → HasChildren p typing state children → HasChildren p typing state others → slice_get children place ≡ None → slice_get others place ≡ Some child → ⊥
           none_there children others place child g h none there =
-              let same = child_same p typing state children others place child (int_plain p typing state forms g.0 (ints g.0)) g h there in
-              none-some same.child (sym none ∙ same.is)
+              none-some child (sym none ∙ child_same p typing state children others place child g h there)
 
           no_child_at : (place : ℕ) (other : AbstractState) → ((others : List GraphChild) (child : GraphChild) → HasChildren p typing state others → slice_get others place ≡ Some child → ⊥) → IsChildAt p typing (nodes ++ node ∷ []) n place other → ⊥
           no_child_at place other none c =
@@ -298,7 +278,6 @@ module _ (p : Program) (typing : ℕ → CodeTypes) where
               record {
                 count = ends;
                 filled = filled_more;
-                ints = ints_more ints;
                 long = long_by part.by (slice_set slots n None) after puts ∙ length_set slots n None ∙ so.long;
                 waits = λ number q slot l there is.
                     let inside = slice_get_within parts number q there in
@@ -320,24 +299,16 @@ module _ (p : Program) (typing : ℕ → CodeTypes) where
       go None at f = absurd (none-some by f)
       go (Some part) at f = (part, (at, some_is f))
 
-  pub one_more : (parts : List GraphPart) (n : ℕ) (by : By) (nodes more : List GraphNode) (slots after : List (Option AbstractState)) → HasIntForms p → IsSoFar parts n nodes slots → by_at parts n ≡ Some by → Adds p typing by n slots after nodes more → IsSoFar parts (n + 1) more after
-  one_more parts n by nodes more slots after forms so e adds =
+  pub one_more : (parts : List GraphPart) (n : ℕ) (by : By) (nodes more : List GraphNode) (slots after : List (Option AbstractState)) → IsSoFar parts n nodes slots → by_at parts n ≡ Some by → Adds p typing by n slots after nodes more → IsSoFar parts (n + 1) more after
+  one_more parts n by nodes more slots after so e adds =
       let found = part_at parts n by e in
       let is : more ≡ nodes ++ record { state = adds.state; by = found.0.by } ∷ [] = subst (λ (b : By). more ≡ nodes ++ record { state = adds.state; by = b } ∷ []) (sym found.1.1) adds.is in
       let next : suc n ≡ n + 1 = omega arith in
       subst (λ k. IsSoFar parts k more after) next
       (subst (λ ms. IsSoFar parts (suc n) ms after) (sym is)
-      (grown parts n nodes slots so found.0 found.1.0 adds.state adds.was forms adds.ints adds.first (ap (λ ms. slice_get ms 0) (sym is) ∙ adds.is_first) after
+      (grown parts n nodes slots so found.0 found.1.0 adds.state adds.was adds.first (ap (λ ms. slice_get ms 0) (sym is) ∙ adds.is_first) after
       (subst (λ (b : By). Puts p typing adds.first.state n adds.state b (slice_set slots n None) after) (sym found.1.1) adds.puts)))
 
-  pub is_refused : (parts : List GraphPart) (n : ℕ) (nodes : List GraphNode) (slots : List (Option AbstractState)) → n < length parts → IsSoFar parts n nodes slots → HasNoInts p typing n slots → IsRefused p typing parts n
-  is_refused parts n nodes slots l so has_no =
-      let part = get_within parts n l in
-      refused parts n nodes slots so part.0 part.1 has_no.state has_no.was has_no.good has_no.fails
-
-  pub all_filled : (parts : List GraphPart) (n : ℕ) (nodes : List GraphNode) (slots : List (Option AbstractState)) → length parts ≤ n → IsSoFar parts n nodes slots → IsFilled p typing parts nodes × HasIntStates p typing nodes
-  all_filled parts n nodes slots l so = (subst (λ ps. IsFilled p typing ps nodes) (take_all n parts l) so.filled, so.ints)
-
-  pub not_filled : (parts : List GraphPart) (n : ℕ) (by : By) (nodes more : List GraphNode) (slots after : List (Option AbstractState)) (fault : FillFault) → n < length parts → IsSoFar parts n nodes slots → AddsOr p typing by n slots after nodes more (Err fault) → FillsOr p typing parts (Err fault)
-  not_filled parts n by nodes more slots after (NotOfInts at) l so adds = subst (IsRefused p typing parts) (sym adds.0) (is_refused parts n nodes slots l so adds.1)
-  not_filled parts n by nodes more slots after Memory l so adds = tt
+  pub all_filled : (parts : List GraphPart) (n : ℕ) (nodes : List GraphNode) (slots : List (Option AbstractState)) → length parts ≤ n
+      → IsSoFar parts n nodes slots → IsFilled p typing parts nodes
+  all_filled parts n nodes slots l so = subst (λ ps. IsFilled p typing ps nodes) (take_all n parts l) so.filled

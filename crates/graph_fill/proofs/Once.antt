@@ -14,9 +14,9 @@ use Rattle.term_graph.specs.Graphs.{GraphNode, GraphChild, GraphPart}
 use Rattle.graph_check.specs.Filling.{Names, IsFirstNamed, IsChildAt, StandsForNone, IsTakenState, HasStateOf, IsFilled}
 use Rattle.graph_check.specs.Good.{HasChildren, NamesChild, IsExpanded, IsLeftBy, IsGoodNode, GraphOk}
 use Rattle.abs_expand.proofs.ZipLists.{beside}
-use Rattle.graph_fill.specs.Laws.{ArePlainWhereGood, FilledGraphsAreOne, IsStateOrNone, GoodGraphsFillThemselves}
+use Rattle.graph_fill.specs.Laws.{FilledGraphsAreOne, IsStateOrNone, GoodGraphsFillThemselves}
 use Rattle.graph_fill.proofs.Lists.{paired, same_length}
-use Rattle.graph_fill.proofs.Plain.{child_same}
+use Rattle.graph_fill.proofs.OwnChildren.{child_same}
 
 abbrev by_of : GraphNode → By
 by_of node = node.by
@@ -82,15 +82,15 @@ module _ (p : Program) (typing : ℕ → CodeTypes) where
     given : (number : ℕ) (part : GraphPart) (other : GraphNode) (state : AbstractState) → slice_get parts number ≡ Some part → part.state ≡ Some state → slice_get others number ≡ Some other → other.state ≡ state
     taken : (number : ℕ) (part : GraphPart) (other : GraphNode) → slice_get parts number ≡ Some part → part.state ≡ None → slice_get others number ≡ Some other → (namer place : ℕ) → IsFirstNamed others namer place number → Takes others namer place other.state
 
-  module _ (parts : List GraphPart) (nodes others : List GraphNode) (ways : map (λ (node : GraphNode). node.by) others ≡ map (λ (node : GraphNode). node.by) nodes) (plain : ArePlainWhereGood p typing others) (filled : IsFilled p typing parts nodes) (follows : Follows parts others) where
+  module _ (parts : List GraphPart) (nodes others : List GraphNode) (ways : map (λ (node : GraphNode). node.by) others ≡ map (λ (node : GraphNode). node.by) nodes) (filled : IsFilled p typing parts nodes) (follows : Follows parts others) where
     -- the states of one place are one, where those of its namer and of node 0 are
     one_taken : (namer place : ℕ) (state other : AbstractState) → ((k : ℕ) (a b : GraphNode) → k ≤ namer → slice_get nodes k ≡ Some a → slice_get others k ≡ Some b → a.state ≡ b.state) → Takes nodes namer place state → Takes others namer place other → state ≡ other
     one_taken namer place state other below (inl c) (inl d) =
         let same = below namer c.node d.node (omega arith) c.is d.is in
         let has = subst (λ s. HasChildren p typing s c.children) same c.are in
-        let found = child_same p typing d.node.state c.children d.children place d.child (plain namer d.node d.is d.are.0) has d.are d.at in
-        let child : c.child ≡ found.child = some_is (sym c.at ∙ found.is) in
-        c.state_is ∙ ap (λ (x : GraphChild). x.state) child ∙ found.state_is ∙ sym d.state_is
+        let there = child_same p typing d.node.state c.children d.children place d.child has d.are d.at in
+        let child : c.child ≡ d.child = some_is (sym c.at ∙ there) in
+        c.state_is ∙ ap (λ (x : GraphChild). x.state) child ∙ sym d.state_is
     one_taken namer place state other below (inl c) (inr s) =
         let found = paired by_of by_of others nodes namer c.node ways c.is in
         let same = below namer c.node found.other (omega arith) c.is found.there in
@@ -136,8 +136,8 @@ module _ (p : Program) (typing : ℕ → CodeTypes) where
       let head : x ≡ y = ap (λ s. node_of s x.by) state ∙ ap (node_of y.state) (sym first) in
       ap (λ (z : GraphNode). z ∷ nodes) head ∙ ap (λ zs. y ∷ zs) (nodes_same nodes others rest (λ n. same (suc n)))
 
-  follow : (parts : List GraphPart) (nodes others : List GraphNode) → map (λ (node : GraphNode). node.by) others ≡ map (λ (node : GraphNode). node.by) nodes → ArePlainWhereGood p typing others → IsFilled p typing parts nodes → Follows parts others → nodes ≡ others
-  follow parts nodes others ways plain filled follows = nodes_same nodes others ways (λ n. states_same parts nodes others ways plain filled follows (suc n) n (omega arith))
+  follow : (parts : List GraphPart) (nodes others : List GraphNode) → map (λ (node : GraphNode). node.by) others ≡ map (λ (node : GraphNode). node.by) nodes → IsFilled p typing parts nodes → Follows parts others → nodes ≡ others
+  follow parts nodes others ways filled follows = nodes_same nodes others ways (λ n. states_same parts nodes others ways filled follows (suc n) n (omega arith))
 
   -- a filled graph follows its parts
   filled_follows : (parts : List GraphPart) (others : List GraphNode) → IsFilled p typing parts others → Follows parts others
@@ -171,9 +171,9 @@ module _ (p : Program) (typing : ℕ → CodeTypes) where
 -- ---- the laws
 
 pub filled_once : FilledGraphsAreOne
-filled_once p typing parts nodes others plain filled more =
-    sym (follow p typing parts others nodes (filled.ways ∙ sym more.ways) plain more (filled_follows p typing parts nodes filled))
+filled_once p typing parts nodes others filled more =
+    sym (follow p typing parts others nodes (filled.ways ∙ sym more.ways) more (filled_follows p typing parts nodes filled))
 
 pub good_fills : GoodGraphsFillThemselves
-good_fills p typing nodes filled root links parts ok plain are fill =
-    follow p typing parts filled nodes (are.ways ∙ sym fill.ways) plain fill (good_follows p typing parts nodes root links ok are.states)
+good_fills p typing nodes filled root links parts ok are fill =
+    follow p typing parts filled nodes (are.ways ∙ sym fill.ways) fill (good_follows p typing parts nodes root links ok are.states)

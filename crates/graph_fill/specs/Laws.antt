@@ -5,26 +5,13 @@ use Rattle.class_program.specs.Programs.{Program}
 use Rattle.frame_types.specs.Tables.{CodeTypes}
 use Rattle.term_graph.specs.declared.links.Link.{Link}
 use Rattle.term_graph.specs.Graphs.{GraphNode, GraphPart}
-use Rattle.abs_expand.specs.BadStates.{IsGoodState}
-use Rattle.abs_expand.specs.Expansions.{plan_of}
-use Rattle.abs_expand.specs.IntForms.{HasIntForms}
-use Rattle.graph_check.specs.Conditions.{HasIntStates}
-use Rattle.graph_check.specs.Exclusion.{IsPlain}
 use Rattle.graph_check.specs.Filling.{IsFilled}
 use Rattle.graph_check.specs.Good.{GraphOk}
-use Rattle.graph_fill.specs.Answers.{IsRefused}
-
--- the plan of each state that has an expansion is plain, so that its children are no other ones
-abbrev pub ArePlainWhereGood : Program → (ℕ → CodeTypes) → List GraphNode → Type 0
-ArePlainWhereGood p typing nodes = (n : ℕ) (node : GraphNode) → slice_get nodes n ≡ Some node → IsGoodState p typing node.state → IsPlain (plan_of p typing node.state)
-
-abbrev pub IntGraphsArePlain : Type 0
-IntGraphsArePlain = (p : Program) (typing : ℕ → CodeTypes) (nodes : List GraphNode) → HasIntForms p → HasIntStates p typing nodes → ArePlainWhereGood p typing nodes
 
 -- parts have one filled graph
 abbrev pub FilledGraphsAreOne : Type 0
 FilledGraphsAreOne =
-    (p : Program) (typing : ℕ → CodeTypes) (parts : List GraphPart) (nodes others : List GraphNode) → ArePlainWhereGood p typing nodes
+    (p : Program) (typing : ℕ → CodeTypes) (parts : List GraphPart) (nodes others : List GraphNode)
     → IsFilled p typing parts nodes → IsFilled p typing parts others → nodes ≡ others
 
 -- the nodes of a graph, some without their states
@@ -40,10 +27,4 @@ pub record ArePartsOf (nodes : List GraphNode) (parts : List GraphPart) : Type 0
 abbrev pub GoodGraphsFillThemselves : Type 0
 GoodGraphsFillThemselves =
     (p : Program) (typing : ℕ → CodeTypes) (nodes filled : List GraphNode) (root : AbstractState) (links : List (List Link)) (parts : List GraphPart)
-    → GraphOk p typing nodes root links → ArePlainWhereGood p typing nodes → ArePartsOf nodes parts → IsFilled p typing parts filled → filled ≡ nodes
-
--- where filling refuses, no filled graph of the parts has states of ints alone
-abbrev pub RefusedPartsHaveOtherStates : Type 0
-RefusedPartsHaveOtherStates =
-    (p : Program) (typing : ℕ → CodeTypes) (parts : List GraphPart) (number : ℕ) (nodes : List GraphNode) → HasIntForms p → IsRefused p typing parts number
-    → IsFilled p typing parts nodes → HasIntStates p typing nodes → ⊥
+    → GraphOk p typing nodes root links → ArePartsOf nodes parts → IsFilled p typing parts filled → filled ≡ nodes

@@ -1,6 +1,6 @@
 -- Words for the calls that fill a graph. Slots are the states of the nodes by number: empty where a state is still to be found, or where
 -- it was taken.
-use Rattle.std.specs.Prelude.{◌≡◌, ℕ, suc, Bool, true, false, nat_lt, if◌then◌else◌, List, [], ◌∷◌, ◌++◌, Option, Some, None, slice_get, slice_set, Result, Ok, Err, ◌⊎◌}
+use Rattle.std.specs.Prelude.{◌≡◌, ℕ, suc, Bool, true, false, nat_lt, if◌then◌else◌, List, [], ◌∷◌, ◌++◌, Option, Some, None, slice_get, slice_set, ◌⊎◌}
 use Rattle.std.specs.List.{list_any}
 use Rattle.std.specs.Option.{option_map_or}
 use Rattle.abs_cells.specs.AbstractStates.{AbstractState}
@@ -9,18 +9,7 @@ use Rattle.frame_types.specs.Tables.{CodeTypes}
 use Rattle.term_graph.specs.declared.nodes.By.{By}
 use Rattle.term_graph.specs.declared.nodes.By.TheVariants.{Expand, Instance, End, Todo}
 use Rattle.term_graph.specs.Graphs.{GraphNode, GraphChild}
-use Rattle.abs_expand.specs.BadStates.{IsGoodState}
-use Rattle.abs_expand.specs.IntForms.{IsIntState}
 use Rattle.graph_check.specs.Good.{HasChildren}
-use Rattle.graph_fill.specs.declared.fault.FillFault.{FillFault}
-use Rattle.graph_fill.specs.declared.fault.FillFault.TheVariants.{NotOfInts, Memory}
-
--- ---- states of ints
-
--- a state is of ints, or has no expansion; or it is neither
-abbrev pub IsReadyOr : Program → (ℕ → CodeTypes) → AbstractState → Bool → Type 0
-IsReadyOr p typing state true = IsGoodState p typing state → IsIntState state
-IsReadyOr p typing state false = IsGoodState p typing state × (IsIntState state → ⊥)
 
 -- ---- slots
 
@@ -79,23 +68,11 @@ Puts p typing first low state Todo slots after = after ≡ slots
 
 -- ---- nodes
 
--- a node is added with the state of its slot, and its children's states are put; or that state is none of ints
+-- a node is added with the state of its slot, and its children's states are put
 pub record Adds (p : Program) (typing : ℕ → CodeTypes) (by : By) (number : ℕ) (slots after : List (Option AbstractState)) (front more : List GraphNode) : Type 0 where
   pub state : AbstractState
   pub was : slice_get slots number ≡ Some (Some state)
   pub is : more ≡ front ++ record { state = state; by = by } ∷ []
-  pub ints : IsGoodState p typing state → IsIntState state
   pub first : GraphNode
   pub is_first : slice_get more 0 ≡ Some first
   pub puts : Puts p typing first.state number state by (slice_set slots number None) after
-
-pub record HasNoInts (p : Program) (typing : ℕ → CodeTypes) (number : ℕ) (slots : List (Option AbstractState)) : Type 0 where
-  pub state : AbstractState
-  pub was : slice_get slots number ≡ Some (Some state)
-  pub good : IsGoodState p typing state
-  pub fails : IsIntState state → ⊥
-
-abbrev pub AddsOr : Program → (ℕ → CodeTypes) → By → ℕ → List (Option AbstractState) → List (Option AbstractState) → List GraphNode → List GraphNode → Result (Unit {0}) FillFault → Type 0
-AddsOr p typing by number slots after front more (Ok done) = Adds p typing by number slots after front more
-AddsOr p typing by number slots after front more (Err (NotOfInts node)) = (node ≡ number) × HasNoInts p typing number slots
-AddsOr p typing by number slots after front more (Err Memory) = Unit {0}

@@ -2,8 +2,6 @@
 ghost use Rattle.std.specs.Prelude.{OnOk, IfOk};
 ghost use Rattle.class_program.specs.Views.{program_of};
 ghost use Rattle.code_verify.specs.Typings.{typing_at};
-ghost use Rattle.abs_expand.specs.BadStates.{IsGoodState};
-ghost use Rattle.abs_expand.specs.IntForms.{HasIntForms, IsIntState};
 ghost use Rattle.term_graph.specs.declared.nodes.By.TheVariants.{Expand};
 ghost use Rattle.graph_fill.specs.Words.{HasChildrenOrNone, Puts};
 
@@ -25,8 +23,6 @@ fn children_or_none<P: Pairs>(
     state: &AbsState<P>,
     marks: &mut Marks,
 ) -> Result<Seq<Child<P>>, AllocError>
-    requires forms { HasIntForms (program_of program.now) }
-    requires ints { IsGoodState (program_of program.now) (typing_at typing.now) state.now → IsIntState state.now }
     ensures { IfOk result (λ children. HasChildrenOrNone (program_of program.now) (typing_at typing.now) state.now children) }
 {
     match expand(alloc, program, typing, state, marks) {
@@ -50,8 +46,6 @@ fn put_children<P: Pairs>(
     slots: &mut Seq<Option<AbsState<P>>>,
     marks: &mut Marks,
 ) -> Result<(), AllocError>
-    requires forms { HasIntForms (program_of program.now) }
-    requires ints { IsGoodState (program_of program.now) (typing_at typing.now) state.now → IsIntState state.now }
     ensures { OnOk result (Puts (program_of program.now) (typing_at typing.now) first.now low state.now (Expand named.now) slots.old slots.new) }
 {
     let named = named.as_slice();
@@ -74,8 +68,6 @@ pub(crate) fn put_named<P: Pairs>(
     slots: &mut Seq<Option<AbsState<P>>>,
     marks: &mut Marks,
 ) -> Result<(), AllocError>
-    requires forms { HasIntForms (program_of program.now) }
-    requires ints { IsGoodState (program_of program.now) (typing_at typing.now) state.now → IsIntState state.now }
     ensures { OnOk result (Puts (program_of program.now) (typing_at typing.now) first.now low state.now by.now slots.old slots.new) }
 {
     match by {

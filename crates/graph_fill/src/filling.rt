@@ -1,15 +1,11 @@
 //! Graphs whose nodes may lack their states, filled.
-ghost use Rattle.std.specs.Prelude.{◌≡◌, ◌<◌, ◌≤◌, length};
+ghost use Rattle.std.specs.Prelude.{◌≡◌, ◌<◌, ◌≤◌, length, IfOk, OnOk};
 ghost use Rattle.class_program.specs.Views.{program_of};
 ghost use Rattle.code_verify.specs.Typings.{typing_at};
-ghost use Rattle.abs_expand.specs.IntForms.{HasIntForms};
-ghost use Rattle.graph_check.specs.Filling.{CanBeFilled};
-ghost use Rattle.graph_fill.specs.Answers.{FillsOr};
-ghost use Rattle.graph_fill.specs.Words.{IsFull, AddsOr};
+ghost use Rattle.graph_check.specs.Filling.{IsFilled, CanBeFilled};
+ghost use Rattle.graph_fill.specs.Words.{IsFull, Adds};
 
 use crate::children::put_named;
-use crate::fault::FillFault;
-use crate::ints::is_ready;
 use crate::slots::{given_states, take_state};
 use abs_cells::{AbsState, Pairs};
 use abs_reach::Marks;
@@ -29,17 +25,13 @@ fn add_node<P: Pairs>(
     slots: &mut Seq<Option<AbsState<P>>>,
     graph: &mut Graph<P>,
     marks: &mut Marks,
-) -> Result<(), FillFault>
-    requires forms { HasIntForms (program_of program.now) }
+) -> Result<(), AllocError>
     requires full { IsFull slots.old number }
     requires count { length graph.old ≡ number }
     requires few { number < 4294967280 }
-    ensures { AddsOr (program_of program.now) (typing_at typing.now) by number slots.old slots.new graph.old graph.new result }
+    ensures { OnOk result (Adds (program_of program.now) (typing_at typing.now) by number slots.old slots.new graph.old graph.new) }
 {
     let state = take_state(slots, number);
-    if !is_ready(program, typing, &state) {
-        return Err(FillFault::NotOfInts { node: number });
-    }
     graph.push(Node::new(state, by))?;
     let first = graph.at(0);
     let node = graph.at(number);
@@ -53,42 +45,37 @@ fn add_node<P: Pairs>(
         number,
         slots,
         marks,
-    )?;
-    Ok(())
+    )
 }
 
 /// The filled graph of parts: each node is left as its part says, and has the part's state, or else that of the child where it
-/// is first named; where its first namer has no such child, it has node 0's state. The program's instructions are about ints
-/// alone, and each part without a state is named by an expanded one of a lower number.
+/// is first named; where its first namer has no such child, it has node 0's state. Each part without a state is named by an
+/// expanded one of a lower number.
 ///
 /// Each part's state is read once, and each node is expanded once at most, in the order of their numbers; a part whose node
 /// names none without a state is not expanded. What is held is the filled graph.
 ///
 /// # Errors
 ///
-/// The first node whose state has an expansion and isn't one of ints; or want of memory.
+/// Want of memory.
 pub fn fill<P: Pairs, S: PartSource<P>>(
     alloc: Global,
     program: &Program<'_>,
     typing: &Typing,
     parts: &S,
-) -> Result<Graph<P>, FillFault>
-    requires forms { HasIntForms (program_of program.now) }
+) -> Result<Graph<P>, AllocError>
     requires named { CanBeFilled (S.parts parts.now) }
     requires few { length (S.parts parts.now) ≤ 4294967280 }
-    ensures { FillsOr (program_of program.now) (typing_at typing.now) (S.parts parts.now) result }
+    ensures { IfOk result (λ graph. IsFilled (program_of program.now) (typing_at typing.now) (S.parts parts.now) graph) }
 {
     let mut marks = Marks::new(alloc)?;
     let mut slots = given_states(alloc, parts)?;
     let mut graph = Graph::new(alloc);
     for number in 0..parts.count() {
         let by = parts.by(alloc, number)?;
-        match add_node(
+        add_node(
             alloc, program, typing, by, number, &mut slots, &mut graph, &mut marks,
-        ) {
-            Ok(()) => {}
-            Err(fault) => return Err(fault),
-        }
+        )?;
     }
     Ok(graph)
 }

@@ -27,7 +27,7 @@ use Rattle.abs_expand.specs.Plans.{Goal, Turn, Plan, ends, steps, by_null, by_cl
 use Rattle.abs_expand.specs.Switches.{parts_of}
 use Rattle.abs_expand.specs.Table.{natural, negative, in_bounds, out_of_bounds, access_at}
 use Rattle.abs_expand.specs.Turns.{Here, Operand, known, id, with_stack, throws_after, interval_at, interval_of_id, are_one, narrowings, rows_over, turn_of_result, turn_of_case, turns_of, turn_narrowing, turns_narrowing, narrows, place_of_way, branch_of_case, branches, switch_turn}
-use Rattle.int_plans.proofs.EachRow.{IsFine, AreFine, HasEach}
+use Rattle.steady_plans.proofs.EachRow.{IsFine, AreFine, HasEach}
 use Rattle.plan_links.proofs.SmallRows.{HasIntEnds, IsPlainRow, operated_small, compared_plain, related_plain}
 use Rattle.plan_links.proofs.Rows.{Keeps, IsKept, IsRowFor, IsRowed, IsOver, IsIntOperand, all_over, rows_fit, plain_fit}
 

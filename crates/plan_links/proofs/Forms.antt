@@ -55,7 +55,7 @@ use Rattle.abs_expand.specs.Plans.{Turn, Plan, on_stack, in_local, in_bottom, in
 use Rattle.abs_expand.specs.Switches.{table_keys, lookup_keys}
 use Rattle.abs_expand.specs.Turns.{Here, known, id, frames_at, with_stack, emptied, moves, goes_on, pushes, throws, throws_after, interval_at, interval_of_id, turns_of, branches}
 use Rattle.abs_expand.specs.Table.{types_here, place_under, cell_here, is_null_here, unless_null, accessed, local_here, step_if, one_step, store_plan, increment_plan, negation_plan, narrow_plan, switch_plan, jump_if, null_plan, equal_plan, field_id, getfield_plan, on_instance, put_slot, putfield_plan, bottom_with, static_local, put_static, putstatic_plan, new_of_base, array_turn, natural, negative, array_plan, length_id, items_length_id, items_of, length_plan, access_at, access_of, number_load_plan, number_store_plan, aaload_plan, aastore_plan, Cast, checkcast_of, instanceof_of, with_bound, bounded, cell_bound, is_bound_below, may_be_below, is_known_cell, undecided, cast_plan, checkcast_plan, instanceof_plan, invokes, runs_or_lacks, static_plan, receiver_of, special_plan, class_of_cell, answered, selecting_plan, returned_to, value_plan, athrow_plan, binary, unary, row_of}
-use Rattle.int_plans.proofs.EachRow.{each_sum, each_difference}
+use Rattle.steady_plans.proofs.EachRow.{each_sum, each_difference}
 use Rattle.plan_links.proofs.SmallRows.{HasIntEnds, IsInt}
 use Rattle.plan_links.proofs.Rows.{IsOver, sum_over, difference_over}
 use Rattle.plan_links.proofs.Operands.{Asks, acted_asks, aaload_asks, top_int, under_top, local_asked, within, int_ends, length_int, items_int}

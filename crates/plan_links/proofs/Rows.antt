@@ -19,7 +19,7 @@ use Rattle.term_graph.specs.declared.links.Side.TheVariants.{Before, After}
 use Rattle.term_graph.specs.declared.links.LinkRow.{LinkRow}
 use Rattle.abs_expand.specs.Plans.{Goal, on_stack, in_local, Turn, makes}
 use Rattle.abs_expand.specs.Turns.{Operand, known, id, term_of, terms_of, constant_of, row_over, rows_over}
-use Rattle.int_plans.proofs.EachRow.{IsFine, AreFine}
+use Rattle.steady_plans.proofs.EachRow.{IsFine, AreFine}
 use Rattle.plan_links.proofs.SmallRows.{IsSmall, IsInt, IsSmallRow, IsPlainRow, sum_small, difference_small, turn_small}
 
 -- ---- lists

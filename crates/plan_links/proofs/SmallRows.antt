@@ -27,7 +27,7 @@ use Rattle.abs_ints.specs.declared.cases.Way.TheVariants.{Inside, Over, Under, Z
 use Rattle.abs_ints.specs.declared.relations.Relation.{Relation}
 use Rattle.abs_ints.specs.declared.relations.Relation.TheVariants.{Equal, Below, AtMost, Above, AtLeast}
 use Rattle.abs_ints.proofs.OperatorCases.{if_either}
-use Rattle.int_plans.proofs.EachRow.{AreFine, HasEach, HaveEach, HoldsOfRows, each_row, each_related, each_compared}
+use Rattle.steady_plans.proofs.EachRow.{AreFine, HasEach, HaveEach, HoldsOfRows, each_row, each_related, each_compared}
 
 -- ---- numbers
 

@@ -11,7 +11,7 @@ use Rattle.cert_check.specs.Parts.{case_of}
 use Rattle.cert_write.specs.Data.{certificate, content_of}
 use Rattle.descent.specs.Conditions.{AreSteps}
 use Rattle.descent.specs.declared.proof.ProofStep.{ProofStep}
-use Rattle.graph_check.specs.Conditions.{HasIntStates}
+use Rattle.cert_check.specs.IntStates.{HasIntStates}
 use Rattle.graph_check.specs.Filling.{IsFilled}
 use Rattle.term_graph.specs.Graphs.{GraphNode}
 use Rattle.prove_core.specs.Answers.{IsCertificate, SaysValid}

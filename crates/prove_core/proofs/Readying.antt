@@ -8,7 +8,7 @@ use Rattle.class_program.specs.Widths.{HasWidths}
 use Rattle.frame_types.specs.Tables.{CodeTypes}
 use Rattle.term_graph.specs.declared.links.Link.{Link}
 use Rattle.term_graph.specs.Graphs.{GraphNode}
-use Rattle.graph_check.specs.Conditions.{HasIntStates}
+use Rattle.cert_check.specs.IntStates.{HasIntStates}
 use Rattle.graph_check.specs.Good.{GraphOk}
 use Rattle.plan_links.specs.Laws.{LinksFit}
 use Rattle.path_rules.specs.Conditions.{CutsRise, IsReady}

@@ -7,7 +7,7 @@ use Rattle.cert_write.specs.Data.{certificate}
 use Rattle.cert_check.specs.Certified.{IsCertified}
 use Rattle.cert_check.specs.Valid.{IsValid}
 use Rattle.cert_check.specs.Parts.{case_of}
-use Rattle.graph_check.specs.Conditions.{HasIntStates}
+use Rattle.cert_check.specs.IntStates.{HasIntStates}
 use Rattle.graph_check.specs.Filling.{IsFilled}
 use Rattle.term_graph.specs.Graphs.{GraphNode}
 use Rattle.prove_core.specs.declared.found.Found.{Found}

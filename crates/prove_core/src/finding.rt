@@ -5,11 +5,10 @@ ghost use Rattle.class_base.specs.ClassNames.{is_class_name};
 ghost use Rattle.class_program.specs.Views.{program_of};
 ghost use Rattle.code_verify.specs.Typings.{typing_at};
 ghost use Rattle.descent.specs.Conditions.{AreSteps};
-ghost use Rattle.abs_expand.specs.IntForms.{HasIntForms};
 ghost use Rattle.cert_check.specs.Certified.{IsCertified};
 ghost use Rattle.cert_check.specs.Valid.{IsValid};
 ghost use Rattle.cert_check.specs.Parts.{case_of};
-ghost use Rattle.graph_check.specs.Conditions.{HasIntStates};
+ghost use Rattle.cert_check.specs.IntStates.{HasIntStates};
 ghost use Rattle.term_graph.specs.Limits.{most_nodes};
 ghost use Rattle.prove_core.specs.Reasons.{IsWholeWithSome};
 ghost use Rattle.prove_core.specs.Answers.{SaysValid, SearchesOr};
@@ -17,14 +16,14 @@ ghost use Rattle.prove_core.specs.Words.{aim_of};
 
 use crate::found::{Cert, Found, Reason, SearchFault};
 use abs_cells::{AbsState, Pairs};
-use cert_check::check_cert;
+use cert_check::{check_cert, first_other_state};
 use cert_form::{CertText, ClassNames, MOST_CERTIFICATE_BYTES};
 use cert_write::encode;
 use class_program::Program;
 use code_verify::Typing;
 use descent::Proof;
-use graph_fill::{FillFault, fill};
-use std::alloc::Global;
+use graph_fill::fill;
+use std::alloc::{AllocError, Global};
 use term_graph::Graph;
 
 /// Whether a graph with cuts and a proof is a valid certificate.
@@ -37,7 +36,6 @@ fn is_valid<P: Pairs>(
     cuts: &[u32],
     proof: &Proof,
 ) -> bool
-    requires forms { HasIntForms (program_of program.now) }
     requires ints { HasIntStates (program_of program.now) (typing_at typing.now) graph.old }
     requires few { length graph.old ≤ most_nodes }
     requires steps { AreSteps proof.now.steps }
@@ -51,6 +49,29 @@ fn is_valid<P: Pairs>(
     }
 }
 
+/// Whether each state of a graph that has an expansion is one of ints, and the graph with cuts and a proof is a valid certificate.
+fn is_valid_over_ints<P: Pairs>(
+    alloc: Global,
+    program: &Program<'_>,
+    typing: &Typing,
+    root: &AbsState<P>,
+    graph: &mut Graph<P>,
+    cuts: &[u32],
+    proof: &Proof,
+) -> bool
+    requires few { length graph.old ≤ most_nodes }
+    requires steps { AreSteps proof.now.steps }
+    ensures ints { IsTrue result → HasIntStates (program_of program.now) (typing_at typing.now) graph.old }
+    ensures valid { IsTrue result → IsValid (case_of (program_of program.now) (typing_at typing.now) root.now graph.old cuts.now proof.now.steps) }
+    ensures certified { IsTrue result → IsCertified (program_of program.now) (typing_at typing.now) graph.old cuts.now root.now }
+{
+    match first_other_state(alloc, program, typing, graph) {
+        Ok(None) => is_valid(alloc, program, typing, root, graph, cuts, proof),
+        Ok(Some(_)) => false,
+        Err(_) => false,
+    }
+}
+
 /// Whether bytes say a certificate which, filled, is valid.
 #[tactic(auto, using(graph_fill::proofs::Lacking::few_filled, crate::proofs::Giving::says))]
 fn says_valid<P: Pairs>(
@@ -61,17 +82,16 @@ fn says_valid<P: Pairs>(
     names: &ClassNames,
     bytes: &[u8],
 ) -> bool
-    requires { HasIntForms (program_of program.now) }
     ensures { IsTrue result → SaysValid (aim_of (program_of program.now) (typing_at typing.now) root.now) names.now bytes.now }
 {
     let Ok(text) = CertText::read(alloc, bytes, names) else {
         return false;
     };
-    let filled: Result<Graph<P>, FillFault> = fill(alloc, program, typing, &text);
+    let filled: Result<Graph<P>, AllocError> = fill(alloc, program, typing, &text);
     match filled {
         Ok(graph) => {
             let mut graph = graph;
-            is_valid(
+            is_valid_over_ints(
                 alloc,
                 program,
                 typing,
@@ -96,7 +116,6 @@ pub(crate) fn given<P: Pairs>(
     names: &ClassNames,
     cert: Cert<P>,
 ) -> Result<Found<P>, SearchFault>
-    requires forms { HasIntForms (program_of program.now) }
     requires names { IsTrue (list_all is_class_name names.now) }
     requires whole { IsWholeWithSome (aim_of (program_of program.now) (typing_at typing.now) root.now) cert.graph cert.cuts }
     requires ints { HasIntStates (program_of program.now) (typing_at typing.now) cert.graph }

@@ -10,7 +10,7 @@ ghost use Rattle.abs_expand.specs.IntForms.{HasIntForms};
 ghost use Rattle.input_desc.specs.Descs.{IsGoodDesc};
 ghost use Rattle.input_desc.specs.Initial.{initial_of};
 ghost use Rattle.graph_build.specs.Answers.{BuildsOr};
-ghost use Rattle.graph_check.specs.Conditions.{HasIntStates};
+ghost use Rattle.cert_check.specs.IntStates.{HasIntStates};
 ghost use Rattle.graph_check.specs.Good.{GraphOk};
 ghost use Rattle.rank_forms.specs.Graphs.{ArePlainRules};
 ghost use Rattle.path_rules.specs.Answers.{Answers as PathAnswers};

@@ -5,7 +5,7 @@ use Rattle.term_graph.specs.Graphs.{GraphChild}
 use Rattle.abs_expand.specs.Answers.{Answers}
 use Rattle.abs_expand.specs.declared.fault.ExpandFault.{ExpandFault}
 use Rattle.graph_fill.specs.Words.{HasChildrenOrNone}
-use Rattle.graph_fill.proofs.Plain.{none_bad, none_many}
+use Rattle.graph_fill.proofs.OwnChildren.{none_bad, none_many}
 use Rattle.graph_fill.proofs.children.children_or_none.Goals as goal
 
 pub returns-in-Err-BadState : goal.returns-in-Err-BadState

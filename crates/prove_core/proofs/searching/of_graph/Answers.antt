@@ -1,7 +1,7 @@
 use Rattle.std.proofs.Common.{◌≤◌, List, length, sym, subst}
 use Rattle.class_program.specs.Views.{program_of}
 use Rattle.code_verify.specs.Typings.{typing_at}
-use Rattle.graph_check.specs.Conditions.{HasIntStates}
+use Rattle.cert_check.specs.IntStates.{HasIntStates}
 use Rattle.term_graph.specs.Graphs.{GraphNode}
 use Rattle.prove_core.proofs.searching.of_graph.Goals as goal
 

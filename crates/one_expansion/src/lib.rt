@@ -1,0 +1,6 @@
+//! What becomes of an abstract state is one: its plan has one list of children, and an expansion one answer.
+#![tactic(auto)]
+
+mod laws;
+
+pub use laws::{answers_are_one, children_are_one};

@@ -1,0 +1,3 @@
+pub mod EachRow
+pub mod SteadyForms
+pub mod SteadyTurns
