@@ -25,9 +25,11 @@ cell_bounded types state (Nums kind len) sound = tt
 cell_bounded types state (Refs element len shape) sound = tt
 cell_bounded types state (Unk bound nullable shape) sound = tt
 
-cells_bounded : (types : WorldTypes) (state : AbstractState) (cells : List (ℕ × Cell)) → AllByRecursion (λ (c : ℕ × Cell). IsSoundCell types state c.1) cells → AllByRecursion (λ (c : ℕ × Cell). IsBounded c.1) cells
+cells_bounded : (types : WorldTypes) (state : AbstractState) (cells : List (ℕ × Cell))
+    → AllByRecursion (λ (c : ℕ × Cell). IsSoundCell types state c.1) cells → AllByRecursion (λ (c : ℕ × Cell). IsBounded c.1) cells
 cells_bounded types state [] sound = tt
 cells_bounded types state (c ∷ cells) sound = (cell_bounded types state c.1 sound.0, cells_bounded types state cells sound.1)
 
 pub sound_bounded : (types : WorldTypes) (state : AbstractState) → IsSound types state → AreBounded state
-sound_bounded types state sound = All-from_recursion (λ (c : ℕ × Cell). IsBounded c.1) state.cells (cells_bounded types state state.cells (recursion_from_All (λ (c : ℕ × Cell). IsSoundCell types state c.1) state.cells sound.cells))
+sound_bounded types state sound = All-from_recursion (λ (c : ℕ × Cell). IsBounded c.1) state.cells
+    (cells_bounded types state state.cells (recursion_from_All (λ (c : ℕ × Cell). IsSoundCell types state c.1) state.cells sound.cells))

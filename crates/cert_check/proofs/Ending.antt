@@ -1,5 +1,7 @@
 -- Walks through a good graph from cut to cut are turns of a chain, so runs end.
-use Rattle.std.proofs.Common.{◌≡◌, ◌<◌, ◌≤◌, ◌+◌, ◌∙◌, ◌==◌, ℕ, ℤ, zero, suc, Bool, true, false, cond, eqb, IsTrue, List, [], ◌∷◌, ◌++◌, length, set, replicate, Some, None, slice_get, ◌⊎◌, inl, inr, refl, sym, ap, subst, arith, eq-eqb}
+use Rattle.std.proofs.Common.{◌≡◌, ◌<◌, ◌≤◌, ◌+◌, ◌∙◌, ◌==◌, ℕ, ℤ, zero, suc, Bool, true, false, cond, eqb, IsTrue, List, [], ◌∷◌}
+use Rattle.std.proofs.Common.{◌++◌, length, set, replicate, Some, None, slice_get, ◌⊎◌, inl, inr, refl, sym, ap, subst, arith}
+use Rattle.std.proofs.Common.{eq-eqb}
 use Rattle.std.specs.Prelude.{All}
 use Rattle.std.specs.List.{AllZip, list_any}
 use Rattle.std.specs.Option.{option_map, option_and_then}
@@ -66,16 +68,19 @@ use Rattle.cert_check.proofs.Terms.{one_term}
 
 -- ---- states of ints
 
-pub found_int : (cells : List (ℕ × Cell)) (id : ℕ) (cell : Cell) → All (λ (c : ℕ × Cell). IsTrue (is_int c.1)) cells → cell_in cells id ≡ Some cell → is_int cell ≡ true
+pub found_int : (cells : List (ℕ × Cell)) (id : ℕ) (cell : Cell) → All (λ (c : ℕ × Cell). IsTrue (is_int c.1)) cells
+    → cell_in cells id ≡ Some cell → is_int cell ≡ true
 found_int [] id cell ints e = absurd (none-some cell e)
 found_int (c ∷ cells) id cell ints e = elim (cases_Bool (eqb c.0 id)) [
   | inl t ↦
       let same : c.1 ≡ cell = some_is (ap (λ b. cond b (Some c.1) (cell_in cells id)) (sym t) ∙ e) in
       ap is_int (sym same) ∙ All-get_or (λ (d : ℕ × Cell). IsTrue (is_int d.1)) (c ∷ cells) 0 c (omega arith) ints
-  | inr f ↦ found_int cells id cell (All-tail (λ (d : ℕ × Cell). IsTrue (is_int d.1)) c cells ints) (ap (λ b. cond b (Some c.1) (cell_in cells id)) (sym f) ∙ e)
+  | inr f ↦ found_int cells id cell (All-tail (λ (d : ℕ × Cell). IsTrue (is_int d.1)) c cells ints)
+      (ap (λ b. cond b (Some c.1) (cell_in cells id)) (sym f) ∙ e)
 ]
 
-int_in_heap : (types : WorldTypes) (heap : Heap) (meaning : Meaning) (cell : Cell) (value : Value) (count : ℕ) → is_int cell ≡ true → Describes types heap meaning cell value → IsInHeap count value
+int_in_heap : (types : WorldTypes) (heap : Heap) (meaning : Meaning) (cell : Cell) (value : Value) (count : ℕ) → is_int cell ≡ true
+    → Describes types heap meaning cell value → IsInHeap count value
 int_in_heap types heap meaning (Int interval) value count i d = λ a t. absurd (none-some a (sym (ap target d.1.0) ∙ t))
 int_in_heap types heap meaning Null value count i d = absurd (false≢true i)
 int_in_heap types heap meaning (Obj class ids) value count i d = absurd (false≢true i)
@@ -85,23 +90,30 @@ int_in_heap types heap meaning (Unk bound nullable shape) value count i d = absu
 
 -- ---- slots of two turns at one state
 
-agree_at : (weigh : ℕ → ℤ) → IsWeighing weigh → (v w : Valuation) (spot : Spot) (s t : SlotForm) (a b : Bool) → a ≡ b → s.id ≡ t.id → SlotIs v spot s a → SlotIs w spot t b → slot_value weigh v s ≡ slot_value weigh w t
+agree_at : (weigh : ℕ → ℤ) → IsWeighing weigh → (v w : Valuation) (spot : Spot) (s t : SlotForm) (a b : Bool) → a ≡ b → s.id ≡ t.id
+    → SlotIs v spot s a → SlotIs w spot t b → slot_value weigh v s ≡ slot_value weigh w t
 agree_at weigh g v w spot s t false false e same h k = h weigh g ∙ ap (λ id. number_of (spot.meaning id)) same ∙ sym (k weigh g)
 agree_at weigh g v w spot s t true true e same h k =
     h.1.1 weigh g
-    ∙ ap (weight_of weigh) (one_term spot.machine.heap (spot.meaning t.id) h.0 k.0 (subst (λ id. IsTerm spot.machine.heap (spot.meaning id) h.0) same h.1.0) k.1.0)
+    ∙ ap (weight_of weigh)
+    (one_term spot.machine.heap (spot.meaning t.id) h.0 k.0
+    (subst (λ id. IsTerm spot.machine.heap (spot.meaning id) h.0) same h.1.0) k.1.0)
     ∙ sym (k.1.1 weigh g)
 agree_at weigh g v w spot s t false true e same h k = absurd (false≢true e)
 agree_at weigh g v w spot s t true false e same h k = absurd (false≢true (sym e))
 
-slot_at : (v : Valuation) (spot : Spot) (slots : List SlotForm) (n : ℕ) (slot : SlotForm) → SlotsAre v spot slots → slice_get slots n ≡ Some slot → SlotIs v spot slot slot.size
+slot_at : (v : Valuation) (spot : Spot) (slots : List SlotForm) (n : ℕ) (slot : SlotForm) → SlotsAre v spot slots
+    → slice_get slots n ≡ Some slot → SlotIs v spot slot slot.size
 slot_at v spot slots n slot are at =
-    subst (λ (s : SlotForm). SlotIs v spot s s.size) (get_or_from_slice_get slots n slot slot at) (All-get_or (λ (s : SlotForm). SlotIs v spot s s.size) slots n slot (slice_get_within slots n slot at) are)
+    subst (λ (s : SlotForm). SlotIs v spot s s.size) (get_or_from_slice_get slots n slot slot at)
+    (All-get_or (λ (s : SlotForm). SlotIs v spot s s.size) slots n slot (slice_get_within slots n slot at) are)
 
 -- ---- a certified graph
 
-module _ (p : Program) (typing : ℕ → CodeTypes) (nodes : List GraphNode) (cuts : List ℕ) (root : AbstractState) (c : IsCertified p typing nodes cuts root)
-    (closed : IsClosed p) (widths : HasWidths p) (typing_is : IsTypingOf p typing) (holds : GraphsHoldRuns) (typed_steps : StepsAreTyped) (heaps_closed : TypedHeapsAreClosed) (meets : WalksMeetRules) where
+module _ (p : Program) (typing : ℕ → CodeTypes) (nodes : List GraphNode) (cuts : List ℕ) (root : AbstractState)
+    (c : IsCertified p typing nodes cuts root)
+    (closed : IsClosed p) (widths : HasWidths p) (typing_is : IsTypingOf p typing) (holds : GraphsHoldRuns)
+    (typed_steps : StepsAreTyped) (heaps_closed : TypedHeapsAreClosed) (meets : WalksMeetRules) where
   abbrev linked : LinkedGraph
   linked = record { graph = nodes; links = c.links; sizes = c.are.are.sizes }
 
@@ -122,18 +134,23 @@ module _ (p : Program) (typing : ℕ → CodeTypes) (nodes : List GraphNode) (cu
 
   stop_is : (s : Station) (at : At s) → stop_at linked s.node ≡ Some (stop_of s at)
   stop_is s at =
-      ap (option_and_then (λ (m : GraphNode). option_map (λ (l : List (ℕ × Pattern)). record { state = m.state; sizes = l }) (slice_get c.are.are.sizes s.node))) at.is
-      ∙ ap (option_map (λ (l : List (ℕ × Pattern)). record { state = at.node.state; sizes = l })) (beside Sized nodes c.are.are.sizes s.node at.node c.are.are.are_sizes at.is).there
+      ap (option_and_then (λ (m : GraphNode). option_map (λ (l : List (ℕ × Pattern)). record { state = m.state; sizes = l })
+      (slice_get c.are.are.sizes s.node))) at.is
+      ∙ ap (option_map (λ (l : List (ℕ × Pattern)). record { state = at.node.state; sizes = l }))
+      (beside Sized nodes c.are.are.sizes s.node at.node c.are.are.are_sizes at.is).there
 
   node_ints : (s : Station) (at : At s) → HasIntsAlone at.node.state
-  node_ints s at = subst (λ (m : GraphNode). HasIntsAlone m.state) (get_or_from_slice_get nodes s.node at.node at.node at.is) (All-get_or (λ (m : GraphNode). HasIntsAlone m.state) nodes s.node at.node (slice_get_within nodes s.node at.node at.is) c.ready.ints)
+  node_ints s at = subst (λ (m : GraphNode). HasIntsAlone m.state) (get_or_from_slice_get nodes s.node at.node at.node at.is)
+      (All-get_or (λ (m : GraphNode). HasIntsAlone m.state) nodes s.node at.node (slice_get_within nodes s.node at.node at.is)
+      c.ready.ints)
 
   fits_stop : (s : Station) (at : At s) → FitsStop (types_of p.world) (stop_of s at) s.spot
   fits_stop s at = record {
     fits = at.fits;
     closed = record {
       heap = heaps_closed (types_of p.world) s.spot.machine.heap at.typed.heap;
-      ids = λ id has. int_in_heap (types_of p.world) s.spot.machine.heap s.spot.meaning has.cell (s.spot.meaning id) (length s.spot.machine.heap.objects)
+      ids = λ id has. int_in_heap (types_of p.world) s.spot.machine.heap s.spot.meaning has.cell (s.spot.meaning id)
+          (length s.spot.machine.heap.objects)
           (found_int at.node.state.cells id has.cell (node_ints s at) has.is) (at.fits.cells id has.cell has.is);
     };
   }
@@ -157,18 +174,22 @@ module _ (p : Program) (typing : ℕ → CodeTypes) (nodes : List GraphNode) (cu
   edge_at : (n place : ℕ) (node : GraphNode) → slice_get nodes n ≡ Some node → edges nodes n place ≡ slice_get (successors node.by) place
   edge_at n place node is = ap (option_and_then (λ (from : GraphNode). slice_get (successors from.by) place)) is
 
-  leg_there : (n place : ℕ) (node : GraphNode) (links : List Link) → slice_get nodes n ≡ Some node → slice_get c.links n ≡ Some links → leg_at linked n place ≡ leg_by node.by links place
+  leg_there : (n place : ℕ) (node : GraphNode) (links : List Link) → slice_get nodes n ≡ Some node
+      → slice_get c.links n ≡ Some links → leg_at linked n place ≡ leg_by node.by links place
   leg_there n place node links is there =
       ap (option_and_then (λ (m : GraphNode). option_and_then (λ (ls : List Link). leg_by m.by ls place) (slice_get c.links n))) is
       ∙ ap (option_and_then (λ (ls : List Link). leg_by node.by ls place)) there
 
-  onward_by : (from to : Station) (at : At from) (there : At to) (by : By) (links : List Link) → at.node.by ≡ by → slice_get c.links from.node ≡ Some links
-      → GoesBy p at.node.state from.spot.machine from.spot.meaning by links to.node there.node.state to.spot.machine to.spot.meaning → Onward from to at there
+  onward_by : (from to : Station) (at : At from) (there : At to) (by : By) (links : List Link) → at.node.by ≡ by
+      → slice_get c.links from.node ≡ Some links
+      → GoesBy p at.node.state from.spot.machine from.spot.meaning by links to.node there.node.state to.spot.machine to.spot.meaning
+      → Onward from to at there
   onward_by from to at there (ways.Expand named) links e are goes = record {
     place = goes.n;
     edge = edge_at from.node goes.n at.node at.is ∙ ap (λ (b : By). slice_get (successors b) goes.n) e ∙ goes.is_named;
     leg = child goes.link;
-    leg_is = leg_there from.node goes.n at.node links at.is are ∙ ap (λ (b : By). leg_by b links goes.n) e ∙ ap (option_map child) goes.is_link;
+    leg_is = leg_there from.node goes.n at.node links at.is are ∙ ap (λ (b : By). leg_by b links goes.n) e
+        ∙ ap (option_map child) goes.is_link;
     crosses = goes.edge;
   }
   onward_by from to at there (ways.Instance target entries) links e are goes = record {
@@ -184,8 +205,10 @@ module _ (p : Program) (typing : ℕ → CodeTypes) (nodes : List GraphNode) (cu
   onward : (from to : Station) → Goes from to → (at : At from) (there : At to) → Onward from to at there
   onward from to g at there =
       onward_by from to at there at.node.by g.own refl g.are
-      (subst (λ (n : GraphNode). GoesBy p n.state from.spot.machine from.spot.meaning n.by g.own to.node there.node.state to.spot.machine to.spot.meaning) (same_node from g.at at)
-      (subst (λ (n : GraphNode). GoesBy p g.at.node.state from.spot.machine from.spot.meaning g.at.node.by g.own to.node n.state to.spot.machine to.spot.meaning) (same_node to g.there there) g.by))
+      (subst (λ (n : GraphNode). GoesBy p n.state from.spot.machine from.spot.meaning n.by g.own to.node there.node.state
+      to.spot.machine to.spot.meaning) (same_node from g.at at)
+      (subst (λ (n : GraphNode). GoesBy p g.at.node.state from.spot.machine from.spot.meaning g.at.node.by g.own to.node n.state
+      to.spot.machine to.spot.meaning) (same_node to g.there there) g.by))
 
   -- ---- walks to the next cut
 
@@ -193,23 +216,33 @@ module _ (p : Program) (typing : ℕ → CodeTypes) (nodes : List GraphNode) (cu
   abbrev Arrives : Station → Type 0
   Arrives s =
       (at : At s) (places : List ℕ) (to : ℕ) (rides : List (Leg × Stop)) (spots : List Spot)
-      → end_of nodes cuts s.node places ≡ Some to → rides_from linked s.node places ≡ Some rides → IsWalk (types_of p.world) (stop_of s at) s.spot rides spots
-      → is_cut cuts to ≡ true → At (record { node = to; spot = last_of s.spot spots }) → WalksEnd p typing nodes c.links (record { node = to; spot = last_of s.spot spots })
+      → end_of nodes cuts s.node places ≡ Some to → rides_from linked s.node places ≡ Some rides
+      → IsWalk (types_of p.world) (stop_of s at) s.spot rides spots
+      → is_cut cuts to ≡ true → At (record { node = to; spot = last_of s.spot spots })
+      → WalksEnd p typing nodes c.links (record { node = to; spot = last_of s.spot spots })
 
-  end_step : (n place to : ℕ) (places : List ℕ) (b : Bool) → edges nodes n place ≡ Some to → is_cut cuts to ≡ b → end_of nodes cuts n (place ∷ places) ≡ cond b (only_last places to) (end_of nodes cuts to places)
+  end_step : (n place to : ℕ) (places : List ℕ) (b : Bool) → edges nodes n place ≡ Some to → is_cut cuts to ≡ b
+      → end_of nodes cuts n (place ∷ places) ≡ cond b (only_last places to) (end_of nodes cuts to places)
   end_step n place to places b edge cut =
       ap (option_and_then (λ (m : ℕ). cond (is_cut cuts m) (only_last places m) (end_of nodes cuts m places))) edge
       ∙ ap (λ (x : Bool). cond x (only_last places to) (end_of nodes cuts to places)) cut
 
-  ride_is : (from to : Station) (at : At from) (there : At to) (on : Onward from to at there) → ride_at linked from.node on.place to.node ≡ Some (on.leg, stop_of to there)
+  ride_is : (from to : Station) (at : At from) (there : At to) (on : Onward from to at there)
+      → ride_at linked from.node on.place to.node ≡ Some (on.leg, stop_of to there)
   ride_is from to at there on =
       ap (option_and_then (λ (leg : Leg). option_map (λ (stop : Stop). (leg, stop)) (stop_at linked to.node))) on.leg_is
       ∙ ap (option_map (λ (stop : Stop). (on.leg, stop))) (stop_is to there)
 
-  rides_step : (from to : Station) (at : At from) (there : At to) (on : Onward from to at there) (places : List ℕ) (rides : List (Leg × Stop)) → rides_from linked to.node places ≡ Some rides → rides_from linked from.node (on.place ∷ places) ≡ Some ((on.leg, stop_of to there) ∷ rides)
+  rides_step : (from to : Station) (at : At from) (there : At to) (on : Onward from to at there) (places : List ℕ)
+      (rides : List (Leg × Stop)) → rides_from linked to.node places ≡ Some rides
+      → rides_from linked from.node (on.place ∷ places) ≡ Some ((on.leg, stop_of to there) ∷ rides)
   rides_step from to at there on places rides e =
-      ap (option_and_then (λ (m : ℕ). option_and_then (λ (ride : Leg × Stop). option_map (λ (rs : List (Leg × Stop)). ride ∷ rs) (rides_from linked m places)) (ride_at linked from.node on.place m))) on.edge
-      ∙ ap (option_and_then (λ (ride : Leg × Stop). option_map (λ (rs : List (Leg × Stop)). ride ∷ rs) (rides_from linked to.node places))) (ride_is from to at there on)
+      ap (option_and_then (λ (m : ℕ). option_and_then
+      (λ (ride : Leg × Stop). option_map (λ (rs : List (Leg × Stop)). ride ∷ rs) (rides_from linked m places))
+      (ride_at linked from.node on.place m))) on.edge
+      ∙ ap (option_and_then
+      (λ (ride : Leg × Stop). option_map (λ (rs : List (Leg × Stop)). ride ∷ rs) (rides_from linked to.node places)))
+      (ride_is from to at there on)
       ∙ ap (option_map (λ (rs : List (Leg × Stop)). (on.leg, stop_of to there) ∷ rs)) e
 
   -- the edge leads to a cut
@@ -217,14 +250,16 @@ module _ (p : Program) (typing : ℕ → CodeTypes) (nodes : List GraphNode) (cu
   arrives_here from to g arrives cut =
       let on = onward from to g g.at g.there in
       arrives g.at (on.place ∷ []) to.node ((on.leg, stop_of to g.there) ∷ []) (to.spot ∷ [])
-      (end_step from.node on.place to.node [] true on.edge cut) (rides_step from to g.at g.there on [] [] refl) (fits_stop from g.at, (on.crosses, fits_stop to g.there)) cut g.there
+      (end_step from.node on.place to.node [] true on.edge cut) (rides_step from to g.at g.there on [] [] refl)
+      (fits_stop from g.at, (on.crosses, fits_stop to g.there)) cut g.there
 
   -- the edge leads to another node
   arrives_later : (from to : Station) → Goes from to → Arrives from → is_cut cuts to.node ≡ false → Arrives to
   arrives_later from to g arrives inside there places last rides spots ends goes walked cut end =
       let on = onward from to g g.at there in
       arrives g.at (on.place ∷ places) last ((on.leg, stop_of to there) ∷ rides) (to.spot ∷ spots)
-      (end_step from.node on.place to.node places false on.edge inside ∙ ends) (rides_step from to g.at there on places rides goes) (fits_stop from g.at, (on.crosses, walked)) cut end
+      (end_step from.node on.place to.node places false on.edge inside ∙ ends) (rides_step from to g.at there on places rides goes)
+      (fits_stop from g.at, (on.crosses, walked)) cut end
 
   inner_edge : (n place to : ℕ) → edges nodes n place ≡ Some to → is_cut cuts to ≡ false → inner n place ≡ Some to
   inner_edge n place to edge inside =
@@ -232,30 +267,39 @@ module _ (p : Program) (typing : ℕ → CodeTypes) (nodes : List GraphNode) (cu
 
   -- no edges to nodes that are no cuts lead back
   no_return : (n : ℕ) → ComesTo inner n n → ⊥
-  no_return n h = c.cut n (record { first = h.first; places = h.rest.path; leads = ap (option_and_then (follow inner h.rest.path)) h.leads ∙ h.rest.leads })
+  no_return n h = c.cut n
+      (record { first = h.first; places = h.rest.path; leads = ap (option_and_then (follow inner h.rest.path)) h.leads ∙ h.rest.leads })
 
-  passed_on : (marks : List Bool) (n place to : ℕ) → inner n place ≡ Some to → ((x : ℕ) → IsMarked marks x → ComesTo inner x n) → (x : ℕ) → IsMarked (set marks n true) x → ComesTo inner x to
+  passed_on : (marks : List Bool) (n place to : ℕ) → inner n place ≡ Some to → ((x : ℕ) → IsMarked marks x → ComesTo inner x n)
+      → (x : ℕ) → IsMarked (set marks n true) x → ComesTo inner x to
   passed_on marks n place to edge passed x marked = elim (set_only marks n x marked) [
     | inl m ↦ step_more inner x n place to (passed x m) edge
     | inr e ↦ one_step inner x place to (subst (λ (k : ℕ). inner k place ≡ Some to) (sym e) edge)
   ]
 
-  fewer : (marks : List Bool) (s : Station) → At s → length marks ≡ length nodes → ((x : ℕ) → IsMarked marks x → ComesTo inner x s.node) → open_count (set marks s.node true) < open_count marks
-  fewer marks s at size passed = fewer_open marks s.node (subst (λ (k : ℕ). s.node < k) (sym size) (slice_get_within nodes s.node at.node at.is)) (λ m. no_return s.node (passed s.node m))
+  fewer : (marks : List Bool) (s : Station) → At s → length marks ≡ length nodes
+      → ((x : ℕ) → IsMarked marks x → ComesTo inner x s.node) → open_count (set marks s.node true) < open_count marks
+  fewer marks s at size passed = fewer_open marks s.node
+      (subst (λ (k : ℕ). s.node < k) (sym size) (slice_get_within nodes s.node at.node at.is)) (λ m. no_return s.node (passed s.node m))
 
-  walk : (depth : ℕ) (marks : List Bool) (s : Station) → At s → length marks ≡ length nodes → open_count marks ≤ depth → ((x : ℕ) → IsMarked marks x → ComesTo inner x s.node) → Arrives s → WalksEnd p typing nodes c.links s
+  walk : (depth : ℕ) (marks : List Bool) (s : Station) → At s → length marks ≡ length nodes → open_count marks ≤ depth
+      → ((x : ℕ) → IsMarked marks x → ComesTo inner x s.node) → Arrives s → WalksEnd p typing nodes c.links s
   walk zero marks s at size few passed arrives = absurd (omega (arith, few, fewer marks s at size passed))
   walk (suc depth) marks s at size few passed arrives = Acc.intro s (λ to g.
       let on = onward s to g g.at g.there in
       elim (cases_Bool (is_cut cuts to.node)) [
         | inl cut ↦ arrives_here s to g arrives cut
-        | inr inside ↦ walk depth (set marks s.node true) to g.there (length-set marks s.node true ∙ size) (omega (arith, few, fewer marks s at size passed)) (passed_on marks s.node on.place to.node (inner_edge s.node on.place to.node on.edge inside) passed) (arrives_later s to g arrives inside)
+        | inr inside ↦ walk depth (set marks s.node true) to g.there (length-set marks s.node true ∙ size)
+            (omega (arith, few, fewer marks s at size passed))
+            (passed_on marks s.node on.place to.node (inner_edge s.node on.place to.node on.edge inside) passed)
+            (arrives_later s to g arrives inside)
       ])
 
   from_cut : (s : Station) → At s → Arrives s → WalksEnd p typing nodes c.links s
   from_cut s at arrives =
       let marks = replicate (length nodes) false in
-      walk (open_count marks) marks s at (length-replicate (length nodes) false) (omega arith) (λ x m. absurd (none_marked (length nodes) x m)) arrives
+      walk (open_count marks) marks s at (length-replicate (length nodes) false) (omega arith)
+      (λ x m. absurd (none_marked (length nodes) x m)) arrives
 
   -- ---- turns
 
@@ -271,15 +315,18 @@ module _ (p : Program) (typing : ℕ → CodeTypes) (nodes : List GraphNode) (cu
     pub first : SlotsAre turn.valuation start ends_in.is.taken.first
 
   rules_are : AllZip (IsRuleOf linked cuts) c.are.paths c.rules
-  rules_are = subst (λ (ps : List Path). AllZip (IsRuleOf linked cuts) ps c.rules) (take_all (length c.rules) c.are.paths (omega (arith, c.are.whole))) c.are.are.are
+  rules_are = subst (λ (ps : List Path). AllZip (IsRuleOf linked cuts) ps c.rules)
+      (take_all (length c.rules) c.are.paths (omega (arith, c.are.whole))) c.are.are.are
 
   arrive : (s : Station) (at : At s) (places : List ℕ) (to : ℕ) (rides : List (Leg × Stop)) (spots : List Spot) → is_cut cuts s.node ≡ true
-      → end_of nodes cuts s.node places ≡ Some to → rides_from linked s.node places ≡ Some rides → IsWalk (types_of p.world) (stop_of s at) s.spot rides spots → Arrived s.node s.spot to (last_of s.spot spots)
+      → end_of nodes cuts s.node places ≡ Some to → rides_from linked s.node places ≡ Some rides
+      → IsWalk (types_of p.world) (stop_of s at) s.spot rides spots → Arrived s.node s.spot to (last_of s.spot spots)
   arrive s at places to rides spots cut ends goes walked =
       let path : Path = record { from = s.node; places = places } in
       let found = c.are.all.all path (record { starts = cut; to = to; ends = ends }) in
       let rule = beside (IsRuleOf linked cuts) c.are.paths c.rules found.0 path rules_are found.1 in
-      let tells = meets (types_of p.world) linked cuts path rule.other s.spot spots c.ready c.are.are.are_sizes rule.alike (record { stop = stop_of s at; rides = rides; starts = stop_is s at; goes = goes; walk = walked }) in
+      let tells = meets (types_of p.world) linked cuts path rule.other s.spot spots c.ready c.are.are.are_sizes rule.alike
+      (record { stop = stop_of s at; rides = rides; starts = stop_is s at; goes = goes; walk = walked }) in
       record {
         turn = record { rule = found.0; valuation = tells.valuation };
         ends_in = record {
@@ -291,27 +338,32 @@ module _ (p : Program) (typing : ℕ → CodeTypes) (nodes : List GraphNode) (cu
         first = tells.first;
       }
 
-  follows : (turn : Turn) (from : ℕ) (spot : Spot) (to : ℕ) (end : Spot) (e : EndsIn turn from spot) (a : Arrived from spot to end) → Follows c.rules turn a.turn
+  follows : (turn : Turn) (from : ℕ) (spot : Spot) (to : ℕ) (end : Spot) (e : EndsIn turn from spot) (a : Arrived from spot to end)
+      → Follows c.rules turn a.turn
   follows turn from spot to end e a = record {
     before = e.is;
     after = a.ends_in.is;
     cut = e.cut ∙ sym a.starts;
     values = λ weigh g i j s t s_at t_at same sort.
         agree_at weigh g turn.valuation a.turn.valuation spot s t s.size t.size sort same
-        (slot_at turn.valuation spot e.is.taken.last i s e.slots s_at) (slot_at a.turn.valuation spot a.ends_in.is.taken.first j t a.first t_at);
+        (slot_at turn.valuation spot e.is.taken.last i s e.slots s_at)
+        (slot_at a.turn.valuation spot a.ends_in.is.taken.first j t a.first t_at);
   }
 
-  ends_from : (turn : Turn) → Acc (λ (v u : Turn). Follows c.rules u v) turn → (s : Station) → is_cut cuts s.node ≡ true → EndsIn turn s.node s.spot → At s → WalksEnd p typing nodes c.links s
+  ends_from : (turn : Turn) → Acc (λ (v u : Turn). Follows c.rules u v) turn → (s : Station) → is_cut cuts s.node ≡ true
+      → EndsIn turn s.node s.spot → At s → WalksEnd p typing nodes c.links s
   ends_from turn (Acc.intro t h) s cut e at =
       from_cut s at (λ own places to rides spots ends goes walked next there.
       let a = arrive s own places to rides spots cut ends goes walked in
-      ends_from a.turn (h a.turn (follows turn s.node s.spot to (last_of s.spot spots) e a)) (record { node = to; spot = last_of s.spot spots }) next a.ends_in there)
+      ends_from a.turn (h a.turn (follows turn s.node s.spot to (last_of s.spot spots) e a))
+      (record { node = to; spot = last_of s.spot spots }) next a.ends_in there)
 
   first_cut : (list : List ℕ) → slice_get list 0 ≡ Some 0 → is_cut list 0 ≡ true
   first_cut [] e = absurd (none-some 0 e)
   first_cut (x ∷ xs) e = or_left (x == 0) (list_any (λ cut. cut == 0) xs) (eq-eqb x 0 (some_is e))
 
-  pub walks_end_at_root : (spot : Spot) → At (record { node = 0; spot = spot }) → WalksEnd p typing nodes c.links (record { node = 0; spot = spot })
+  pub walks_end_at_root : (spot : Spot) → At (record { node = 0; spot = spot })
+      → WalksEnd p typing nodes c.links (record { node = 0; spot = spot })
   walks_end_at_root spot at =
       let cut = first_cut cuts c.ready.first in
       from_cut (record { node = 0; spot = spot }) at (λ own places to rides spots ends goes walked next there.
@@ -320,19 +372,28 @@ module _ (p : Program) (typing : ℕ → CodeTypes) (nodes : List GraphNode) (cu
 
   -- ---- runs
 
-  after_typed : (b : Bool) (machine after : MachineState) → IsAfter p b machine after → IsTypedState p typing machine → IsTypedState p typing after
+  after_typed : (b : Bool) (machine after : MachineState) → IsAfter p b machine after → IsTypedState p typing machine
+      → IsTypedState p typing after
   after_typed false machine after is typed = subst (IsTypedState p typing) (sym is) typed
   after_typed true machine after is typed = subst (GoesTyped p typing) is (typed_steps p typing closed widths typing_is machine typed)
 
-  typed_by : (state : AbstractState) (machine : MachineState) (meaning : Meaning) (by : By) (links : List Link) (to : ℕ) (next : AbstractState) (after : MachineState) (meaning_after : Meaning) → GoesBy p state machine meaning by links to next after meaning_after → IsTypedState p typing machine → IsTypedState p typing after
-  typed_by state machine meaning (ways.Expand named) links to next after meaning_after goes typed = after_typed goes.link.step machine after goes.is_after typed
-  typed_by state machine meaning (ways.Instance target entries) links to next after meaning_after goes typed = subst (IsTypedState p typing) (sym goes.edge.same) typed
+  typed_by : (state : AbstractState) (machine : MachineState) (meaning : Meaning) (by : By) (links : List Link) (to : ℕ)
+      (next : AbstractState) (after : MachineState) (meaning_after : Meaning)
+      → GoesBy p state machine meaning by links to next after meaning_after → IsTypedState p typing machine → IsTypedState p typing after
+  typed_by state machine meaning (ways.Expand named) links to next after meaning_after goes typed = after_typed goes.link.step
+      machine after goes.is_after typed
+  typed_by state machine meaning (ways.Instance target entries) links to next after meaning_after goes typed = subst
+      (IsTypedState p typing) (sym goes.edge.same) typed
   typed_by state machine meaning ways.End links to next after meaning_after goes typed = absurd goes
   typed_by state machine meaning ways.Todo links to next after meaning_after goes typed = absurd goes
 
-  ends_by : (state : AbstractState) (machine : MachineState) (meaning : Meaning) (by : By) (links : List Link) (to : ℕ) (next : AbstractState) (after : MachineState) (meaning_after : Meaning) → GoesBy p state machine meaning by links to next after meaning_after → Ends p after → Ends p machine
-  ends_by state machine meaning (ways.Expand named) links to next after meaning_after goes ends = ends_before p goes.link.step machine after goes.is_after ends
-  ends_by state machine meaning (ways.Instance target entries) links to next after meaning_after goes ends = subst (Ends p) goes.edge.same ends
+  ends_by : (state : AbstractState) (machine : MachineState) (meaning : Meaning) (by : By) (links : List Link) (to : ℕ)
+      (next : AbstractState) (after : MachineState) (meaning_after : Meaning)
+      → GoesBy p state machine meaning by links to next after meaning_after → Ends p after → Ends p machine
+  ends_by state machine meaning (ways.Expand named) links to next after meaning_after goes ends = ends_before p goes.link.step
+      machine after goes.is_after ends
+  ends_by state machine meaning (ways.Instance target entries) links to next after meaning_after goes ends = subst (Ends p)
+      goes.edge.same ends
   ends_by state machine meaning ways.End links to next after meaning_after goes ends = absurd goes
   ends_by state machine meaning ways.Todo links to next after meaning_after goes ends = absurd goes
 
@@ -346,8 +407,16 @@ module _ (p : Program) (typing : ℕ → CodeTypes) (nodes : List GraphNode) (cu
   next_of s at =
       let found = beside (IsGoodNode p typing nodes) nodes c.links s.node at.node c.graph.each at.is in
       let met : IsMet p typing at.node.state s.spot.machine s.spot.meaning =
-      record { program = good_program p closed; typing_is = typing_is; good = good_by p typing nodes at.node.state at.node.by found.other found.alike; typed = at.typed; fits = at.fits } in
-      elim (holds p typing nodes root c.links closed widths c.graph s.node at.node found.other at.is found.there s.spot.machine s.spot.meaning met) [
+      record {
+        program = good_program p closed;
+        typing_is = typing_is;
+        good = good_by p typing nodes at.node.state at.node.by
+            found.other found.alike;
+        typed = at.typed;
+        fits = at.fits;
+      } in
+      elim (holds p typing nodes root c.links closed widths c.graph s.node at.node found.other at.is found.there s.spot.machine
+      s.spot.meaning met) [
         | inl e ↦ inl e
         | inr on ↦ inr (record {
           to = record { node = on.to; spot = record { machine = on.after; meaning = on.meaning_after } };
@@ -357,13 +426,15 @@ module _ (p : Program) (typing : ℕ → CodeTypes) (nodes : List GraphNode) (cu
               node = on.successor;
               is = on.is;
               fits = on.fits;
-              typed = typed_by at.node.state s.spot.machine s.spot.meaning at.node.by found.other on.to on.successor.state on.after on.meaning_after on.by at.typed;
+              typed = typed_by at.node.state s.spot.machine s.spot.meaning at.node.by found.other on.to on.successor.state on.after
+                  on.meaning_after on.by at.typed;
             };
             own = found.other;
             are = found.there;
             by = on.by;
           };
-          before = ends_by at.node.state s.spot.machine s.spot.meaning at.node.by found.other on.to on.successor.state on.after on.meaning_after on.by;
+          before = ends_by at.node.state s.spot.machine s.spot.meaning at.node.by found.other on.to on.successor.state on.after
+              on.meaning_after on.by;
         })
       ]
 
@@ -389,18 +460,23 @@ pub last_nodes_end : TypedHeapsAreClosed → StepsAreTyped → WalksMeetRules �
 last_nodes_end heaps_closed typed_steps meets holds p typing nodes cuts root closed widths typing_is c station at last =
     last_ends p typing nodes cuts root c closed widths typing_is holds typed_steps heaps_closed meets station at last
 
-pub runs_end : TypedHeapsAreClosed → StepsAreTyped → RunsAreNeverStuck → FittingStatesAreTyped → FittingStatesAreDescribed → WalksMeetRules → GraphsHoldRuns → CertifiedRunsEnd
-runs_end heaps_closed typed_steps never_stuck are_typed are_described meets holds p typing desc nodes cuts closed widths typing_is own c state fits =
+pub runs_end : TypedHeapsAreClosed → StepsAreTyped → RunsAreNeverStuck → FittingStatesAreTyped → FittingStatesAreDescribed
+    → WalksMeetRules → GraphsHoldRuns → CertifiedRunsEnd
+runs_end heaps_closed typed_steps never_stuck are_typed are_described meets holds p typing desc nodes cuts closed widths typing_is
+    own c state fits =
     let typed = are_typed p desc typing state closed typing_is own fits in
     let spot : Spot = record { machine = state; meaning = input_values (fits.args ++ state.statics) } in
     let rooted = c.graph.rooted in
     let at : IsAt p typing nodes (record { node = 0; spot = spot }) = record {
       node = rooted.node;
       is = rooted.is;
-      fits = subst (λ (s : AbstractState). Fits (types_of p.world) s state spot.meaning) (sym rooted.state_is) (are_described p desc state closed own fits);
+      fits = subst (λ (s : AbstractState). Fits (types_of p.world) s state spot.meaning) (sym rooted.state_is)
+          (are_described p desc state closed own fits);
       typed = typed;
     } in
-    let walks = walks_end_at_root p typing nodes cuts (initial_of p desc) c closed widths typing_is holds typed_steps heaps_closed meets spot at in (
-      runs_from p typing nodes cuts (initial_of p desc) c closed widths typing_is holds typed_steps heaps_closed meets (record { node = 0; spot = spot }) walks at,
+    let walks = walks_end_at_root p typing nodes cuts (initial_of p desc) c closed widths typing_is holds typed_steps heaps_closed
+    meets spot at in (
+      runs_from p typing nodes cuts (initial_of p desc) c closed widths typing_is holds typed_steps heaps_closed meets
+          (record { node = 0; spot = spot }) walks at,
       never_stuck p typing closed widths typing_is state typed,
     )

@@ -23,24 +23,36 @@ module _ (fit : LinksFit) (p : Program) (typing : ℕ → CodeTypes) (widths : H
   abbrev Takes : AbstractState → Type 0
   Takes state = IsGoodState p typing state → HasIntOperands p typing state
 
-  children_linked : (state : AbstractState) (children : List GraphChild) (named : List ℕ) → AllByRecursion (FitsRules state) children → AllZip (NamesChild nodes) children named → AllZip (IsGoodChild nodes state) named (map (λ (child : GraphChild). child.link) children)
+  children_linked : (state : AbstractState) (children : List GraphChild) (named : List ℕ)
+      → AllByRecursion (FitsRules state) children → AllZip (NamesChild nodes) children named
+      → AllZip (IsGoodChild nodes state) named (map (λ (child : GraphChild). child.link) children)
   children_linked state [] [] fits names = tt
   children_linked state [] (n ∷ named) fits names = absurd names
   children_linked state (child ∷ children) [] fits names = absurd names
   children_linked state (child ∷ children) (n ∷ named) fits names =
-      let at = names.0 in
-      ((at.node, (at.is, subst (λ (s : AbstractState). IsLinkBetween state s child.link) (sym at.state_is) fits.0)), children_linked state children named fits.1 names.1)
+      let at = names.0 in (
+        (at.node, (at.is, subst (λ (s : AbstractState). IsLinkBetween state s child.link) (sym at.state_is) fits.0)),
+        children_linked
+            state children named fits.1 names.1,
+      )
 
-  expanded_linked : (state : AbstractState) (named : List ℕ) (links : List Link) → Takes state → IsExpanded p typing nodes state named links → AllZip (IsGoodChild nodes state) named links
+  expanded_linked : (state : AbstractState) (named : List ℕ) (links : List Link) → Takes state
+      → IsExpanded p typing nodes state named links → AllZip (IsGoodChild nodes state) named links
   expanded_linked state named links h expanded =
       subst (AllZip (IsGoodChild nodes state) named) (sym expanded.links_are)
-      (children_linked state expanded.children named (fit p typing state expanded.children widths (h expanded.are.0) expanded.are.0 expanded.are.1) expanded.names)
+      (children_linked state expanded.children named
+      (fit p typing state expanded.children widths (h expanded.are.0) expanded.are.0 expanded.are.1) expanded.names)
 
-  left_linked : (node : GraphNode) (links : List Link) → Takes node.state → IsGoodNode p typing nodes node links → AreLinked nodes node links
-  left_linked node links h left named e = expanded_linked node.state named links h (subst (λ (by : By). IsLeftBy p typing nodes node.state by links) e left)
+  left_linked : (node : GraphNode) (links : List Link) → Takes node.state → IsGoodNode p typing nodes node links
+      → AreLinked nodes node links
+  left_linked node links h left named e = expanded_linked node.state named links h
+      (subst (λ (by : By). IsLeftBy p typing nodes node.state by links) e left)
 
-  pub all_linked : (list : List GraphNode) (links : List (List Link)) → ((n : ℕ) (node : GraphNode) → slice_get list n ≡ Some node → Takes node.state) → AllZip (IsGoodNode p typing nodes) list links → AllZip (AreLinked nodes) list links
+  pub all_linked : (list : List GraphNode) (links : List (List Link))
+      → ((n : ℕ) (node : GraphNode) → slice_get list n ≡ Some node → Takes node.state)
+      → AllZip (IsGoodNode p typing nodes) list links → AllZip (AreLinked nodes) list links
   all_linked [] [] h each = tt
   all_linked [] (own ∷ links) h each = absurd each
   all_linked (node ∷ list) [] h each = absurd each
-  all_linked (node ∷ list) (own ∷ links) h each = (left_linked node own (h 0 node refl) each.0, all_linked list links (λ n later e. h (suc n) later e) each.1)
+  all_linked (node ∷ list) (own ∷ links) h each =
+      (left_linked node own (h 0 node refl) each.0, all_linked list links (λ n later e. h (suc n) later e) each.1)

@@ -1,5 +1,6 @@
 -- Whether the states of a graph are of ints.
-use Rattle.std.proofs.Common.{◌≡◌, ◌<◌, ◌≤◌, ◌+◌, ◌∙◌, ℕ, Bool, true, false, List, length, Some, slice_get, inl, inr, refl, sym, ap, subst, arith}
+use Rattle.std.proofs.Common.{◌≡◌, ◌<◌, ◌≤◌, ◌+◌, ◌∙◌, ℕ, Bool, true, false, List, length, Some, slice_get, inl, inr, refl, sym, ap}
+use Rattle.std.proofs.Common.{subst, arith}
 use Rattle.std.proofs.lemmas.Bool.{false≢true, cases_lt}
 use Rattle.std.proofs.lemmas.Option.{slice_get_within}
 use Rattle.list_views.proofs.Options.{one_answer}
@@ -20,7 +21,8 @@ pub ready : (p : Program) (typing : ℕ → CodeTypes) (state : AbstractState) (
 ready p typing state true good ints exact = λ _. ints refl
 ready p typing state false good ints exact = (good, λ is. false≢true (exact good.sound.well_formed.rising is))
 
-pub ready_bad : (p : Program) (typing : ℕ → CodeTypes) (state : AbstractState) (clause : ℕ) → IsBadState p typing state clause → IsReadyOr p typing state true
+pub ready_bad : (p : Program) (typing : ℕ → CodeTypes) (state : AbstractState) (clause : ℕ) → IsBadState p typing state clause
+    → IsReadyOr p typing state true
 ready_bad p typing state clause bad = λ good. absurd (not_bad p typing state clause good bad)
 
 -- ---- all states
@@ -40,7 +42,8 @@ module _ (p : Program) (typing : ℕ → CodeTypes) (nodes : List GraphNode) whe
   ]
 
   pub all_before : (count : ℕ) → length nodes ≤ count → HasIntsUpTo p typing nodes count → HasIntStates p typing nodes
-  all_before count l before n node at good = let inside = slice_get_within nodes n node at in before n node (omega (arith, inside, l)) at good
+  all_before count l before n node at good = let inside = slice_get_within nodes n node at in before n node
+      (omega (arith, inside, l)) at good
 
   -- a graph has one such node, or none
   pub other_or_none : (number : ℕ) → HasIntStates p typing nodes → IsFirstOtherState p typing nodes number → ⊥

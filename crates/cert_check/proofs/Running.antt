@@ -7,7 +7,8 @@ use Rattle.jvm_step.specs.Running.Step.{Going}
 use Rattle.abs_expand.specs.Laws.{IsAfter}
 
 -- the run of one step more begins with that step
-step_first : (p : Program) (machine after : MachineState) → step p machine ≡ Going after → (count : ℕ) → run p (suc count) machine ≡ run p count after
+step_first : (p : Program) (machine after : MachineState) → step p machine ≡ Going after → (count : ℕ)
+    → run p (suc count) machine ≡ run p count after
 unfolding step_on
 step_first p machine after e zero = e
 step_first p machine after e (suc count) = ap (step_on p) (step_first p machine after e count)
@@ -17,6 +18,7 @@ unfolding step_on
 ends_now p machine e = (1, e)
 
 -- where the state at a child ends, so does the one before
-pub ends_before : (p : Program) (steps : Bool) (machine after : MachineState) → IsAfter p steps machine after → Ends p after → Ends p machine
+pub ends_before : (p : Program) (steps : Bool) (machine after : MachineState) → IsAfter p steps machine after → Ends p after
+    → Ends p machine
 ends_before p false machine after is ends = subst (Ends p) is ends
 ends_before p true machine after is ends = (suc ends.0, subst IsEnd (sym (step_first p machine after is ends.0)) ends.1)

@@ -33,12 +33,14 @@ use Rattle.cert_check.proofs.Ending.{found_int}
 
 -- ---- lists
 
-zip_all : {A B : Type 0} (R : A → B → Type 0) (P : A → Type 0) → ((x : A) (y : B) → R x y → P x) → (xs : List A) (ys : List B) → AllZip R xs ys → AllByRecursion P xs
+zip_all : {A B : Type 0} (R : A → B → Type 0) (P : A → Type 0) → ((x : A) (y : B) → R x y → P x) → (xs : List A) (ys : List B)
+    → AllZip R xs ys → AllByRecursion P xs
 zip_all R P gives [] ys z = tt
 zip_all R P gives (x ∷ xs) [] z = absurd z
 zip_all R P gives (x ∷ xs) (y ∷ ys) z = (gives x y z.0, zip_all R P gives xs ys z.1)
 
-zip_both : {A B : Type 0} (Q R S : A → B → Type 0) → ((x : A) (y : B) → Q x y → R x y → S x y) → (xs : List A) (ys : List B) → AllZip Q xs ys → AllZip R xs ys → AllZip S xs ys
+zip_both : {A B : Type 0} (Q R S : A → B → Type 0) → ((x : A) (y : B) → Q x y → R x y → S x y) → (xs : List A) (ys : List B)
+    → AllZip Q xs ys → AllZip R xs ys → AllZip S xs ys
 zip_both Q R S gives [] [] q r = tt
 zip_both Q R S gives [] (y ∷ ys) q r = absurd q
 zip_both Q R S gives (x ∷ xs) [] q r = absurd q
@@ -46,7 +48,8 @@ zip_both Q R S gives (x ∷ xs) (y ∷ ys) q r = (gives x y q.0 r.0, zip_both Q 
 
 -- ---- instances
 
-int_image : (sub : Ty → Ty → Bool) (entries : List (ℕ × ℕ)) (state : AbstractState) (cell below : Cell) (image : ℕ) → is_int cell ≡ true → IsOver sub entries cell below → HasCell (λ _. true) state image → HasCell (λ d. is_int below) state image
+int_image : (sub : Ty → Ty → Bool) (entries : List (ℕ × ℕ)) (state : AbstractState) (cell below : Cell) (image : ℕ)
+    → is_int cell ≡ true → IsOver sub entries cell below → HasCell (λ _. true) state image → HasCell (λ d. is_int below) state image
 int_image sub entries state (Int outer) below image i over has = record { cell = has.cell; is = has.is; sort_is = ap is_int over.1.0 }
 int_image sub entries state Null below image i over has = absurd (false≢true i)
 int_image sub entries state (Obj class ids) below image i over has = absurd (false≢true i)
@@ -54,12 +57,14 @@ int_image sub entries state (Nums kind len) below image i over has = absurd (fal
 int_image sub entries state (Refs element len shape) below image i over has = absurd (false≢true i)
 int_image sub entries state (Unk bound nullable shape) below image i over has = absurd (false≢true i)
 
-map_between : (sub : Ty → Ty → Bool) (state target : AbstractState) (entries : List (ℕ × ℕ)) → HasIntsAlone target → InstanceOf sub state target entries → IsMapBetween state target entries
+map_between : (sub : Ty → Ty → Bool) (state target : AbstractState) (entries : List (ℕ × ℕ)) → HasIntsAlone target
+    → InstanceOf sub state target entries → IsMapBetween state target entries
 map_between sub state target entries ints match = record {
   lists = (match whole_map).0;
   ints = λ id has.
       let under = (match cells).1 id has.cell has.is in
-      let int = int_image sub entries state has.cell under.below under.image has.sort_is under.over (record { cell = under.below; is = under.stands; sort_is = refl }) in
+      let int = int_image sub entries state has.cell under.below under.image has.sort_is under.over
+      (record { cell = under.below; is = under.stands; sort_is = refl }) in
       (under.image, (under.maps, record { cell = under.below; is = under.stands; sort_is = int.sort_is }));
   references = λ id has. absurd (no_and_int (is_int has.cell) (found_int target.cells id has.cell ints has.is) has.sort_is);
 }
@@ -67,23 +72,36 @@ map_between sub state target entries ints match = record {
 -- ---- graphs
 
 module _ (p : Program) (typing : ℕ → CodeTypes) (nodes : List GraphNode) (ints : All (λ (n : GraphNode). HasIntsAlone n.state) nodes) where
-  pub well_formed : (links : List (List Link)) → AllZip (IsGoodNode p typing nodes) nodes links → All (λ (n : GraphNode). IsWellFormed n.state) nodes
+  pub well_formed : (links : List (List Link)) → AllZip (IsGoodNode p typing nodes) nodes links
+      → All (λ (n : GraphNode). IsWellFormed n.state) nodes
   well_formed links each =
       All-from_recursion (λ (n : GraphNode). IsWellFormed n.state) nodes
-      (zip_all (IsGoodNode p typing nodes) (λ (n : GraphNode). IsWellFormed n.state) (λ n ls good. (good_by p typing nodes n.state n.by ls good).sound.well_formed) nodes links each)
+      (zip_all (IsGoodNode p typing nodes) (λ (n : GraphNode). IsWellFormed n.state)
+      (λ n ls good. (good_by p typing nodes n.state n.by ls good).sound.well_formed) nodes links each)
 
   ints_at : (n : ℕ) (node : GraphNode) → slice_get nodes n ≡ Some node → HasIntsAlone node.state
-  ints_at n node is = subst (λ (m : GraphNode). HasIntsAlone m.state) (get_or_from_slice_get nodes n node node is) (All-get_or (λ (m : GraphNode). HasIntsAlone m.state) nodes n node (slice_get_within nodes n node is) ints)
+  ints_at n node is = subst (λ (m : GraphNode). HasIntsAlone m.state) (get_or_from_slice_get nodes n node node is)
+      (All-get_or (λ (m : GraphNode). HasIntsAlone m.state) nodes n node (slice_get_within nodes n node is) ints)
 
-  left_good : (state : AbstractState) (by : By) (links : List Link) → IsLeftBy p typing nodes state by links → AreLinked nodes (record { state = state; by = by }) links → IsGoodBy nodes state by links
+  left_good : (state : AbstractState) (by : By) (links : List Link) → IsLeftBy p typing nodes state by links
+      → AreLinked nodes (record { state = state; by = by }) links → IsGoodBy nodes state by links
   left_good state (Expand named) links left linked = linked named refl
-  left_good state (Instance target entries) links left linked = (left.0.node, (left.0.is, map_between (types_of p.world).sub state left.0.node.state entries (ints_at target left.0.node left.0.is) left.0.instance))
+  left_good state (Instance target entries) links left linked = (
+    left.0.node,
+    (
+      left.0.is,
+      map_between (types_of p.world).sub state left.0.node.state entries
+          (ints_at target left.0.node left.0.is) left.0.instance,
+    ),
+  )
   left_good state End links left linked = tt
   left_good state Todo links left linked = tt
 
-  pub all_good : (links : List (List Link)) → AllZip (IsGoodNode p typing nodes) nodes links → AllZip (AreLinked nodes) nodes links → AllZip (λ (n : GraphNode) (l : List Link). IsGoodBy nodes n.state n.by l) nodes links
+  pub all_good : (links : List (List Link)) → AllZip (IsGoodNode p typing nodes) nodes links → AllZip (AreLinked nodes) nodes links
+      → AllZip (λ (n : GraphNode) (l : List Link). IsGoodBy nodes n.state n.by l) nodes links
   all_good links each linked =
-      zip_both (IsGoodNode p typing nodes) (AreLinked nodes) (λ (n : GraphNode) (l : List Link). IsGoodBy nodes n.state n.by l) (λ n l good are. left_good n.state n.by l good are) nodes links each linked
+      zip_both (IsGoodNode p typing nodes) (AreLinked nodes) (λ (n : GraphNode) (l : List Link). IsGoodBy nodes n.state n.by l)
+      (λ n l good are. left_good n.state n.by l good are) nodes links each linked
 
 -- ---- the laws
 
@@ -94,7 +112,9 @@ shows closed fit case valid widths typing_is ints rules steps = record {
   ready = record {
     states = well_formed case.program case.typing case.nodes ints valid.links valid.graph.each;
     ints = ints;
-    nodes = all_good case.program case.typing case.nodes ints valid.links valid.graph.each (all_linked fit case.program case.typing widths case.nodes case.nodes valid.links (λ n node at good. inl typing_is) valid.graph.each);
+    nodes = all_good case.program case.typing case.nodes ints valid.links valid.graph.each
+        (all_linked fit case.program case.typing widths case.nodes case.nodes valid.links (λ n node at good. inl typing_is)
+        valid.graph.each);
     first = valid.cuts.first;
     rise = valid.cuts.rise;
     cut_nodes = valid.cuts.nodes;
@@ -108,4 +128,5 @@ shows closed fit case valid widths typing_is ints rules steps = record {
 pub valid_runs_end : ValidIsCertified → CertifiedRunsEnd → ValidCertificatesEnd
 valid_runs_end shown ended case valid desc root closed widths typing_is own ints rules steps state fits =
     ended case.program case.typing desc case.nodes case.cuts closed widths typing_is own
-    (subst (IsCertified case.program case.typing case.nodes case.cuts) root (shown case valid widths typing_is ints rules steps)) state fits
+    (subst (IsCertified case.program case.typing case.nodes case.cuts) root (shown case valid widths typing_is ints rules steps))
+    state fits

@@ -1,5 +1,6 @@
 -- What the check of each part tells of the whole.
-use Rattle.std.proofs.Common.{◌≡◌, ◌∙◌, ◌+◌, ◌↔◌, ℕ, Bool, true, false, IsTrue, List, length, None, Ok, Err, refl, sym, ap, subst, true≢false}
+use Rattle.std.proofs.Common.{◌≡◌, ◌∙◌, ◌+◌, ◌↔◌, ℕ, Bool, true, false, IsTrue, List, length, None, Ok, Err, refl, sym, ap, subst}
+use Rattle.std.proofs.Common.{true≢false}
 use Rattle.abs_cells.specs.AbstractStates.{AbstractState}
 use Rattle.class_program.specs.Programs.{Program}
 use Rattle.frame_types.specs.Tables.{CodeTypes}
@@ -27,27 +28,41 @@ use Rattle.cert_check.specs.Valid.{Case, HasGoodGraph, Tells}
 use Rattle.cert_check.specs.Parts.{case_of, graph_refusal, path_refusal, proof_refusal, AreCutsOf, IsPrepared, GraphOr, RulesOr}
 use Rattle.cert_check.proofs.Preparing.{cuts_are, cuts_of, ready}
 
-pub bad_graph : (case : Case) (fault : CheckFault) → GraphTells case.program case.typing case.nodes case.root (Err fault) → Tells case (Err (graph_refusal fault))
+pub bad_graph : (case : Case) (fault : CheckFault) → GraphTells case.program case.typing case.nodes case.root (Err fault)
+    → Tells case (Err (graph_refusal fault))
 bad_graph case (graphs.At node what) is = record { node = node; fault = is; item_is = refl }
 bad_graph case graphs.Memory is = tt
 
-pub bad_cuts : (case : Case) (links : List (List Link)) → HasGoodGraph case links → (AreCutsOf (length case.nodes) case.cuts → ⊥) → Tells case (Err (Item (2 + length case.nodes) Cuts))
+pub bad_cuts : (case : Case) (links : List (List Link)) → HasGoodGraph case links → (AreCutsOf (length case.nodes) case.cuts → ⊥)
+    → Tells case (Err (Item (2 + length case.nodes) Cuts))
 bad_cuts case links graph none = record { links = links; graph = graph; fails = λ cuts. none (cuts_of case cuts); item_is = refl }
 
-pub bad_paths : (case : Case) (links : List (List Link)) (fault : PathFault) → HasGoodGraph case links → AreCutsOf (length case.nodes) case.cuts → PathAnswers case.nodes links case.cuts (Err fault) → Tells case (Err (path_refusal (length case.nodes) fault))
+pub bad_paths : (case : Case) (links : List (List Link)) (fault : PathFault) → HasGoodGraph case links
+    → AreCutsOf (length case.nodes) case.cuts → PathAnswers case.nodes links case.cuts (Err fault)
+    → Tells case (Err (path_refusal (length case.nodes) fault))
 bad_paths case links paths.Memory graph cuts fails = tt
-bad_paths case links (paths.Uncut node) graph cuts fails = record { links = links; graph = graph; cuts = cuts_are case cuts; fails = fails; known = λ e. absurd cc; item_is = refl }
-bad_paths case links paths.TooManyPaths graph cuts fails = record { links = links; graph = graph; cuts = cuts_are case cuts; fails = fails; known = λ e. absurd cc; item_is = refl }
-bad_paths case links (paths.TooManyRows path) graph cuts fails = record { links = links; graph = graph; cuts = cuts_are case cuts; fails = fails; known = λ e. absurd cc; item_is = refl }
+bad_paths case links (paths.Uncut node) graph cuts fails = record
+    { links = links; graph = graph; cuts = cuts_are case cuts; fails = fails; known = λ e. absurd cc; item_is = refl }
+bad_paths case links paths.TooManyPaths graph cuts fails = record
+    { links = links; graph = graph; cuts = cuts_are case cuts; fails = fails; known = λ e. absurd cc; item_is = refl }
+bad_paths case links (paths.TooManyRows path) graph cuts fails = record
+    { links = links; graph = graph; cuts = cuts_are case cuts; fails = fails; known = λ e. absurd cc; item_is = refl }
 
-pub bad_proof : (case : Case) (links : List (List Link)) (rules : List PathRule) (fault : StepFault) → HasGoodGraph case links → RulesOr case links (Ok rules) → ProofRefuses (Err fault) (proof_fault rules case.steps) → Tells case (Err (proof_refusal (length case.nodes) fault))
-bad_proof case links rules (proofs.At step fault) graph is fails = record { links = links; graph = graph; cuts = is.0; rules = rules; paths = is.1; step = step; fails = fails; item_is = refl }
+pub bad_proof : (case : Case) (links : List (List Link)) (rules : List PathRule) (fault : StepFault) → HasGoodGraph case links
+    → RulesOr case links (Ok rules) → ProofRefuses (Err fault) (proof_fault rules case.steps)
+    → Tells case (Err (proof_refusal (length case.nodes) fault))
+bad_proof case links rules (proofs.At step fault) graph is fails = record
+    { links = links; graph = graph; cuts = is.0; rules = rules; paths = is.1; step = step; fails = fails; item_is = refl }
 bad_proof case links rules proofs.Memory graph is fails = tt
 
-pub valid : (case : Case) (links : List (List Link)) (rules : List PathRule) → HasGoodGraph case links → RulesOr case links (Ok rules) → proof_fault rules case.steps ≡ None → Tells case (Ok tt)
+pub valid : (case : Case) (links : List (List Link)) (rules : List PathRule) → HasGoodGraph case links
+    → RulesOr case links (Ok rules) → proof_fault rules case.steps ≡ None → Tells case (Ok tt)
 valid case links rules graph is closed = record { links = links; graph = graph; cuts = is.0; rules = rules; paths = is.1; proof = closed }
 
-pub certified : (p : Program) (typing : ℕ → CodeTypes) (nodes : List GraphNode) (cuts : List ℕ) (root : AbstractState) (steps : List ProofStep) (links : List (List Link)) (rules : List PathRule) → GraphOk p typing nodes root links → IsPrepared nodes links → RulesOr (case_of p typing root nodes cuts steps) links (Ok rules) → ChainsEnd rules → IsCertified p typing nodes cuts root
+pub certified : (p : Program) (typing : ℕ → CodeTypes) (nodes : List GraphNode) (cuts : List ℕ) (root : AbstractState)
+    (steps : List ProofStep) (links : List (List Link)) (rules : List PathRule) → GraphOk p typing nodes root links
+    → IsPrepared nodes links → RulesOr (case_of p typing root nodes cuts steps) links (Ok rules) → ChainsEnd rules
+    → IsCertified p typing nodes cuts root
 certified p typing nodes cuts root steps links rules graph is answered ends = record {
   links = links;
   graph = graph;
@@ -61,30 +76,49 @@ certified p typing nodes cuts root steps links rules graph is answered ends = re
 -- ---- what each call returns
 
 module _ (p : Program) (typing : ℕ → CodeTypes) (root : AbstractState) (nodes : List GraphNode) where
-  pub links_good : (links : Links) → GraphTells p typing nodes root (Ok links) → (cuts : List ℕ) (steps : List ProofStep) → GraphOr (case_of p typing root nodes cuts steps) (Ok links)
+  pub links_good : (links : Links) → GraphTells p typing nodes root (Ok links) → (cuts : List ℕ) (steps : List ProofStep)
+      → GraphOr (case_of p typing root nodes cuts steps) (Ok links)
   links_good links is cuts steps = is
 
-  pub links_refused : (fault : CheckFault) (refusal : Refusal) → GraphTells p typing nodes root (Err fault) → refusal ≡ graph_refusal fault → (cuts : List ℕ) (steps : List ProofStep) → GraphOr (case_of p typing root nodes cuts steps) (Err refusal)
-  links_refused fault refusal is e cuts steps = subst (λ (r : Refusal). Tells (case_of p typing root nodes cuts steps) (Err r)) (sym e) (bad_graph (case_of p typing root nodes cuts steps) fault is)
+  pub links_refused : (fault : CheckFault) (refusal : Refusal) → GraphTells p typing nodes root (Err fault)
+      → refusal ≡ graph_refusal fault → (cuts : List ℕ) (steps : List ProofStep) → GraphOr (case_of p typing root nodes cuts steps)
+      (Err refusal)
+  links_refused fault refusal is e cuts steps = subst (λ (r : Refusal). Tells (case_of p typing root nodes cuts steps) (Err r))
+      (sym e) (bad_graph (case_of p typing root nodes cuts steps) fault is)
 
-  module _ (links : List (List Link)) (cuts : List ℕ) (count : ℕ) (graph : GraphOk p typing nodes root links) (counted : count ≡ length nodes) where
-    pub cuts_refused : (are : Bool) → (IsTrue are ↔ AreCutsOf count cuts) → are ≡ false → (steps : List ProofStep) → RulesOr (case_of p typing root nodes cuts steps) links (Err (Item (2 + count) Cuts))
+  module _ (links : List (List Link)) (cuts : List ℕ) (count : ℕ) (graph : GraphOk p typing nodes root links)
+      (counted : count ≡ length nodes) where
+    pub cuts_refused : (are : Bool) → (IsTrue are ↔ AreCutsOf count cuts) → are ≡ false → (steps : List ProofStep)
+        → RulesOr (case_of p typing root nodes cuts steps) links (Err (Item (2 + count) Cuts))
     cuts_refused are tests f steps =
         subst (λ (n : ℕ). Tells (case_of p typing root nodes cuts steps) (Err (Item (2 + n) Cuts))) (sym counted)
-        (bad_cuts (case_of p typing root nodes cuts steps) links graph (λ cuts_good. true≢false (sym (tests.1 (subst (λ (n : ℕ). AreCutsOf n cuts) (sym counted) cuts_good)) ∙ f)))
+        (bad_cuts (case_of p typing root nodes cuts steps) links graph
+        (λ cuts_good. true≢false (sym (tests.1 (subst (λ (n : ℕ). AreCutsOf n cuts) (sym counted) cuts_good)) ∙ f)))
 
-    pub paths_refused : (are : Bool) (fault : PathFault) (refusal : Refusal) → (IsTrue are ↔ AreCutsOf count cuts) → are ≡ true → PathAnswers nodes links cuts (Err fault) → refusal ≡ path_refusal count fault → (steps : List ProofStep) → RulesOr (case_of p typing root nodes cuts steps) links (Err refusal)
+    pub paths_refused : (are : Bool) (fault : PathFault) (refusal : Refusal) → (IsTrue are ↔ AreCutsOf count cuts) → are ≡ true
+        → PathAnswers nodes links cuts (Err fault) → refusal ≡ path_refusal count fault → (steps : List ProofStep)
+        → RulesOr (case_of p typing root nodes cuts steps) links (Err refusal)
     paths_refused are fault refusal tests t fails e steps =
-        subst (λ (r : Refusal). Tells (case_of p typing root nodes cuts steps) (Err r)) (sym (e ∙ ap (λ (n : ℕ). path_refusal n fault) counted))
-        (bad_paths (case_of p typing root nodes cuts steps) links fault graph (subst (λ (n : ℕ). AreCutsOf n cuts) counted (tests.0 t)) fails)
+        subst (λ (r : Refusal). Tells (case_of p typing root nodes cuts steps) (Err r))
+        (sym (e ∙ ap (λ (n : ℕ). path_refusal n fault) counted))
+        (bad_paths (case_of p typing root nodes cuts steps) links fault graph
+        (subst (λ (n : ℕ). AreCutsOf n cuts) counted (tests.0 t)) fails)
 
-    pub rules_given : (are : Bool) (rules : List PathRule) → (IsTrue are ↔ AreCutsOf count cuts) → are ≡ true → PathAnswers nodes links cuts (Ok rules) → (steps : List ProofStep) → RulesOr (case_of p typing root nodes cuts steps) links (Ok rules)
-    rules_given are rules tests t answers steps = (cuts_are (case_of p typing root nodes cuts steps) (subst (λ (n : ℕ). AreCutsOf n cuts) counted (tests.0 t)), answers)
+    pub rules_given : (are : Bool) (rules : List PathRule) → (IsTrue are ↔ AreCutsOf count cuts) → are ≡ true
+        → PathAnswers nodes links cuts (Ok rules) → (steps : List ProofStep) → RulesOr (case_of p typing root nodes cuts steps)
+        links (Ok rules)
+    rules_given are rules tests t answers steps =
+        (cuts_are (case_of p typing root nodes cuts steps) (subst (λ (n : ℕ). AreCutsOf n cuts) counted (tests.0 t)), answers)
 
-    pub proof_refused : (steps : List ProofStep) (rules : List PathRule) (fault : StepFault) (refusal : Refusal) → RulesOr (case_of p typing root nodes cuts steps) links (Ok rules) → ProofRefuses (Err fault) (proof_fault rules steps) → refusal ≡ proof_refusal count fault → Tells (case_of p typing root nodes cuts steps) (Err refusal)
+    pub proof_refused : (steps : List ProofStep) (rules : List PathRule) (fault : StepFault) (refusal : Refusal)
+        → RulesOr (case_of p typing root nodes cuts steps) links (Ok rules) → ProofRefuses (Err fault) (proof_fault rules steps)
+        → refusal ≡ proof_refusal count fault → Tells (case_of p typing root nodes cuts steps) (Err refusal)
     proof_refused steps rules fault refusal is fails e =
-        subst (λ (r : Refusal). Tells (case_of p typing root nodes cuts steps) (Err r)) (sym (e ∙ ap (λ (n : ℕ). proof_refusal n fault) counted))
+        subst (λ (r : Refusal). Tells (case_of p typing root nodes cuts steps) (Err r))
+        (sym (e ∙ ap (λ (n : ℕ). proof_refusal n fault) counted))
         (bad_proof (case_of p typing root nodes cuts steps) links rules fault graph is fails)
 
-pub ready_for : (nodes : List GraphNode) (links : List (List Link)) (cuts : List ℕ) (count : ℕ) (are : Bool) → IsPrepared nodes links → count ≡ length nodes → (IsTrue are ↔ AreCutsOf count cuts) → are ≡ true → IsReady nodes links cuts
-ready_for nodes links cuts count are is counted tests t = ready nodes links cuts is (subst (λ (n : ℕ). AreCutsOf n cuts) counted (tests.0 t))
+pub ready_for : (nodes : List GraphNode) (links : List (List Link)) (cuts : List ℕ) (count : ℕ) (are : Bool)
+    → IsPrepared nodes links → count ≡ length nodes → (IsTrue are ↔ AreCutsOf count cuts) → are ≡ true → IsReady nodes links cuts
+ready_for nodes links cuts count are is counted tests t = ready nodes links cuts is
+    (subst (λ (n : ℕ). AreCutsOf n cuts) counted (tests.0 t))

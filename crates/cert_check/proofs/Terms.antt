@@ -32,7 +32,8 @@ module _ (f g : Value → Option HeapTerm) (kept : (v : Value) (t : HeapTerm) �
   object_kept (Nums kind items) t e = e
   object_kept (Refs element items) t e = e
 
-within_kept : (depth deeper : ℕ) (heap : Heap) → depth ≤ deeper → (v : Value) (t : HeapTerm) → term_within depth heap v ≡ Some t → term_within deeper heap v ≡ Some t
+within_kept : (depth deeper : ℕ) (heap : Heap) → depth ≤ deeper → (v : Value) (t : HeapTerm) → term_within depth heap v ≡ Some t
+    → term_within deeper heap v ≡ Some t
 within_kept depth deeper heap l (Int n) t e = absurd (none-some t e)
 within_kept depth deeper heap l Null t e = e
 within_kept zero deeper heap l (Ref r) t e = absurd (none-some t e)
@@ -40,7 +41,8 @@ within_kept (suc depth) zero heap l (Ref r) t e = absurd (omega (arith, l))
 within_kept (suc depth) (suc deeper) heap l (Ref r) t e =
     let object = then_some (term_of_object (term_within depth heap)) (slice_get heap.objects r) t e in
     ap (option_and_then (term_of_object (term_within deeper heap))) object.1.0
-    ∙ object_kept (term_within depth heap) (term_within deeper heap) (within_kept depth deeper heap (omega (arith, l))) object.0 t object.1.1
+    ∙ object_kept (term_within depth heap) (term_within deeper heap) (within_kept depth deeper heap (omega (arith, l))) object.0 t
+    object.1.1
 
 pub one_term : (heap : Heap) (v : Value) (s t : HeapTerm) → IsTerm heap v s → IsTerm heap v t → s ≡ t
 one_term heap v s t a b = elim (cases_lt a.depth b.depth) [

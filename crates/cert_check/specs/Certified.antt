@@ -12,7 +12,8 @@ use Rattle.path_rules.specs.Conditions.{IsReady}
 use Rattle.path_rules.specs.Answers.{HasRules}
 use Rattle.graph_check.specs.Good.{GraphOk}
 
-pub record IsCertified (p : Program) (typing : ℕ → CodeTypes) (nodes : List GraphNode) (cuts : List ℕ) (root : AbstractState) : Type 0 where
+pub record IsCertified (p : Program) (typing : ℕ → CodeTypes) (nodes : List GraphNode) (cuts : List ℕ) (root : AbstractState) : Type
+    0 where
   pub links : List (List Link)
   pub graph : GraphOk p typing nodes root links
   -- the paths have rules

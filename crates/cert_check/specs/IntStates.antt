@@ -8,7 +8,8 @@ use Rattle.abs_expand.specs.BadStates.{IsGoodState}
 use Rattle.abs_expand.specs.IntForms.{IsIntState}
 
 abbrev pub HasIntStates : Program → (ℕ → CodeTypes) → List GraphNode → Type 0
-HasIntStates p typing nodes = (n : ℕ) (node : GraphNode) → slice_get nodes n ≡ Some node → IsGoodState p typing node.state → IsIntState node.state
+HasIntStates p typing nodes = (n : ℕ) (node : GraphNode) → slice_get nodes n ≡ Some node → IsGoodState p typing node.state
+    → IsIntState node.state
 
 -- a state is of ints, or has no expansion; or it is neither
 abbrev pub IsReadyOr : Program → (ℕ → CodeTypes) → AbstractState → Bool → Type 0
@@ -17,7 +18,8 @@ IsReadyOr p typing state false = IsGoodState p typing state × (IsIntState state
 
 -- the states of the first nodes are of ints, or have no expansion
 abbrev pub HasIntsUpTo : Program → (ℕ → CodeTypes) → List GraphNode → ℕ → Type 0
-HasIntsUpTo p typing nodes count = (n : ℕ) (node : GraphNode) → n < count → slice_get nodes n ≡ Some node → IsGoodState p typing node.state → IsIntState node.state
+HasIntsUpTo p typing nodes count = (n : ℕ) (node : GraphNode) → n < count → slice_get nodes n ≡ Some node
+    → IsGoodState p typing node.state → IsIntState node.state
 
 -- the first node whose state has an expansion and isn't one of ints
 pub record IsFirstOtherState (p : Program) (typing : ℕ → CodeTypes) (nodes : List GraphNode) (number : ℕ) : Type 0 where

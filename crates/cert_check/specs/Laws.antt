@@ -26,7 +26,8 @@ CertifiedWalksEnd =
     (p : Program) (typing : ℕ → CodeTypes) (nodes : List GraphNode) (cuts : List ℕ) (root : AbstractState)
     → IsClosed p → HasWidths p → IsTypingOf p typing
     → (certified : IsCertified p typing nodes cuts root)
-    → (spot : Spot) → IsAt p typing nodes (record { node = 0; spot = spot }) → WalksEnd p typing nodes certified.links (record { node = 0; spot = spot })
+    → (spot : Spot) → IsAt p typing nodes (record { node = 0; spot = spot })
+    → WalksEnd p typing nodes certified.links (record { node = 0; spot = spot })
 
 abbrev pub LastNodesEnd : Type 0
 LastNodesEnd =

@@ -24,12 +24,14 @@ pub record IsAt (p : Program) (typing : ℕ → CodeTypes) (nodes : List GraphNo
   pub typed : IsTypedState p typing station.spot.machine
 
 -- an edge of the graph leads from one to the other
-pub record GoesTo (p : Program) (typing : ℕ → CodeTypes) (nodes : List GraphNode) (links : List (List Link)) (from to : Station) : Type 0 where
+pub record GoesTo (p : Program) (typing : ℕ → CodeTypes) (nodes : List GraphNode) (links : List (List Link)) (from to : Station) :
+    Type 0 where
   pub at : IsAt p typing nodes from
   pub there : IsAt p typing nodes to
   pub own : List Link
   pub are : slice_get links from.node ≡ Some own
-  pub by : GoesBy p at.node.state from.spot.machine from.spot.meaning at.node.by own to.node there.node.state to.spot.machine to.spot.meaning
+  pub by : GoesBy p at.node.state from.spot.machine from.spot.meaning at.node.by own to.node there.node.state to.spot.machine
+      to.spot.meaning
 
 -- every walk from there is finite: whatever edges follow one another, they come to an end
 abbrev pub WalksEnd : Program → (ℕ → CodeTypes) → List GraphNode → List (List Link) → Station → Type 0

@@ -37,7 +37,8 @@ pub fn good_links<P: Pairs, S: NodeSource<P>>(
     source: &mut S,
     root: &AbsState<P>,
 ) -> Result<Links, Refusal>
-    ensures graph { (cuts : List ℕ) (steps : List ProofStep) → GraphOr (case_of (program_of program.now) (typing_at typing.now) root.now (S.graph source.old) cuts steps) result }
+    ensures graph { (cuts : List ℕ) (steps : List ProofStep)
+        → GraphOr (case_of (program_of program.now) (typing_at typing.now) root.now (S.graph source.old) cuts steps) result }
     ensures same { S.graph source.new ≡ S.graph source.old }
 {
     match check_graph(alloc, program, typing, source, root) {
@@ -64,7 +65,9 @@ pub fn rules_between<P: Pairs, S: NodeSource<P>>(
     requires graph { GraphOk (program_of program.now) (typing_at typing.now) (S.graph source.old) root.now links.now.nodes }
     requires prepared { IsPrepared (S.graph source.old) links.now.nodes }
     requires few { length (S.graph source.old) ≤ 2 ^ 32 - 16 }
-    ensures rules { (steps : List ProofStep) → RulesOr (case_of (program_of program.now) (typing_at typing.now) root.now (S.graph source.old) cuts.now steps) links.now.nodes result }
+    ensures rules { (steps : List ProofStep)
+        → RulesOr (case_of (program_of program.now) (typing_at typing.now) root.now (S.graph source.old) cuts.now steps)
+        links.now.nodes result }
     ensures fit { IfOk result AreRules }
     ensures same { S.graph source.new ≡ S.graph source.old }
 {
@@ -100,7 +103,8 @@ pub fn check_cert<P: Pairs, S: NodeSource<P>>(
     requires ints { HasIntStates (program_of program.now) (typing_at typing.now) (S.graph source.old) }
     requires few { length (S.graph source.old) ≤ 2 ^ 32 - 16 }
     requires steps { AreSteps proof.now.steps }
-    ensures tells { Tells (case_of (program_of program.now) (typing_at typing.now) root.now (S.graph source.old) cuts.now proof.now.steps) result }
+    ensures tells { Tells (case_of (program_of program.now) (typing_at typing.now) root.now (S.graph source.old) cuts.now
+        proof.now.steps) result }
     ensures certified { OnOk result (IsCertified (program_of program.now) (typing_at typing.now) (S.graph source.old) cuts.now root.now) }
     ensures same { S.graph source.new ≡ S.graph source.old }
 {

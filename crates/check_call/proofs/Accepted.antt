@@ -1,5 +1,6 @@
 -- An answer that a certificate is accepted is enough for the headline, where the class files are lists of bytes.
-use Rattle.std.proofs.Common.{◌≡◌, ◌∙◌, ◌≤◌, ◌+◌, ◌++◌, ℕ, List, [], ◌∷◌, length, length-append, map, None, slice_get, Ok, Err, refl, ap, arith}
+use Rattle.std.proofs.Common.{◌≡◌, ◌∙◌, ◌≤◌, ◌+◌, ◌++◌, ℕ, List, [], ◌∷◌, length, length-append, map, None, slice_get, Ok, Err}
+use Rattle.std.proofs.Common.{refl, ap, arith}
 use Rattle.std.specs.List.{AllByRecursion}
 use Rattle.std.specs.Option.{option_map_or}
 use Rattle.std.proofs.lemmas.List.{length-map}
@@ -30,14 +31,16 @@ use Rattle.check_call.proofs.ProgramNumbers.{IsSmallMethod, methods_small}
 in_width : (p : Program) → AllByRecursion IsSmallMethod p.methods → HasWidths p
 in_width p all = all_weaker IsSmallMethod (λ (m : Method). AreInWidth m.insns) (λ m small. small.insns) p.methods all
 
-few_params : (methods : List Method) → AllByRecursion IsSmallMethod methods → length (option_map_or (λ (m : Method). m.params) (slice_get methods 0) []) ≤ 256
+few_params : (methods : List Method) → AllByRecursion IsSmallMethod methods
+    → length (option_map_or (λ (m : Method). m.params) (slice_get methods 0) []) ≤ 256
 few_params [] all = omega arith
 few_params (m ∷ methods) all = all.0.params
 
 -- ---- descriptions
 
 -- what a text without a fault describes is a good description of so few inputs
-own_desc : (p : Program) (text : DescText) (described : Desc) → IsClosed p → length (params_of p) ≤ 256 → desc_fault p text ≡ None → IsDescribed p text described → IsOwnDesc p described
+own_desc : (p : Program) (text : DescText) (described : Desc) → IsClosed p → length (params_of p) ≤ 256 → desc_fault p text ≡ None
+    → IsDescribed p text described → IsOwnDesc p described
 unfolding desc_fault
 own_desc p text described closed few none is =
     let a = both_none _ _ none in
@@ -45,7 +48,9 @@ own_desc p text described closed few none is =
     let params = counted (length text.params) (length (params_of p)) ParamCount a.0 in
     let statics = counted (length text.statics) (length (statics_of p)) StaticCount b.0 in
     let long = texts_count p text params statics in
-    let count = found_count p.world (slots_of p) (slots_of p) (text.params ++ text.statics) (inputs_from p.world (slots_of p) (text.params ++ text.statics)) (inputs_from p.world (slots_of p) (text.params ++ text.statics)) long refl refl refl in
+    let count = found_count p.world (slots_of p) (slots_of p) (text.params ++ text.statics)
+    (inputs_from p.world (slots_of p) (text.params ++ text.statics))
+    (inputs_from p.world (slots_of p) (text.params ++ text.statics)) long refl refl refl in
     let parts : length (slots_of p) ≡ length (params_of p) + length p.statics =
     length-append (map argument_slot (params_of p)) (statics_of p)
     ∙ ap (λ n. n + length (statics_of p)) (length-map (params_of p) argument_slot)
@@ -56,12 +61,13 @@ own_desc p text described closed few none is =
       text = text;
       faultless = none;
       described = is;
-      good = made_is_good p (text.params ++ text.statics) text.same text.share (inputs_from p.world (slots_of p) (text.params ++ text.statics)) described long (b.1, refl) (record {
-        inputs_are = is.inputs_are;
-        same_is = is.same_is;
-        share_is = is.share_is;
-        few = few_made described.inputs (inputs_from p.world (slots_of p) (text.params ++ text.statics)) is.inputs_are fits;
-      });
+      good = made_is_good p (text.params ++ text.statics) text.same text.share
+          (inputs_from p.world (slots_of p) (text.params ++ text.statics)) described long (b.1, refl) (record {
+            inputs_are = is.inputs_are;
+            same_is = is.same_is;
+            share_is = is.share_is;
+            few = few_made described.inputs (inputs_from p.world (slots_of p) (text.params ++ text.statics)) is.inputs_are fits;
+          });
     }
 
 -- ---- the law

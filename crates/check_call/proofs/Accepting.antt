@@ -45,7 +45,8 @@ pub record IsReached (cert desc : List ℕ) (files : List (List ℕ)) (outcome :
   pub typed : IsTypingOf program typing
   pub says : AnswersCert cert program typing described (Ok outcome)
 
-pub reached : (cert desc : List ℕ) (files : List (List ℕ)) (outcome : Outcome) → Answers cert desc files (Ok outcome) → IsReached cert desc files outcome
+pub reached : (cert desc : List ℕ) (files : List (List ℕ)) (outcome : Outcome) → Answers cert desc files (Ok outcome)
+    → IsReached cert desc files outcome
 reached cert desc files outcome a =
     let text = a.1.1 in
     let world = text.1.1 in
@@ -55,7 +56,8 @@ reached cert desc files outcome a =
     let typing = calls.1.1 in
     let described = typing.1.1 in
     let made = program.1.0 in
-    let here : entry_of program.0.world text.0.entry ≡ Ok entry.0 = subst (λ (w : World). entry_of w text.0.entry ≡ Ok entry.0) (sym made.world_is) entry.1.0 in record {
+    let here : entry_of program.0.world text.0.entry ≡ Ok entry.0 = subst (λ (w : World). entry_of w text.0.entry ≡ Ok entry.0)
+    (sym made.world_is) entry.1.0 in record {
       program = program.0;
       typing = typing.0;
       described = described.0;
@@ -76,12 +78,16 @@ reached cert desc files outcome a =
 
 -- ---- what a valid certificate shows
 
-module _ (fit : LinksFit) (ended : CertifiedRunsEnd) (p : Program) (typing : ℕ → CodeTypes) (desc : Desc) (closed : IsClosed p) (widths : HasWidths p) (typed : IsTypingOf p typing) (own : IsOwnDesc p desc) where
-  certified : (nodes : List GraphNode) (cuts : List ℕ) (steps : List ProofStep) → HasIntStates p typing nodes → AreSteps steps → IsValid (case_of p typing (initial_of p desc) nodes cuts steps) → IsCertified p typing nodes cuts (initial_of p desc)
+module _ (fit : LinksFit) (ended : CertifiedRunsEnd) (p : Program) (typing : ℕ → CodeTypes) (desc : Desc) (closed : IsClosed p)
+    (widths : HasWidths p) (typed : IsTypingOf p typing) (own : IsOwnDesc p desc) where
+  certified : (nodes : List GraphNode) (cuts : List ℕ) (steps : List ProofStep) → HasIntStates p typing nodes → AreSteps steps
+      → IsValid (case_of p typing (initial_of p desc) nodes cuts steps) → IsCertified p typing nodes cuts (initial_of p desc)
   certified nodes cuts steps states are valid =
       let root : AbstractState = initial_of p desc in
-      let is_ready = ready nodes valid.links cuts (prepared fit p typing widths nodes root valid.links states valid.graph) (cuts_of (case_of p typing root nodes cuts steps) valid.cuts) in
-      let bounded = All-from_recursion (λ (n : GraphNode). AreBounded n.state) nodes (all_bounded p typing nodes nodes valid.links valid.graph.each) in
+      let is_ready = ready nodes valid.links cuts (prepared fit p typing widths nodes root valid.links states valid.graph)
+      (cuts_of (case_of p typing root nodes cuts steps) valid.cuts) in
+      let bounded = All-from_recursion (λ (n : GraphNode). AreBounded n.state) nodes
+      (all_bounded p typing nodes nodes valid.links valid.graph.each) in
       record {
         links = valid.links;
         graph = valid.graph;
@@ -89,18 +95,25 @@ module _ (fit : LinksFit) (ended : CertifiedRunsEnd) (p : Program) (typing : ℕ
         cut = valid.paths.0;
         rules = valid.rules;
         are = valid.paths.1;
-        ends = closed_ends valid.rules steps (rules_good nodes valid.links cuts is_ready bounded valid.rules valid.paths.1) are valid.proof;
+        ends = closed_ends valid.rules steps (rules_good nodes valid.links cuts is_ready bounded valid.rules valid.paths.1) are
+            valid.proof;
       }
 
-  checked_ends : (nodes : List GraphNode) (cuts : List ℕ) (steps : List ProofStep) (outcome : Outcome) → HasIntStates p typing nodes → AreSteps steps → AnswersChecked (case_of p typing (initial_of p desc) nodes cuts steps) (Ok outcome) → outcome.status ≡ 0 → AllFittingEnd p desc
+  checked_ends : (nodes : List GraphNode) (cuts : List ℕ) (steps : List ProofStep) (outcome : Outcome) → HasIntStates p typing nodes
+      → AreSteps steps → AnswersChecked (case_of p typing (initial_of p desc) nodes cuts steps) (Ok outcome) → outcome.status ≡ 0
+      → AllFittingEnd p desc
   checked_ends nodes cuts steps outcome states are (inl h) accepted =
       λ state fits. ended p typing desc nodes cuts closed widths typed own (certified nodes cuts steps states are h.0) state fits
-  checked_ends nodes cuts steps outcome states are (inr h) accepted = absurd (omega (arith, ap (λ (o : Outcome). o.status) h.1.1.1, accepted))
+  checked_ends nodes cuts steps outcome states are (inr h) accepted = absurd
+      (omega (arith, ap (λ (o : Outcome). o.status) h.1.1.1, accepted))
 
-  content_ends : (cert : List ℕ) (content : CertContent) (outcome : Outcome) → IsCertText p cert content → AnswersContent p typing desc content (Ok outcome) → outcome.status ≡ 0 → AllFittingEnd p desc
+  content_ends : (cert : List ℕ) (content : CertContent) (outcome : Outcome) → IsCertText p cert content
+      → AnswersContent p typing desc content (Ok outcome) → outcome.status ≡ 0 → AllFittingEnd p desc
   content_ends cert content outcome text h accepted =
-      checked_ends h.0 content.cuts content.proof outcome h.1.0.1 (good_steps (names_of p.world) (root_of text.0) content text.1.1) h.1.1 accepted
+      checked_ends h.0 content.cuts content.proof outcome h.1.0.1 (good_steps (names_of p.world) (root_of text.0) content text.1.1)
+      h.1.1 accepted
 
-  pub cert_ends : (cert : List ℕ) (outcome : Outcome) → AnswersCert cert p typing desc (Ok outcome) → outcome.status ≡ 0 → AllFittingEnd p desc
+  pub cert_ends : (cert : List ℕ) (outcome : Outcome) → AnswersCert cert p typing desc (Ok outcome) → outcome.status ≡ 0
+      → AllFittingEnd p desc
   cert_ends cert outcome (inl h) accepted = absurd (omega (arith, ap (λ (o : Outcome). o.status) h.1.1, accepted))
   cert_ends cert outcome (inr h) accepted = content_ends cert h.0 outcome h.1.0 h.1.1 accepted

@@ -20,7 +20,8 @@ use Rattle.class_read.specs.declared.text.AttrText.{AttrText}
 use Rattle.class_read.specs.declared.text.AttrText.TheVariants.{Skipped, Code}
 use Rattle.class_read.specs.Content.{ClassContent, MethodContent, CodeContent, Handler}
 use Rattle.class_read.specs.Rules.{IsMethodAttribute, IsMethod, WellFormed, Spells, text_of, codes_in, first_of, method_of, content_of}
-use Rattle.class_read.specs.Text.{u2, u4, counted, attribute_text, handler_text, code_text, attr_text, member_text, magic_number, class_bytes}
+use Rattle.class_read.specs.Text.{u2, u4, counted, attribute_text, handler_text, code_text, attr_text, member_text, magic_number}
+use Rattle.class_read.specs.Text.{class_bytes}
 use Rattle.class_world.specs.World.{World, built_in, built_in_init, built_in_names}
 use Rattle.input_steps.specs.Classes.{AllSpell, IsWorldOf}
 
@@ -69,14 +70,16 @@ all_of P h (x ∷ xs) = (h x, all_of P h xs)
 
 -- ---- classes that files spell
 
-words_few : (pool : List PoolEntry) (m : MemberText) → IsDescriptor Method m.flags (text_of pool m.desc) → (t : MethodType) → method_type (text_of pool m.desc) ≡ Some t → words_of t.params ≤ 255
+words_few : (pool : List PoolEntry) (m : MemberText) → IsDescriptor Method m.flags (text_of pool m.desc) → (t : MethodType)
+    → method_type (text_of pool m.desc) ≡ Some t → words_of t.params ≤ 255
 words_few pool m is t e =
     let same : is.method ≡ t = some_is (sym (method_again is.method (text_of pool m.desc) is.descriptor) ∙ e) in
     let few = is.words in
     subst (λ (u : MethodType). words_of u.params ≤ 255) same (omega (arith, few))
 
 -- the bytes of a code
-code_at : (name max_stack max_locals : ℕ) (code : List ℕ) (table : List Handler) (attributes : List (ℕ × List ℕ)) → IsBytes (attr_text (Code name max_stack max_locals code table attributes)) → IsBytes code
+code_at : (name max_stack max_locals : ℕ) (code : List ℕ) (table : List Handler) (attributes : List (ℕ × List ℕ))
+    → IsBytes (attr_text (Code name max_stack max_locals code table attributes)) → IsBytes code
 code_at name max_stack max_locals code table attributes h =
     let tail : List ℕ = counted handler_text table ++ counted attribute_text attributes in
     let content : List ℕ = code_text max_stack max_locals code table attributes in
@@ -86,11 +89,17 @@ code_at name max_stack max_locals code table attributes h =
     (behind (u2 max_locals) (u4 (length code) ++ (code ++ tail))
     (behind (u2 max_stack) (u2 max_locals ++ (u4 (length code) ++ (code ++ tail))) whole)))
 
-code_bytes : (pool : List PoolEntry) (attributes : List AttrText) → AllByRecursion (IsMethodAttribute pool) attributes → IsBytes (flat_map attr_text attributes) → IfSome (first_of (codes_in attributes)) (λ (c : CodeContent). IsBytes c.code × (length c.code < 2 ^ 16))
+code_bytes : (pool : List PoolEntry) (attributes : List AttrText) → AllByRecursion (IsMethodAttribute pool) attributes
+    → IsBytes (flat_map attr_text attributes)
+    → IfSome (first_of (codes_in attributes)) (λ (c : CodeContent). IsBytes c.code × (length c.code < 2 ^ 16))
 code_bytes pool [] rules h = tt
-code_bytes pool (Skipped name content ∷ rest) rules h = code_bytes pool rest rules.1 (behind (attr_text (Skipped name content)) (flat_map attr_text rest) h)
-code_bytes pool (Code name max_stack max_locals code table attributes ∷ rest) rules h =
-    (code_at name max_stack max_locals code table attributes (front (attr_text (Code name max_stack max_locals code table attributes)) (flat_map attr_text rest) h), rules.0.most)
+code_bytes pool (Skipped name content ∷ rest) rules h = code_bytes pool rest rules.1
+    (behind (attr_text (Skipped name content)) (flat_map attr_text rest) h)
+code_bytes pool (Code name max_stack max_locals code table attributes ∷ rest) rules h = (
+  code_at name max_stack max_locals code table attributes
+      (front (attr_text (Code name max_stack max_locals code table attributes)) (flat_map attr_text rest) h),
+  rules.0.most,
+)
 
 method_bytes : (pool : List PoolEntry) (m : MemberText) → IsMethod pool m → IsBytes (member_text m) → HasByteCode (method_of pool m)
 method_bytes pool m is h =
@@ -105,9 +114,13 @@ method_bytes pool m is h =
       desc = words_few pool m is.member.descriptor;
     }
 
-methods_bytes : (pool : List PoolEntry) (ms : List MemberText) → AllByRecursion (IsMethod pool) ms → IsBytes (flat_map member_text ms) → AllByRecursion (λ (m : MemberText). HasByteCode (method_of pool m)) ms
+methods_bytes : (pool : List PoolEntry) (ms : List MemberText) → AllByRecursion (IsMethod pool) ms
+    → IsBytes (flat_map member_text ms) → AllByRecursion (λ (m : MemberText). HasByteCode (method_of pool m)) ms
 methods_bytes pool [] rules h = tt
-methods_bytes pool (m ∷ ms) rules h = (method_bytes pool m rules.0 (front (member_text m) (flat_map member_text ms) h), methods_bytes pool ms rules.1 (behind (member_text m) (flat_map member_text ms) h))
+methods_bytes pool (m ∷ ms) rules h = (
+  method_bytes pool m rules.0 (front (member_text m) (flat_map member_text ms) h),
+  methods_bytes pool ms rules.1 (behind (member_text m) (flat_map member_text ms) h),
+)
 
 -- the bytes of the methods of a class
 methods_at : (c : ClassText) → IsBytes (class_bytes c) → IsBytes (flat_map member_text c.methods)
@@ -141,9 +154,11 @@ text_good c rules h = record {
 }
 
 spelled_good : (file : List ℕ) (class : ClassContent) → IsBytes file → Spells file class → IsOfBytes class
-spelled_good file class h s = subst IsOfBytes s.content (text_good s.text s.rules (subst (λ (bytes : List ℕ). IsBytes bytes) (sym s.bytes_are) h))
+spelled_good file class h s = subst IsOfBytes s.content
+    (text_good s.text s.rules (subst (λ (bytes : List ℕ). IsBytes bytes) (sym s.bytes_are) h))
 
-all_spelled : (files : List (List ℕ)) (classes : List ClassContent) → AllByRecursion IsBytes files → AllSpell files classes → AllByRecursion IsOfBytes classes
+all_spelled : (files : List (List ℕ)) (classes : List ClassContent) → AllByRecursion IsBytes files → AllSpell files classes
+    → AllByRecursion IsOfBytes classes
 all_spelled [] [] h s = tt
 all_spelled [] (c ∷ classes) h s = absurd s
 all_spelled (f ∷ files) [] h s = absurd s
@@ -154,9 +169,11 @@ joined P [] ys h k = k
 joined P (x ∷ xs) ys h k = (h.0, joined P xs ys h.1 k)
 
 -- the classes of the world that files make
-pub world_good : (files : List (List ℕ)) (classes : List ClassContent) (world : World) → AllByRecursion IsBytes files → AllSpell files classes → IsWorldOf classes world → AllByRecursion IsOfBytes world
+pub world_good : (files : List (List ℕ)) (classes : List ClassContent) (world : World) → AllByRecursion IsBytes files
+    → AllSpell files classes → IsWorldOf classes world → AllByRecursion IsOfBytes world
 world_good files classes world h s is =
     subst (AllByRecursion IsOfBytes) (sym is.world_is)
     (joined IsOfBytes _ classes
-    (all_mapped IsOfBytes (λ (n : List ℕ × List ℕ). built_in n.0 n.1) built_in_names (all_of (λ (n : List ℕ × List ℕ). IsOfBytes (built_in n.0 n.1)) (λ n. built_in_good n.0 n.1) built_in_names))
+    (all_mapped IsOfBytes (λ (n : List ℕ × List ℕ). built_in n.0 n.1) built_in_names
+    (all_of (λ (n : List ℕ × List ℕ). IsOfBytes (built_in n.0 n.1)) (λ n. built_in_good n.0 n.1) built_in_names))
     (all_spelled files classes h s))

@@ -27,7 +27,8 @@ filled_goes p typing content nodes outcome f e = (nodes, (f, e))
 -- ---- the bytes
 
 module _ (cert : List ℕ) (p : Program) (typing : ℕ → CodeTypes) where
-  pub text_goes : (names : List (List ℕ)) (content : CertContent) (result : Answer) → names ≡ names_of p.world → AnswersText (cert_of names) cert (Ok content) → AnswersContent p typing content result → AnswersCert cert p typing result
+  pub text_goes : (names : List (List ℕ)) (content : CertContent) (result : Answer) → names ≡ names_of p.world
+      → AnswersText (cert_of names) cert (Ok content) → AnswersContent p typing content result → AnswersCert cert p typing result
   text_goes names content result e i h = go result h
     where
       is : IsCertText p cert content
@@ -38,10 +39,12 @@ module _ (cert : List ℕ) (p : Program) (typing : ℕ → CodeTypes) where
       go (Err (At place fault)) h = absurd h
       go (Err Memory) h = tt
 
-  pub text_refused : (names : List (List ℕ)) (fault : CertFault) (result : Answer) → names ≡ names_of p.world → AnswersText (cert_of names) cert (Err fault) → IsSaidOfText fault result → AnswersCert cert p typing result
+  pub text_refused : (names : List (List ℕ)) (fault : CertFault) (result : Answer) → names ≡ names_of p.world
+      → AnswersText (cert_of names) cert (Err fault) → IsSaidOfText fault result → AnswersCert cert p typing result
   text_refused names fault result e i s = go fault result (subst (λ (ns : List (List ℕ)). AnswersText (cert_of ns) cert (Err fault)) e i) s
     where
-      go : (fault : CertFault) (result : Answer) → AnswersText (cert_of (names_of p.world)) cert (Err fault) → IsSaidOfText fault result → AnswersCert cert p typing result
+      go : (fault : CertFault) (result : Answer) → AnswersText (cert_of (names_of p.world)) cert (Err fault)
+          → IsSaidOfText fault result → AnswersCert cert p typing result
       go (certs.Json f) (Ok outcome) h s = inl (certs.Json f, (h, s))
       go (certs.Json f) (Err (At place fault)) h s = absurd s
       go (certs.Json f) (Err Memory) h s = tt

@@ -1,5 +1,6 @@
 -- The text of a certificate in form 2, with the number 1 in place of 2, is that of the certificate in form 1.
-use Rattle.std.proofs.Common.{◌≡◌, ◌≢◌, ◌∙◌, ◌+◌, ◌/◌, ◌%◌, ◌<◌, ◌==◌, ℕ, zero, suc, Bool, true, false, List, [], ◌∷◌, ◌++◌, length, map, sym, ap, arith, append_assoc, ne_eqb, lt-ltb}
+use Rattle.std.proofs.Common.{◌≡◌, ◌≢◌, ◌∙◌, ◌+◌, ◌/◌, ◌%◌, ◌<◌, ◌==◌, ℕ, zero, suc, Bool, true, false, List, [], ◌∷◌, ◌++◌, length}
+use Rattle.std.proofs.Common.{map, sym, ap, arith, append_assoc, ne_eqb, lt-ltb}
 use Rattle.std.specs.Prelude.{codes, slice_set, if◌then◌else◌}
 use Rattle.std.specs.Fmt.{digit_glyph, digits_onto, digits}
 use Rattle.serde_json.specs.Data.{Data, no_members, member}
@@ -30,7 +31,8 @@ either_lacks false xs ys h k = k
 -- digits
 
 glyph : (d : ℕ) → d < 10 → digit_glyph false d ≢ 102
-glyph d small = λ e. let is : digit_glyph false d ≡ 48 + d = ap (λ (t : Bool). if t then 48 + d else 87 + d) (lt-ltb d 10 small) in let same : 48 + d ≡ 102 = sym is ∙ e in omega (arith, small, same)
+glyph d small = λ e. let is : digit_glyph false d ≡ 48 + d = ap (λ (t : Bool). if t then 48 + d else 87 + d) (lt-ltb d 10 small) in
+    let same : 48 + d ≡ 102 = sym is ∙ e in omega (arith, small, same)
 
 digits_lack : (k n : ℕ) (behind : List ℕ) → Lacks behind → Lacks (digits_onto k 10 false n behind)
 digits_lack zero n behind h = h
@@ -69,7 +71,8 @@ before_all (byte ∷ front) behind h =
     let rest = before_all front behind h.1 in
     omega (arith, first, rest)
 
-set_behind : (front behind : List ℕ) (n k byte : ℕ) → n ≡ length front + k → slice_set (front ++ behind) n byte ≡ front ++ slice_set behind k byte
+set_behind : (front behind : List ℕ) (n k byte : ℕ) → n ≡ length front + k → slice_set (front ++ behind) n byte ≡ front ++ slice_set
+    behind k byte
 set_behind [] behind n k byte e = let same : n ≡ k = omega (arith, e) in ap (λ (m : ℕ). slice_set behind m byte) same
 set_behind (x ∷ front) behind zero k byte e = absurd (omega (arith, e))
 set_behind (x ∷ front) behind (suc n) k byte e = ap (λ (xs : List ℕ). x ∷ xs) (set_behind front behind n k byte (omega (arith, e)))
@@ -111,7 +114,8 @@ front_lacks cuts =
                   none 34 (omega arith),
                   (
                     none 58 (omega arith),
-                    both_lack (compact_text (naturals cuts)) (44 ∷ 34 ∷ []) (numbers_lack cuts) (none 44 (omega arith), (none 34 (omega arith), tt)),
+                    both_lack (compact_text (naturals cuts)) (44 ∷ 34 ∷ []) (numbers_lack cuts)
+                        (none 44 (omega arith), (none 34 (omega arith), tt)),
                   ),
                 ),
               ),
@@ -122,22 +126,30 @@ front_lacks cuts =
     )
 
 split_in : (cuts : List ℕ) (digit : ℕ) (rest : List ℕ)
-    → with_digit (front_of cuts) digit rest ≡ 123 ∷ 34 ∷ 99 ∷ 117 ∷ 116 ∷ 115 ∷ 34 ∷ 58 ∷ (compact_text (naturals cuts) ++ (44 ∷ 34 ∷ 102 ∷ 111 ∷ 114 ∷ 109 ∷ 34 ∷ 58 ∷ digit ∷ rest))
-split_in cuts digit rest = ap (λ (xs : List ℕ). 123 ∷ 34 ∷ 99 ∷ 117 ∷ 116 ∷ 115 ∷ 34 ∷ 58 ∷ xs) (append_assoc (compact_text (naturals cuts)) (44 ∷ 34 ∷ []) (102 ∷ 111 ∷ 114 ∷ 109 ∷ 34 ∷ 58 ∷ digit ∷ rest))
+    → with_digit (front_of cuts) digit rest ≡ 123 ∷ 34 ∷ 99 ∷ 117 ∷ 116 ∷ 115 ∷ 34 ∷ 58
+    ∷ (compact_text (naturals cuts) ++ (44 ∷ 34 ∷ 102 ∷ 111 ∷ 114 ∷ 109 ∷ 34 ∷ 58 ∷ digit ∷ rest))
+split_in cuts digit rest = ap (λ (xs : List ℕ). 123 ∷ 34 ∷ 99 ∷ 117 ∷ 116 ∷ 115 ∷ 34 ∷ 58 ∷ xs)
+    (append_assoc (compact_text (naturals cuts)) (44 ∷ 34 ∷ []) (102 ∷ 111 ∷ 114 ∷ 109 ∷ 34 ∷ 58 ∷ digit ∷ rest))
 
-second_is : (cuts : List ℕ) (nodes : Data) (proof : List ProofStep) → compact_text (second.certificate_of cuts nodes proof) ≡ with_digit (front_of cuts) 50 (rest_of nodes proof)
+second_is : (cuts : List ℕ) (nodes : Data) (proof : List ProofStep) → compact_text (second.certificate_of cuts nodes proof)
+    ≡ with_digit (front_of cuts) 50 (rest_of nodes proof)
 unfolding serde_json_on_literals digits
 second_is cuts nodes proof = sym (split_in cuts 50 (rest_of nodes proof))
 
-first_is : (cuts : List ℕ) (nodes : Data) (proof : List ProofStep) → compact_text (certificate_of cuts nodes proof) ≡ with_digit (front_of cuts) 49 (rest_of nodes proof)
+first_is : (cuts : List ℕ) (nodes : Data) (proof : List ProofStep) → compact_text (certificate_of cuts nodes proof) ≡ with_digit
+    (front_of cuts) 49 (rest_of nodes proof)
 unfolding serde_json_on_literals digits
 first_is cuts nodes proof = sym (split_in cuts 49 (rest_of nodes proof))
 
-form_is : (cuts : List ℕ) (nodes : Data) (proof : List ProofStep) → in_form_1 (compact_text (second.certificate_of cuts nodes proof)) ≡ compact_text (certificate_of cuts nodes proof)
-form_is cuts nodes proof = ap in_form_1 (second_is cuts nodes proof) ∙ renumbered (front_of cuts) (rest_of nodes proof) (front_lacks cuts) ∙ sym (first_is cuts nodes proof)
+form_is : (cuts : List ℕ) (nodes : Data) (proof : List ProofStep)
+    → in_form_1 (compact_text (second.certificate_of cuts nodes proof)) ≡ compact_text (certificate_of cuts nodes proof)
+form_is cuts nodes proof = ap in_form_1 (second_is cuts nodes proof) ∙ renumbered (front_of cuts) (rest_of nodes proof)
+    (front_lacks cuts) ∙ sym (first_is cuts nodes proof)
 
 -- ---- the whole
 
 pub text_is : (names : List (List ℕ)) (nodes : List GraphNode) (cuts : List ℕ) (proof : List ProofStep) (text : List ℕ)
-    → text ≡ compact_text (second.certificate names (record { cuts = cuts; parts = map part_of nodes; proof = proof })) → in_form_1 text ++ 10 ∷ [] ≡ filled_text names nodes cuts proof
-text_is names nodes cuts proof text is = ap (λ (bytes : List ℕ). bytes ++ 10 ∷ []) (ap in_form_1 is ∙ form_is cuts (list (map (second.node names) (map part_of nodes))) proof)
+    → text ≡ compact_text (second.certificate names (record { cuts = cuts; parts = map part_of nodes; proof = proof }))
+    → in_form_1 text ++ 10 ∷ [] ≡ filled_text names nodes cuts proof
+text_is names nodes cuts proof text is = ap (λ (bytes : List ℕ). bytes ++ 10 ∷ [])
+    (ap in_form_1 is ∙ form_is cuts (list (map (second.node names) (map part_of nodes))) proof)

@@ -1,5 +1,6 @@
 -- A certificate, a description and class files have one answer.
-use Rattle.std.proofs.Common.{◌≡◌, ◌≤◌, ◌∙◌, ◌⊎◌, ℕ, zero, suc, List, [], ◌∷◌, length, Option, Some, None, slice_get, Result, Ok, Err, inl, inr, refl, sym, ap, subst, arith}
+use Rattle.std.proofs.Common.{◌≡◌, ◌≤◌, ◌∙◌, ◌⊎◌, ℕ, zero, suc, List, [], ◌∷◌, length, Option, Some, None, slice_get, Result, Ok}
+use Rattle.std.proofs.Common.{Err, inl, inr, refl, sym, ap, subst, arith}
 use Rattle.std.specs.Prelude.{◌≢◌, IsTrue}
 use Rattle.list_views.proofs.Options.{one_answer}
 use Rattle.serde_json.specs.Data.{Data}
@@ -38,7 +39,8 @@ use Rattle.check_call.specs.Lines.{refused_at}
 
 -- ---- what the bytes say
 
-said_one : {A : Type 0} (reader : Reader A) (bytes : List ℕ) (a b : Result A CertFault) → SaysOf reader bytes a → SaysOf reader bytes b → a ≡ b
+said_one : {A : Type 0} (reader : Reader A) (bytes : List ℕ) (a b : Result A CertFault) → SaysOf reader bytes a
+    → SaysOf reader bytes b → a ≡ b
 said_one reader bytes a b h k =
     let same : h.0 ≡ k.0 = one_answer _ h.0 k.0 h.1.0.1 k.1.0.1 in
     sym h.1.1 ∙ ap (λ (v : Data). reader (root_of v)) same ∙ k.1.1
@@ -104,12 +106,15 @@ fails_known item cause r e f = let k : fails_at item cause ≡ Err refusals.Memo
 module _ (case : Case) where
   valid_or_fault : (item : ℕ) (cause : Cause) → IsValid case → IsFirstFault case item cause → ⊥
   valid_or_fault item cause h k =
-      let e : valid ≡ fails_at item cause = verdicts_one case valid (fails_at item cause) h k (valid_known valid refl) (fails_known item cause (fails_at item cause) refl) in
+      let e : valid ≡ fails_at item cause = verdicts_one case valid (fails_at item cause) h k (valid_known valid refl)
+      (fails_known item cause (fails_at item cause) refl) in
       cc
 
-  fault_same : (item other : ℕ) (cause next : Cause) → IsFirstFault case item cause → IsFirstFault case other next → refused_at item (cause_text cause) ≡ refused_at other (cause_text next)
+  fault_same : (item other : ℕ) (cause next : Cause) → IsFirstFault case item cause → IsFirstFault case other next
+      → refused_at item (cause_text cause) ≡ refused_at other (cause_text next)
   fault_same item other cause next h k =
-      let e : fails_at item cause ≡ fails_at other next = verdicts_one case (fails_at item cause) (fails_at other next) h k (fails_known item cause (fails_at item cause) refl) (fails_known other next (fails_at other next) refl) in
+      let e : fails_at item cause ≡ fails_at other next = verdicts_one case (fails_at item cause) (fails_at other next) h k
+      (fails_known item cause (fails_at item cause) refl) (fails_known other next (fails_at other next) refl) in
       let items : item ≡ other = cc in
       let causes : cause ≡ next = cc in
       λ i. refused_at (items i) (cause_text (causes i))
@@ -118,7 +123,8 @@ module _ (case : Case) where
   checked_one (Ok x) (Ok y) (inl h) (inl k) nr ns = let e : x ≡ y = h.1 ∙ sym k.1 in λ i. Ok (e i)
   checked_one (Ok x) (Ok y) (inl h) (inr k) nr ns = absurd (valid_or_fault k.0 k.1.0 h.0 k.1.1.0)
   checked_one (Ok x) (Ok y) (inr h) (inl k) nr ns = absurd (valid_or_fault h.0 h.1.0 k.0 h.1.1.0)
-  checked_one (Ok x) (Ok y) (inr h) (inr k) nr ns = let e : x ≡ y = h.1.1.1 ∙ (fault_same h.0 k.0 h.1.0 k.1.0 h.1.1.0 k.1.1.0 ∙ sym k.1.1.1) in λ i. Ok (e i)
+  checked_one (Ok x) (Ok y) (inr h) (inr k) nr ns = let e : x ≡ y = h.1.1.1
+      ∙ (fault_same h.0 k.0 h.1.0 k.1.0 h.1.1.0 k.1.1.0 ∙ sym k.1.1.1) in λ i. Ok (e i)
   checked_one (Ok x) (Err (At place fault)) h k nr ns = absurd k
   checked_one (Ok x) (Err Memory) h k nr ns = absurd (ns refl)
   checked_one (Err (At place fault)) s h k nr ns = absurd h
@@ -139,12 +145,15 @@ module _ (p : Program) (typing : ℕ → CodeTypes) where
   module _ (desc : Desc) where
     told_one : (content : CertContent) → IsOne (AnswersContent p typing desc content)
     told_one content =
-        then_one {A = List GraphNode} (FillsInts p typing content.parts) (RefusesStates p typing content.parts) (λ nodes. AnswersChecked (case_of p typing (initial_of p desc) nodes content.cuts content.proof)) (filled_exact content.parts)
+        then_one {A = List GraphNode} (FillsInts p typing content.parts) (RefusesStates p typing content.parts)
+        (λ nodes. AnswersChecked (case_of p typing (initial_of p desc) nodes content.cuts content.proof)) (filled_exact content.parts)
         (λ nodes fills. checked_one (case_of p typing (initial_of p desc) nodes content.cuts content.proof))
 
     module _ (cert : List ℕ) where
-      both_told : (a b : CertContent) (r s : Result Outcome Refused) → IsCertText p cert a → IsCertText p cert b → AnswersContent p typing desc a r → AnswersContent p typing desc b s → IsKnown r → IsKnown s → r ≡ s
-      both_told a b r s g h n m nr ns = told_one b r s (subst (λ (c : CertContent). AnswersContent p typing desc c r) (content_one p cert a b g h) n) m nr ns
+      both_told : (a b : CertContent) (r s : Result Outcome Refused) → IsCertText p cert a → IsCertText p cert b
+          → AnswersContent p typing desc a r → AnswersContent p typing desc b s → IsKnown r → IsKnown s → r ≡ s
+      both_told a b r s g h n m nr ns = told_one b r s
+          (subst (λ (c : CertContent). AnswersContent p typing desc c r) (content_one p cert a b g h) n) m nr ns
 
       cert_one : IsOne (AnswersCert cert p typing desc)
       cert_one (Ok x) (Ok y) (inl h) (inl k) nr ns =
@@ -155,10 +164,13 @@ module _ (p : Program) (typing : ℕ → CodeTypes) where
       cert_one (Ok x) (Ok y) (inr h) (inl k) nr ns = absurd (content_or_fault p cert h.0 k.0 h.1.0 (faulty p cert k.0 k.1.0))
       cert_one (Ok x) (Ok y) (inr h) (inr k) nr ns = both_told h.0 k.0 (Ok x) (Ok y) h.1.0 k.1.0 h.1.1 k.1.1 nr ns
       cert_one (Ok x) (Err (At place fault)) (inl h) k nr ns = absurd (content_or_fault p cert k.0 h.0 k.1.0 (faulty p cert h.0 h.1.0))
-      cert_one (Ok x) (Err (At place fault)) (inr h) k nr ns = both_told h.0 k.0 (Ok x) (Err (At place fault)) h.1.0 k.1.0 h.1.1 k.1.1 nr ns
+      cert_one (Ok x) (Err (At place fault)) (inr h) k nr ns = both_told h.0 k.0 (Ok x) (Err (At place fault)) h.1.0 k.1.0 h.1.1
+          k.1.1 nr ns
       cert_one (Err (At place fault)) (Ok y) h (inl k) nr ns = absurd (content_or_fault p cert h.0 k.0 h.1.0 (faulty p cert k.0 k.1.0))
-      cert_one (Err (At place fault)) (Ok y) h (inr k) nr ns = both_told h.0 k.0 (Err (At place fault)) (Ok y) h.1.0 k.1.0 h.1.1 k.1.1 nr ns
-      cert_one (Err (At place fault)) (Err (At other next)) h k nr ns = both_told h.0 k.0 (Err (At place fault)) (Err (At other next)) h.1.0 k.1.0 h.1.1 k.1.1 nr ns
+      cert_one (Err (At place fault)) (Ok y) h (inr k) nr ns = both_told h.0 k.0 (Err (At place fault)) (Ok y) h.1.0 k.1.0 h.1.1
+          k.1.1 nr ns
+      cert_one (Err (At place fault)) (Err (At other next)) h k nr ns = both_told h.0 k.0 (Err (At place fault))
+          (Err (At other next)) h.1.0 k.1.0 h.1.1 k.1.1 nr ns
       cert_one (Ok x) (Err Memory) h k nr ns = absurd (ns refl)
       cert_one (Err (At place fault)) (Err Memory) h k nr ns = absurd (ns refl)
       cert_one (Err Memory) s h k nr ns = absurd (nr refl)

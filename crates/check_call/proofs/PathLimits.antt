@@ -31,10 +31,15 @@ use Rattle.cert_check.proofs.Bounded.{sound_bounded}
 -- ---- intervals
 
 -- the ints of the states of a good graph are bounded
-pub all_bounded : (p : Program) (typing : ℕ → CodeTypes) (nodes list : List GraphNode) (links : List (List Link)) → AllZip (IsGoodNode p typing nodes) list links → AllByRecursion (λ (n : GraphNode). AreBounded n.state) list
+pub all_bounded : (p : Program) (typing : ℕ → CodeTypes) (nodes list : List GraphNode) (links : List (List Link))
+    → AllZip (IsGoodNode p typing nodes) list links → AllByRecursion (λ (n : GraphNode). AreBounded n.state) list
 all_bounded p typing nodes [] links each = tt
 all_bounded p typing nodes (node ∷ list) [] each = absurd each
-all_bounded p typing nodes (node ∷ list) (own ∷ links) each = (sound_bounded (types_of p.world) node.state (good_by p typing nodes node.state node.by own each.0).sound, all_bounded p typing nodes list links each.1)
+all_bounded p typing nodes (node ∷ list) (own ∷ links) each = (
+  sound_bounded (types_of p.world) node.state (good_by p typing nodes node.state node.by own each.0).sound,
+  all_bounded p typing
+      nodes list links each.1,
+)
 
 -- ---- sizes
 
@@ -46,7 +51,9 @@ no_sizes state (c ∷ cs) alone are =
     let has = (are.each c.0 c.1 here).0 in
     absurd (false≢true (ap not (sym (all_ints state c.0 has.cell alone has.is)) ∙ has.sort_is))
 
-all_no_sizes : (graph : List GraphNode) (sizes : List (List (ℕ × Pattern))) → AllByRecursion (λ (n : GraphNode). HasIntsAlone n.state) graph → AllZip (λ (n : GraphNode) (s : List (ℕ × Pattern)). AreSizes n.state s) graph sizes → sizes ≡ map (λ (n : GraphNode). []) graph
+all_no_sizes : (graph : List GraphNode) (sizes : List (List (ℕ × Pattern)))
+    → AllByRecursion (λ (n : GraphNode). HasIntsAlone n.state) graph
+    → AllZip (λ (n : GraphNode) (s : List (ℕ × Pattern)). AreSizes n.state s) graph sizes → sizes ≡ map (λ (n : GraphNode). []) graph
 all_no_sizes [] [] alone are = refl
 all_no_sizes [] (s ∷ sizes) alone are = absurd are
 all_no_sizes (n ∷ graph) [] alone are = absurd are
@@ -57,13 +64,15 @@ all_no_sizes (n ∷ graph) (s ∷ sizes) alone are =
 
 -- ---- rules
 
-module _ (graph : List GraphNode) (links : List (List Link)) (cuts : List ℕ) (ready : IsReady graph links cuts) (bounded : All (λ (n : GraphNode). AreBounded n.state) graph) where
+module _ (graph : List GraphNode) (links : List (List Link)) (cuts : List ℕ) (ready : IsReady graph links cuts)
+    (bounded : All (λ (n : GraphNode). AreBounded n.state) graph) where
   stop_bounded : (node : ℕ) (stop : Stop) → stop_at (bare_graph graph links) node ≡ Some stop → AreBounded stop.state
   stop_bounded node stop e =
       let s = stop_is (bare_graph graph links) node stop e in
       subst AreBounded s.state_is (all_at (λ (n : GraphNode). AreBounded n.state) graph node s.there bounded s.is)
 
-  rides_bounded : (node : ℕ) (places : List ℕ) (rides : List (Leg × Stop)) → rides_from (bare_graph graph links) node places ≡ Some rides → AllBounded rides
+  rides_bounded : (node : ℕ) (places : List ℕ) (rides : List (Leg × Stop)) → rides_from (bare_graph graph links) node places ≡ Some
+      rides → AllBounded rides
   rides_bounded node [] rides e = let none : [] ≡ rides = cc in subst AllBounded none tt
   rides_bounded node (place ∷ places) rides e =
       let r = ride_first (bare_graph graph links) node place places rides e in
@@ -72,10 +81,12 @@ module _ (graph : List GraphNode) (links : List (List Link)) (cuts : List ℕ) (
   rule_good : (path : Path) (rule : PathRule) → IsRuleOf (bare_graph graph links) cuts path rule → IsRule rule
   rule_good path rule is =
       subst IsRule (sym is.is)
-      (rule_fits graph links cuts path.from is.to path.places (record { start = is.start; rides = is.rides; starts = is.starts; goes = is.goes }) ready
+      (rule_fits graph links cuts path.from is.to path.places
+      (record { start = is.start; rides = is.rides; starts = is.starts; goes = is.goes }) ready
       (stop_bounded path.from is.start is.starts) (rides_bounded path.from path.places is.rides is.goes))
 
-  each_good : (paths : List Path) (rules : List PathRule) → AllZip (IsRuleOf (bare_graph graph links) cuts) paths rules → AllByRecursion IsRule rules
+  each_good : (paths : List Path) (rules : List PathRule) → AllZip (IsRuleOf (bare_graph graph links) cuts) paths rules
+      → AllByRecursion IsRule rules
   each_good [] [] are = tt
   each_good [] (rule ∷ rules) are = absurd are
   each_good (path ∷ paths) [] are = tt
@@ -83,6 +94,8 @@ module _ (graph : List GraphNode) (links : List (List Link)) (cuts : List ℕ) (
 
   pub rules_good : (rules : List PathRule) → HasRules graph links cuts rules → AreRules rules
   rules_good rules has =
-      let none = all_no_sizes graph has.are.sizes (recursion_from_All (λ (n : GraphNode). HasIntsAlone n.state) graph ready.ints) has.are.are_sizes in
-      let are = subst (λ (s : List (List (ℕ × Pattern))). AllZip (IsRuleOf (record { graph = graph; links = links; sizes = s }) cuts) (take (length rules) has.paths) rules) none has.are.are in
+      let none = all_no_sizes graph has.are.sizes (recursion_from_All (λ (n : GraphNode). HasIntsAlone n.state) graph ready.ints)
+      has.are.are_sizes in
+      let are = subst (λ (s : List (List (ℕ × Pattern))). AllZip
+      (IsRuleOf (record { graph = graph; links = links; sizes = s }) cuts) (take (length rules) has.paths) rules) none has.are.are in
       All-from_recursion IsRule rules (each_good (take (length rules) has.paths) rules are)

@@ -1,5 +1,6 @@
 -- The numbers of a program whose files are bytes are of their fields' widths, and its methods have few parameters.
-use Rattle.std.proofs.Common.{◌≡◌, ◌≤◌, ◌<◌, ◌^◌, ◌+◌, ◌++◌, ◌==◌, ◌||◌, ℕ, zero, suc, ℤ, Bool, true, false, cond, List, [], ◌∷◌, length, map, slice_get, Option, Some, None, Ok, Err, FitsSigned, w32, refl, sym, ap, subst, arith}
+use Rattle.std.proofs.Common.{◌≡◌, ◌≤◌, ◌<◌, ◌^◌, ◌+◌, ◌++◌, ◌==◌, ◌||◌, ℕ, zero, suc, ℤ, Bool, true, false, cond, List, [], ◌∷◌}
+use Rattle.std.proofs.Common.{length, map, slice_get, Option, Some, None, Ok, Err, FitsSigned, w32, refl, sym, ap, subst, arith}
 use Rattle.std.specs.Prelude.{IfSome, slice_index_or}
 use Rattle.std.specs.List.{AllByRecursion, flat_map, filter_map, cons_option}
 use Rattle.std.specs.Option.{option_map, option_map_or}
@@ -60,16 +61,19 @@ all_fit pc (x ∷ xs) bytes s = (subst (λ (k : ℕ). Fits k x.1) (sym s.2) s.4,
 
 -- ---- constants
 
-place_text : (places : List (Option PoolEntry)) (i : ℕ) (e : PoolEntry) → AllByRecursion (λ (o : Option PoolEntry). IfSome o HasText) places → slice_index_or places i None ≡ Some e → HasText e
+place_text : (places : List (Option PoolEntry)) (i : ℕ) (e : PoolEntry)
+    → AllByRecursion (λ (o : Option PoolEntry). IfSome o HasText) places → slice_index_or places i None ≡ Some e → HasText e
 place_text [] i e all is = absurd (none-some e is)
 place_text (o ∷ places) zero e all is = subst (λ (p : Option PoolEntry). IfSome p HasText) is all.0
 place_text (o ∷ places) (suc i) e all is = place_text places i e all.1 is
 
-all_places : (pool : List PoolEntry) → AllByRecursion HasText pool → AllByRecursion (λ (o : Option PoolEntry). IfSome o HasText) (flat_map places_taken pool)
+all_places : (pool : List PoolEntry) → AllByRecursion HasText pool → AllByRecursion (λ (o : Option PoolEntry). IfSome o HasText)
+    (flat_map places_taken pool)
 all_places [] all = tt
 all_places (e ∷ pool) all = go (is_wide e) (all_places pool all.1)
   where
-    go : (b : Bool) → AllByRecursion (λ (o : Option PoolEntry). IfSome o HasText) (flat_map places_taken pool) → AllByRecursion (λ (o : Option PoolEntry). IfSome o HasText) ((Some e ∷ cond b (None ∷ []) []) ++ flat_map places_taken pool)
+    go : (b : Bool) → AllByRecursion (λ (o : Option PoolEntry). IfSome o HasText) (flat_map places_taken pool)
+        → AllByRecursion (λ (o : Option PoolEntry). IfSome o HasText) ((Some e ∷ cond b (None ∷ []) []) ++ flat_map places_taken pool)
     go true rest = (all.0, (tt, rest))
     go false rest = (all.0, rest)
 
@@ -87,11 +91,13 @@ entry_fits (entries.MethodHandle kind member) v h is = absurd (none-some v is)
 entry_fits (entries.MethodType descriptor) v h is = absurd (none-some v is)
 entry_fits (entries.InvokeDynamic bootstrap name) v h is = absurd (none-some v is)
 
-constant_fits : (pool : List PoolEntry) (entry pc : ℕ) (op : Op) → AllByRecursion HasText pool → constant_of pool entry ≡ Ok op → IsInWidth pc op
+constant_fits : (pool : List PoolEntry) (entry pc : ℕ) (op : Op) → AllByRecursion HasText pool → constant_of pool entry ≡ Ok op
+    → IsInWidth pc op
 unfolding constant_of
 constant_fits pool entry pc op all e = go _ _ (integer_at pool entry) refl (is_other_constant (tag_at pool entry)) e
   where
-    go : {E : Type 0} (first second : E) (o : Option ℤ) → integer_at pool entry ≡ o → (b : Bool) → option_map_or (λ (value : ℤ). Ok (ops.Constant value)) o (cond b (Err first) (Err second)) ≡ Ok op → IsInWidth pc op
+    go : {E : Type 0} (first second : E) (o : Option ℤ) → integer_at pool entry ≡ o → (b : Bool)
+        → option_map_or (λ (value : ℤ). Ok (ops.Constant value)) o (cond b (Err first) (Err second)) ≡ Ok op → IsInWidth pc op
     go first second (Some v) q b f =
         let same : ops.Constant v ≡ op = cc in
         let at = then_some value_of (entry_at pool entry) v q in
@@ -101,14 +107,17 @@ constant_fits pool entry pc op all e = go _ _ (integer_at pool entry) refl (is_o
 
 -- ---- instructions with their names resolved
 
-ops_fit : (world : World) (class : ℕ) (name : MethodName) (xs : List (ℕ × Insn)) (ys : List (ℕ × Op)) → AllByRecursion HasText (pool_of world class) → AllByRecursion (λ (x : ℕ × Insn). Fits x.0 x.1) xs → ops_of world class name xs ≡ Ok ys → AreInWidth ys
+ops_fit : (world : World) (class : ℕ) (name : MethodName) (xs : List (ℕ × Insn)) (ys : List (ℕ × Op))
+    → AllByRecursion HasText (pool_of world class) → AllByRecursion (λ (x : ℕ × Insn). Fits x.0 x.1) xs
+    → ops_of world class name xs ≡ Ok ys → AreInWidth ys
 unfolding ops_of op_said
 ops_fit world class name xs ys pool all o =
     each_good (λ (x : ℕ × Insn). Fits x.0 x.1) (λ (y : ℕ × Op). IsInWidth y.0 y.1) (op_said world class name) xs ys
     (λ x y h e.
     let op = bind_ok (op_of world class name x.0 x.1) _ y e in
     let same : (x.0, op.0) ≡ y = cc in
-    subst (λ (v : ℕ × Op). IsInWidth v.0 v.1) same (op_wide world class name x.0 x.1 op.0 op.1 h (λ entry c. constant_fits (pool_of world class) entry x.0 op.0 pool c)))
+    subst (λ (v : ℕ × Op). IsInWidth v.0 v.1) same
+    (op_wide world class name x.0 x.1 op.0 op.1 h (λ entry c. constant_fits (pool_of world class) entry x.0 op.0 pool c)))
     all o
 
 -- ---- methods
@@ -122,7 +131,8 @@ code_there : (name : MethodName) (m : MethodContent) (code : CodeContent) → co
 unfolding code_of
 code_there name m code e = go (is_native m.flags) m.code e
   where
-    go : (b : Bool) (o : Option CodeContent) → cond b (Err (Native name)) (option_map_or Ok o (Err (Native name))) ≡ Ok code → o ≡ Some code
+    go : (b : Bool) (o : Option CodeContent) → cond b (Err (Native name)) (option_map_or Ok o (Err (Native name))) ≡ Ok code
+        → o ≡ Some code
     go true o f = absurd (cc)
     go false None f = absurd (cc)
     go false (Some c) f = cc
@@ -155,7 +165,8 @@ words_count (t ∷ ts) = let here = word_some t in let rest = words_count ts in 
 few_by : {S : Type 0} (s t : S) → s ≡ t → (params : S → List Slot) → length (params s) ≤ 255 → length (params t) ≤ 255
 few_by s t e params l = subst (λ x. length (params x) ≤ 255) e l
 
-params_few : (world : World) (m : Method) (typed : IsTyped world m) → ((t : MethodType) → method_type typed.content.desc ≡ Some t → words_of t.params ≤ 255) → length typed.types.params ≤ 255
+params_few : (world : World) (m : Method) (typed : IsTyped world m)
+    → ((t : MethodType) → method_type typed.content.desc ≡ Some t → words_of t.params ≤ 255) → length typed.types.params ≤ 255
 unfolding declared_signature
 params_few world m typed few =
     let t = bind_ok (wanted (method_type typed.content.desc)) _ typed.types typed.types_are in
@@ -164,7 +175,8 @@ params_few world m typed few =
     let words = few t.0 (got_wanted (method_type typed.content.desc) t.0 t.1) in
     let slots = filtered_few (λ (f : FieldType). known_slot (meaning_of world f)) t.0.params in
     let counted = words_count t.0.params in
-    few_by (signature world t.0) typed.types (ok_is (signature world t.0) typed.types there.2) (λ s. s.params) (omega (arith, words, slots, counted))
+    few_by (signature world t.0) typed.types (ok_is (signature world t.0) typed.types there.2) (λ s. s.params)
+    (omega (arith, words, slots, counted))
 
 received_few : (class flags : ℕ) (params : List Slot) → length params ≤ 255 → length (with_receiver class flags params) ≤ 256
 received_few class flags params l = go (is_static flags)
@@ -174,20 +186,25 @@ received_few class flags params l = go (is_static flags)
     go false = omega (arith, l)
 
 -- the class that declares a method
-declared : (world : World) (ref : MethodRef) (content : MethodContent) → method_at world ref ≡ Some content → (c : ClassContent) × ((slice_get world ref.class ≡ Some c) × (slice_get c.methods ref.index ≡ Some content))
+declared : (world : World) (ref : MethodRef) (content : MethodContent) → method_at world ref ≡ Some content → (c : ClassContent)
+    × ((slice_get world ref.class ≡ Some c) × (slice_get c.methods ref.index ≡ Some content))
 unfolding method_at
 declared world ref content e = then_some (λ (c : ClassContent). slice_get c.methods ref.index) (slice_get world ref.class) content e
 
-method_small : (world : World) (refs : List MethodRef) (placed : List StaticField) (m : Method) → AllByRecursion IsOfBytes world → IsMadeOf world refs placed m → IsSmallMethod m
+method_small : (world : World) (refs : List MethodRef) (placed : List StaticField) (m : Method) → AllByRecursion IsOfBytes world
+    → IsMadeOf world refs placed m → IsSmallMethod m
 method_small world refs placed m good h =
     let c = declared world h.ref h.content h.there in
     let class = all_at IsOfBytes world h.ref.class c.0 good c.1.0 in
     let content = all_at HasByteCode c.0.methods h.ref.index h.content class.methods c.1.1 in
-    let pool : AllByRecursion HasText (pool_of world h.ref.class) = subst (AllByRecursion HasText) (sym (ap (λ (o : Option ClassContent). option_map_or (λ (x : ClassContent). x.pool) o []) c.1.0)) class.pool in
+    let pool : AllByRecursion HasText (pool_of world h.ref.class) = subst (AllByRecursion HasText)
+    (sym (ap (λ (o : Option ClassContent). option_map_or (λ (x : ClassContent). x.pool) o []) c.1.0)) class.pool in
     let name = method_name world h.ref.class h.content in
-    let code = subst (λ (o : Option CodeContent). IfSome o (λ (c : CodeContent). IsBytes c.code × (length c.code < 2 ^ 16))) (code_there name h.content h.made.code h.made.code_is) content.code in
+    let code = subst (λ (o : Option CodeContent). IfSome o (λ (c : CodeContent). IsBytes c.code × (length c.code < 2 ^ 16)))
+    (code_there name h.content h.made.code h.made.code_is) content.code in
     let read = reads h.made.code.code h.made.insns code.0 code.1 (insns_read name h.made.code h.made.insns h.made.insns_are).0 in
-    let said = ops_fit world h.ref.class name h.made.insns h.made.ops pool (all_fit 0 h.made.insns h.made.code.code read.spelled) h.made.ops_are in
+    let said = ops_fit world h.ref.class name h.made.insns h.made.ops pool (all_fit 0 h.made.insns h.made.code.code read.spelled)
+    h.made.ops_are in
     let put = numbered_wide refs placed h.made.ops said in
     let typed = typed_of world refs placed m h in
     let own = declared world (ref_of m) typed.content typed.there in
@@ -195,7 +212,8 @@ method_small world refs placed m good h =
     let described = all_at HasByteCode own.0.methods m.index typed.content owner.methods own.1.1 in
     let few = received_few m.class typed.content.flags typed.types.params (params_few world m typed described.desc) in
     record {
-      insns = subst (λ (r : Method). AreInWidth r.insns) h.same (subst (λ (os : List (ℕ × Op)). AreInWidth (insns_numbered refs placed os)) (ap (λ (r : Method). r.insns) h.made.whole) put);
+      insns = subst (λ (r : Method). AreInWidth r.insns) h.same
+          (subst (λ (os : List (ℕ × Op)). AreInWidth (insns_numbered refs placed os)) (ap (λ (r : Method). r.insns) h.made.whole) put);
       params = subst (λ (ps : List Slot). length ps ≤ 256) (sym typed.params) few;
     }
 
@@ -209,19 +227,25 @@ unfolding contents_of
 contents_there world [] = tt
 contents_there world (r ∷ rs) = go (method_at world r) refl (contents_there world rs)
   where
-    go : (o : Option MethodContent) → method_at world r ≡ o → AreThere world (filter_map (λ ref. option_map (λ m. (ref, m)) (method_at world ref)) rs) → AreThere world (cons_option (option_map (λ m. (r, m)) o) (filter_map (λ ref. option_map (λ m. (ref, m)) (method_at world ref)) rs))
+    go : (o : Option MethodContent) → method_at world r ≡ o
+        → AreThere world (filter_map (λ ref. option_map (λ m. (ref, m)) (method_at world ref)) rs)
+        → AreThere world (cons_option (option_map (λ m. (r, m)) o)
+        (filter_map (λ ref. option_map (λ m. (ref, m)) (method_at world ref)) rs))
     go None q rest = rest
     go (Some m) q rest = (q, rest)
 
 -- the methods of a closed program
-pub methods_small : (world : World) (entry : MethodRef) (methods : List Method) → AllByRecursion IsOfBytes world → close_of world entry ≡ Ok methods → AllByRecursion IsSmallMethod methods
+pub methods_small : (world : World) (entry : MethodRef) (methods : List Method) → AllByRecursion IsOfBytes world
+    → close_of world entry ≡ Ok methods → AllByRecursion IsSmallMethod methods
 unfolding close_of methods_of
 methods_small world entry methods good e =
     let refs = reached world entry in
     let ms = bind_ok (each (λ x. method_of world x.0 x.1) (contents_of world refs)) _ methods e in
     let found = bind_ok (statics_named world ms.0) _ methods ms.2 in
     let same : map (method_numbered refs found.0) ms.0 ≡ methods = cc in
-    let plain = each_good (λ (x : MethodRef × MethodContent). method_at world x.0 ≡ Some x.1) (λ r. IsSmallMethod (method_numbered refs found.0 r)) (λ x. method_of world x.0 x.1) (contents_of world refs) ms.0
-    (λ x r at made. method_small world refs found.0 (method_numbered refs found.0 r) good (record { ref = x.0; content = x.1; there = at; plain = r; made = method_made world x.0 x.1 r made; same = refl }))
+    let plain = each_good (λ (x : MethodRef × MethodContent). method_at world x.0 ≡ Some x.1)
+    (λ r. IsSmallMethod (method_numbered refs found.0 r)) (λ x. method_of world x.0 x.1) (contents_of world refs) ms.0
+    (λ x r at made. method_small world refs found.0 (method_numbered refs found.0 r) good
+    (record { ref = x.0; content = x.1; there = at; plain = r; made = method_made world x.0 x.1 r made; same = refl }))
     (contents_there world refs) ms.1 in
     subst (λ (xs : List Method). AllByRecursion IsSmallMethod xs) same (all_mapped IsSmallMethod (method_numbered refs found.0) ms.0 plain)

@@ -1,5 +1,6 @@
 -- The paths of a graph have one list of rules, or one thing is first in their way.
-use Rattle.std.proofs.Common.{◌≡◌, ◌<◌, ◌≤◌, ◌∙◌, ℕ, zero, suc, Bool, cond, List, [], ◌∷◌, length, take, Option, Some, None, Ok, Err, inl, inr, refl, sym, ap, subst, arith}
+use Rattle.std.proofs.Common.{◌≡◌, ◌<◌, ◌≤◌, ◌∙◌, ℕ, zero, suc, Bool, cond, List, [], ◌∷◌, length, take, Option, Some, None, Ok}
+use Rattle.std.proofs.Common.{Err, inl, inr, refl, sym, ap, subst, arith}
 use Rattle.std.specs.List.{AllZip}
 use Rattle.std.proofs.lemmas.Bool.{cases_eq, eq-eqb, ne_eqb}
 use Rattle.std.proofs.lemmas.List.Elements.{All-take}
@@ -36,8 +37,10 @@ none_low low id (c ∷ cs) rise l =
     let k = rise.0 in
     past c cs id (λ e. omega (arith, e, l, k)) ∙ none_low (suc c.0) id cs rise.1 (omega (arith, l, k))
 
-not_lower : (x y : ℕ × Pattern) (xs ys : List (ℕ × Pattern)) (low : ℕ) → IdsRise low (y ∷ ys) → ((id : ℕ) → pattern_in (x ∷ xs) id ≡ pattern_in (y ∷ ys) id) → x.0 < y.0 → ⊥
-not_lower x y xs ys low rise same l = none-some x.1 (sym (none_low y.0 x.0 (y ∷ ys) (omega arith, rise.1) l) ∙ (sym (same x.0) ∙ here x xs))
+not_lower : (x y : ℕ × Pattern) (xs ys : List (ℕ × Pattern)) (low : ℕ) → IdsRise low (y ∷ ys)
+    → ((id : ℕ) → pattern_in (x ∷ xs) id ≡ pattern_in (y ∷ ys) id) → x.0 < y.0 → ⊥
+not_lower x y xs ys low rise same l = none-some x.1 (sym (none_low y.0 x.0 (y ∷ ys) (omega arith, rise.1) l)
+    ∙ (sym (same x.0) ∙ here x xs))
 
 rising_one : (low : ℕ) (a b : List (ℕ × Pattern)) → IdsRise low a → IdsRise low b → ((id : ℕ) → pattern_in a id ≡ pattern_in b id) → a ≡ b
 rising_one low [] [] r s same = refl
@@ -63,7 +66,9 @@ module _ (state : AbstractState) (a b : List (ℕ × Pattern)) (g : AreSizes sta
   sizes_one : a ≡ b
   sizes_one = rising_one 0 a b g.rise h.rise (λ id. same_at id (pattern_in a id) (pattern_in b id) refl refl)
 
-all_sizes_one : (graph : List GraphNode) (a b : List (List (ℕ × Pattern))) → AllZip (λ (n : GraphNode) (s : List (ℕ × Pattern)). AreSizes n.state s) graph a → AllZip (λ (n : GraphNode) (s : List (ℕ × Pattern)). AreSizes n.state s) graph b → a ≡ b
+all_sizes_one : (graph : List GraphNode) (a b : List (List (ℕ × Pattern)))
+    → AllZip (λ (n : GraphNode) (s : List (ℕ × Pattern)). AreSizes n.state s) graph a
+    → AllZip (λ (n : GraphNode) (s : List (ℕ × Pattern)). AreSizes n.state s) graph b → a ≡ b
 all_sizes_one [] [] [] g h = refl
 all_sizes_one [] [] (y ∷ b) g h = absurd h
 all_sizes_one [] (x ∷ a) b g h = absurd g
@@ -76,16 +81,20 @@ all_sizes_one (n ∷ graph) (x ∷ a) (y ∷ b) g h =
 
 -- ---- rules
 
-rule_one : (linked : LinkedGraph) (cuts : List ℕ) (path : Path) (r s : PathRule) → IsRuleOf linked cuts path r → IsRuleOf linked cuts path s → r ≡ s
+rule_one : (linked : LinkedGraph) (cuts : List ℕ) (path : Path) (r s : PathRule) → IsRuleOf linked cuts path r
+    → IsRuleOf linked cuts path s → r ≡ s
 rule_one linked cuts path r s g h =
     let to : g.to ≡ h.to = some_is (sym g.ends ∙ h.ends) in
     let start : g.start ≡ h.start = some_is (sym g.starts ∙ h.starts) in
     let rides : g.rides ≡ h.rides = some_is (sym g.goes ∙ h.goes) in
-    let over : rule_over path.from g.to g.start g.rides ≡ rule_over path.from h.to h.start h.rides = λ i. rule_over path.from (to i) (start i) (rides i) in
+    let over : rule_over path.from g.to g.start g.rides ≡ rule_over path.from h.to h.start h.rides = λ i. rule_over path.from (to i)
+    (start i) (rides i) in
     g.is ∙ (over ∙ sym h.is)
 
 -- the shorter of two lists of rules of the first paths is the front of the other
-along : (linked : LinkedGraph) (cuts : List ℕ) (paths : List Path) (a b : List PathRule) → AllZip (IsRuleOf linked cuts) (take (length a) paths) a → AllZip (IsRuleOf linked cuts) (take (length b) paths) b → length a ≤ length b → a ≡ take (length a) b
+along : (linked : LinkedGraph) (cuts : List ℕ) (paths : List Path) (a b : List PathRule)
+    → AllZip (IsRuleOf linked cuts) (take (length a) paths) a → AllZip (IsRuleOf linked cuts) (take (length b) paths) b
+    → length a ≤ length b → a ≡ take (length a) b
 along linked cuts paths [] b g h l = refl
 along linked cuts paths (x ∷ a) [] g h l = absurd (omega (arith, l))
 along linked cuts [] (x ∷ a) (y ∷ b) g h l = absurd g
@@ -94,7 +103,8 @@ along linked cuts (path ∷ paths) (x ∷ a) (y ∷ b) g h l =
     let rest = along linked cuts paths a b g.1 h.1 (omega (arith, l)) in
     λ i. first i ∷ rest i
 
-no_more : (linked : LinkedGraph) (cuts : List ℕ) (paths : List Path) (rules : List PathRule) → AllZip (IsRuleOf linked cuts) (take (length rules) paths) rules → length rules ≤ length paths
+no_more : (linked : LinkedGraph) (cuts : List ℕ) (paths : List Path) (rules : List PathRule)
+    → AllZip (IsRuleOf linked cuts) (take (length rules) paths) rules → length rules ≤ length paths
 no_more linked cuts paths [] g = omega arith
 no_more linked cuts [] (x ∷ rules) g = absurd g
 no_more linked cuts (path ∷ paths) (x ∷ rules) g = let l = no_more linked cuts paths rules g.1 in omega (arith, l)
@@ -115,11 +125,14 @@ few_first n rules few =
     }
 
 module _ (graph : List GraphNode) (links : List (List Link)) (cuts : List ℕ) where
-  front : (paths others : List Path) (a b : List PathRule) → paths ≡ others → AreRulesOf graph links cuts paths a → AreRulesOf graph links cuts others b → length a ≤ length b → a ≡ take (length a) b
+  front : (paths others : List Path) (a b : List PathRule) → paths ≡ others → AreRulesOf graph links cuts paths a
+      → AreRulesOf graph links cuts others b → length a ≤ length b → a ≡ take (length a) b
   front paths others a b e g h l =
       let sizes = all_sizes_one graph g.sizes h.sizes g.are_sizes h.are_sizes in
-      let first = subst (λ (ps : List Path). AllZip (IsRuleOf (record { graph = graph; links = links; sizes = g.sizes }) cuts) (take (length a) ps) a) e g.are in
-      let are = subst (λ (s : List (List (ℕ × Pattern))). AllZip (IsRuleOf (record { graph = graph; links = links; sizes = s }) cuts) (take (length a) others) a) sizes first in
+      let first = subst (λ (ps : List Path). AllZip (IsRuleOf (record { graph = graph; links = links; sizes = g.sizes }) cuts)
+      (take (length a) ps) a) e g.are in
+      let are = subst (λ (s : List (List (ℕ × Pattern))). AllZip
+      (IsRuleOf (record { graph = graph; links = links; sizes = s }) cuts) (take (length a) others) a) sizes first in
       along (record { graph = graph; links = links; sizes = h.sizes }) cuts others a b are h.are l
 
   rules_one : (a b : List PathRule) → HasRules graph links cuts a → HasRules graph links cuts b → a ≡ b
@@ -154,7 +167,8 @@ module _ (graph : List GraphNode) (links : List (List Link)) (cuts : List ℕ) w
   pub path_rules_one : (a b : List PathRule) → HasRulesOr graph links cuts (Ok a) → HasRulesOr graph links cuts (Ok b) → a ≡ b
   path_rules_one a b g h = rules_one a b g.1 h.1
 
-  pub path_rules_or_fault : (a : List PathRule) (fault : PathFault) → (fault ≡ Memory → ⊥) → HasRulesOr graph links cuts (Ok a) → HasRulesOr graph links cuts (Err fault) → ⊥
+  pub path_rules_or_fault : (a : List PathRule) (fault : PathFault) → (fault ≡ Memory → ⊥) → HasRulesOr graph links cuts (Ok a)
+      → HasRulesOr graph links cuts (Err fault) → ⊥
   path_rules_or_fault a (Uncut node) known g f = g.0 node f.uncut
   path_rules_or_fault a TooManyPaths known g f = few_or_many graph cuts g.1.paths g.1.all g.1.few f.1
   path_rules_or_fault a (TooManyRows path) known g f = rules_or_long a path g.1 f.1
@@ -163,7 +177,8 @@ module _ (graph : List GraphNode) (links : List (List Link)) (cuts : List ℕ) w
   uncut_one : (n m : ℕ) → IsLeastUncut graph cuts n → IsLeastUncut graph cuts m → n ≡ m
   uncut_one n m f g = neither_below n m (λ low. g.least n low f.uncut) (λ low. f.least m low g.uncut)
 
-  pub path_fault_one : (f g : PathFault) → (f ≡ Memory → ⊥) → (g ≡ Memory → ⊥) → HasRulesOr graph links cuts (Err f) → HasRulesOr graph links cuts (Err g) → f ≡ g
+  pub path_fault_one : (f g : PathFault) → (f ≡ Memory → ⊥) → (g ≡ Memory → ⊥) → HasRulesOr graph links cuts (Err f)
+      → HasRulesOr graph links cuts (Err g) → f ≡ g
   path_fault_one (Uncut n) (Uncut m) known other h k = ap Uncut (uncut_one n m h k)
   path_fault_one (Uncut n) TooManyPaths known other h k = absurd (k.0 n h.uncut)
   path_fault_one (Uncut n) (TooManyRows path) known other h k = absurd (k.0 n h.uncut)

@@ -38,7 +38,8 @@ Answer = Result Outcome Refused
 
 -- ---- a check
 
-pub said_tells : (case : Case) (checked : Result (Unit {0}) Refusal) (result : Answer) → Tells case checked → IsSaid checked result → AnswersChecked case result
+pub said_tells : (case : Case) (checked : Result (Unit {0}) Refusal) (result : Answer) → Tells case checked → IsSaid checked result
+    → AnswersChecked case result
 said_tells case (Ok done) (Ok outcome) t s = inl (t, s)
 said_tells case (Ok done) (Err (At place fault)) t s = absurd s
 said_tells case (Ok done) (Err Memory) t s = tt
@@ -49,20 +50,24 @@ said_tells case (Err refusals.Memory) (Ok outcome) t s = absurd (cc)
 said_tells case (Err refusals.Memory) (Err (At place fault)) t s = absurd (cc)
 said_tells case (Err refusals.Memory) (Err Memory) t s = tt
 
-said_accepts : (C : Type 0) (checked : Result (Unit {0}) Refusal) (result : Answer) → OnOk checked C → IsSaid checked result → Accepts result → C
+said_accepts : (C : Type 0) (checked : Result (Unit {0}) Refusal) (result : Answer) → OnOk checked C → IsSaid checked result
+    → Accepts result → C
 said_accepts C (Ok done) result on s a = on
 said_accepts C (Err (refusals.Item item cause)) (Ok outcome) on s a = absurd (omega (arith, ap (λ (o : Outcome). o.status) s, a))
 said_accepts C (Err (refusals.Item item cause)) (Err refused) on s a = absurd a
 said_accepts C (Err refusals.Memory) (Ok outcome) on s a = absurd (cc)
 said_accepts C (Err refusals.Memory) (Err refused) on s a = absurd a
 
-pub said_ends : (p : Program) (typing : ℕ → CodeTypes) (desc : Desc) (nodes : List GraphNode) (cuts : List ℕ) (checked : Result (Unit {0}) Refusal) (result : Answer)
+pub said_ends : (p : Program) (typing : ℕ → CodeTypes) (desc : Desc) (nodes : List GraphNode) (cuts : List ℕ)
+    (checked : Result (Unit {0}) Refusal) (result : Answer)
     → CertifiedRunsEnd → IsClosed p → HasWidths p → IsTypingOf p typing → IsOwnDesc p desc
     → OnOk checked (IsCertified p typing nodes cuts (initial_of p desc)) → IsSaid checked result → EndsIfAccepted p desc result
 said_ends p typing desc nodes cuts checked result law closed widths typing_is own on s accepts state fits =
-    law p typing desc nodes cuts closed widths typing_is own (said_accepts (IsCertified p typing nodes cuts (initial_of p desc)) checked result on s accepts) state fits
+    law p typing desc nodes cuts closed widths typing_is own
+    (said_accepts (IsCertified p typing nodes cuts (initial_of p desc)) checked result on s accepts) state fits
 
-pub text_said : (fault : CertFault) (cause : List ℕ) (result : Answer) → (fault ≡ certs.Memory → ⊥) → cause ≡ fault_text fault → AnswersAs (refused_at 0 cause) result → IsSaidOfText fault result
+pub text_said : (fault : CertFault) (cause : List ℕ) (result : Answer) → (fault ≡ certs.Memory → ⊥) → cause ≡ fault_text fault
+    → AnswersAs (refused_at 0 cause) result → IsSaidOfText fault result
 text_said (certs.Json fault) cause result other is s = subst (λ (text : List ℕ). AnswersAs (refused_at 0 text) result) is s
 text_said (certs.Limit place) cause result other is s = subst (λ (text : List ℕ). AnswersAs (refused_at 0 text) result) is s
 text_said certs.Memory cause result other is s = absurd (other refl)
@@ -76,8 +81,11 @@ module _ (p : Program) (typing : ℕ → CodeTypes) (desc : Desc) (content : Cer
   abbrev Next : List GraphNode → Answer → Type 0
   Next nodes = AnswersChecked (case_of p typing (initial_of p desc) nodes content.cuts content.proof)
 
-  pub filled_goes : (nodes : List GraphNode) (result : Answer) → FillsInts p typing content.parts nodes → AnswersChecked (case_of p typing (initial_of p desc) nodes content.cuts content.proof) result → AnswersContent p typing desc content result
-  filled_goes nodes result f h = then_goes {A = List GraphNode} (FillsInts p typing content.parts) (RefusesStates p typing content.parts) Next nodes result f h
+  pub filled_goes : (nodes : List GraphNode) (result : Answer) → FillsInts p typing content.parts nodes
+      → AnswersChecked (case_of p typing (initial_of p desc) nodes content.cuts content.proof) result
+      → AnswersContent p typing desc content result
+  filled_goes nodes result f h = then_goes {A = List GraphNode} (FillsInts p typing content.parts)
+      (RefusesStates p typing content.parts) Next nodes result f h
 
   pub states_refused : (nodes : List GraphNode) (node : ℕ) → IsFilled p typing content.parts nodes → IsFirstOtherState p typing nodes node
       → AnswersContent p typing desc content (Err not_built)
@@ -88,7 +96,8 @@ module _ (p : Program) (typing : ℕ → CodeTypes) (desc : Desc) (content : Cer
 -- ---- the bytes
 
 module _ (cert : List ℕ) (p : Program) (typing : ℕ → CodeTypes) (desc : Desc) where
-  pub text_goes : (names : List (List ℕ)) (content : CertContent) (result : Answer) → names ≡ names_of p.world → AnswersText (cert_of names) cert (Ok content) → AnswersContent p typing desc content result → AnswersCert cert p typing desc result
+  pub text_goes : (names : List (List ℕ)) (content : CertContent) (result : Answer) → names ≡ names_of p.world
+      → AnswersText (cert_of names) cert (Ok content) → AnswersContent p typing desc content result → AnswersCert cert p typing desc result
   text_goes names content result e i h = go result h
     where
       is : IsCertText p cert content
@@ -99,10 +108,12 @@ module _ (cert : List ℕ) (p : Program) (typing : ℕ → CodeTypes) (desc : De
       go (Err (At place fault)) h = (content, (is, h))
       go (Err Memory) h = tt
 
-  pub text_refused : (names : List (List ℕ)) (fault : CertFault) (result : Answer) → names ≡ names_of p.world → AnswersText (cert_of names) cert (Err fault) → IsSaidOfText fault result → AnswersCert cert p typing desc result
+  pub text_refused : (names : List (List ℕ)) (fault : CertFault) (result : Answer) → names ≡ names_of p.world
+      → AnswersText (cert_of names) cert (Err fault) → IsSaidOfText fault result → AnswersCert cert p typing desc result
   text_refused names fault result e i s = go fault result (subst (λ (ns : List (List ℕ)). AnswersText (cert_of ns) cert (Err fault)) e i) s
     where
-      go : (fault : CertFault) (result : Answer) → AnswersText (cert_of (names_of p.world)) cert (Err fault) → IsSaidOfText fault result → AnswersCert cert p typing desc result
+      go : (fault : CertFault) (result : Answer) → AnswersText (cert_of (names_of p.world)) cert (Err fault)
+          → IsSaidOfText fault result → AnswersCert cert p typing desc result
       go (certs.Json f) (Ok outcome) h s = inl (certs.Json f, (h, s))
       go (certs.Json f) (Err (At place fault)) h s = absurd s
       go (certs.Json f) (Err Memory) h s = tt

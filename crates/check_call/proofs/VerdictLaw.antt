@@ -42,7 +42,8 @@ After Gives Fails Next (Err Memory) = Unit {0}
 abbrev IsOne : (Verdict → Type 0) → Type 0
 IsOne P = (r s : Verdict) → P r → P s → r ≢ Err Memory → s ≢ Err Memory → r ≡ s
 
-module _ {A : Type 0} (Gives : A → Type 0) (Fails : ℕ → Cause → Type 0) (Next : A → Verdict → Type 0) (exact : IsExact Gives Fails) (next : (a : A) → Gives a → IsOne (Next a)) where
+module _ {A : Type 0} (Gives : A → Type 0) (Fails : ℕ → Cause → Type 0) (Next : A → Verdict → Type 0) (exact : IsExact Gives Fails)
+    (next : (a : A) → Gives a → IsOne (Next a)) where
   both : (a b : A) (r s : Verdict) → Gives a → Gives b → Next a r → Next b s → r ≢ Err Memory → s ≢ Err Memory → r ≡ s
   both a b r s g h n m nr ns = next b h r s (subst (λ (c : A). Next c r) (exact.one a b g h) n) m nr ns
 
@@ -55,7 +56,8 @@ module _ {A : Type 0} (Gives : A → Type 0) (Fails : ℕ → Cause → Type 0) 
   after_one (Err (Item i c)) (Err (Item j d)) (inl h) (inl k) nr ns = let e = exact.named i j c d h k in λ t. Err (Item (e.0 t) (e.1 t))
   after_one (Err (Item i c)) (Err (Item j d)) (inl h) (inr k) nr ns = absurd (exact.apart k.0 i c k.1.0 h)
   after_one (Err (Item i c)) (Err (Item j d)) (inr h) (inl k) nr ns = absurd (exact.apart h.0 j d h.1.0 k)
-  after_one (Err (Item i c)) (Err (Item j d)) (inr h) (inr k) nr ns = both h.0 k.0 (Err (Item i c)) (Err (Item j d)) h.1.0 k.1.0 h.1.1 k.1.1 nr ns
+  after_one (Err (Item i c)) (Err (Item j d)) (inr h) (inr k) nr ns = both h.0 k.0 (Err (Item i c)) (Err (Item j d)) h.1.0 k.1.0
+      h.1.1 k.1.1 nr ns
   after_one (Ok x) (Err Memory) h k nr ns = absurd (ns refl)
   after_one (Err (Item i c)) (Err Memory) h k nr ns = absurd (ns refl)
   after_one (Err Memory) s h k nr ns = absurd (nr refl)
@@ -64,19 +66,26 @@ module _ {A : Type 0} (Gives : A → Type 0) (Fails : ℕ → Cause → Type 0) 
 
 module _ (case : Case) where
   abbrev GraphFails : ℕ → Cause → Type 0
-  GraphFails item cause = (node : ℕ) × ((what : What) × (IsFault case.program case.typing case.nodes case.root node what × ((item ≡ graph_item node what) × (cause ≡ Graph what))))
+  GraphFails item cause = (node : ℕ)
+      × ((what : What) × (IsFault case.program case.typing case.nodes case.root node what
+      × ((item ≡ graph_item node what) × (cause ≡ Graph what))))
 
   abbrev CutsFail : ℕ → Cause → Type 0
   CutsFail item cause = (AreCuts case → ⊥) × ((item ≡ 2 + length case.nodes) × (cause ≡ Cuts))
 
   abbrev PathsFail : List (List Link) → ℕ → Cause → Type 0
-  PathsFail links item cause = (fault : PathFault) × (HasRulesOr case.nodes links case.cuts (Err fault) × ((fault ≡ paths.Memory → ⊥) × ((item ≡ 3 + length case.nodes) × (cause ≡ Path fault))))
+  PathsFail links item cause = (fault : PathFault)
+      × (HasRulesOr case.nodes links case.cuts (Err fault)
+      × ((fault ≡ paths.Memory → ⊥) × ((item ≡ 3 + length case.nodes) × (cause ≡ Path fault))))
 
   abbrev ProofFails : List PathRule → ℕ → Cause → Type 0
-  ProofFails rules item cause = (step : ℕ) × ((fault : DescentFault) × ((proof_fault rules case.steps ≡ Some (proofs.At step fault)) × ((item ≡ 4 + length case.nodes + step) × (cause ≡ Proof fault))))
+  ProofFails rules item cause = (step : ℕ)
+      × ((fault : DescentFault)
+      × ((proof_fault rules case.steps ≡ Some (proofs.At step fault)) × ((item ≡ 4 + length case.nodes + step) × (cause ≡ Proof fault))))
 
   abbrev WithProof : List PathRule → Verdict → Type 0
-  WithProof rules = After {A = Unit {0}} (λ nothing. proof_fault rules case.steps ≡ None) (ProofFails rules) (λ nothing verdict. verdict ≡ Ok tt)
+  WithProof rules = After {A = Unit {0}} (λ nothing. proof_fault rules case.steps ≡ None) (ProofFails rules)
+      (λ nothing verdict. verdict ≡ Ok tt)
 
   abbrev WithPaths : List (List Link) → Verdict → Type 0
   WithPaths links = After {A = List PathRule} (HasPathRules case links) (PathsFail links) WithProof
@@ -91,8 +100,10 @@ module _ (case : Case) where
   staged (Ok done) v = (v.links, (v.graph, (tt, (v.cuts, (v.rules, (v.paths, (tt, (v.proof, refl))))))))
   staged (Err (Item item (Graph what))) f = inl (f.node, (what, (f.fault, (f.item_is, refl))))
   staged (Err (Item item Cuts)) f = inr (f.links, (f.graph, inl (f.fails, (f.item_is, refl))))
-  staged (Err (Item item (Path fault))) f = inr (f.links, (f.graph, inr (tt, (f.cuts, inl (fault, (f.fails, (f.known, (f.item_is, refl))))))))
-  staged (Err (Item item (Proof fault))) f = inr (f.links, (f.graph, inr (tt, (f.cuts, inr (f.rules, (f.paths, inl (f.step, (fault, (f.fails, (f.item_is, refl))))))))))
+  staged (Err (Item item (Path fault))) f = inr
+      (f.links, (f.graph, inr (tt, (f.cuts, inl (fault, (f.fails, (f.known, (f.item_is, refl))))))))
+  staged (Err (Item item (Proof fault))) f = inr
+      (f.links, (f.graph, inr (tt, (f.cuts, inr (f.rules, (f.paths, inl (f.step, (fault, (f.fails, (f.item_is, refl))))))))))
   staged (Err Memory) f = tt
 
   -- ---- each is exact
@@ -139,7 +150,8 @@ module _ (case : Case) where
       after_one (HasGoodGraph case) GraphFails WithCuts graph_exact (λ links graph.
       after_one {A = Unit {0}} (λ nothing. AreCuts case) CutsFail (λ nothing. WithPaths links) cuts_exact (λ nothing cuts.
       after_one (HasPathRules case links) (PathsFail links) WithProof (paths_exact links) (λ rules are.
-      after_one {A = Unit {0}} (λ nothing. proof_fault rules case.steps ≡ None) (ProofFails rules) (λ nothing verdict. verdict ≡ Ok tt) (proof_exact rules) (λ nothing closed r s h k nr ns. h ∙ sym k))))
+      after_one {A = Unit {0}} (λ nothing. proof_fault rules case.steps ≡ None) (ProofFails rules)
+      (λ nothing verdict. verdict ≡ Ok tt) (proof_exact rules) (λ nothing closed r s h k nr ns. h ∙ sym k))))
 
 -- ---- the law
 

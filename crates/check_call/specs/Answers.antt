@@ -51,7 +51,8 @@ IsCertFault p cert fault = AnswersText (cert_of (names_of p.world)) cert (Err fa
 
 -- of a case: it is valid, or its first item that fails
 abbrev pub AnswersChecked : Case → Result Outcome Refused → Type 0
-AnswersChecked case (Ok outcome) = (IsValid case × (outcome ≡ accepted)) ⊎ ((item : ℕ) × ((cause : Cause) × (IsFirstFault case item cause × (outcome ≡ refused_at item (cause_text cause)))))
+AnswersChecked case (Ok outcome) = (IsValid case × (outcome ≡ accepted))
+    ⊎ ((item : ℕ) × ((cause : Cause) × (IsFirstFault case item cause × (outcome ≡ refused_at item (cause_text cause)))))
 AnswersChecked case (Err (At place fault)) = ⊥
 AnswersChecked case (Err Memory) = Unit {0}
 
@@ -70,7 +71,8 @@ abbrev pub AnswersCert : List ℕ → Program → (ℕ → CodeTypes) → Desc �
 AnswersCert cert p typing desc (Ok outcome) =
     ((fault : CertFault) × (IsCertFault p cert fault × (outcome ≡ refused_at 0 (fault_text fault))))
     ⊎ ((content : CertContent) × (IsCertText p cert content × AnswersContent p typing desc content (Ok outcome)))
-AnswersCert cert p typing desc (Err (At place fault)) = (content : CertContent) × (IsCertText p cert content × AnswersContent p typing desc content (Err (At place fault)))
+AnswersCert cert p typing desc (Err (At place fault)) = (content : CertContent)
+    × (IsCertText p cert content × AnswersContent p typing desc content (Err (At place fault)))
 AnswersCert cert p typing desc (Err Memory) = Unit {0}
 
 -- of the bytes of a certificate, of a description and of class files: the steps to a program with described inputs, in their order, and then

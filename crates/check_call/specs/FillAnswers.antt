@@ -22,7 +22,8 @@ filled p nodes content = record { status = 0; out = filled_text (names_of p.worl
 
 -- of what a certificate says: the filled graph with the certificate's cuts and proof
 abbrev pub AnswersContent : Program → (ℕ → CodeTypes) → CertContent → Result Outcome Refused → Type 0
-AnswersContent p typing content (Ok outcome) = (nodes : List GraphNode) × (IsFilled p typing content.parts nodes × (outcome ≡ filled p nodes content))
+AnswersContent p typing content (Ok outcome) = (nodes : List GraphNode)
+    × (IsFilled p typing content.parts nodes × (outcome ≡ filled p nodes content))
 AnswersContent p typing content (Err (At place fault)) = ⊥
 AnswersContent p typing content (Err Memory) = Unit {0}
 

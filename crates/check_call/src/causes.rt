@@ -1,6 +1,7 @@
 //! The causes of refused certificates in words.
 ghost use Rattle.std.specs.Prelude.{◌≡◌, IfOk};
-ghost use Rattle.check_call.specs.Causes.{two_fields, lin_name, lin_fields, what_name, what_fields, path_name, path_fields, proof_name, proof_fields, cause_name, cause_fields, cause_text};
+ghost use Rattle.check_call.specs.Causes.{two_fields, lin_name, lin_fields, what_name, what_fields, path_name, path_fields};
+ghost use Rattle.check_call.specs.Causes.{proof_name, proof_fields, cause_name, cause_fields, cause_text};
 
 use cert_check::Cause;
 use descent::{DescentFault, LinFault};

@@ -59,7 +59,9 @@ fn check_graph(
     requires ints { HasIntStates (program_of program.now) (typing_at typing.now) graph.old }
     requires few { length graph.old ≤ 2 ^ 32 - 16 }
     requires steps { AreSteps proof.now.steps }
-    ensures checked { AnswersChecked (case_of (program_of program.now) (typing_at typing.now) (initial_of (program_of program.now) desc.now) graph.old cuts.now proof.now.steps) result }
+    ensures checked { AnswersChecked
+        (case_of (program_of program.now) (typing_at typing.now) (initial_of (program_of program.now) desc.now) graph.old cuts.now
+        proof.now.steps) result }
     ensures ends { EndsIfAccepted (program_of program.now) desc.now result }
 {
     program.is_good();

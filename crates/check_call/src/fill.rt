@@ -17,8 +17,8 @@ use std::alloc::Global;
 /// # Errors
 ///
 /// Those of `check`, in its order: the first fault of the class files, of the description's text, of the world, of the method's name, of its
-/// program, of its calls and types, of the description against the program. At `Link` `NotBuilt`, before the certificate's form where the
-/// program isn't one method about ints alone, and after it where a state that it gives has an expansion and isn't one of ints. Want of memory.
+/// program, of its calls and types, of the description against the program. At `Link` `NotBuilt`, before the certificate's form, where the
+/// program isn't one method about ints alone. Want of memory.
 pub fn fill_line(
     alloc: Global,
     cert: &[u8],

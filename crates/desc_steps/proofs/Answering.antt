@@ -51,48 +51,68 @@ module _ (text : DescText) (p : Program) where
   calls_good result a h = then_goes {A = Unit {0}} (λ nothing. IsAcyclic p) (RefusesCalls p) (λ nothing. WithTypes) tt result a h
 
   pub types_refused : (refused : Refused) → IsAcyclic p → IsCaused (RefusesTypes p) refused → OfProgram IsGiven text p (Err refused)
-  types_refused refused a h = calls_good (Err refused) a (then_refused {A = ℕ → CodeTypes} (IsTypingOf p) (RefusesTypes p) WithDesc refused h)
+  types_refused refused a h = calls_good (Err refused) a
+      (then_refused {A = ℕ → CodeTypes} (IsTypingOf p) (RefusesTypes p) WithDesc refused h)
 
-  types_good : (typing : ℕ → CodeTypes) (result : Given) → IsAcyclic p → IsTypingOf p typing → WithDesc typing result → OfProgram IsGiven text p result
-  types_good typing result a t h = calls_good result a (then_goes {A = ℕ → CodeTypes} (IsTypingOf p) (RefusesTypes p) WithDesc typing result t h)
+  types_good : (typing : ℕ → CodeTypes) (result : Given) → IsAcyclic p → IsTypingOf p typing → WithDesc typing result
+      → OfProgram IsGiven text p result
+  types_good typing result a t h = calls_good result a
+      (then_goes {A = ℕ → CodeTypes} (IsTypingOf p) (RefusesTypes p) WithDesc typing result t h)
 
-  pub desc_is_refused : (typing : ℕ → CodeTypes) (refused : Refused) → IsAcyclic p → IsTypingOf p typing → IsCaused (RefusesDesc p text) refused → OfProgram IsGiven text p (Err refused)
-  desc_is_refused typing refused a t h = types_good typing (Err refused) a t (then_refused (IsDesc p text) (RefusesDesc p text) (OfInputs IsGiven p typing) refused h)
+  pub desc_is_refused : (typing : ℕ → CodeTypes) (refused : Refused) → IsAcyclic p → IsTypingOf p typing
+      → IsCaused (RefusesDesc p text) refused → OfProgram IsGiven text p (Err refused)
+  desc_is_refused typing refused a t h = types_good typing (Err refused) a t
+      (then_refused (IsDesc p text) (RefusesDesc p text) (OfInputs IsGiven p typing) refused h)
 
-  desc_good : (typing : ℕ → CodeTypes) (desc : Desc) (result : Given) → IsAcyclic p → IsTypingOf p typing → IsDesc p text desc → OfInputs IsGiven p typing desc result → OfProgram IsGiven text p result
-  desc_good typing desc result a t d h = types_good typing result a t (then_goes (IsDesc p text) (RefusesDesc p text) (OfInputs IsGiven p typing) desc result d h)
+  desc_good : (typing : ℕ → CodeTypes) (desc : Desc) (result : Given) → IsAcyclic p → IsTypingOf p typing → IsDesc p text desc
+      → OfInputs IsGiven p typing desc result → OfProgram IsGiven text p result
+  desc_good typing desc result a t d h = types_good typing result a t
+      (then_goes (IsDesc p text) (RefusesDesc p text) (OfInputs IsGiven p typing) desc result d h)
 
-  pub others_refused : (typing : ℕ → CodeTypes) (desc : Desc) → IsAcyclic p → IsTypingOf p typing → IsDesc p text desc → (IsIntProgram p → ⊥) → OfProgram IsGiven text p (Err not_built)
+  pub others_refused : (typing : ℕ → CodeTypes) (desc : Desc) → IsAcyclic p → IsTypingOf p typing → IsDesc p text desc
+      → (IsIntProgram p → ⊥) → OfProgram IsGiven text p (Err not_built)
   others_refused typing desc a t d none =
       desc_good typing desc (Err not_built) a t d
-      (then_refused {A = Unit {0}} (λ nothing. IsIntProgram p) (RefusesOthers p) (λ nothing. IsGiven p typing desc) not_built (record { cause = tt; place_is = refl; fault_is = refl; holds = none }))
+      (then_refused {A = Unit {0}} (λ nothing. IsIntProgram p) (RefusesOthers p) (λ nothing. IsGiven p typing desc) not_built
+      (record { cause = tt; place_is = refl; fault_is = refl; holds = none }))
 
 -- what is given where a program is tested for ints alone
-pub ints_given : (text : DescText) (p : Program) (desc : Desc) (result : Result Desc Refused) → IsDesc p text desc → IsOwnDesc p desc → IsGoodDesc p desc → IfOk result (λ given. (given ≡ desc) × IsIntProgram p) → IfOk result (IsIntDesc p text)
-ints_given text p desc (Ok given) d own good h = subst (IsIntDesc p text) (sym h.0) (record { described = d; own = own; good = good; ints = h.1 })
+pub ints_given : (text : DescText) (p : Program) (desc : Desc) (result : Result Desc Refused) → IsDesc p text desc
+    → IsOwnDesc p desc → IsGoodDesc p desc → IfOk result (λ given. (given ≡ desc) × IsIntProgram p) → IfOk result (IsIntDesc p text)
+ints_given text p desc (Ok given) d own good h = subst (IsIntDesc p text) (sym h.0)
+    (record { described = d; own = own; good = good; ints = h.1 })
 ints_given text p desc (Err refused) d own good h = tt
 
-pub ints_refused : (text : DescText) (p : Program) (desc : Desc) (result : Result Desc Refused) → IsDesc p text desc → IfErr result (λ refused. (refused ≡ not_built) × (IsIntProgram p → ⊥))
+pub ints_refused : (text : DescText) (p : Program) (desc : Desc) (result : Result Desc Refused) → IsDesc p text desc
+    → IfErr result (λ refused. (refused ≡ not_built) × (IsIntProgram p → ⊥))
     → IfErr result (λ refused. (typing : ℕ → CodeTypes) → IsAcyclic p → IsTypingOf p typing → OfProgram IsGiven text p (Err refused))
 ints_refused text p desc (Ok given) d h = tt
-ints_refused text p desc (Err refused) d h = λ typing a t. subst (λ (r : Refused). OfProgram IsGiven text p (Err r)) (sym h.0) (others_refused text p typing desc a t d h.1)
+ints_refused text p desc (Err refused) d h = λ typing a t. subst (λ (r : Refused). OfProgram IsGiven text p (Err r)) (sym h.0)
+    (others_refused text p typing desc a t d h.1)
 
 -- all steps give something
-pub program_given : (text : DescText) (given : DescribedProgram) → IsAcyclic (program_of given.program) → IsTypingOf (program_of given.program) (typing_at given.typing) → IsDesc (program_of given.program) text given.desc → IsIntProgram (program_of given.program)
+pub program_given : (text : DescText) (given : DescribedProgram) → IsAcyclic (program_of given.program)
+    → IsTypingOf (program_of given.program) (typing_at given.typing) → IsDesc (program_of given.program) text given.desc
+    → IsIntProgram (program_of given.program)
     → OfProgram IsGiven text (program_of given.program) (Ok given)
 program_given text given a t d ints =
     let p = program_of given.program in
     let typing = typing_at given.typing in
     desc_good text p typing given.desc (Ok given) a t d
-    (then_goes {A = Unit {0}} (λ nothing. IsIntProgram p) (RefusesOthers p) (λ nothing. IsGiven p typing given.desc) tt (Ok given) ints (refl, (refl, refl)))
+    (then_goes {A = Unit {0}} (λ nothing. IsIntProgram p) (RefusesOthers p) (λ nothing. IsGiven p typing given.desc) tt (Ok given)
+    ints (refl, (refl, refl)))
 
 -- ---- an entry
 
-pub program_refused : (text : DescText) (world : World) (entry : MethodRef) (refused : Refused) → IsCaused (RefusesProgram world entry) refused → OfEntry IsGiven text world entry (Err refused)
-program_refused text world entry refused h = then_refused (IsProgramOf world entry) (RefusesProgram world entry) (OfProgram IsGiven text) refused h
+pub program_refused : (text : DescText) (world : World) (entry : MethodRef) (refused : Refused)
+    → IsCaused (RefusesProgram world entry) refused → OfEntry IsGiven text world entry (Err refused)
+program_refused text world entry refused h = then_refused (IsProgramOf world entry) (RefusesProgram world entry)
+    (OfProgram IsGiven text) refused h
 
-pub entry_goes : (text : DescText) (world : World) (entry : MethodRef) (p : Program) (result : Given) → IsProgramOf world entry p → OfProgram IsGiven text p result → OfEntry IsGiven text world entry result
-entry_goes text world entry p result is h = then_goes (IsProgramOf world entry) (RefusesProgram world entry) (OfProgram IsGiven text) p result is h
+pub entry_goes : (text : DescText) (world : World) (entry : MethodRef) (p : Program) (result : Given) → IsProgramOf world entry p
+    → OfProgram IsGiven text p result → OfEntry IsGiven text world entry result
+entry_goes text world entry p result is h = then_goes (IsProgramOf world entry) (RefusesProgram world entry)
+    (OfProgram IsGiven text) p result is h
 
 -- ---- classes
 
@@ -100,16 +120,20 @@ module _ (text : DescText) where
   abbrev IsNamed : World → MethodRef → Type 0
   IsNamed world entry = entry_of world text.entry ≡ Ok entry
 
-  pub world_refused : (classes : List ClassContent) (refused : Refused) → IsCaused (RefusesWorld classes) refused → OfClasses IsGiven text classes (Err refused)
+  pub world_refused : (classes : List ClassContent) (refused : Refused) → IsCaused (RefusesWorld classes) refused
+      → OfClasses IsGiven text classes (Err refused)
   world_refused classes refused h = then_refused (IsWorldOf classes) (RefusesWorld classes) (OfWorld text) refused h
 
-  pub entry_is_refused : (world : World) (refused : Refused) → IsCaused (RefusesEntry world text) refused → OfWorld text world (Err refused)
+  pub entry_is_refused : (world : World) (refused : Refused) → IsCaused (RefusesEntry world text) refused
+      → OfWorld text world (Err refused)
   entry_is_refused world refused h = then_refused (IsNamed world) (RefusesEntry world text) (OfEntry IsGiven text world) refused h
 
-  pub named_goes : (world : World) (entry : MethodRef) (result : Given) → entry_of world text.entry ≡ Ok entry → OfEntry IsGiven text world entry result → OfWorld text world result
+  pub named_goes : (world : World) (entry : MethodRef) (result : Given) → entry_of world text.entry ≡ Ok entry
+      → OfEntry IsGiven text world entry result → OfWorld text world result
   named_goes world entry result e h = then_goes (IsNamed world) (RefusesEntry world text) (OfEntry IsGiven text world) entry result e h
 
-  pub world_goes : (classes : List ClassContent) (world : World) (result : Given) → IsWorldOf classes world → OfWorld text world result → OfClasses IsGiven text classes result
+  pub world_goes : (classes : List ClassContent) (world : World) (result : Given) → IsWorldOf classes world
+      → OfWorld text world result → OfClasses IsGiven text classes result
   world_goes classes world result w h = then_goes (IsWorldOf classes) (RefusesWorld classes) (OfWorld text) world result w h
 
 -- ---- files
@@ -121,13 +145,17 @@ module _ (desc : List ℕ) (files : List (List ℕ)) where
   pub classes_refused : (refused : Refused) → IsCaused (RefusesClasses files) refused → OfFiles IsGiven desc files (Err refused)
   classes_refused refused h = then_refused (AllSpell files) (RefusesClasses files) WithText refused h
 
-  pub text_is_refused : (classes : List ClassContent) (refused : Refused) → AllSpell files classes → IsCaused (RefusesText desc) refused → OfFiles IsGiven desc files (Err refused)
+  pub text_is_refused : (classes : List ClassContent) (refused : Refused) → AllSpell files classes
+      → IsCaused (RefusesText desc) refused → OfFiles IsGiven desc files (Err refused)
   text_is_refused classes refused s h =
-      then_goes (AllSpell files) (RefusesClasses files) WithText classes (Err refused) s (then_refused (IsDescText desc) (RefusesText desc) (λ text. OfClasses IsGiven text classes) refused h)
+      then_goes (AllSpell files) (RefusesClasses files) WithText classes (Err refused) s
+      (then_refused (IsDescText desc) (RefusesText desc) (λ text. OfClasses IsGiven text classes) refused h)
 
-  pub files_go : (classes : List ClassContent) (text : DescText) (result : Given) → AllSpell files classes → IsDescText desc text → OfClasses IsGiven text classes result → OfFiles IsGiven desc files result
+  pub files_go : (classes : List ClassContent) (text : DescText) (result : Given) → AllSpell files classes → IsDescText desc text
+      → OfClasses IsGiven text classes result → OfFiles IsGiven desc files result
   files_go classes text result s t h =
-      then_goes (AllSpell files) (RefusesClasses files) WithText classes result s (then_goes (IsDescText desc) (RefusesText desc) (λ text. OfClasses IsGiven text classes) text result t h)
+      then_goes (AllSpell files) (RefusesClasses files) WithText classes result s
+      (then_goes (IsDescText desc) (RefusesText desc) (λ text. OfClasses IsGiven text classes) text result t h)
 
 -- ---- what is said behind these steps
 
@@ -141,41 +169,53 @@ Turns (Ok x) to = Unit {0}
 Turns (Err refused) to = to ≡ Err refused
 
 module _ {X Y : Type 0} (from : Result X Refused) (to : Result Y Refused) (turns : Turns from to) where
-  then_turned : {A : Type 0} (Gives : A → Type 0) (Refuses : Place → Fault → Type 0) (Next : A → Result X Refused → Type 0) (Other : A → Result Y Refused → Type 0)
+  then_turned : {A : Type 0} (Gives : A → Type 0) (Refuses : Place → Fault → Type 0) (Next : A → Result X Refused → Type 0)
+      (Other : A → Result Y Refused → Type 0)
       → ((a : A) → Gives a → Next a from → Other a to) → Then Gives Refuses Next from → Then Gives Refuses Other to
   then_turned {A} Gives Refuses Next Other on h = go from turns on h
     where
-      go : (r : Result X Refused) → Turns r to → ((a : A) → Gives a → Next a r → Other a to) → Then Gives Refuses Next r → Then Gives Refuses Other to
+      go : (r : Result X Refused) → Turns r to → ((a : A) → Gives a → Next a r → Other a to) → Then Gives Refuses Next r
+          → Then Gives Refuses Other to
       go (Ok x) t next k = then_goes Gives Refuses Other k.0 to k.1.0 (next k.0 k.1.0 k.1.1)
       go (Err (At place fault)) t next (inl k) = subst (Then Gives Refuses Other) (sym t) (inl k)
       go (Err (At place fault)) t next (inr k) = then_goes Gives Refuses Other k.0 to k.1.0 (next k.0 k.1.0 k.1.1)
       go (Err Memory) t next k = subst (Then Gives Refuses Other) (sym t) tt
 
-  module _ (Says : Saying X) (Tells : Saying Y) (on : (p : Program) (typing : ℕ → CodeTypes) (described : Desc) → Says p typing described from → Tells p typing described to) where
-    inputs_turned : (p : Program) (typing : ℕ → CodeTypes) (described : Desc) → OfInputs Says p typing described from → OfInputs Tells p typing described to
+  module _ (Says : Saying X) (Tells : Saying Y) (on : (p : Program) (typing : ℕ → CodeTypes) (described : Desc)
+      → Says p typing described from → Tells p typing described to) where
+    inputs_turned : (p : Program) (typing : ℕ → CodeTypes) (described : Desc) → OfInputs Says p typing described from
+        → OfInputs Tells p typing described to
     inputs_turned p typing described =
-        then_turned {A = Unit {0}} (λ nothing. IsIntProgram p) (RefusesOthers p) (λ nothing. Says p typing described) (λ nothing. Tells p typing described) (λ nothing ints. on p typing described)
+        then_turned {A = Unit {0}} (λ nothing. IsIntProgram p) (RefusesOthers p) (λ nothing. Says p typing described)
+        (λ nothing. Tells p typing described) (λ nothing ints. on p typing described)
 
     program_turned : (text : DescText) (p : Program) → OfProgram Says text p from → OfProgram Tells text p to
     program_turned text p =
         then_turned {A = Unit {0}} (λ nothing. IsAcyclic p) (RefusesCalls p)
-        (λ nothing. Then {A = ℕ → CodeTypes} (IsTypingOf p) (RefusesTypes p) (λ typing. Then {A = Desc} (IsDesc p text) (RefusesDesc p text) (OfInputs Says p typing)))
-        (λ nothing. Then {A = ℕ → CodeTypes} (IsTypingOf p) (RefusesTypes p) (λ typing. Then {A = Desc} (IsDesc p text) (RefusesDesc p text) (OfInputs Tells p typing)))
+        (λ nothing. Then {A = ℕ → CodeTypes} (IsTypingOf p) (RefusesTypes p)
+        (λ typing. Then {A = Desc} (IsDesc p text) (RefusesDesc p text) (OfInputs Says p typing)))
+        (λ nothing. Then {A = ℕ → CodeTypes} (IsTypingOf p) (RefusesTypes p)
+        (λ typing. Then {A = Desc} (IsDesc p text) (RefusesDesc p text) (OfInputs Tells p typing)))
         (λ nothing a.
         then_turned {A = ℕ → CodeTypes} (IsTypingOf p) (RefusesTypes p)
         (λ typing. Then {A = Desc} (IsDesc p text) (RefusesDesc p text) (OfInputs Says p typing))
         (λ typing. Then {A = Desc} (IsDesc p text) (RefusesDesc p text) (OfInputs Tells p typing))
-        (λ typing t. then_turned {A = Desc} (IsDesc p text) (RefusesDesc p text) (OfInputs Says p typing) (OfInputs Tells p typing) (λ described d. inputs_turned p typing described)))
+        (λ typing t. then_turned {A = Desc} (IsDesc p text) (RefusesDesc p text) (OfInputs Says p typing) (OfInputs Tells p typing)
+        (λ described d. inputs_turned p typing described)))
 
-    entry_turned : (text : DescText) (world : World) (entry : MethodRef) → OfEntry Says text world entry from → OfEntry Tells text world entry to
-    entry_turned text world entry = then_turned {A = Program} (IsProgramOf world entry) (RefusesProgram world entry) (OfProgram Says text) (OfProgram Tells text) (λ p is. program_turned text p)
+    entry_turned : (text : DescText) (world : World) (entry : MethodRef) → OfEntry Says text world entry from
+        → OfEntry Tells text world entry to
+    entry_turned text world entry = then_turned {A = Program} (IsProgramOf world entry) (RefusesProgram world entry)
+        (OfProgram Says text) (OfProgram Tells text) (λ p is. program_turned text p)
 
     classes_turned : (text : DescText) (classes : List ClassContent) → OfClasses Says text classes from → OfClasses Tells text classes to
     classes_turned text classes =
         then_turned {A = World} (IsWorldOf classes) (RefusesWorld classes)
         (λ world. Then {A = MethodRef} (λ entry. entry_of world text.entry ≡ Ok entry) (RefusesEntry world text) (OfEntry Says text world))
-        (λ world. Then {A = MethodRef} (λ entry. entry_of world text.entry ≡ Ok entry) (RefusesEntry world text) (OfEntry Tells text world))
-        (λ world w. then_turned {A = MethodRef} (λ entry. entry_of world text.entry ≡ Ok entry) (RefusesEntry world text) (OfEntry Says text world) (OfEntry Tells text world) (λ entry e. entry_turned text world entry))
+        (λ world. Then {A = MethodRef} (λ entry. entry_of world text.entry ≡ Ok entry) (RefusesEntry world text)
+        (OfEntry Tells text world))
+        (λ world w. then_turned {A = MethodRef} (λ entry. entry_of world text.entry ≡ Ok entry) (RefusesEntry world text)
+        (OfEntry Says text world) (OfEntry Tells text world) (λ entry e. entry_turned text world entry))
 
     -- what one command answers to bytes becomes what another one does
     pub files_turned : (desc : List ℕ) (files : List (List ℕ)) → OfFiles Says desc files from → OfFiles Tells desc files to
@@ -183,16 +223,20 @@ module _ {X Y : Type 0} (from : Result X Refused) (to : Result Y Refused) (turns
         then_turned {A = List ClassContent} (AllSpell files) (RefusesClasses files)
         (λ classes. Then {A = DescText} (IsDescText desc) (RefusesText desc) (λ text. OfClasses Says text classes))
         (λ classes. Then {A = DescText} (IsDescText desc) (RefusesText desc) (λ text. OfClasses Tells text classes))
-        (λ classes s. then_turned {A = DescText} (IsDescText desc) (RefusesText desc) (λ text. OfClasses Says text classes) (λ text. OfClasses Tells text classes) (λ text t. classes_turned text classes))
+        (λ classes s. then_turned {A = DescText} (IsDescText desc) (RefusesText desc) (λ text. OfClasses Says text classes)
+        (λ text. OfClasses Tells text classes) (λ text t. classes_turned text classes))
 
-pub files_on : {X Y : Type 0} (Says : Saying X) (Tells : Saying Y) (desc : List ℕ) (files : List (List ℕ)) (x : X) (result : Result Y Refused)
+pub files_on : {X Y : Type 0} (Says : Saying X) (Tells : Saying Y) (desc : List ℕ) (files : List (List ℕ)) (x : X)
+    (result : Result Y Refused)
     → ((p : Program) (typing : ℕ → CodeTypes) (described : Desc) → Says p typing described (Ok x) → Tells p typing described result)
     → OfFiles Says desc files (Ok x) → OfFiles Tells desc files result
 files_on Says Tells desc files x result on = files_turned (Ok x) result tt Says Tells on desc files
 
 -- what a command says of the program that is given
-pub given_goes : {X : Type 0} (Says : Saying X) (desc : List ℕ) (files : List (List ℕ)) (given : DescribedProgram) (result : Result X Refused)
-    → OfFiles IsGiven desc files (Ok given) → Says (program_of given.program) (typing_at given.typing) given.desc result → OfFiles Says desc files result
+pub given_goes : {X : Type 0} (Says : Saying X) (desc : List ℕ) (files : List (List ℕ)) (given : DescribedProgram)
+    (result : Result X Refused)
+    → OfFiles IsGiven desc files (Ok given) → Says (program_of given.program) (typing_at given.typing) given.desc result
+    → OfFiles Says desc files result
 given_goes Says desc files given result h says =
     files_on IsGiven Says desc files given result
     (λ p typing described is.
@@ -204,13 +248,15 @@ given_goes Says desc files given result h says =
 -- where none is given, the input is refused
 pub given_refused : {X : Type 0} (Says : Saying X) (desc : List ℕ) (files : List (List ℕ)) (refused : Refused)
     → OfFiles IsGiven desc files (Err refused) → OfFiles Says desc files (Err refused)
-given_refused Says desc files (At place fault) h = files_turned (Err (At place fault)) (Err (At place fault)) refl IsGiven Says (λ p typing described none. absurd none) desc files h
+given_refused Says desc files (At place fault) h = files_turned (Err (At place fault)) (Err (At place fault)) refl IsGiven Says
+    (λ p typing described none. absurd none) desc files h
 given_refused Says desc files Memory h = tt
 
 -- ---- what files and description name
 
 -- what the steps give is what the headline names
-pub names_it : (desc : List ℕ) (files : List (List ℕ)) (given : DescribedProgram) → OfFiles IsGiven desc files (Ok given) → NameProgram files desc (program_of given.program) given.desc
+pub names_it : (desc : List ℕ) (files : List (List ℕ)) (given : DescribedProgram) → OfFiles IsGiven desc files (Ok given)
+    → NameProgram files desc (program_of given.program) given.desc
 names_it desc files given a =
     let text = a.1.1 in
     let world = text.1.1 in
@@ -221,7 +267,8 @@ names_it desc files given a =
     let described = typing.1.1 in
     let is = described.1.1.1.1 in
     let made = program.1.0 in
-    let here : entry_of program.0.world text.0.entry ≡ Ok entry.0 = subst (λ (w : World). entry_of w text.0.entry ≡ Ok entry.0) (sym made.world_is) entry.1.0 in
+    let here : entry_of program.0.world text.0.entry ≡ Ok entry.0 = subst (λ (w : World). entry_of w text.0.entry ≡ Ok entry.0)
+    (sym made.world_is) entry.1.0 in
     let named : NameProgram files desc program.0 described.0 = record {
       classes = a.0;
       spelled = a.1.0;
@@ -233,19 +280,23 @@ names_it desc files given a =
       faultless = described.1.0.0;
       is_described = described.1.0.1;
     } in
-    subst (λ (d : Desc). NameProgram files desc (program_of given.program) d) is.1.1 (subst (λ (q : Program). NameProgram files desc q described.0) is.0 named)
+    subst (λ (d : Desc). NameProgram files desc (program_of given.program) d) is.1.1
+    (subst (λ (q : Program). NameProgram files desc q described.0) is.0 named)
 
 -- so it is of each result of theirs
-pub named_if_given : (desc : List ℕ) (files : List (List ℕ)) (result : Given) → OfFiles IsGiven desc files result → IfOk result (λ given. NameProgram files desc (program_of given.program) given.desc)
+pub named_if_given : (desc : List ℕ) (files : List (List ℕ)) (result : Given) → OfFiles IsGiven desc files result
+    → IfOk result (λ given. NameProgram files desc (program_of given.program) given.desc)
 named_if_given desc files (Ok given) a = names_it desc files given a
 named_if_given desc files (Err refused) a = tt
 
-pub names_if_given : (desc : List ℕ) (files : List (List ℕ)) (result : Given) → OfFiles IsGiven desc files result → IfOk result (λ given. IsTrue (list_all is_class_name (names_of (classes_of given.program.world))))
+pub names_if_given : (desc : List ℕ) (files : List (List ℕ)) (result : Given) → OfFiles IsGiven desc files result
+    → IfOk result (λ given. IsTrue (list_all is_class_name (names_of (classes_of given.program.world))))
 names_if_given desc files (Ok given) a = names_are files desc (program_of given.program) given.desc (names_it desc files given a)
 names_if_given desc files (Err refused) a = tt
 
 -- and where every fitting state ends, it says so
-pub all_end : (desc : List ℕ) (files : List (List ℕ)) (p : Program) (described : Desc) → NameProgram files desc p described → AllFittingEnd p described → AllEnd files desc
+pub all_end : (desc : List ℕ) (files : List (List ℕ)) (p : Program) (described : Desc) → NameProgram files desc p described
+    → AllFittingEnd p described → AllEnd files desc
 all_end desc files p described named end = record {
   program = p;
   described = described;

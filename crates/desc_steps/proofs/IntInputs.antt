@@ -1,5 +1,6 @@
 -- The inputs of a program about ints: each is described by an interval.
-use Rattle.std.proofs.Common.{◌≡◌, ◌∙◌, ◌&&◌, ℕ, zero, suc, ℤ, ◌≤ℤ◌, Bool, true, false, cond, List, [], ◌∷◌, ◌++◌, length, map, replicate, slice_get, Option, Some, None, refl, ap, append-nil, arith}
+use Rattle.std.proofs.Common.{◌≡◌, ◌∙◌, ◌&&◌, ℕ, zero, suc, ℤ, ◌≤ℤ◌, Bool, true, false, cond, List, [], ◌∷◌, ◌++◌, length, map}
+use Rattle.std.proofs.Common.{replicate, slice_get, Option, Some, None, refl, ap, append-nil, arith}
 use Rattle.std.specs.Prelude.{int_le, option_and_then}
 use Rattle.std.specs.Int.{int_max, int_min}
 use Rattle.std.specs.List.{list_all, cons_option, filter_map, flat_map, range_with_len}
@@ -18,7 +19,8 @@ use Rattle.class_program.specs.declared.op.Op.{Op}
 use Rattle.class_program.specs.declared.op.Op.TheVariants as ops
 use Rattle.class_program.specs.declared.program.Method.{Method}
 use Rattle.class_program.specs.Programs.{Program, IsClosed}
-use Rattle.class_program.specs.Statics.{field_count, field_named, fields_in, fields_named, static_field, static_at, statics_in, statics_of as static_fields_of}
+use Rattle.class_program.specs.Statics.{field_count, field_named, fields_in, fields_named, static_field, static_at, statics_in}
+use Rattle.class_program.specs.Statics.{statics_of as static_fields_of}
 use Rattle.input_text.specs.declared.texts.DescText.{DescText}
 use Rattle.input_text.specs.declared.texts.InputText.{InputText}
 use Rattle.input_text.specs.declared.texts.InputText.TheVariants as texts
@@ -39,8 +41,10 @@ pub record IsInterval (input : Input) : Type 0 where
   pub is : input ≡ Int bounds
   pub some : bounds.lo ≤ℤ bounds.hi
 
-of_bounds : (lo hi : ℤ) (input : Input) (t : Bool) → int_le lo hi ≡ t → Some input ≡ option_map Int (cond t (Some (record { lo = lo; hi = hi })) None) → IsInterval input
-of_bounds lo hi input true q e = let same : input ≡ Int (record { lo = lo; hi = hi }) = cc in record { bounds = record { lo = lo; hi = hi }; is = same; some = int_le_true lo hi q }
+of_bounds : (lo hi : ℤ) (input : Input) (t : Bool) → int_le lo hi ≡ t
+    → Some input ≡ option_map Int (cond t (Some (record { lo = lo; hi = hi })) None) → IsInterval input
+of_bounds lo hi input true q e = let same : input ≡ Int (record { lo = lo; hi = hi }) = cc in record
+    { bounds = record { lo = lo; hi = hi }; is = same; some = int_le_true lo hi q }
 of_bounds lo hi input false q e = absurd (cc)
 
 interval_is : (world : World) (text : InputText) (input : Input) → Some input ≡ input_of world (Num kinds.Int) text → IsInterval input
@@ -54,7 +58,8 @@ abbrev pub AreIntervals : List Input → Type 0
 AreIntervals [] = Unit {0}
 AreIntervals (input ∷ inputs) = IsInterval input × AreIntervals inputs
 
-intervals_are : (world : World) (n : ℕ) (texts' : List InputText) (inputs : List Input) → map Some inputs ≡ inputs_from world (replicate n (Num kinds.Int)) texts' → AreIntervals inputs
+intervals_are : (world : World) (n : ℕ) (texts' : List InputText) (inputs : List Input)
+    → map Some inputs ≡ inputs_from world (replicate n (Num kinds.Int)) texts' → AreIntervals inputs
 intervals_are world n texts' [] e = tt
 intervals_are world zero texts' (input ∷ inputs) e = absurd (cc)
 intervals_are world (suc n) [] (input ∷ inputs) e = absurd (cc)
@@ -66,7 +71,8 @@ intervals_are world (suc n) (text ∷ texts') (input ∷ inputs) e =
 -- ---- the parameters
 
 -- what a number of each kind is as an argument
-as_arguments : (params : List Slot) → list_all is_number params ≡ true → map argument_slot params ≡ replicate (length params) (Num kinds.Int)
+as_arguments : (params : List Slot) → list_all is_number params ≡ true → map argument_slot params ≡ replicate (length params)
+    (Num kinds.Int)
 as_arguments [] h = refl
 as_arguments (Num kind ∷ params) h = ap (λ (slots : List Slot). Num kinds.Int ∷ slots) (as_arguments params h)
 as_arguments (Ref t ∷ params) h = absurd (false≢true h)
@@ -105,13 +111,15 @@ insns_name_none (x ∷ insns) h =
 
 none_named : (methods : List Method) → IsOnly methods → fields_named methods ≡ []
 unfolding fields_named
-none_named methods only = ap (flat_map (λ (m : Method). fields_in m.insns)) only.only ∙ (append-nil (fields_in only.method.insns) ∙ insns_name_none only.method.insns only.insns)
+none_named methods only = ap (flat_map (λ (m : Method). fields_in m.insns)) only.only
+    ∙ (append-nil (fields_in only.method.insns) ∙ insns_name_none only.method.insns only.insns)
 
 none_at : (world : World) (class i : ℕ) → static_at world [] class i ≡ None
 unfolding static_at
 none_at world class i = go (is_static_field world class i)
   where
-    go : (b : Bool) → cond (b && false) (option_and_then (static_field world (record { class = class; index = i })) (field_at world class i)) None ≡ None
+    go : (b : Bool) → cond (b && false)
+        (option_and_then (static_field world (record { class = class; index = i })) (field_at world class i)) None ≡ None
     go true = refl
     go false = refl
 
@@ -124,19 +132,23 @@ unfolding static_fields_of
 none_of world = flat_none (statics_in world []) (none_in world) (range_with_len 0 (length world))
 
 pub no_fields : (p : Program) → IsClosed p → IsOnly p.methods → statics_of p ≡ []
-no_fields p closed only = ap (map field_slot) (closed.statics ∙ (ap (static_fields_of p.world) (none_named p.methods only) ∙ none_of p.world))
+no_fields p closed only = ap (map field_slot)
+    (closed.statics ∙ (ap (static_fields_of p.world) (none_named p.methods only) ∙ none_of p.world))
 
 -- ---- the inputs
 
-pub slots_are_ints : (p : Program) (closed : IsClosed p) (only : IsOnly p.methods) → slots_of p ≡ replicate (length only.method.params) (Num kinds.Int)
+pub slots_are_ints : (p : Program) (closed : IsClosed p) (only : IsOnly p.methods)
+    → slots_of p ≡ replicate (length only.method.params) (Num kinds.Int)
 slots_are_ints p closed only =
-    let params : params_of p ≡ only.method.params = ap (λ (methods : List Method). option_map_or (λ (m : Method). m.params) (slice_get methods 0) []) only.only in
+    let params : params_of p ≡ only.method.params = ap
+    (λ (methods : List Method). option_map_or (λ (m : Method). m.params) (slice_get methods 0) []) only.only in
     ap (λ (slots : List Slot). map argument_slot slots ++ statics_of p) params
     ∙ ap (λ (slots : List Slot). map argument_slot only.method.params ++ slots) (no_fields p closed only)
     ∙ append-nil (map argument_slot only.method.params)
     ∙ as_arguments only.method.params only.numbers
 
-pub described_intervals : (p : Program) (closed : IsClosed p) (only : IsOnly p.methods) (text : DescText) (described : Desc) → IsDescribed p text described → AreIntervals described.inputs
+pub described_intervals : (p : Program) (closed : IsClosed p) (only : IsOnly p.methods) (text : DescText) (described : Desc)
+    → IsDescribed p text described → AreIntervals described.inputs
 described_intervals p closed only text described is =
     intervals_are p.world (length only.method.params) (text.params ++ text.statics) described.inputs
     (is.inputs_are ∙ ap (λ (slots : List Slot). inputs_from p.world slots (text.params ++ text.statics)) (slots_are_ints p closed only))

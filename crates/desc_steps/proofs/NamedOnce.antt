@@ -20,10 +20,12 @@ named_once files desc p q d e h k =
     let text : h.text ≡ k.text = (text_exact description_of desc places.Description).one h.text k.text h.said k.said in
     let linked : IsWorldOf k.classes p.world = subst (λ (cs : List ClassContent). IsWorldOf cs p.world) classes h.linked in
     let world : p.world ≡ q.world = (world_exact k.classes).one p.world q.world linked k.linked in
-    let named : entry_of p.world k.text.entry ≡ Ok p.entry = subst (λ (t : DescText). entry_of p.world t.entry ≡ Ok p.entry) text h.entry in
+    let named : entry_of p.world k.text.entry ≡ Ok p.entry = subst (λ (t : DescText). entry_of p.world t.entry ≡ Ok p.entry) text
+    h.entry in
     let found : entry_of q.world k.text.entry ≡ Ok p.entry = subst (λ (w : World). entry_of w k.text.entry ≡ Ok p.entry) world named in
     let entry : p.entry ≡ q.entry = ok_one (entry_of q.world k.text.entry) p.entry q.entry found k.entry in
-    let program : p ≡ q = (program_exact q.world q.entry).one p q (record { world_is = world; entry_is = entry; closed = h.closed }) (record { world_is = refl; entry_is = refl; closed = k.closed }) in
+    let program : p ≡ q = (program_exact q.world q.entry).one p q (record { world_is = world; entry_is = entry; closed = h.closed })
+    (record { world_is = refl; entry_is = refl; closed = k.closed }) in
     let said : IsDesc p k.text d = subst (λ (t : DescText). IsDesc p t d) text (h.faultless, h.is_described) in
     let described : IsDesc q k.text d = subst (λ (r : Program). IsDesc r k.text d) program said in
     (program, desc_one q k.text d e described (k.faultless, k.is_described))

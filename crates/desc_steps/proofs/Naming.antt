@@ -1,5 +1,6 @@
 -- The names of a world's classes: one after another, and that they are names of classes.
-use Rattle.std.proofs.Common.{◌≡◌, ◌∙◌, ◌+◌, ◌<◌, ◌≤◌, ◌&&◌, ℕ, zero, suc, Bool, true, List, [], ◌∷◌, ◌++◌, length, map, take, Some, None, slice_get, refl, sym, ap, arith}
+use Rattle.std.proofs.Common.{◌≡◌, ◌∙◌, ◌+◌, ◌<◌, ◌≤◌, ◌&&◌, ℕ, zero, suc, Bool, true, List, [], ◌∷◌, ◌++◌, length, map, take, Some}
+use Rattle.std.proofs.Common.{None, slice_get, refl, sym, ap, arith}
 use Rattle.std.specs.Prelude.{nat_lt}
 use Rattle.std.specs.List.{list_all}
 use Rattle.std.specs.Str.{IsAscii, is_utf8}
@@ -19,18 +20,21 @@ use Rattle.input_steps.specs.Classes.{AllSpell}
 use Rattle.desc_steps.specs.Headline.{NameProgram}
 use Rattle.desc_steps.specs.Names.{names_of}
 
-pub name_at : (world : World) (n : ℕ) (class : ClassContent) → slice_get world n ≡ Some class → slice_get (names_of world) n ≡ Some class.name
+pub name_at : (world : World) (n : ℕ) (class : ClassContent) → slice_get world n ≡ Some class
+    → slice_get (names_of world) n ≡ Some class.name
 name_at [] n class e = absurd (none-some class e)
 name_at (c ∷ world) zero class e = ap (λ (d : ClassContent). Some d.name) (some_is e)
 name_at (c ∷ world) (suc n) class e = name_at world n class e
 
-pub one_more : (names so more : List (List ℕ)) (n : ℕ) (name : List ℕ) → so ≡ take n names → slice_get names n ≡ Some name → more ≡ so ++ name ∷ [] → more ≡ take (n + 1) names
+pub one_more : (names so more : List (List ℕ)) (n : ℕ) (name : List ℕ) → so ≡ take n names → slice_get names n ≡ Some name
+    → more ≡ so ++ name ∷ [] → more ≡ take (n + 1) names
 one_more names so more n name is at put =
     let next : suc n ≡ n + 1 = omega arith in
     put ∙ (ap (λ (front : List (List ℕ)). front ++ name ∷ []) is ∙ (sym (take_next names n name at) ∙ ap (λ (k : ℕ). take k names) next))
 
 pub few_so_far : (names so : List (List ℕ)) (n : ℕ) → so ≡ take n names → length so ≤ n
-few_so_far names so n is = let long = ap (λ (l : List (List ℕ)). length l) is in let low : length (take n names) ≤ n = length_taken n names in omega (arith, long, low)
+few_so_far names so n is = let long = ap (λ (l : List (List ℕ)). length l) is in let low : length (take n names) ≤ n = length_taken
+    n names in omega (arith, long, low)
 
 pub all_named : (world : World) (so : List (List ℕ)) (n : ℕ) → so ≡ take n (names_of world) → length world ≤ n → so ≡ names_of world
 all_named world so n is l =
@@ -57,7 +61,8 @@ plain_names (name ∷ names) h =
     let both = and_parts (is_plain_name name) (list_all is_plain_name names) h in
     let parts = and_parts (nat_lt 0 (length name) && list_all is_name_byte name) (list_all (λ (b : ℕ). nat_lt b 128) name) both.0 in
     let text : is_utf8 name ≡ true = is_utf8-from_IsUtf8 name (IsUtf8-from_ascii name (ascii name parts.1)) in
-    and_from (is_class_name name) (list_all is_class_name names) (and_from (nat_lt 0 (length name) && list_all is_name_byte name) (is_utf8 name) parts.0 text) (plain_names names both.1)
+    and_from (is_class_name name) (list_all is_class_name names)
+    (and_from (nat_lt 0 (length name) && list_all is_name_byte name) (is_utf8 name) parts.0 text) (plain_names names both.1)
 
 built_in_names_are : AreNames built_ins
 unfolding built_in_names
@@ -69,7 +74,8 @@ spelled_names [] (c ∷ classes) s = absurd s
 spelled_names (f ∷ files) [] s = absurd s
 spelled_names (f ∷ files) (c ∷ classes) s =
     let spells : Spells f c = s.0 in
-    let name : is_class_name c.name ≡ true = ap (λ (class : ClassContent). is_class_name class.name) (sym spells.content) ∙ spells.rules.this_class.good in
+    let name : is_class_name c.name ≡ true = ap (λ (class : ClassContent). is_class_name class.name) (sym spells.content)
+    ∙ spells.rules.this_class.good in
     and_from (is_class_name c.name) (list_all is_class_name (names_of classes)) name (spelled_names files classes s.1)
 
 joined_names : (classes more : World) → AreNames classes → AreNames more → AreNames (classes ++ more)
@@ -79,6 +85,8 @@ joined_names (c ∷ classes) more h k =
     and_from (is_class_name c.name) (list_all is_class_name (names_of (classes ++ more))) both.0 (joined_names classes more both.1 k)
 
 -- so are those of a program's world
-pub names_are : (files : List (List ℕ)) (desc : List ℕ) (p : Program) (described : Desc) → NameProgram files desc p described → list_all is_class_name (names_of p.world) ≡ true
+pub names_are : (files : List (List ℕ)) (desc : List ℕ) (p : Program) (described : Desc) → NameProgram files desc p described
+    → list_all is_class_name (names_of p.world) ≡ true
 names_are files desc p described named =
-    ap (λ (world : World). list_all is_class_name (names_of world)) named.linked.world_is ∙ joined_names built_ins named.classes built_in_names_are (spelled_names files named.classes named.spelled)
+    ap (λ (world : World). list_all is_class_name (names_of world)) named.linked.world_is
+    ∙ joined_names built_ins named.classes built_in_names_are (spelled_names files named.classes named.spelled)

@@ -1,5 +1,6 @@
 -- Each step gives one thing or refuses for one fault, so an input has one refusal at most, and a command one answer where it says one thing.
-use Rattle.std.proofs.Common.{◌≡◌, ◌∙◌, ◌≤◌, ℕ, zero, suc, List, [], ◌∷◌, length, Option, Some, None, slice_get, Result, Ok, Err, refl, sym, arith}
+use Rattle.std.proofs.Common.{◌≡◌, ◌∙◌, ◌≤◌, ℕ, zero, suc, List, [], ◌∷◌, length, Option, Some, None, slice_get, Result, Ok, Err}
+use Rattle.std.proofs.Common.{refl, sym, arith}
 use Rattle.std.specs.Prelude.{IsTrue}
 use Rattle.list_views.proofs.Items.{get_past}
 use Rattle.list_views.proofs.Options.{one_answer}
@@ -23,7 +24,8 @@ use Rattle.input_steps.specs.declared.refused.Place.TheVariants as places
 use Rattle.input_steps.specs.declared.refused.Fault.TheVariants as faults
 use Rattle.input_steps.specs.Classes.{AllSpell, RefusesClasses, IsWorldOf, RefusesWorld}
 use Rattle.input_steps.specs.Programs.{IsProgramOf, RefusesProgram, IsAcyclic, RefusesCalls, RefusesTypes}
-use Rattle.input_steps.proofs.OneAnswer.{map_some_one, IsExact, IsOne, at_one, then_one, none_some, classes_exact, world_exact, program_exact, calls_exact, types_exact}
+use Rattle.input_steps.proofs.OneAnswer.{map_some_one, IsExact, IsOne, at_one, then_one, none_some, classes_exact, world_exact}
+use Rattle.input_steps.proofs.OneAnswer.{program_exact, calls_exact, types_exact}
 use Rattle.input_steps.proofs.OneText.{said_exact, text_exact}
 use Rattle.desc_steps.specs.Answers.{OfInputs, OfProgram, OfEntry, OfClasses, OfFiles}
 use Rattle.desc_steps.specs.Descriptions.{IsDescText, RefusesText, RefusesEntry, IsDesc, RefusesDesc}
@@ -42,12 +44,14 @@ desc_exact : (p : Program) (text : DescText) → IsExact (IsDesc p text) (Refuse
 desc_exact p text = record {
   one = desc_one p text;
   apart = λ described place fault h r. none_some (desc_fault p text) r.cause h.0 r.holds;
-  named = at_one {C = DescFault} (λ fault. places.Description) faults.Desc (λ fault. desc_fault p text ≡ Some fault) (λ f g h k. one_answer (desc_fault p text) f g h k);
+  named = at_one {C = DescFault} (λ fault. places.Description) faults.Desc (λ fault. desc_fault p text ≡ Some fault)
+      (λ f g h k. one_answer (desc_fault p text) f g h k);
 }
 
 -- ---- typings
 
-types_at : (p : Program) → IsTrue (is_linked p.world) → (a b : ℕ → CodeTypes) → IsTypingOf p a → IsTypingOf p b → (n place : ℕ) (found : Option Method) → slice_get p.methods n ≡ found → a n place ≡ b n place
+types_at : (p : Program) → IsTrue (is_linked p.world) → (a b : ℕ → CodeTypes) → IsTypingOf p a → IsTypingOf p b
+    → (n place : ℕ) (found : Option Method) → slice_get p.methods n ≡ found → a n place ≡ b n place
 types_at p linked a b h k n place (Some m) e = least_is_one p m (world_laws p.world linked) (a n) (b n) (h.each n m e) (k.each n m e) place
 types_at p linked a b h k n place None e = let l = get_past p.methods n e in h.no_more n place l ∙ sym (k.no_more n place l)
 
@@ -72,25 +76,31 @@ others_exact p = record {
 
 -- ---- the whole
 
-module _ {X : Type 0} (Says : Program → (ℕ → CodeTypes) → Desc → Result X Refused → Type 0) (one : (p : Program) (typing : ℕ → CodeTypes) (described : Desc) → IsIntProgram p → IsOne (Says p typing described)) where
+module _ {X : Type 0} (Says : Program → (ℕ → CodeTypes) → Desc → Result X Refused → Type 0)
+    (one : (p : Program) (typing : ℕ → CodeTypes) (described : Desc) → IsIntProgram p → IsOne (Says p typing described)) where
   inputs_one : (p : Program) (typing : ℕ → CodeTypes) (described : Desc) → IsOne (OfInputs Says p typing described)
   inputs_one p typing described =
-      then_one {A = Unit {0}} (λ nothing. IsIntProgram p) (RefusesOthers p) (λ nothing. Says p typing described) (others_exact p) (λ nothing ints. one p typing described ints)
+      then_one {A = Unit {0}} (λ nothing. IsIntProgram p) (RefusesOthers p) (λ nothing. Says p typing described) (others_exact p)
+      (λ nothing ints. one p typing described ints)
 
   program_one : (text : DescText) (p : Program) → IsClosed p → IsOne (OfProgram Says text p)
   program_one text p closed =
       then_one {A = Unit {0}} (λ nothing. IsAcyclic p) (RefusesCalls p) _ (calls_exact p) (λ nothing a.
       then_one {A = ℕ → CodeTypes} (IsTypingOf p) (RefusesTypes p) _ (typing_exact p closed.known.linked) (λ typing t.
-      then_one (IsDesc p text) (RefusesDesc p text) (OfInputs Says p typing) (desc_exact p text) (λ described h. inputs_one p typing described)))
+      then_one (IsDesc p text) (RefusesDesc p text) (OfInputs Says p typing) (desc_exact p text)
+      (λ described h. inputs_one p typing described)))
 
   entry_one : (text : DescText) (world : World) (entry : MethodRef) → IsOne (OfEntry Says text world entry)
   entry_one text world entry =
-      then_one (IsProgramOf world entry) (RefusesProgram world entry) (OfProgram Says text) (program_exact world entry) (λ p h. program_one text p h.closed)
+      then_one (IsProgramOf world entry) (RefusesProgram world entry) (OfProgram Says text) (program_exact world entry)
+      (λ p h. program_one text p h.closed)
 
   -- where a command has one answer to programs with described inputs, it has one to bytes
   pub files_one : (desc : List ℕ) (files : List (List ℕ)) → IsOne (OfFiles Says desc files)
   files_one desc files =
       then_one (AllSpell files) (RefusesClasses files) _ (classes_exact files) (λ classes s.
-      then_one (IsDescText desc) (RefusesText desc) (λ text. OfClasses Says text classes) (text_exact description_of desc places.Description) (λ text t.
+      then_one (IsDescText desc) (RefusesText desc) (λ text. OfClasses Says text classes)
+      (text_exact description_of desc places.Description) (λ text t.
       then_one (IsWorldOf classes) (RefusesWorld classes) _ (world_exact classes) (λ world w.
-      then_one (λ entry. entry_of world text.entry ≡ Ok entry) (RefusesEntry world text) (OfEntry Says text world) (said_exact places.Description (entry_of world text.entry)) (λ entry e. entry_one text world entry))))
+      then_one (λ entry. entry_of world text.entry ≡ Ok entry) (RefusesEntry world text) (OfEntry Says text world)
+      (said_exact places.Description (entry_of world text.entry)) (λ entry e. entry_one text world entry))))

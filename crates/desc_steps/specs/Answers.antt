@@ -19,28 +19,33 @@ use Rattle.desc_steps.specs.Descriptions.{IsDescText, RefusesText, RefusesEntry,
 use Rattle.desc_steps.specs.Ints.{IsIntProgram, RefusesOthers}
 
 -- of a program with its typing and described inputs: whether it is built so far, and then what the command says of it
-abbrev pub OfInputs : {X : Type 0} → (Program → (ℕ → CodeTypes) → Desc → Result X Refused → Type 0) → Program → (ℕ → CodeTypes) → Desc → Result X Refused → Type 0
+abbrev pub OfInputs : {X : Type 0} → (Program → (ℕ → CodeTypes) → Desc → Result X Refused → Type 0) → Program → (ℕ → CodeTypes)
+    → Desc → Result X Refused → Type 0
 OfInputs {X} Says p typing desc = Then {A = Unit {0}} {X = X} (λ nothing. IsIntProgram p) (RefusesOthers p) (λ nothing. Says p typing desc)
 
 -- of a program: its calls, its types, and what the description says of its inputs
-abbrev pub OfProgram : {X : Type 0} → (Program → (ℕ → CodeTypes) → Desc → Result X Refused → Type 0) → DescText → Program → Result X Refused → Type 0
+abbrev pub OfProgram : {X : Type 0} → (Program → (ℕ → CodeTypes) → Desc → Result X Refused → Type 0) → DescText → Program
+    → Result X Refused → Type 0
 OfProgram {X} Says text p =
     Then {A = Unit {0}} {X = X} (λ nothing. IsAcyclic p) (RefusesCalls p) (λ nothing.
     Then {A = ℕ → CodeTypes} {X = X} (IsTypingOf p) (RefusesTypes p) (λ typing.
     Then {A = Desc} {X = X} (IsDesc p text) (RefusesDesc p text) (OfInputs Says p typing)))
 
 -- of an entry: its program
-abbrev pub OfEntry : {X : Type 0} → (Program → (ℕ → CodeTypes) → Desc → Result X Refused → Type 0) → DescText → World → MethodRef → Result X Refused → Type 0
+abbrev pub OfEntry : {X : Type 0} → (Program → (ℕ → CodeTypes) → Desc → Result X Refused → Type 0) → DescText → World → MethodRef
+    → Result X Refused → Type 0
 OfEntry {X} Says text world entry = Then {A = Program} {X = X} (IsProgramOf world entry) (RefusesProgram world entry) (OfProgram Says text)
 
 -- of classes: the world that they make, and the method that the description names
-abbrev pub OfClasses : {X : Type 0} → (Program → (ℕ → CodeTypes) → Desc → Result X Refused → Type 0) → DescText → List ClassContent → Result X Refused → Type 0
+abbrev pub OfClasses : {X : Type 0} → (Program → (ℕ → CodeTypes) → Desc → Result X Refused → Type 0) → DescText → List ClassContent
+    → Result X Refused → Type 0
 OfClasses {X} Says text classes =
     Then {A = World} {X = X} (IsWorldOf classes) (RefusesWorld classes) (λ world.
     Then {A = MethodRef} {X = X} (λ entry. entry_of world text.entry ≡ Ok entry) (RefusesEntry world text) (OfEntry Says text world))
 
 -- of the files: the classes that they spell, and the description's text
-abbrev pub OfFiles : {X : Type 0} → (Program → (ℕ → CodeTypes) → Desc → Result X Refused → Type 0) → List ℕ → List (List ℕ) → Result X Refused → Type 0
+abbrev pub OfFiles : {X : Type 0} → (Program → (ℕ → CodeTypes) → Desc → Result X Refused → Type 0) → List ℕ → List (List ℕ)
+    → Result X Refused → Type 0
 OfFiles {X} Says desc files =
     Then {A = List ClassContent} {X = X} (AllSpell files) (RefusesClasses files) (λ classes.
     Then {A = DescText} {X = X} (IsDescText desc) (RefusesText desc) (λ text. OfClasses Says text classes))

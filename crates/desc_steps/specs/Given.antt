@@ -29,7 +29,8 @@ IsGiven p typing desc (Err Memory) = Unit {0}
 
 -- it is given where the description names a method of the world
 abbrev pub OfWorld : DescText → World → Result DescribedProgram Refused → Type 0
-OfWorld text world = Then {A = MethodRef} {X = DescribedProgram} (λ entry. entry_of world text.entry ≡ Ok entry) (RefusesEntry world text) (OfEntry IsGiven text world)
+OfWorld text world = Then {A = MethodRef} {X = DescribedProgram} (λ entry. entry_of world text.entry ≡ Ok entry)
+    (RefusesEntry world text) (OfEntry IsGiven text world)
 
 -- it is such as the calls over ints take
 pub record IsReady (given : DescribedProgram) : Type 0 where

@@ -61,7 +61,8 @@ fn ints_alone(program: &Program<'_>, desc: Desc) -> Result<Desc, Refused>
 #[tactic(auto, using(crate::proofs::Answering::desc_is_refused, crate::proofs::Answering::ints_given))]
 fn int_desc(alloc: Global, text: DescText, program: &Program<'_>) -> Result<Desc, Refused>
     ensures given { IfOk result (λ desc. IsIntDesc (program_of program.now) text desc) }
-    ensures refused { IfErr result (λ refused. (typing : ℕ → CodeTypes) → IsAcyclic (program_of program.now) → IsTypingOf (program_of program.now) typing → OfProgram IsGiven text (program_of program.now) (Err refused)) }
+    ensures refused { IfErr result (λ refused. (typing : ℕ → CodeTypes) → IsAcyclic (program_of program.now)
+        → IsTypingOf (program_of program.now) typing → OfProgram IsGiven text (program_of program.now) (Err refused)) }
 {
     match described(alloc, program, text) {
         Ok(desc) => ints_alone(program, desc),
@@ -196,7 +197,8 @@ pub fn described_program<'a>(
     requires { length files.now ≤ most_classes }
     ensures answers { OfFiles IsGiven desc.now (map (λ file. file.items) files.now) result }
     ensures ready { IfOk result IsReady }
-    ensures named { IfOk result (λ given. NameProgram (map (λ file. file.items) files.now) desc.now (program_of given.program) given.desc) }
+    ensures named { IfOk result (λ given. NameProgram (map (λ file. file.items) files.now) desc.now (program_of given.program)
+        given.desc) }
     ensures names { IfOk result (λ given. IsTrue (list_all is_class_name (names_of (classes_of given.program.world)))) }
 {
     let classes = match read_classes(alloc, files) {

@@ -1,6 +1,7 @@
 -- Parts of which those without a state are named by earlier ones, as a certificate's text has them, can be filled; and the filled graph has as
 -- many nodes.
-use Rattle.std.proofs.Common.{◌≡◌, ◌∙◌, ◌<◌, ◌≤◌, ◌==◌, ℕ, zero, suc, Bool, true, false, ◌||◌, List, [], ◌∷◌, length, take, Option, Some, None, slice_get, refl, ap, arith}
+use Rattle.std.proofs.Common.{◌≡◌, ◌∙◌, ◌<◌, ◌≤◌, ◌==◌, ℕ, zero, suc, Bool, true, false, ◌||◌, List, [], ◌∷◌, length, take, Option}
+use Rattle.std.proofs.Common.{Some, None, slice_get, refl, ap, arith}
 use Rattle.std.specs.List.{list_any}
 use Rattle.std.proofs.lemmas.Bool.{false≢true, eqb-true}
 use Rattle.std.proofs.lemmas.Option.{none-some}
@@ -50,15 +51,27 @@ named_in Todo number h = absurd (false≢true h)
 
 pub can_be_filled : (parts : List GraphPart) → LackingAreNamed parts → CanBeFilled parts
 can_be_filled parts lacking number part at none =
-    let bare : slice_get parts number ≡ Some (record { state = None; by = part.by }) = at ∙ ap (λ (state : Option AbstractState). Some (let p : GraphPart = record { state = state; by = part.by } in p)) none in
+    let bare : slice_get parts number ≡ Some (record { state = None; by = part.by }) = at
+    ∙ ap (λ (state : Option AbstractState). Some (let p : GraphPart = record { state = state; by = part.by } in p)) none in
     let found = some_place (λ (other : GraphPart). names_child number other.by) (take number parts) (lacking number part.by bare) in
     let before = taken_at number parts found.place found.item found.is in
     let named = named_in found.item.by number found.passes in
-    record { namer = found.place; part = found.item; named = named.named; place = named.place; earlier = before.1; is = before.0; by = named.is; at = named.at }
+    record {
+      namer = found.place;
+      part = found.item;
+      named = named.named;
+      place = named.place;
+      earlier = before.1;
+      is = before.0;
+      by
+          = named.is;
+      at = named.at;
+    }
 
 -- ---- the filled graph
 
-pub few_filled : (p : Program) (typing : ℕ → CodeTypes) (parts : List GraphPart) (nodes : List GraphNode) → length parts ≤ 20000 → IsFilled p typing parts nodes → length nodes ≤ 20000
+pub few_filled : (p : Program) (typing : ℕ → CodeTypes) (parts : List GraphPart) (nodes : List GraphNode) → length parts ≤ 20000
+    → IsFilled p typing parts nodes → length nodes ≤ 20000
 few_filled p typing parts nodes few filled =
     let same = same_length (λ (node : GraphNode). node.by) (λ (part : GraphPart). part.by) nodes parts filled.ways in
     omega (arith, few, same)

@@ -1,15 +1,18 @@
 -- Lists by place: behind another one, their first items, and with one item set.
-use Rattle.std.proofs.Common.{◌≡◌, ◌<◌, ◌∙◌, ℕ, zero, suc, List, [], ◌∷◌, ◌++◌, map, length, take, Some, slice_get, slice_set, ◌⊎◌, inl, inr, refl, sym, ap, arith}
+use Rattle.std.proofs.Common.{◌≡◌, ◌<◌, ◌∙◌, ℕ, zero, suc, List, [], ◌∷◌, ◌++◌, map, length, take, Some, slice_get, slice_set, ◌⊎◌}
+use Rattle.std.proofs.Common.{inl, inr, refl, sym, ap, arith}
 use Rattle.std.proofs.lemmas.Option.{none-some}
 use Rattle.jvm_values.proofs.Options.{some_is}
 
-pub of_front : {A : Type 0} (front more : List A) (n : ℕ) (x : A) → n < length front → slice_get (front ++ more) n ≡ Some x → slice_get front n ≡ Some x
+pub of_front : {A : Type 0} (front more : List A) (n : ℕ) (x : A) → n < length front → slice_get (front ++ more) n ≡ Some x
+    → slice_get front n ≡ Some x
 of_front [] more n x l at = absurd (omega (arith, l))
 of_front (y ∷ front) more zero x l at = at
 of_front (y ∷ front) more (suc n) x l at = of_front front more n x (omega (arith, l)) at
 
 -- an item of a list with one more is an old one, or the new one
-pub in_more : {A : Type 0} (front : List A) (x y : A) (n : ℕ) → slice_get (front ++ x ∷ []) n ≡ Some y → (slice_get front n ≡ Some y) ⊎ ((n ≡ length front) × (y ≡ x))
+pub in_more : {A : Type 0} (front : List A) (x y : A) (n : ℕ) → slice_get (front ++ x ∷ []) n ≡ Some y
+    → (slice_get front n ≡ Some y) ⊎ ((n ≡ length front) × (y ≡ x))
 in_more [] x y zero at = inr (refl, sym (some_is at))
 in_more [] x y (suc n) at = absurd (none-some y at)
 in_more (z ∷ front) x y zero at = inl at
@@ -44,7 +47,8 @@ pub record Paired {A C : Type 0} (f : A → C) (image : C) (xs : List A) (n : �
   pub there : slice_get xs n ≡ Some other
   pub same : f other ≡ image
 
-pub paired : {A B C : Type 0} (f : A → C) (g : B → C) (xs : List A) (ys : List B) (n : ℕ) (y : B) → map f xs ≡ map g ys → slice_get ys n ≡ Some y → Paired f (g y) xs n
+pub paired : {A B C : Type 0} (f : A → C) (g : B → C) (xs : List A) (ys : List B) (n : ℕ) (y : B) → map f xs ≡ map g ys
+    → slice_get ys n ≡ Some y → Paired f (g y) xs n
 paired f g xs [] n y e at = absurd (none-some y at)
 paired f g [] (z ∷ ys) n y e at = let no : ⊥ = cc in absurd no
 paired f g (x ∷ xs) (z ∷ ys) zero y e at =

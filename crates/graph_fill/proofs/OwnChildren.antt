@@ -20,8 +20,11 @@ child_same p typing state a b place child g h at = ap (λ (xs : List GraphChild)
 
 -- ---- states without children
 
-pub none_bad : (p : Program) (typing : ℕ → CodeTypes) (state : AbstractState) (clause : ℕ) → IsBadState p typing state clause → HasChildrenOrNone p typing state []
+pub none_bad : (p : Program) (typing : ℕ → CodeTypes) (state : AbstractState) (clause : ℕ) → IsBadState p typing state clause
+    → HasChildrenOrNone p typing state []
 none_bad p typing state clause bad = inr (refl, λ others h. not_bad p typing state clause h.0 bad)
 
-pub none_many : (p : Program) (typing : ℕ → CodeTypes) (state : AbstractState) (child : ℕ) → IsFirstTooMany (counts_of (types_of p.world) state (plan_of p typing state)) child → HasChildrenOrNone p typing state []
-none_many p typing state child many = inr (refl, λ others h. few_or_many (counts_of (types_of p.world) state (plan_of p typing state)) child h.1.few many)
+pub none_many : (p : Program) (typing : ℕ → CodeTypes) (state : AbstractState) (child : ℕ)
+    → IsFirstTooMany (counts_of (types_of p.world) state (plan_of p typing state)) child → HasChildrenOrNone p typing state []
+none_many p typing state child many = inr
+    (refl, λ others h. few_or_many (counts_of (types_of p.world) state (plan_of p typing state)) child h.1.few many)

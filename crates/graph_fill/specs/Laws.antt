@@ -21,10 +21,12 @@ IsStateOrNone None state = Unit {0}
 
 pub record ArePartsOf (nodes : List GraphNode) (parts : List GraphPart) : Type 0 where
   pub ways : map (λ node. node.by) nodes ≡ map (λ part. part.by) parts
-  pub states : (number : ℕ) (part : GraphPart) (node : GraphNode) → slice_get parts number ≡ Some part → slice_get nodes number ≡ Some node → IsStateOrNone part.state node.state
+  pub states : (number : ℕ) (part : GraphPart) (node : GraphNode) → slice_get parts number ≡ Some part
+      → slice_get nodes number ≡ Some node → IsStateOrNone part.state node.state
 
 -- of a good graph, of which some states are left out, the filled graph is that graph
 abbrev pub GoodGraphsFillThemselves : Type 0
 GoodGraphsFillThemselves =
-    (p : Program) (typing : ℕ → CodeTypes) (nodes filled : List GraphNode) (root : AbstractState) (links : List (List Link)) (parts : List GraphPart)
+    (p : Program) (typing : ℕ → CodeTypes) (nodes filled : List GraphNode) (root : AbstractState) (links : List (List Link))
+    (parts : List GraphPart)
     → GraphOk p typing nodes root links → ArePartsOf nodes parts → IsFilled p typing parts filled → filled ≡ nodes

@@ -1,6 +1,7 @@
 -- Words for the calls that fill a graph. Slots are the states of the nodes by number: empty where a state is still to be found, or where
 -- it was taken.
-use Rattle.std.specs.Prelude.{◌≡◌, ℕ, suc, Bool, true, false, nat_lt, if◌then◌else◌, List, [], ◌∷◌, ◌++◌, Option, Some, None, slice_get, slice_set, ◌⊎◌}
+use Rattle.std.specs.Prelude.{◌≡◌, ℕ, suc, Bool, true, false, nat_lt, if◌then◌else◌, List, [], ◌∷◌, ◌++◌, Option, Some, None}
+use Rattle.std.specs.Prelude.{slice_get, slice_set, ◌⊎◌}
 use Rattle.std.specs.List.{list_any}
 use Rattle.std.specs.Option.{option_map_or}
 use Rattle.abs_cells.specs.AbstractStates.{AbstractState}
@@ -41,16 +42,19 @@ put low number state slots = if is_wanted slots low number then slice_set slots 
 -- the states of children, from a place on, in the slots of the nodes that are named for them
 abbrev pub put_all : ℕ → AbstractState → List GraphChild → ℕ → List ℕ → List (Option AbstractState) → List (Option AbstractState)
 put_all low first children place [] slots = slots
-put_all low first children place (number ∷ named) slots = put_all low first children (suc place) named (put low number (taken_at first children place) slots)
+put_all low first children place (number ∷ named) slots = put_all low first children (suc place) named
+    (put low number (taken_at first children place) slots)
 
 -- ---- children
 
 -- the children of a state, or an empty list where it has none
 abbrev pub HasChildrenOrNone : Program → (ℕ → CodeTypes) → AbstractState → List GraphChild → Type 0
-HasChildrenOrNone p typing state children = HasChildren p typing state children ⊎ ((children ≡ []) × ((others : List GraphChild) → HasChildren p typing state others → ⊥))
+HasChildrenOrNone p typing state children = HasChildren p typing state children
+    ⊎ ((children ≡ []) × ((others : List GraphChild) → HasChildren p typing state others → ⊥))
 
 -- the slots after those of the named nodes have the children's states; or none of these is wanted
-pub record PutsChildren (p : Program) (typing : ℕ → CodeTypes) (first : AbstractState) (low : ℕ) (state : AbstractState) (named : List ℕ) (slots after : List (Option AbstractState)) : Type 0 where
+pub record PutsChildren (p : Program) (typing : ℕ → CodeTypes) (first : AbstractState) (low : ℕ) (state : AbstractState)
+    (named : List ℕ) (slots after : List (Option AbstractState)) : Type 0 where
   pub children : List GraphChild
   pub are : HasChildrenOrNone p typing state children
   pub is : after ≡ put_all low first children 0 named slots
@@ -60,8 +64,10 @@ pub record PutsNone (low : ℕ) (named : List ℕ) (slots after : List (Option A
   pub is : after ≡ slots
 
 -- the same by how a node is left
-abbrev pub Puts : Program → (ℕ → CodeTypes) → AbstractState → ℕ → AbstractState → By → List (Option AbstractState) → List (Option AbstractState) → Type 0
-Puts p typing first low state (Expand named) slots after = PutsChildren p typing first low state named slots after ⊎ PutsNone low named slots after
+abbrev pub Puts : Program → (ℕ → CodeTypes) → AbstractState → ℕ → AbstractState → By → List (Option AbstractState)
+    → List (Option AbstractState) → Type 0
+Puts p typing first low state (Expand named) slots after = PutsChildren p typing first low state named slots after
+    ⊎ PutsNone low named slots after
 Puts p typing first low state (Instance target entries) slots after = after ≡ slots
 Puts p typing first low state End slots after = after ≡ slots
 Puts p typing first low state Todo slots after = after ≡ slots
@@ -69,7 +75,8 @@ Puts p typing first low state Todo slots after = after ≡ slots
 -- ---- nodes
 
 -- a node is added with the state of its slot, and its children's states are put
-pub record Adds (p : Program) (typing : ℕ → CodeTypes) (by : By) (number : ℕ) (slots after : List (Option AbstractState)) (front more : List GraphNode) : Type 0 where
+pub record Adds (p : Program) (typing : ℕ → CodeTypes) (by : By) (number : ℕ) (slots after : List (Option AbstractState))
+    (front more : List GraphNode) : Type 0 where
   pub state : AbstractState
   pub was : slice_get slots number ≡ Some (Some state)
   pub is : more ≡ front ++ record { state = state; by = by } ∷ []

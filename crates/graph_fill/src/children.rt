@@ -46,7 +46,8 @@ fn put_children<P: Pairs>(
     slots: &mut Seq<Option<AbsState<P>>>,
     marks: &mut Marks,
 ) -> Result<(), AllocError>
-    ensures { OnOk result (Puts (program_of program.now) (typing_at typing.now) first.now low state.now (Expand named.now) slots.old slots.new) }
+    ensures { OnOk result (Puts (program_of program.now) (typing_at typing.now) first.now low state.now (Expand named.now) slots.old
+        slots.new) }
 {
     let named = named.as_slice();
     if !is_any_wanted(slots, low, named) {

@@ -6,7 +6,9 @@ use Rattle.class_read.specs.Content.{ClassContent}
 use Rattle.class_world.specs.World.{World, world_of}
 use Rattle.class_world.specs.Linking.{link_fault}
 use Rattle.class_world.specs.declared.fault.LinkFault.{LinkFault}
-use Rattle.class_world.specs.declared.fault.LinkFault.TheVariants.{DuplicateClass, MissingClass, CyclicHierarchy, BadSuper, DefaultMethod, StaticInit, Native, Synchronized, UnsupportedType, Unresolved, PrivateVirtual, Code, TooManyStatics, Memory}
+use Rattle.class_world.specs.declared.fault.LinkFault.TheVariants.{DuplicateClass, MissingClass, CyclicHierarchy, BadSuper}
+use Rattle.class_world.specs.declared.fault.LinkFault.TheVariants.{DefaultMethod, StaticInit, Native, Synchronized, UnsupportedType}
+use Rattle.class_world.specs.declared.fault.LinkFault.TheVariants.{Unresolved, PrivateVirtual, Code, TooManyStatics, Memory}
 use Rattle.class_world.specs.declared.fault.MethodName.{MethodName}
 use Rattle.class_world.specs.declared.world.MethodRef.{MethodRef}
 use Rattle.class_program.specs.Programs.{Program}
@@ -21,11 +23,13 @@ use Rattle.input_steps.specs.declared.refused.Fault.TheVariants as faults
 use Rattle.input_steps.specs.Classes.{RefusesWorld}
 use Rattle.input_steps.specs.Programs.{RefusesProgram, RefusesCalls, RefusesTypes}
 
-pub at_world : (classes : List ClassContent) (fault : LinkFault) → link_fault (world_of classes) ≡ Some fault → RefusesWorld classes places.Link (faults.Link fault)
+pub at_world : (classes : List ClassContent) (fault : LinkFault) → link_fault (world_of classes) ≡ Some fault
+    → RefusesWorld classes places.Link (faults.Link fault)
 at_world classes fault e = record { cause = fault; place_is = refl; fault_is = refl; holds = e }
 
 -- the fault that is due, where it isn't want of memory
-due_is : {Y : Type 0} (fault : LinkFault) (said : Result Y LinkFault) → (fault ≡ Memory → ⊥) → IsDue is_memory fault said → said ≡ Err fault
+due_is : {Y : Type 0} (fault : LinkFault) (said : Result Y LinkFault) → (fault ≡ Memory → ⊥) → IsDue is_memory fault said
+    → said ≡ Err fault
 due_is (DuplicateClass name) said other due = due
 due_is (MissingClass name) said other due = due
 due_is (CyclicHierarchy name) said other due = due
@@ -41,13 +45,17 @@ due_is (Code method fault) said other due = due
 due_is TooManyStatics said other due = due
 due_is Memory said other due = absurd (other refl)
 
-pub at_program : (world : World) (entry : MethodRef) (fault : LinkFault) → (fault ≡ Memory → ⊥) → IsDue is_memory fault (close_of world entry) → RefusesProgram world entry places.Link (faults.Link fault)
-at_program world entry fault other due = record { cause = fault; place_is = refl; fault_is = refl; holds = due_is fault (close_of world entry) other due }
+pub at_program : (world : World) (entry : MethodRef) (fault : LinkFault) → (fault ≡ Memory → ⊥)
+    → IsDue is_memory fault (close_of world entry) → RefusesProgram world entry places.Link (faults.Link fault)
+at_program world entry fault other due = record
+    { cause = fault; place_is = refl; fault_is = refl; holds = due_is fault (close_of world entry) other due }
 
-pub at_calls : (p : Program) (method : MethodName) → (a : ℕ) × (IsLeastOnCycle (Calls p) a × IsNameOf p a method) → RefusesCalls p places.Recursion (faults.Call (Recursive method))
+pub at_calls : (p : Program) (method : MethodName) → (a : ℕ) × (IsLeastOnCycle (Calls p) a × IsNameOf p a method)
+    → RefusesCalls p places.Recursion (faults.Call (Recursive method))
 at_calls p method h = record { cause = method; place_is = refl; fault_is = refl; holds = h }
 
-pub at_types : (p : Program) (number : ℕ) (method : MethodName) → IsFirstUntyped p number → IsNameOf p number method → RefusesTypes p places.Verify (faults.Untyped method)
+pub at_types : (p : Program) (number : ℕ) (method : MethodName) → IsFirstUntyped p number → IsNameOf p number method
+    → RefusesTypes p places.Verify (faults.Untyped method)
 at_types p number method u n = record { cause = method; place_is = refl; fault_is = refl; holds = (number, (u, n)) }
 
 -- the method without a typing is there

@@ -1,5 +1,6 @@
 -- Class files, read one after another.
-use Rattle.std.proofs.Common.{◌≡◌, ℕ, zero, suc, ◌<◌, List, [], ◌∷◌, ◌++◌, length, map, take, get_or, slice_get, Option, Some, Ok, refl, sym, ap, ◌∙◌, subst, arith}
+use Rattle.std.proofs.Common.{◌≡◌, ℕ, zero, suc, ◌<◌, List, [], ◌∷◌, ◌++◌, length, map, take, get_or, slice_get, Option, Some, Ok}
+use Rattle.std.proofs.Common.{refl, sym, ap, ◌∙◌, subst, arith}
 use Rattle.std.specs.List.{AllByRecursion}
 use Rattle.std.proofs.lemmas.Option.{same_Some}
 use Rattle.class_read.specs.Content.{ClassContent}
@@ -18,37 +19,110 @@ use Rattle.input_steps.specs.Classes.{AllSpell, IsBrokenFile, IsFirstBroken, Ref
 
 -- a fault that is not want of memory is the file's
 abbrev IsOwn : List ℕ → ClassFault → Type 0
-IsOwn file fault = ((class : ClassContent) → Spells file class → Fails fault (Ok class)) → Fails fault (class_in file) → IsBrokenFile file fault
+IsOwn file fault = ((class : ClassContent) → Spells file class → Fails fault (Ok class)) → Fails fault (class_in file)
+    → IsBrokenFile file fault
 
-pub refuses_file : (number : ℕ) (file : List ℕ) (fault : ClassFault) → ((class : ClassContent) → Spells file class → Fails fault (Ok class)) → Fails fault (class_in file) → IsCaused (RefusesFile number file) (class_refusal number fault)
-refuses_file number file classes.BadMagic none first = record { cause = classes.BadMagic; place_is = refl; fault_is = refl; holds = record { none = λ class s. let e = none class s in cc; first = first } }
-refuses_file number file (classes.Version major) none first = record { cause = (classes.Version major); place_is = refl; fault_is = refl; holds = record { none = λ class s. let e = none class s in cc; first = first } }
-refuses_file number file (classes.Pool fault) none first = record { cause = (classes.Pool fault); place_is = refl; fault_is = refl; holds = record { none = λ class s. let e = none class s in cc; first = first } }
-refuses_file number file (classes.Truncated at) none first = record { cause = (classes.Truncated at); place_is = refl; fault_is = refl; holds = record { none = λ class s. let e = none class s in cc; first = first } }
-refuses_file number file (classes.BadDescriptor at) none first = record { cause = (classes.BadDescriptor at); place_is = refl; fault_is = refl; holds = record { none = λ class s. let e = none class s in cc; first = first } }
-refuses_file number file (classes.DuplicateMember at) none first = record { cause = (classes.DuplicateMember at); place_is = refl; fault_is = refl; holds = record { none = λ class s. let e = none class s in cc; first = first } }
-refuses_file number file (classes.CodeLength at) none first = record { cause = (classes.CodeLength at); place_is = refl; fault_is = refl; holds = record { none = λ class s. let e = none class s in cc; first = first } }
-refuses_file number file (classes.MissingCode at) none first = record { cause = (classes.MissingCode at); place_is = refl; fault_is = refl; holds = record { none = λ class s. let e = none class s in cc; first = first } }
-refuses_file number file (classes.ExtraCode at) none first = record { cause = (classes.ExtraCode at); place_is = refl; fault_is = refl; holds = record { none = λ class s. let e = none class s in cc; first = first } }
-refuses_file number file (classes.TrailingBytes at) none first = record { cause = (classes.TrailingBytes at); place_is = refl; fault_is = refl; holds = record { none = λ class s. let e = none class s in cc; first = first } }
+pub refuses_file : (number : ℕ) (file : List ℕ) (fault : ClassFault)
+    → ((class : ClassContent) → Spells file class → Fails fault (Ok class)) → Fails fault (class_in file)
+    → IsCaused (RefusesFile number file) (class_refusal number fault)
+refuses_file number file classes.BadMagic none first = record {
+  cause = classes.BadMagic;
+  place_is = refl;
+  fault_is = refl;
+  holds = record
+      { none = λ class s. let e = none class s in cc; first = first };
+}
+refuses_file number file (classes.Version major) none first = record {
+  cause = (classes.Version major);
+  place_is = refl;
+  fault_is = refl;
+  holds = record
+      { none = λ class s. let e = none class s in cc; first = first };
+}
+refuses_file number file (classes.Pool fault) none first = record {
+  cause = (classes.Pool fault);
+  place_is = refl;
+  fault_is = refl;
+  holds = record
+      { none = λ class s. let e = none class s in cc; first = first };
+}
+refuses_file number file (classes.Truncated at) none first = record {
+  cause = (classes.Truncated at);
+  place_is = refl;
+  fault_is = refl;
+  holds = record
+      { none = λ class s. let e = none class s in cc; first = first };
+}
+refuses_file number file (classes.BadDescriptor at) none first = record {
+  cause = (classes.BadDescriptor at);
+  place_is = refl;
+  fault_is = refl;
+  holds = record
+      { none = λ class s. let e = none class s in cc; first = first };
+}
+refuses_file number file (classes.DuplicateMember at) none first = record {
+  cause = (classes.DuplicateMember at);
+  place_is = refl;
+  fault_is = refl;
+  holds = record
+      { none = λ class s. let e = none class s in cc; first = first };
+}
+refuses_file number file (classes.CodeLength at) none first = record {
+  cause = (classes.CodeLength at);
+  place_is = refl;
+  fault_is = refl;
+  holds = record
+      { none = λ class s. let e = none class s in cc; first = first };
+}
+refuses_file number file (classes.MissingCode at) none first = record {
+  cause = (classes.MissingCode at);
+  place_is = refl;
+  fault_is = refl;
+  holds = record
+      { none = λ class s. let e = none class s in cc; first = first };
+}
+refuses_file number file (classes.ExtraCode at) none first = record {
+  cause = (classes.ExtraCode at);
+  place_is = refl;
+  fault_is = refl;
+  holds = record
+      { none = λ class s. let e = none class s in cc; first = first };
+}
+refuses_file number file (classes.TrailingBytes at) none first = record {
+  cause = (classes.TrailingBytes at);
+  place_is = refl;
+  fault_is = refl;
+  holds = record
+      { none = λ class s. let e = none class s in cc; first = first };
+}
 refuses_file number file classes.Memory none first = tt
 
 -- ---- the files before it
 
-pub spell_more : (files : List (List ℕ)) (read : List ClassContent) (file : List ℕ) (class : ClassContent) → AllSpell files read → Spells file class → AllSpell (files ++ file ∷ []) (read ++ class ∷ [])
+pub spell_more : (files : List (List ℕ)) (read : List ClassContent) (file : List ℕ) (class : ClassContent) → AllSpell files read
+    → Spells file class → AllSpell (files ++ file ∷ []) (read ++ class ∷ [])
 spell_more [] [] file class all s = (s, tt)
 spell_more (f ∷ files) (c ∷ read) file class all s = (all.0, spell_more files read file class all.1 s)
 spell_more [] (c ∷ read) file class all s = absurd all
 spell_more (f ∷ files) [] file class all s = absurd all
 
-broken_at : (files : List (List ℕ)) (number : ℕ) (read : List ClassContent) (file : List ℕ) (fault : ClassFault) → AllSpell (take number files) read → slice_get files number ≡ Some file → IsBrokenFile file fault → IsFirstBroken files number fault
+broken_at : (files : List (List ℕ)) (number : ℕ) (read : List ClassContent) (file : List ℕ) (fault : ClassFault)
+    → AllSpell (take number files) read → slice_get files number ≡ Some file → IsBrokenFile file fault → IsFirstBroken files number fault
 broken_at [] number read file fault all e broken = absurd (cc)
 broken_at (f ∷ files) zero read file fault all e broken = subst (λ (x : List ℕ). IsBrokenFile x fault) (sym (same_Some f file e)) broken
 broken_at (f ∷ files) (suc number) [] file fault all e broken = absurd all
 broken_at (f ∷ files) (suc number) (c ∷ read) file fault all e broken = (c, all.0, broken_at files number read file fault all.1 e broken)
 
-pub refuses_classes : (files : List (List ℕ)) (number : ℕ) (read : List ClassContent) (file : List ℕ) (refused : Refused) → AllSpell (take number files) read → slice_get files number ≡ Some file → IsCaused (RefusesFile number file) refused → IsCaused (RefusesClasses files) refused
-refuses_classes files number read file (At place fault) all e r = record { cause = (number, r.cause); place_is = r.place_is; fault_is = r.fault_is; holds = broken_at files number read file r.cause all e r.holds }
+pub refuses_classes : (files : List (List ℕ)) (number : ℕ) (read : List ClassContent) (file : List ℕ) (refused : Refused)
+    → AllSpell (take number files) read → slice_get files number ≡ Some file → IsCaused (RefusesFile number file) refused
+    → IsCaused (RefusesClasses files) refused
+refuses_classes files number read file (At place fault) all e r = record {
+  cause = (number, r.cause);
+  place_is = r.place_is;
+  fault_is = r.fault_is;
+  holds = broken_at files number read file r.cause all
+      e r.holds;
+}
 refuses_classes files number read file Memory all e r = tt
 
 -- ---- all files
@@ -68,7 +142,8 @@ spell_read (f ∷ files) [] all = absurd all
 -- ---- one file more
 
 -- the first k + 1 files
-pub take_files_more : {A : Type 0} (f : A → List ℕ) (xs : List A) (k : ℕ) (x : A) (y : List ℕ) → k < length xs → x ≡ get_or xs k x → y ≡ f x
+pub take_files_more : {A : Type 0} (f : A → List ℕ) (xs : List A) (k : ℕ) (x : A) (y : List ℕ) → k < length xs → x ≡ get_or xs k x
+    → y ≡ f x
     → take (suc k) (map f xs) ≡ take k (map f xs) ++ y ∷ []
 take_files_more f [] k x y less is named = absurd (omega (arith, less))
 take_files_more f (z ∷ xs) zero x y less is named = ap (λ l. l ∷ []) (ap f (sym is) ∙ sym named)

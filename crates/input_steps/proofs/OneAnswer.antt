@@ -1,5 +1,6 @@
 -- Steps that give one thing, and refuse for one fault.
-use Rattle.std.proofs.Common.{◌≡◌, ℕ, zero, suc, ◌<◌, arith, List, [], ◌∷◌, map, Option, Some, None, Result, Ok, Err, refl, sym, ap, ◌∙◌, subst, inl, inr}
+use Rattle.std.proofs.Common.{◌≡◌, ℕ, zero, suc, ◌<◌, arith, List, [], ◌∷◌, map, Option, Some, None, Result, Ok, Err, refl, sym, ap}
+use Rattle.std.proofs.Common.{◌∙◌, subst, inl, inr}
 use Rattle.std.specs.Prelude.{◌≢◌, slice_get}
 use Rattle.list_views.proofs.Orders.{neither_below}
 use Rattle.list_views.proofs.Options.{one_answer}
@@ -43,12 +44,15 @@ abbrev pub IsOne : {X : Type 0} → (Result X Refused → Type 0) → Type 0
 IsOne {X} P = (r s : Result X Refused) → P r → P s → r ≢ Err Memory → s ≢ Err Memory → r ≡ s
 
 -- one place and fault for a cause
-pub at_one : {C : Type 0} (place_of : C → Place) (fault_of : C → Fault) (IsCause : C → Type 0) → ((x y : C) → IsCause x → IsCause y → x ≡ y) → (p q : Place) (f g : Fault) → IsAt place_of fault_of IsCause p f → IsAt place_of fault_of IsCause q g → (p ≡ q) × (f ≡ g)
+pub at_one : {C : Type 0} (place_of : C → Place) (fault_of : C → Fault) (IsCause : C → Type 0)
+    → ((x y : C) → IsCause x → IsCause y → x ≡ y) → (p q : Place) (f g : Fault) → IsAt place_of fault_of IsCause p f
+    → IsAt place_of fault_of IsCause q g → (p ≡ q) × (f ≡ g)
 at_one place_of fault_of IsCause one p q f g h k =
     let e = one h.cause k.cause h.holds k.holds in
     (h.place_is ∙ ap place_of e ∙ sym k.place_is, h.fault_is ∙ ap fault_of e ∙ sym k.fault_is)
 
-module _ {A X : Type 0} (Gives : A → Type 0) (Refuses : Place → Fault → Type 0) (Next : A → Result X Refused → Type 0) (exact : IsExact Gives Refuses) (next : (a : A) → Gives a → IsOne (Next a)) where
+module _ {A X : Type 0} (Gives : A → Type 0) (Refuses : Place → Fault → Type 0) (Next : A → Result X Refused → Type 0)
+    (exact : IsExact Gives Refuses) (next : (a : A) → Gives a → IsOne (Next a)) where
   both : (a b : A) (r s : Result X Refused) → Gives a → Gives b → Next a r → Next b s → r ≢ Err Memory → s ≢ Err Memory → r ≡ s
   both a b r s g h n m nr ns = next b h r s (subst (λ (c : A). Next c r) (exact.one a b g h) n) m nr ns
 
@@ -103,7 +107,8 @@ spell_unique (f ∷ files) (c ∷ a) (d ∷ b) h k =
     let rest = spell_unique files a b h.1 k.1 in
     λ i. first i ∷ rest i
 
-never_broken : (files : List (List ℕ)) (classes : List ClassContent) (number : ℕ) (fault : ClassFault) → AllSpell files classes → IsFirstBroken files number fault → ⊥
+never_broken : (files : List (List ℕ)) (classes : List ClassContent) (number : ℕ) (fault : ClassFault) → AllSpell files classes
+    → IsFirstBroken files number fault → ⊥
 never_broken [] classes number fault all broken = broken
 never_broken (f ∷ files) [] number fault all broken = absurd all
 never_broken (f ∷ files) (c ∷ classes) zero fault all broken = broken.none c all.0
@@ -122,7 +127,8 @@ pub classes_exact : (files : List (List ℕ)) → IsExact (AllSpell files) (Refu
 classes_exact files = record {
   one = spell_unique files;
   apart = λ classes place fault spelled r. never_broken files classes r.cause.0 r.cause.1 spelled r.holds;
-  named = at_one {C = ℕ × ClassFault} (λ c. places.Class c.0) (λ c. faults.Class c.1) (λ c. IsFirstBroken files c.0 c.1) (λ x y a b. let e = broken_one files x.0 y.0 x.1 y.1 a b in λ i. (e.0 i, e.1 i));
+  named = at_one {C = ℕ × ClassFault} (λ c. places.Class c.0) (λ c. faults.Class c.1) (λ c. IsFirstBroken files c.0 c.1)
+      (λ x y a b. let e = broken_one files x.0 y.0 x.1 y.1 a b in λ i. (e.0 i, e.1 i));
 }
 
 -- ---- the world
@@ -131,19 +137,24 @@ pub world_exact : (classes : List ClassContent) → IsExact (IsWorldOf classes) 
 world_exact classes = record {
   one = λ a b h k. h.world_is ∙ sym k.world_is;
   apart = λ world place fault h r. none_some (link_fault (world_of classes)) r.cause (ap link_fault (sym h.world_is) ∙ h.links) r.holds;
-  named = at_one {C = LinkFault} (λ fault. places.Link) faults.Link (λ fault. link_fault (world_of classes) ≡ Some fault) (λ x y e f. one_answer (link_fault (world_of classes)) x y e f);
+  named = at_one {C = LinkFault} (λ fault. places.Link) faults.Link (λ fault. link_fault (world_of classes) ≡ Some fault)
+      (λ x y e f. one_answer (link_fault (world_of classes)) x y e f);
 }
 
 -- ---- the program
 
 -- the program of closed methods, with the static fields that they name
 abbrev with_statics : World → MethodRef → List Method → Program
-with_statics world entry methods = record { world = world; entry = entry; methods = methods; statics = statics_of world (fields_named methods) }
+with_statics world entry methods = record
+    { world = world; entry = entry; methods = methods; statics = statics_of world (fields_named methods) }
 
-program_is : (world : World) (entry : MethodRef) (p : Program) → IsProgramOf world entry p → (close_of world entry ≡ Ok p.methods) × (p ≡ with_statics world entry p.methods)
+program_is : (world : World) (entry : MethodRef) (p : Program) → IsProgramOf world entry p → (close_of world entry ≡ Ok p.methods)
+    × (p ≡ with_statics world entry p.methods)
 program_is world entry p h =
-    let whole : p ≡ with_statics p.world p.entry p.methods = λ i. record { world = p.world; entry = p.entry; methods = p.methods; statics = h.closed.statics i } in
-    let made : close_of world entry ≡ Ok p.methods = subst (λ (w : World). close_of w entry ≡ Ok p.methods) h.world_is (subst (λ (e : MethodRef). close_of p.world e ≡ Ok p.methods) h.entry_is h.closed.made) in
+    let whole : p ≡ with_statics p.world p.entry p.methods = λ i. record
+    { world = p.world; entry = p.entry; methods = p.methods; statics = h.closed.statics i } in
+    let made : close_of world entry ≡ Ok p.methods = subst (λ (w : World). close_of w entry ≡ Ok p.methods) h.world_is
+    (subst (λ (e : MethodRef). close_of p.world e ≡ Ok p.methods) h.entry_is h.closed.made) in
     (made, whole ∙ (λ i. with_statics (h.world_is i) (h.entry_is i) p.methods))
 
 pub program_exact : (world : World) (entry : MethodRef) → IsExact (IsProgramOf world entry) (RefusesProgram world entry)
@@ -153,15 +164,18 @@ program_exact world entry = record {
       let b = program_is world entry q k in
       a.1 ∙ ap (with_statics world entry) (ok_one (close_of world entry) p.methods q.methods a.0 b.0) ∙ sym b.1;
   apart = λ p place fault h r. ok_err (close_of world entry) p.methods r.cause (program_is world entry p h).0 r.holds;
-  named = at_one {C = LinkFault} (λ fault. places.Link) faults.Link (λ fault. close_of world entry ≡ Err fault) (λ x y e f. err_one (close_of world entry) x y e f);
+  named = at_one {C = LinkFault} (λ fault. places.Link) faults.Link (λ fault. close_of world entry ≡ Err fault)
+      (λ x y e f. err_one (close_of world entry) x y e f);
 }
 
 -- ---- numbers that are least
 
 name_one : (p : Program) (a b : ℕ) (n m : MethodName) → a ≡ b → IsNameOf p a n → IsNameOf p b m → n ≡ m
 name_one p a b n m e x y =
-    let method : x.method ≡ y.method = one_answer (slice_get p.methods b) x.method y.method (subst (λ (k : ℕ). slice_get p.methods k ≡ Some x.method) e x.there) y.there in
-    let declares : slice_get p.world y.method.class ≡ Some x.class = subst (λ (k : Method). slice_get p.world k.class ≡ Some x.class) method x.declares in
+    let method : x.method ≡ y.method = one_answer (slice_get p.methods b) x.method y.method
+    (subst (λ (k : ℕ). slice_get p.methods k ≡ Some x.method) e x.there) y.there in
+    let declares : slice_get p.world y.method.class ≡ Some x.class = subst
+    (λ (k : Method). slice_get p.world k.class ≡ Some x.class) method x.declares in
     let class : x.class ≡ y.class = one_answer (slice_get p.world y.method.class) x.class y.class declares y.declares in
     let first : n.class ≡ m.class = x.class_is ∙ ap (λ (c : ClassContent). c.name) class ∙ sym y.class_is in
     let name : n.name ≡ m.name = x.name_is ∙ ap (λ (k : Method). k.name) method ∙ sym y.name_is in
@@ -174,23 +188,27 @@ pub calls_exact : (p : Program) → IsExact {A = Unit {0}} (λ nothing. IsAcycli
 calls_exact p = record {
   one = λ a b h k. refl;
   apart = λ nothing place fault h r. h r.holds.0 r.holds.1.0.on;
-  named = at_one {C = MethodName} (λ method. places.Recursion) (λ method. faults.Call (Recursive method)) (λ method. (a : ℕ) × (IsLeastOnCycle (Calls p) a × IsNameOf p a method)) (λ x y h k.
+  named = at_one {C = MethodName} (λ method. places.Recursion) (λ method. faults.Call (Recursive method))
+      (λ method. (a : ℕ) × (IsLeastOnCycle (Calls p) a × IsNameOf p a method)) (λ x y h k.
       let e = neither_below h.0 k.0 (λ l. k.1.0.least h.0 l h.1.0.on) (λ l. h.1.0.least k.0 l k.1.0.on) in
       name_one p h.0 k.0 x y e h.1.1 k.1.1);
 }
 
 -- ---- types
 
-has_one : (p : Program) (typing : ℕ → CodeTypes) → IsTypingOf p typing → (number : ℕ) (m : Method) → slice_get p.methods number ≡ Some m → HasTyping p m
+has_one : (p : Program) (typing : ℕ → CodeTypes) → IsTypingOf p typing → (number : ℕ) (m : Method)
+    → slice_get p.methods number ≡ Some m → HasTyping p m
 has_one p typing t number m e = (typing number, (t.each number m e).is_typing)
 
 pub types_exact : (p : Program) → IsExact {A = Unit {0}} (λ nothing. HasTypings p) (RefusesTypes p)
 types_exact p = record {
   one = λ a b h k. refl;
   apart = λ nothing place fault h r. let u = r.holds.1.0 in u.untyped (has_one p h.0 h.1 r.holds.0 u.method u.there);
-  named = at_one {C = MethodName} (λ method. places.Verify) faults.Untyped (λ method. (a : ℕ) × (IsFirstUntyped p a × IsNameOf p a method)) (λ x y h k.
+  named = at_one {C = MethodName} (λ method. places.Verify) faults.Untyped
+      (λ method. (a : ℕ) × (IsFirstUntyped p a × IsNameOf p a method)) (λ x y h k.
       let u = h.1.0 in
       let v = k.1.0 in
-      let e = neither_below h.0 k.0 (λ l. u.untyped (v.earlier h.0 u.method l u.there)) (λ l. v.untyped (u.earlier k.0 v.method l v.there)) in
+      let e = neither_below h.0 k.0 (λ l. u.untyped (v.earlier h.0 u.method l u.there))
+      (λ l. v.untyped (u.earlier k.0 v.method l v.there)) in
       name_one p h.0 k.0 x y e h.1.1 k.1.1);
 }

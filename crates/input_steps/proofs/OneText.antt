@@ -15,7 +15,8 @@ use Rattle.input_steps.specs.Texts.{OfInput, IsTextFault}
 use Rattle.input_steps.proofs.OneAnswer.{IsExact, at_one, ok_one, err_one, ok_err}
 
 -- what is computed of the input is one result
-pub said_exact : {A : Type 0} (place : Place) (said : Result A DescFault) → IsExact (λ a. said ≡ Ok a) (OfInput place (λ fault. said ≡ Err fault))
+pub said_exact : {A : Type 0} (place : Place) (said : Result A DescFault)
+    → IsExact (λ a. said ≡ Ok a) (OfInput place (λ fault. said ≡ Err fault))
 said_exact place said = record {
   one = λ a b h k. ok_one said a b h k;
   apart = λ a p fault h r. ok_err said a r.cause h r.holds;
@@ -32,7 +33,8 @@ module _ {A : Type 0} (reader : Reader A) (bytes : List ℕ) where
 
   -- a fault that a reader says, or no value is read
   abbrev TextSays : DescFault → Type 0
-  TextSays fault = ((j : JsonFault) × ((fault ≡ descs.Json j) × SaysOf reader bytes (Err j))) ⊎ ((fault ≡ descs.Json json.NotJson) × ((value : Data) → Reads bytes value → ⊥))
+  TextSays fault = ((j : JsonFault) × ((fault ≡ descs.Json j) × SaysOf reader bytes (Err j)))
+      ⊎ ((fault ≡ descs.Json json.NotJson) × ((value : Data) → Reads bytes value → ⊥))
 
   text_says : (fault : DescFault) → IsTextFault reader bytes fault → TextSays fault
   text_says (descs.Json json.NotJson) h = inr (refl, h.1)
@@ -68,5 +70,6 @@ module _ {A : Type 0} (reader : Reader A) (bytes : List ℕ) where
   text_exact place = record {
     one = λ a b h k. ok_one (Ok a) a b refl (says_one (Ok a) (Ok b) h k);
     apart = λ text p fault h r. text_apart text r.cause h (text_says r.cause r.holds);
-    named = at_one {C = DescFault} (λ fault. place) faults.Desc (IsTextFault reader bytes) (λ f g h k. text_fault_one f g (text_says f h) (text_says g k));
+    named = at_one {C = DescFault} (λ fault. place) faults.Desc (IsTextFault reader bytes)
+        (λ f g h k. text_fault_one f g (text_says f h) (text_says g k));
   }

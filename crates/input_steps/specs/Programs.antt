@@ -33,7 +33,8 @@ IsAcyclic p = (a : ℕ) → IsOnCycle (Calls p) a → ⊥
 
 -- a program is refused for the least method on a cycle of calls
 abbrev pub RefusesCalls : Program → Place → Fault → Type 0
-RefusesCalls p = IsAt {C = MethodName} (λ method. places.Recursion) (λ method. faults.Call (Recursive method)) (λ method. (a : ℕ) × (IsLeastOnCycle (Calls p) a × IsNameOf p a method))
+RefusesCalls p = IsAt {C = MethodName} (λ method. places.Recursion) (λ method. faults.Call (Recursive method))
+    (λ method. (a : ℕ) × (IsLeastOnCycle (Calls p) a × IsNameOf p a method))
 
 -- each method has a least typing
 abbrev pub HasTypings : Program → Type 0
@@ -41,4 +42,5 @@ HasTypings p = (typing : ℕ → CodeTypes) × IsTypingOf p typing
 
 -- a program is refused for the first method that has no typing
 abbrev pub RefusesTypes : Program → Place → Fault → Type 0
-RefusesTypes p = IsAt {C = MethodName} (λ method. places.Verify) faults.Untyped (λ method. (a : ℕ) × (IsFirstUntyped p a × IsNameOf p a method))
+RefusesTypes p = IsAt {C = MethodName} (λ method. places.Verify) faults.Untyped
+    (λ method. (a : ℕ) × (IsFirstUntyped p a × IsNameOf p a method))

@@ -9,7 +9,8 @@ use Rattle.input_steps.specs.declared.refused.Fault.{Fault}
 use Rattle.input_steps.specs.declared.refused.Fault.TheVariants as faults
 
 -- A place and a fault are those that a cause gives, and the cause is there.
-pub record IsAt {C : Type 0} (place_of : C → Place) (fault_of : C → Fault) (IsCause : C → Type 0) (place : Place) (fault : Fault) : Type 0 where
+pub record IsAt {C : Type 0} (place_of : C → Place) (fault_of : C → Fault) (IsCause : C → Type 0) (place : Place) (fault : Fault) :
+    Type 0 where
   pub cause : C
   pub place_is : place ≡ place_of cause
   pub fault_is : fault ≡ fault_of cause

@@ -25,7 +25,8 @@ nodes_low (option ∷ word ∷ []) nodes l = (l.1.1, l.1.0.few)
 nodes_low (option ∷ word ∷ more ∷ words) nodes none = absurd none
 
 -- as many files as a command names are what its request takes
-takes_as_many : (words : List (List ℕ)) (request : Request) (names given : List (List ℕ)) → length given ≡ length names → IsCommand words request names → Takes request given
+takes_as_many : (words : List (List ℕ)) (request : Request) (names given : List (List ℕ)) → length given ≡ length names
+    → IsCommand words request names → Takes request given
 takes_as_many words request names given many (inl row) =
     let same : length names ≡ length (row.desc ∷ row.classes) = ap length row.named in
     let some = row.is_prove.files.some in
@@ -50,8 +51,11 @@ takes_as_many words request names given many (inr (inr (inr (inr row)))) =
     subst (λ (r : Request). Takes r given) (sym row.asked) (many ∙ one)
 
 -- what was read for a command is what its request takes
-pub takes_read : (limits : ℕ → ℕ) (request : Request) (names : List (List ℕ)) (held : List ℕ → Told) (contents given : List (List ℕ)) → given ≡ contents → AreOfCommand request names → AreContents limits held names contents → Takes request given
-takes_read limits request names held contents given same of are = takes_as_many of.0 request names given (ap length same ∙ contents_length limits held names contents are) of.1
+pub takes_read : (limits : ℕ → ℕ) (request : Request) (names : List (List ℕ)) (held : List ℕ → Told)
+    (contents given : List (List ℕ)) → given ≡ contents → AreOfCommand request names → AreContents limits held names contents
+    → Takes request given
+takes_read limits request names held contents given same of are = takes_as_many of.0 request names given
+    (ap length same ∙ contents_length limits held names contents are) of.1
 
 -- a verdict's status is at most 2
 status_low : (request : Request) (files : List (List ℕ)) (verdict : Verdict) → IsAnswer request files (Ok verdict) → verdict.status ≤ 2
@@ -69,8 +73,10 @@ status_low Its [] verdict answer = absurd answer
 status_low Its (text ∷ []) verdict answer = let low = ruled_low text verdict answer in omega (arith, low)
 status_low Its (text ∷ more ∷ files) verdict answer = absurd answer
 
-pub is_answered : (limits : ℕ → ℕ) (request : Request) (names : List (List ℕ)) (held : List ℕ → Told) (contents given : List (List ℕ)) (verdict : Verdict) → given ≡ contents
-    → AreContents limits held names contents → IsAnswer request given (Ok verdict) → IsTrueProof request given verdict → IsTrueCheck request given verdict → IsTrueSystem request given verdict → IsAnswered limits request names held verdict
+pub is_answered : (limits : ℕ → ℕ) (request : Request) (names : List (List ℕ)) (held : List ℕ → Told)
+    (contents given : List (List ℕ)) (verdict : Verdict) → given ≡ contents
+    → AreContents limits held names contents → IsAnswer request given (Ok verdict) → IsTrueProof request given verdict
+    → IsTrueCheck request given verdict → IsTrueSystem request given verdict → IsAnswered limits request names held verdict
 is_answered limits request names held contents given verdict same are answer true_proof true_check true_its =
     record {
       contents = given;
@@ -82,6 +88,10 @@ is_answered limits request names held contents given verdict same are answer tru
       true_its = true_its;
     }
 
-pub is_broken : {F : Type 0} (held : F → List ℕ → Told) (faults : F → ℕ) (leaves : F → List ℕ → F → Type 0) (limits : ℕ → ℕ) (request : Request) (names : List (List ℕ)) (old new : F) (contents given : List (List ℕ)) (place : Place) (fault : Fault) → given ≡ contents
-    → AreContents limits (held old) names contents → IsAnswer request given (Err (At place fault)) → HasCause held faults leaves limits request names old new (Broken place fault)
-is_broken held faults leaves limits request names old new contents given place fault same are answer = (given, subst (AreContents limits (held old) names) (sym same) are, answer)
+pub is_broken : {F : Type 0} (held : F → List ℕ → Told) (faults : F → ℕ) (leaves : F → List ℕ → F → Type 0) (limits : ℕ → ℕ)
+    (request : Request) (names : List (List ℕ)) (old new : F) (contents given : List (List ℕ)) (place : Place) (fault : Fault)
+    → given ≡ contents
+    → AreContents limits (held old) names contents → IsAnswer request given (Err (At place fault))
+    → HasCause held faults leaves limits request names old new (Broken place fault)
+is_broken held faults leaves limits request names old new contents given place fault same are answer =
+    (given, subst (AreContents limits (held old) names) (sym same) are, answer)

@@ -1,5 +1,6 @@
 -- What the answer to a check says.
-use Rattle.std.proofs.Common.{◌≡◌, ◌⊎◌, ◌≤◌, ◌++◌, ℕ, List, [], ◌∷◌, Option, None, Result, Ok, Err, IfOk, get_or, refl, sym, ap, ◌∙◌, subst, inl, inr, arith}
+use Rattle.std.proofs.Common.{◌≡◌, ◌⊎◌, ◌≤◌, ◌++◌, ℕ, List, [], ◌∷◌, Option, None, Result, Ok, Err, IfOk, get_or, refl, sym, ap}
+use Rattle.std.proofs.Common.{◌∙◌, subst, inl, inr, arith}
 use Rattle.class_program.specs.Programs.{Program}
 use Rattle.frame_types.specs.Tables.{CodeTypes}
 use Rattle.input_desc.specs.declared.desc.Desc.{Desc}
@@ -20,14 +21,16 @@ use Rattle.jterm.specs.Decision.{Says, refused_at, verdict_of, Judged}
 abbrev IsOutcome : Outcome → Type 0
 IsOutcome outcome = (outcome ≡ lines.accepted) ⊎ ((item : ℕ) × ((cause : List ℕ) × (outcome ≡ lines.refused_at item cause)))
 
-of_cert : (cert : List ℕ) (p : Program) (typing : ℕ → CodeTypes) (desc : Desc) (outcome : Outcome) → check.AnswersCert cert p typing desc (Ok outcome) → IsOutcome outcome
+of_cert : (cert : List ℕ) (p : Program) (typing : ℕ → CodeTypes) (desc : Desc) (outcome : Outcome)
+    → check.AnswersCert cert p typing desc (Ok outcome) → IsOutcome outcome
 of_cert cert p typing desc outcome (inl h) = inr (0, (fault_text h.0, h.1.1))
 of_cert cert p typing desc outcome (inr h) = elim h.1.1.1.1 [
   | inl valid ↦ inl valid.1
   | inr fault ↦ inr (fault.0, (cause_text fault.1.0, fault.1.1.1))
 ]
 
-is_outcome : (cert desc : List ℕ) (files : List (List ℕ)) (outcome : Outcome) → check.Answers cert desc files (Ok outcome) → IsOutcome outcome
+is_outcome : (cert desc : List ℕ) (files : List (List ℕ)) (outcome : Outcome) → check.Answers cert desc files (Ok outcome)
+    → IsOutcome outcome
 is_outcome cert desc files outcome a =
     let text = a.1.1 in
     let world = text.1.1 in
@@ -41,7 +44,8 @@ is_outcome cert desc files outcome a =
 
 -- ---- verdicts
 
-module _ (cert desc : List ℕ) (files : List (List ℕ)) (verdict : Verdict) (answer : Judged (check.Answers cert desc files) (Ok verdict)) where
+module _ (cert desc : List ℕ) (files : List (List ℕ)) (verdict : Verdict)
+    (answer : Judged (check.Answers cert desc files) (Ok verdict)) where
   abbrev own : Outcome
   own = record { status = verdict.status; out = verdict.out }
 
@@ -87,15 +91,19 @@ module _ (cert desc : List ℕ) (files : List (List ℕ)) (verdict : Verdict) (a
 -- ---- decisions
 
 -- an outcome of which something holds is a verdict of which it does
-pub judged_with : (P : Result Outcome Refused → Type 0) (checked : Result Outcome Refused) (result : Result Verdict Refused) → result ≡ verdict_of checked → P checked → Judged P result
+pub judged_with : (P : Result Outcome Refused → Type 0) (checked : Result Outcome Refused) (result : Result Verdict Refused)
+    → result ≡ verdict_of checked → P checked → Judged P result
 judged_with P (Ok outcome) result e h = subst (Judged P) (sym e) (refl, refl, h)
 judged_with P (Err refused) result e h = subst (Judged P) (sym e) h
 
 -- what `ACCEPTED` says
-pub accepted_true : (cert desc : List ℕ) (files : List (List ℕ)) (checked : Result Outcome Refused) (result : Result Verdict Refused) → result ≡ verdict_of checked → check.Answers cert desc files checked → AllEndIfAccepted files desc checked
+pub accepted_true : (cert desc : List ℕ) (files : List (List ℕ)) (checked : Result Outcome Refused)
+    (result : Result Verdict Refused) → result ≡ verdict_of checked → check.Answers cert desc files checked
+    → AllEndIfAccepted files desc checked
     → IfOk result (λ verdict. Says lines.accepted_line verdict → AllEnd files desc)
 accepted_true cert desc files (Ok outcome) result e a ends =
     let verdict : Verdict = record { status = outcome.status; out = outcome.out; reason = None; its = None } in
-    subst (λ (r : Result Verdict Refused). IfOk r (λ v. Says lines.accepted_line v → AllEnd files desc)) (sym e) (λ says. ends (judged_accepts cert desc files verdict (refl, refl, a) says))
+    subst (λ (r : Result Verdict Refused). IfOk r (λ v. Says lines.accepted_line v → AllEnd files desc)) (sym e)
+    (λ says. ends (judged_accepts cert desc files verdict (refl, refl, a) says))
 accepted_true cert desc files (Err refused) result e a ends =
     subst (λ (r : Result Verdict Refused). IfOk r (λ v. Says lines.accepted_line v → AllEnd files desc)) (sym e) tt

@@ -1,5 +1,7 @@
 -- From what stopped a call, or the verdict that it has, to what the call says.
-use Rattle.std.proofs.Common.{◌≡◌, ◌⊎◌, ◌≤◌, ◌++◌, ℕ, suc, zero, List, [], ◌∷◌, length, map, take, drop, Option, Some, None, Ok, Err, refl, sym, ap, ◌∙◌, subst, arith, inl, inr, IfSome, slice_get, length-append, append_assoc, take-append-drop, take_all}
+use Rattle.std.proofs.Common.{◌≡◌, ◌⊎◌, ◌≤◌, ◌++◌, ℕ, suc, zero, List, [], ◌∷◌, length, map, take, drop, Option, Some, None, Ok}
+use Rattle.std.proofs.Common.{Err, refl, sym, ap, ◌∙◌, subst, arith, inl, inr, IfSome, slice_get, length-append, append_assoc}
+use Rattle.std.proofs.Common.{take-append-drop, take_all}
 use Rattle.std.proofs.lemmas.List.{append_cancel_left}
 use Rattle.std.specs.Prelude.{◌≢◌, ◌↔◌, Result}
 use Rattle.std.specs.Io.KnownBytes.{Appends}
@@ -31,7 +33,8 @@ use Rattle.desc_steps.specs.Headline.{AllEnd}
 use Rattle.its_call.specs.Answers.{IsEnding}
 use Rattle.its_call.specs.Lines as its
 use Rattle.its_search.specs.declared.searching.ItsFound.{ItsFound}
-use Rattle.jterm.specs.Outside.{AreTold, AreContents, AreWithin, AreHanded, IsUnread, ReadFails, Decided, Claims, IsWritten, file_limits, behind}
+use Rattle.jterm.specs.Outside.{AreTold, AreContents, AreWithin, AreHanded, IsUnread, ReadFails, Decided, Claims, IsWritten}
+use Rattle.jterm.specs.Outside.{file_limits, behind}
 use Rattle.jterm.specs.Failure.{IsAnswered, HasCause, HasLine, status_of, line_of}
 use Rattle.jterm.proofs.OneAnswer.{answers_one}
 use Rattle.jterm.proofs.Checking.{judged_refused, judged_not_one}
@@ -40,7 +43,8 @@ use Rattle.jterm.proofs.Proving.{proved_low, unproved, reason_kept, certifies}
 use Rattle.jterm.proofs.WordsLemmas.{commands_one}
 
 -- nothing is claimed where nothing is put
-pub unclaimed : {S : Type 0} (line : List ℕ) (taken : S → Option (List ℕ)) (sink : S) (status : ℕ) → 1 ≤ length line → (status ≡ 0 → ⊥) → Claims line taken sink sink status → ⊥
+pub unclaimed : {S : Type 0} (line : List ℕ) (taken : S → Option (List ℕ)) (sink : S) (status : ℕ) → 1 ≤ length line
+    → (status ≡ 0 → ⊥) → Claims line taken sink sink status → ⊥
 unclaimed line taken sink status some more claims = elim claims [
   | inl done ↦ more done
   | inr put ↦ let e : put.0 ≡ put.0 ++ line ++ put.1 = cc in
@@ -52,24 +56,45 @@ abbrev pub Reports : (List ℕ → Type 0) → Failure → ℕ → Type 0
 Reports Puts failure status = ((status ≡ status_of failure) × HasLine failure × Puts (line_of failure)) ⊎ ((status ≡ 7) × Puts memory_line)
 
 -- status 3 comes where the input is refused
-pub refused : {F : Type 0} (held : F → List ℕ → Told) (faults : F → ℕ) (leaves : F → List ℕ → F → Type 0) (words : List (List ℕ)) (request : Request) (names : List (List ℕ)) (old new : F) (failure : Failure) (status : ℕ) (Puts : List ℕ → Type 0)
-    → IsCommand words request names → HasCause held faults leaves (file_limits request) request names old new failure → Reports Puts failure status
+pub refused : {F : Type 0} (held : F → List ℕ → Told) (faults : F → ℕ) (leaves : F → List ℕ → F → Type 0) (words : List (List ℕ))
+    (request : Request) (names : List (List ℕ)) (old new : F) (failure : Failure) (status : ℕ) (Puts : List ℕ → Type 0)
+    → IsCommand words request names → HasCause held faults leaves (file_limits request) request names old new failure
+    → Reports Puts failure status
     → status ≡ 3 → (place : Place) × (fault : Fault) × Decided words (held old) (Err (At place fault)) × Puts (refusal_line place fault)
-refused held faults leaves words request names old new (Unread name fault) status Puts command cause (inl said) three = absurd (omega (arith, said.0, three))
-refused held faults leaves words request names old new (Broken place fault) status Puts command cause (inl said) three =
-    (place, fault, record { request = request; names = names; is_command = command; contents = cause.0; read = cause.1; answer = cause.2 }, said.2)
+refused held faults leaves words request names old new (Unread name fault) status Puts command cause (inl said) three = absurd
+    (omega (arith, said.0, three))
+refused held faults leaves words request names old new (Broken place fault) status Puts command cause (inl said) three = (
+  place,
+  fault,
+  record {
+    request = request;
+    names = names;
+    is_command = command;
+    contents = cause.0;
+    read = cause.1;
+    answer =
+        cause.2;
+  },
+  said.2,
+)
 refused held faults leaves words request names old new NoMemory status Puts command cause (inl said) three = absurd said.1
-refused held faults leaves words request names old new failure status Puts command cause (inr said) three = absurd (omega (arith, said.0, three))
+refused held faults leaves words request names old new failure status Puts command cause (inr said) three = absurd
+    (omega (arith, said.0, three))
 
 -- status 5 comes where a file was not read
-pub unread : {F : Type 0} (held : F → List ℕ → Told) (faults : F → ℕ) (leaves : F → List ℕ → F → Type 0) (words : List (List ℕ)) (request : Request) (names : List (List ℕ)) (old new : F) (failure : Failure) (status : ℕ) (Puts : List ℕ → Type 0)
-    → IsCommand words request names → HasCause held faults leaves (file_limits request) request names old new failure → Reports Puts failure status
+pub unread : {F : Type 0} (held : F → List ℕ → Told) (faults : F → ℕ) (leaves : F → List ℕ → F → Type 0) (words : List (List ℕ))
+    (request : Request) (names : List (List ℕ)) (old new : F) (failure : Failure) (status : ℕ) (Puts : List ℕ → Type 0)
+    → IsCommand words request names → HasCause held faults leaves (file_limits request) request names old new failure
+    → Reports Puts failure status
     → status ≡ 5 → (request : Request) × (names : List (List ℕ)) × (name : List ℕ) × (fault : FileFault) × IsCommand words request names
     × IsUnread held faults leaves (file_limits request) names old new name fault × Puts (read_line name fault)
-unread held faults leaves words request names old new (Unread name fault) status Puts command cause (inl said) five = (request, names, name, fault, command, cause, said.2)
-unread held faults leaves words request names old new (Broken place fault) status Puts command cause (inl said) five = absurd (omega (arith, said.0, five))
+unread held faults leaves words request names old new (Unread name fault) status Puts command cause (inl said) five =
+    (request, names, name, fault, command, cause, said.2)
+unread held faults leaves words request names old new (Broken place fault) status Puts command cause (inl said) five = absurd
+    (omega (arith, said.0, five))
 unread held faults leaves words request names old new NoMemory status Puts command cause (inl said) five = absurd said.1
-unread held faults leaves words request names old new failure status Puts command cause (inr said) five = absurd (omega (arith, said.0, five))
+unread held faults leaves words request names old new failure status Puts command cause (inr said) five = absurd
+    (omega (arith, said.0, five))
 
 -- want of memory is said with status 7
 pub says_memory : (failure : Failure) (status : ℕ) (Puts : List ℕ → Type 0) → Reports Puts failure status → status ≡ 7 → Puts memory_line
@@ -79,7 +104,8 @@ says_memory NoMemory status Puts (inl said) seven = absurd said.1
 says_memory failure status Puts (inr said) seven = said.1
 
 -- a call whose words are a command does not end with 4
-pub not_four : (words : List (List ℕ)) (r : Request) (m : List (List ℕ)) (failure : Failure) (status : ℕ) (Puts : List ℕ → Type 0) → IsCommand words r m → Reports Puts failure status
+pub not_four : (words : List (List ℕ)) (r : Request) (m : List (List ℕ)) (failure : Failure) (status : ℕ) (Puts : List ℕ → Type 0)
+    → IsCommand words r m → Reports Puts failure status
     → (status ≡ 4) ↔ ((request : Request) (names : List (List ℕ)) → IsCommand words request names → ⊥)
 not_four words r m failure status Puts command says = (λ four. absurd (never failure says four), λ none. absurd (none r m command))
   where
@@ -90,16 +116,19 @@ not_four words r m failure status Puts command says = (λ four. absurd (never fa
     never failure (inr said) four = omega (arith, said.0, four)
 
 -- nor does one with a verdict
-pub done_is_no_usage : {P Q : Type 0} (words : List (List ℕ)) (r : Request) (m : List (List ℕ)) (own status : ℕ) → IsCommand words r m → own ≤ 2 → ((status ≡ own) × P) ⊎ ((status ≡ 6) × Q)
+pub done_is_no_usage : {P Q : Type 0} (words : List (List ℕ)) (r : Request) (m : List (List ℕ)) (own status : ℕ)
+    → IsCommand words r m → own ≤ 2 → ((status ≡ own) × P) ⊎ ((status ≡ 6) × Q)
     → (status ≡ 4) ↔ ((request : Request) (names : List (List ℕ)) → IsCommand words request names → ⊥)
-done_is_no_usage {P = P} {Q = Q} words r m own status command low line = (λ four. absurd (never line four), λ no_row. absurd (no_row r m command))
+done_is_no_usage {P = P} {Q = Q} words r m own status command low line =
+    (λ four. absurd (never line four), λ no_row. absurd (no_row r m command))
   where
     never : ((status ≡ own) × P) ⊎ ((status ≡ 6) × Q) → status ≡ 4 → ⊥
     never (inl said) four = omega (arith, said.0, low, four)
     never (inr said) four = omega (arith, said.0, four)
 
 -- a call without a verdict ends with no status of a verdict
-pub not_low : (failure : Failure) (status : ℕ) (P Q R : Type 0) → ((status ≡ status_of failure) × P × Q) ⊎ ((status ≡ 7) × R) → status ≤ 2 → ⊥
+pub not_low : (failure : Failure) (status : ℕ) (P Q R : Type 0) → ((status ≡ status_of failure) × P × Q) ⊎ ((status ≡ 7) × R)
+    → status ≤ 2 → ⊥
 not_low (Unread name fault) status P Q R says low = elim says [ inl said ↦ omega arith | inr said ↦ omega arith ]
 not_low (Broken place fault) status P Q R says low = elim says [ inl said ↦ omega arith | inr said ↦ omega arith ]
 not_low NoMemory status P Q R says low = elim says [ inl said ↦ omega arith | inr said ↦ omega arith ]
@@ -107,7 +136,8 @@ not_low NoMemory status P Q R says low = elim says [ inl said ↦ omega arith | 
 -- ---- told contents
 
 -- the contents that were read are the told ones
-pub told_contents : (limits : ℕ → ℕ) (held : List ℕ → Told) (names contents told : List (List ℕ)) → AreContents limits held names contents → AreTold held names told → contents ≡ told
+pub told_contents : (limits : ℕ → ℕ) (held : List ℕ → Told) (names contents told : List (List ℕ))
+    → AreContents limits held names contents → AreTold held names told → contents ≡ told
 told_contents limits held [] [] [] are e = refl
 told_contents limits held [] [] (t ∷ told) are e = cc
 told_contents limits held [] (c ∷ contents) told are e = absurd are
@@ -121,84 +151,113 @@ told_contents limits held (n ∷ names) (c ∷ contents) (t ∷ told) are e =
     cc
 
 -- what was read under the names of a command is what is told under them
-told_same : (words : List (List ℕ)) (held : List ℕ → Told) (r s : Request) (m n contents told : List (List ℕ)) → IsCommand words r m → IsCommand words s n → AreContents (file_limits r) held m contents → AreTold held n told → contents ≡ told
+told_same : (words : List (List ℕ)) (held : List ℕ → Told) (r s : Request) (m n contents told : List (List ℕ)) → IsCommand words r m
+    → IsCommand words s n → AreContents (file_limits r) held m contents → AreTold held n told → contents ≡ told
 told_same words held r s m n contents told here there are tells =
     let one = commands_one words r s m n here there in
     told_contents (file_limits r) held m contents told are (subst (λ (names : List (List ℕ)). AreTold held names told) (sym one.1) tells)
 
 -- and an answer for it one for that
-told_answer : (words : List (List ℕ)) (held : List ℕ → Told) (r s : Request) (m n contents told : List (List ℕ)) (result : Result Verdict Refused)
-    → IsCommand words r m → IsCommand words s n → AreContents (file_limits r) held m contents → AreTold held n told → IsAnswer r contents result → IsAnswer s told result
+told_answer : (words : List (List ℕ)) (held : List ℕ → Told) (r s : Request) (m n contents told : List (List ℕ))
+    (result : Result Verdict Refused)
+    → IsCommand words r m → IsCommand words s n → AreContents (file_limits r) held m contents → AreTold held n told
+    → IsAnswer r contents result → IsAnswer s told result
 told_answer words held r s m n contents told result here there are tells answer =
     let one = commands_one words r s m n here there in
     let same : contents ≡ told = told_same words held r s m n contents told here there are tells in
     subst (λ (q : Request). IsAnswer q told result) one.0 (subst (λ (fs : List (List ℕ)). IsAnswer r fs result) same answer)
 
 -- the words of a `prove` and of a `check` are a command
-pub prove_is_command : (words : List (List ℕ)) (d : List ℕ) (cs : List (List ℕ)) (prove : IsProve words d cs) → IsCommand words (Prove prove.nodes) (d ∷ cs)
+pub prove_is_command : (words : List (List ℕ)) (d : List ℕ) (cs : List (List ℕ)) (prove : IsProve words d cs)
+    → IsCommand words (Prove prove.nodes) (d ∷ cs)
 prove_is_command words d cs prove = inl (record { desc = d; classes = cs; is_prove = prove; asked = refl; named = refl })
 
 check_is_command : (words : List (List ℕ)) (c d : List ℕ) (cs : List (List ℕ)) → IsCheck words c d cs → IsCommand words Check (c ∷ d ∷ cs)
 check_is_command words c d cs check = inr (inl (record { cert = c; desc = d; classes = cs; is_check = check; asked = refl; named = refl }))
 
 -- what was put began with a line: so does what was to be put
-begins : (old new : Option (List ℕ)) (before line rest out : List ℕ) (count : ℕ) → Appends old new (take count out) → old ≡ Some before → new ≡ Some (before ++ line ++ rest) → (more : List ℕ) × (out ≡ line ++ more)
+begins : (old new : Option (List ℕ)) (before line rest out : List ℕ) (count : ℕ) → Appends old new (take count out)
+    → old ≡ Some before → new ≡ Some (before ++ line ++ rest) → (more : List ℕ) × (out ≡ line ++ more)
 begins None new before line rest out count put was is = absurd (cc)
 begins (Some old) None before line rest out count put was is = absurd (cc)
 begins (Some old) (Some new) before line rest out count put was is =
     let here : old ≡ before = cc in
     let there : new ≡ before ++ line ++ rest = cc in
-    let grown : old ++ take count out ≡ old ++ (line ++ rest) = sym put ∙ there ∙ ap (λ (l : List ℕ). l ++ line ++ rest) (sym here) ∙ append_assoc old line rest in
-    let taken : take count out ≡ line ++ rest = append_cancel_left old (take count out) (line ++ rest) grown in
-    (rest ++ drop count out, sym (take-append-drop count out) ∙ ap (λ (l : List ℕ). l ++ drop count out) taken ∙ append_assoc line rest (drop count out))
+    let grown : old ++ take count out ≡ old ++ (line ++ rest) = sym put ∙ there ∙ ap (λ (l : List ℕ). l ++ line ++ rest) (sym here)
+    ∙ append_assoc old line rest in
+    let taken : take count out ≡ line ++ rest = append_cancel_left old (take count out) (line ++ rest) grown in (
+      rest ++ drop count out,
+      sym (take-append-drop count out) ∙ ap (λ (l : List ℕ). l ++ drop count out) taken
+          ∙ append_assoc line rest (drop count out),
+    )
 
 -- what is claimed of a verdict that was written, it says
-pub claimed_says : {S : Type 0} (line : List ℕ) (faults : S → ℕ) (taken : S → Option (List ℕ)) (old new : S) (verdict : Verdict) (status : ℕ) → IsWritten faults taken old new verdict status → Claims line taken old new status → Says line verdict
+pub claimed_says : {S : Type 0} (line : List ℕ) (faults : S → ℕ) (taken : S → Option (List ℕ)) (old new : S) (verdict : Verdict)
+    (status : ℕ) → IsWritten faults taken old new verdict status → Claims line taken old new status → Says line verdict
 claimed_says line faults taken old new verdict status (inl put) (inl none) = inl (sym put.0 ∙ none)
 claimed_says line faults taken old new verdict status (inr failed) (inl none) = absurd (omega (arith, failed.0, none))
 claimed_says line faults taken old new verdict status (inl put) (inr c) =
-    inr (begins (taken old) (taken new) c.0 line c.1 verdict.out (length verdict.out) (subst (λ (l : List ℕ). Appends (taken old) (taken new) l) (sym (take_all (length verdict.out) verdict.out (omega arith))) put.1) c.2 c.3)
+    inr (begins (taken old) (taken new) c.0 line c.1 verdict.out (length verdict.out)
+    (subst (λ (l : List ℕ). Appends (taken old) (taken new) l) (sym (take_all (length verdict.out) verdict.out (omega arith)))
+    put.1) c.2 c.3)
 claimed_says line faults taken old new verdict status (inr failed) (inr c) =
     inr (begins (taken old) (taken new) c.0 line c.1 verdict.out failed.2.0 failed.2.2 c.2 c.3)
 
 -- what YES says of the contents of a `prove`
-pub headline : {S : Type 0} (faults : S → ℕ) (taken : S → Option (List ℕ)) (old new : S) (words : List (List ℕ)) (request : Request) (names : List (List ℕ)) (held : List ℕ → Told) (verdict : Verdict) (status : ℕ) (d : List ℕ) (cs : List (List ℕ)) (desc : List ℕ) (classes : List (List ℕ))
-    → IsCommand words request names → IsAnswered (file_limits request) request names held verdict → IsWritten faults taken old new verdict status → IsProve words d cs → AreTold held (d ∷ cs) (desc ∷ classes)
+pub headline : {S : Type 0} (faults : S → ℕ) (taken : S → Option (List ℕ)) (old new : S) (words : List (List ℕ)) (request : Request)
+    (names : List (List ℕ)) (held : List ℕ → Told) (verdict : Verdict) (status : ℕ) (d : List ℕ) (cs : List (List ℕ))
+    (desc : List ℕ) (classes : List (List ℕ))
+    → IsCommand words request names → IsAnswered (file_limits request) request names held verdict
+    → IsWritten faults taken old new verdict status → IsProve words d cs → AreTold held (d ∷ cs) (desc ∷ classes)
     → Claims yes_line taken old new status → AllEnd classes desc
 headline faults taken old new words request names held verdict status d cs desc classes command answered written prove tells claims =
     let there = prove_is_command words d cs prove in
     let one = commands_one words request (Prove prove.nodes) names (d ∷ cs) command there in
-    let same = told_same words held request (Prove prove.nodes) names (d ∷ cs) answered.contents (desc ∷ classes) command there answered.read tells in
+    let same = told_same words held request (Prove prove.nodes) names (d ∷ cs) answered.contents (desc ∷ classes) command there
+    answered.read tells in
     answered.true_proof prove.nodes desc classes one.0 same (claimed_says yes_line faults taken old new verdict status written claims)
 
 -- and what stands behind it
-pub certificate : {S : Type 0} (faults : S → ℕ) (taken : S → Option (List ℕ)) (old new : S) (words : List (List ℕ)) (request : Request) (names : List (List ℕ)) (held : List ℕ → Told) (verdict : Verdict) (status : ℕ) (d : List ℕ) (cs : List (List ℕ)) (desc : List ℕ) (classes : List (List ℕ))
-    → IsCommand words request names → IsAnswered (file_limits request) request names held verdict → IsWritten faults taken old new verdict status → IsProve words d cs → AreTold held (d ∷ cs) (desc ∷ classes)
-    → status ≡ 0 → (cert : List ℕ) × (length cert ≤ 16777216) × IsAnswer Check (cert ∷ desc ∷ classes) (Ok accepted) × Appends (taken old) (taken new) (yes_text cert)
+pub certificate : {S : Type 0} (faults : S → ℕ) (taken : S → Option (List ℕ)) (old new : S) (words : List (List ℕ))
+    (request : Request) (names : List (List ℕ)) (held : List ℕ → Told) (verdict : Verdict) (status : ℕ) (d : List ℕ)
+    (cs : List (List ℕ)) (desc : List ℕ) (classes : List (List ℕ))
+    → IsCommand words request names → IsAnswered (file_limits request) request names held verdict
+    → IsWritten faults taken old new verdict status → IsProve words d cs → AreTold held (d ∷ cs) (desc ∷ classes)
+    → status ≡ 0 → (cert : List ℕ) × (length cert ≤ 16777216) × IsAnswer Check (cert ∷ desc ∷ classes) (Ok accepted)
+    × Appends (taken old) (taken new) (yes_text cert)
 certificate faults taken old new words request names held verdict status d cs desc classes command answered (inl put) prove tells none =
     let there = prove_is_command words d cs prove in
     let answer : IsAnswer (Prove prove.nodes) (desc ∷ classes) (Ok verdict) =
-    told_answer words held request (Prove prove.nodes) names (d ∷ cs) answered.contents (desc ∷ classes) (Ok verdict) command there answered.read tells answered.answer in
+    told_answer words held request (Prove prove.nodes) names (d ∷ cs) answered.contents (desc ∷ classes) (Ok verdict) command there
+    answered.read tells answered.answer in
     let is = certifies prove.nodes desc classes verdict answer (sym put.0 ∙ none) in
     (is.cert, is.short, (refl, refl, is.accepted), subst (λ (out : List ℕ). Appends (taken old) (taken new) out) is.out_is put.1)
-certificate faults taken old new words request names held verdict status d cs desc classes command answered (inr failed) prove tells none = absurd (omega (arith, failed.0, none))
+certificate faults taken old new words request names held verdict status d cs desc classes command answered (inr failed) prove tells
+    none = absurd (omega (arith, failed.0, none))
 
 -- what ACCEPTED says of the contents of a `check`
-pub headline_of_check : {S : Type 0} (faults : S → ℕ) (taken : S → Option (List ℕ)) (old new : S) (words : List (List ℕ)) (request : Request) (names : List (List ℕ)) (held : List ℕ → Told) (verdict : Verdict) (status : ℕ) (c d : List ℕ) (cs : List (List ℕ)) (cert desc : List ℕ) (classes : List (List ℕ))
-    → IsCommand words request names → IsAnswered (file_limits request) request names held verdict → IsWritten faults taken old new verdict status → IsCheck words c d cs → AreTold held (c ∷ d ∷ cs) (cert ∷ desc ∷ classes)
+pub headline_of_check : {S : Type 0} (faults : S → ℕ) (taken : S → Option (List ℕ)) (old new : S) (words : List (List ℕ))
+    (request : Request) (names : List (List ℕ)) (held : List ℕ → Told) (verdict : Verdict) (status : ℕ) (c d : List ℕ)
+    (cs : List (List ℕ)) (cert desc : List ℕ) (classes : List (List ℕ))
+    → IsCommand words request names → IsAnswered (file_limits request) request names held verdict
+    → IsWritten faults taken old new verdict status → IsCheck words c d cs → AreTold held (c ∷ d ∷ cs) (cert ∷ desc ∷ classes)
     → Claims accepted_line taken old new status → AllEnd classes desc
-headline_of_check faults taken old new words request names held verdict status c d cs cert desc classes command answered written check tells claims =
+headline_of_check faults taken old new words request names held verdict status c d cs cert desc classes command answered written
+    check tells claims =
     let there = check_is_command words c d cs check in
     let one = commands_one words request Check names (c ∷ d ∷ cs) command there in
-    let same = told_same words held request Check names (c ∷ d ∷ cs) answered.contents (cert ∷ desc ∷ classes) command there answered.read tells in
+    let same = told_same words held request Check names (c ∷ d ∷ cs) answered.contents (cert ∷ desc ∷ classes) command there
+    answered.read tells in
     answered.true_check cert desc classes one.0 same (claimed_says accepted_line faults taken old new verdict status written claims)
 
 its_is_command : (words : List (List ℕ)) (r : List ℕ) → IsIts words r → IsCommand words Its (r ∷ [])
 its_is_command words r is = inr (inr (inr (inr (record { rules = r; is_its = is; asked = refl; named = refl }))))
 
 -- what YES says of a text of rules
-pub headline_of_its : {S : Type 0} (faults : S → ℕ) (taken : S → Option (List ℕ)) (old new : S) (words : List (List ℕ)) (request : Request) (names : List (List ℕ)) (held : List ℕ → Told) (verdict : Verdict) (status : ℕ) (r text : List ℕ)
-    → IsCommand words request names → IsAnswered (file_limits request) request names held verdict → IsWritten faults taken old new verdict status → IsIts words r → AreTold held (r ∷ []) (text ∷ [])
+pub headline_of_its : {S : Type 0} (faults : S → ℕ) (taken : S → Option (List ℕ)) (old new : S) (words : List (List ℕ))
+    (request : Request) (names : List (List ℕ)) (held : List ℕ → Told) (verdict : Verdict) (status : ℕ) (r text : List ℕ)
+    → IsCommand words request names → IsAnswered (file_limits request) request names held verdict
+    → IsWritten faults taken old new verdict status → IsIts words r → AreTold held (r ∷ []) (text ∷ [])
     → Claims its.yes_line taken old new status → IsEnding text
 headline_of_its faults taken old new words request names held verdict status r text command answered written is tells claims =
     let there = its_is_command words r is in
@@ -214,7 +273,8 @@ record IsHeld (held : List ℕ → Told) (name : List ℕ) (limit : ℕ) : Type 
   is_told : held name ≡ Content content
   is_within : length content ≤ limit
 
-held_name : (limits : ℕ → ℕ) (held : List ℕ → Told) (names told : List (List ℕ)) (name : List ℕ) (place : ℕ) → slice_get names place ≡ Some name → AreTold held names told → AreWithin limits told → IsHeld held name (limits place)
+held_name : (limits : ℕ → ℕ) (held : List ℕ → Told) (names told : List (List ℕ)) (name : List ℕ) (place : ℕ)
+    → slice_get names place ≡ Some name → AreTold held names told → AreWithin limits told → IsHeld held name (limits place)
 held_name limits held [] told name place e tells within = absurd (cc)
 held_name limits held (n ∷ names) [] name place e tells within = absurd (cc)
 held_name limits held (n ∷ names) (t ∷ told) name zero e tells within =
@@ -226,7 +286,8 @@ held_name limits held (n ∷ names) (t ∷ told) name (suc place) e tells within
     held_name (behind limits) held names told name place e others within.1
 
 -- what is held within its limit is read, where the count did not rise
-held_is_read : (held : Told) (limit before after : ℕ) (fault : FileFault) (content : List ℕ) → held ≡ Content content → length content ≤ limit → (Rose before after → ⊥) → ReadFails fault held limit before after → ⊥
+held_is_read : (held : Told) (limit before after : ℕ) (fault : FileFault) (content : List ℕ) → held ≡ Content content
+    → length content ≤ limit → (Rose before after → ⊥) → ReadFails fault held limit before after → ⊥
 held_is_read held limit before after Failed content told within none fails = none fails
 held_is_read held limit before after TooLong content told within none fails =
     let longer : IsPastLimit (Content content) limit = subst (λ t. IsPastLimit t limit) told fails.0 in
@@ -235,13 +296,17 @@ held_is_read held limit before after Missing content told within none fails = su
 held_is_read held limit before after Memory content told within none fails = fails
 
 -- the files of a command that are told within their limits are read
-all_read : {F : Type 0} (held : F → List ℕ → Told) (faults : F → ℕ) (leaves : F → List ℕ → F → Type 0) (words : List (List ℕ)) (r s : Request) (m n told : List (List ℕ)) (old new : F) (name : List ℕ) (fault : FileFault)
-    → IsCommand words r m → IsUnread held faults leaves (file_limits r) m old new name fault → AreHanded words (held old) s n told → (Rose (faults old) (faults new) → ⊥) → ⊥
+all_read : {F : Type 0} (held : F → List ℕ → Told) (faults : F → ℕ) (leaves : F → List ℕ → F → Type 0) (words : List (List ℕ))
+    (r s : Request) (m n told : List (List ℕ)) (old new : F) (name : List ℕ) (fault : FileFault)
+    → IsCommand words r m → IsUnread held faults leaves (file_limits r) m old new name fault → AreHanded words (held old) s n told
+    → (Rose (faults old) (faults new) → ⊥) → ⊥
 all_read held faults leaves words r s m n told old new name fault command unread handed none =
     let one = commands_one words r s m n command handed.is_command in
-    let named : slice_get n unread.place ≡ Some name = subst (λ (names : List (List ℕ)). slice_get names unread.place ≡ Some name) one.1 unread.is_named in
+    let named : slice_get n unread.place ≡ Some name = subst (λ (names : List (List ℕ)). slice_get names unread.place ≡ Some name)
+    one.1 unread.is_named in
     let within : AreWithin (file_limits r) told = subst (λ (q : Request). AreWithin (file_limits q) told) (sym one.0) handed.within in
-    let is : IsHeld (held old) name (file_limits r unread.place) = held_name (file_limits r) (held old) n told name unread.place named handed.told within in
+    let is : IsHeld (held old) name (file_limits r unread.place) = held_name (file_limits r) (held old) n told name unread.place
+    named handed.told within in
     held_is_read (held old name) (file_limits r unread.place) (faults unread.between) (faults new) fault is.content is.is_told is.is_within
     (λ rose. none (subst (λ (count : ℕ). Rose count (faults new)) unread.still rose)) unread.cause
 
@@ -255,75 +320,112 @@ some_refusal : (place : Place) (fault : Fault) → (let r : Result Verdict Refus
 some_refusal place fault e = cc
 
 -- what has no cause of refusal is answered
-pub answered_written : {S : Type 0} (faults : S → ℕ) (taken : S → Option (List ℕ)) (old new : S) (words : List (List ℕ)) (r s : Request) (m n told : List (List ℕ)) (held : List ℕ → Told) (given : Verdict) (said : Option Verdict) (status : ℕ)
-    → IsCommand words r m → IsAnswered (file_limits r) r m held given → said ≡ Some given → IsWritten faults taken old new given status → AreHanded words held s n told → (Rose (faults old) (faults new) → ⊥)
-    → ((own : Verdict) × (said ≡ Some own) × IsAnswer s told (Ok own) × (status ≡ own.status) × Appends (taken old) (taken new) own.out) ⊎ (status ≡ 7)
+pub answered_written : {S : Type 0} (faults : S → ℕ) (taken : S → Option (List ℕ)) (old new : S) (words : List (List ℕ))
+    (r s : Request) (m n told : List (List ℕ)) (held : List ℕ → Told) (given : Verdict) (said : Option Verdict) (status : ℕ)
+    → IsCommand words r m → IsAnswered (file_limits r) r m held given → said ≡ Some given
+    → IsWritten faults taken old new given status → AreHanded words held s n told → (Rose (faults old) (faults new) → ⊥)
+    → ((own : Verdict) × (said ≡ Some own) × IsAnswer s told (Ok own) × (status ≡ own.status)
+    × Appends (taken old) (taken new) own.out) ⊎ (status ≡ 7)
 answered_written faults taken old new words r s m n told held given said status command answered is (inl put) handed none =
-    inl (given, is, told_answer words held r s m n answered.contents told (Ok given) command handed.is_command answered.read handed.told answered.answer, put.0, put.1)
-answered_written faults taken old new words r s m n told held given said status command answered is (inr failed) handed none = absurd (none failed.1)
+    inl (
+      given,
+      is,
+      told_answer words held r s m n answered.contents told (Ok given) command handed.is_command answered.read
+          handed.told answered.answer,
+      put.0,
+      put.1,
+    )
+answered_written faults taken old new words r s m n told held given said status command answered is (inr failed) handed none =
+    absurd (none failed.1)
 
 -- and a call without a verdict for it wants memory
-pub unanswered : {F : Type 0} (held : F → List ℕ → Told) (faults : F → ℕ) (leaves : F → List ℕ → F → Type 0) (words : List (List ℕ)) (r s : Request) (m n told : List (List ℕ)) (old new : F) (failure : Failure) (status : ℕ) (Puts : List ℕ → Type 0) (R : Type 0)
-    → IsCommand words r m → HasCause held faults leaves (file_limits r) r m old new failure → Reports Puts failure status → AreHanded words (held old) s n told → IsUnrefused s told
+pub unanswered : {F : Type 0} (held : F → List ℕ → Told) (faults : F → ℕ) (leaves : F → List ℕ → F → Type 0) (words : List (List ℕ))
+    (r s : Request) (m n told : List (List ℕ)) (old new : F) (failure : Failure) (status : ℕ) (Puts : List ℕ → Type 0) (R : Type 0)
+    → IsCommand words r m → HasCause held faults leaves (file_limits r) r m old new failure → Reports Puts failure status
+    → AreHanded words (held old) s n told → IsUnrefused s told
     → (Rose (faults old) (faults new) → ⊥) → R ⊎ (status ≡ 7)
 unanswered held faults leaves words r s m n told old new (Unread name fault) status Puts R command cause says handed good none =
     absurd (all_read held faults leaves words r s m n told old new name fault command cause handed none)
 unanswered held faults leaves words r s m n told old new (Broken place fault) status Puts R command cause says handed good none =
-    absurd (good place fault (told_answer words (held old) r s m n cause.0 told (Err (At place fault)) command handed.is_command cause.1 handed.told cause.2))
+    absurd (good place fault (told_answer words (held old) r s m n cause.0 told (Err (At place fault)) command handed.is_command
+    cause.1 handed.told cause.2))
 unanswered held faults leaves words r s m n told old new NoMemory status Puts R command cause (inl said) handed good none = absurd said.1
 unanswered held faults leaves words r s m n told old new NoMemory status Puts R command cause (inr said) handed good none = inr said.0
 
 -- the verdict of a call is one that the contents have
-pub complete_written : {S : Type 0} (faults : S → ℕ) (taken : S → Option (List ℕ)) (old new : S) (words : List (List ℕ)) (r s : Request) (m n told : List (List ℕ)) (held : List ℕ → Told) (given verdict : Verdict) (status : ℕ)
-    → IsCommand words r m → IsAnswered (file_limits r) r m held given → IsWritten faults taken old new given status → AreHanded words held s n told → IsAnswer s told (Ok verdict)
+pub complete_written : {S : Type 0} (faults : S → ℕ) (taken : S → Option (List ℕ)) (old new : S) (words : List (List ℕ))
+    (r s : Request) (m n told : List (List ℕ)) (held : List ℕ → Told) (given verdict : Verdict) (status : ℕ)
+    → IsCommand words r m → IsAnswered (file_limits r) r m held given → IsWritten faults taken old new given status
+    → AreHanded words held s n told → IsAnswer s told (Ok verdict)
     → (Rose (faults old) (faults new) → ⊥)
-    → ((own : Verdict) × IsAnswer s told (Ok own) × AreAlike s verdict own × (status ≡ own.status) × Appends (taken old) (taken new) own.out) ⊎ (status ≡ 7)
+    → ((own : Verdict) × IsAnswer s told (Ok own) × AreAlike s verdict own × (status ≡ own.status)
+    × Appends (taken old) (taken new) own.out) ⊎ (status ≡ 7)
 complete_written faults taken old new words r s m n told held given verdict status command answered (inl put) handed answer none =
-    let here : IsAnswer s told (Ok given) = told_answer words held r s m n answered.contents told (Ok given) command handed.is_command answered.read handed.told answered.answer in
-    let alike : AreAlike s verdict given = answers_one s told (Ok verdict) (Ok given) answer here (some_answer verdict) (some_answer given) in
+    let here : IsAnswer s told (Ok given) = told_answer words held r s m n answered.contents told (Ok given) command
+    handed.is_command answered.read handed.told answered.answer in
+    let alike : AreAlike s verdict given = answers_one s told (Ok verdict) (Ok given) answer here (some_answer verdict)
+    (some_answer given) in
     inl (given, here, alike, put.0, put.1)
-complete_written faults taken old new words r s m n told held given verdict status command answered (inr failed) handed answer none = absurd (none failed.1)
+complete_written faults taken old new words r s m n told held given verdict status command answered (inr failed) handed answer none
+    = absurd (none failed.1)
 
 -- where the contents have a verdict, a call without one wants memory
-pub complete : {F : Type 0} (held : F → List ℕ → Told) (faults : F → ℕ) (leaves : F → List ℕ → F → Type 0) (words : List (List ℕ)) (r s : Request) (m n told : List (List ℕ)) (old new : F) (failure : Failure) (status : ℕ) (verdict : Verdict) (Puts : List ℕ → Type 0) (R : Type 0)
-    → IsCommand words r m → HasCause held faults leaves (file_limits r) r m old new failure → Reports Puts failure status → AreHanded words (held old) s n told → IsAnswer s told (Ok verdict)
+pub complete : {F : Type 0} (held : F → List ℕ → Told) (faults : F → ℕ) (leaves : F → List ℕ → F → Type 0) (words : List (List ℕ))
+    (r s : Request) (m n told : List (List ℕ)) (old new : F) (failure : Failure) (status : ℕ) (verdict : Verdict)
+    (Puts : List ℕ → Type 0) (R : Type 0)
+    → IsCommand words r m → HasCause held faults leaves (file_limits r) r m old new failure → Reports Puts failure status
+    → AreHanded words (held old) s n told → IsAnswer s told (Ok verdict)
     → (Rose (faults old) (faults new) → ⊥) → R ⊎ (status ≡ 7)
 complete held faults leaves words r s m n told old new (Unread name fault) status verdict Puts R command cause says handed answer none =
     absurd (all_read held faults leaves words r s m n told old new name fault command cause handed none)
 complete held faults leaves words r s m n told old new (Broken place fault) status verdict Puts R command cause says handed answer none =
-    let here : IsAnswer s told (Err (At place fault)) = told_answer words (held old) r s m n cause.0 told (Err (At place fault)) command handed.is_command cause.1 handed.told cause.2 in
+    let here : IsAnswer s told (Err (At place fault)) = told_answer words (held old) r s m n cause.0 told (Err (At place fault))
+    command handed.is_command cause.1 handed.told cause.2 in
     absurd (answers_one s told (Err (At place fault)) (Ok verdict) here answer (some_refusal place fault) (some_answer verdict))
-complete held faults leaves words r s m n told old new NoMemory status verdict Puts R command cause (inl said) handed answer none = absurd said.1
-complete held faults leaves words r s m n told old new NoMemory status verdict Puts R command cause (inr said) handed answer none = inr said.0
+complete held faults leaves words r s m n told old new NoMemory status verdict Puts R command cause (inl said) handed answer none =
+    absurd said.1
+complete held faults leaves words r s m n told old new NoMemory status verdict Puts R command cause (inr said) handed answer none =
+    inr said.0
 
 -- where the contents have a cause of refusal, a call has no verdict
-pub never_answered : (words : List (List ℕ)) (r s : Request) (m n told : List (List ℕ)) (held : List ℕ → Told) (given : Verdict) (place : Place) (fault : Fault)
-    → IsCommand words r m → IsAnswered (file_limits r) r m held given → AreHanded words held s n told → IsAnswer s told (Err (At place fault)) → ⊥
+pub never_answered : (words : List (List ℕ)) (r s : Request) (m n told : List (List ℕ)) (held : List ℕ → Told) (given : Verdict)
+    (place : Place) (fault : Fault)
+    → IsCommand words r m → IsAnswered (file_limits r) r m held given → AreHanded words held s n told
+    → IsAnswer s told (Err (At place fault)) → ⊥
 never_answered words r s m n told held given place fault command answered handed answer =
-    let here : IsAnswer s told (Ok given) = told_answer words held r s m n answered.contents told (Ok given) command handed.is_command answered.read handed.told answered.answer in
+    let here : IsAnswer s told (Ok given) = told_answer words held r s m n answered.contents told (Ok given) command
+    handed.is_command answered.read handed.told answered.answer in
     answers_one s told (Ok given) (Err (At place fault)) here answer (some_answer given) (some_refusal place fault)
 
 at_is : (place : Place) (fault : Fault) (p : Place) (f : Fault) → At place fault ≡ At p f → (place ≡ p) × (fault ≡ f)
 at_is place fault p f e = (cc, cc)
 
 -- and is refused for it, or memory is wanting
-pub refuses : {F : Type 0} (held : F → List ℕ → Told) (faults : F → ℕ) (leaves : F → List ℕ → F → Type 0) (words : List (List ℕ)) (r s : Request) (m n told : List (List ℕ)) (old new : F) (failure : Failure) (status : ℕ) (p : Place) (f : Fault) (Puts : List ℕ → Type 0)
-    → IsCommand words r m → HasCause held faults leaves (file_limits r) r m old new failure → Reports Puts failure status → AreHanded words (held old) s n told → IsAnswer s told (Err (At p f))
+pub refuses : {F : Type 0} (held : F → List ℕ → Told) (faults : F → ℕ) (leaves : F → List ℕ → F → Type 0) (words : List (List ℕ))
+    (r s : Request) (m n told : List (List ℕ)) (old new : F) (failure : Failure) (status : ℕ) (p : Place) (f : Fault)
+    (Puts : List ℕ → Type 0)
+    → IsCommand words r m → HasCause held faults leaves (file_limits r) r m old new failure → Reports Puts failure status
+    → AreHanded words (held old) s n told → IsAnswer s told (Err (At p f))
     → (Rose (faults old) (faults new) → ⊥) → ((status ≡ 3) × Puts (refusal_line p f)) ⊎ (status ≡ 7)
 refuses held faults leaves words r s m n told old new (Unread name fault) status p f Puts command cause says handed answer none =
     absurd (all_read held faults leaves words r s m n told old new name fault command cause handed none)
 refuses held faults leaves words r s m n told old new (Broken place fault) status p f Puts command cause (inl said) handed answer none =
-    let here : IsAnswer s told (Err (At place fault)) = told_answer words (held old) r s m n cause.0 told (Err (At place fault)) command handed.is_command cause.1 handed.told cause.2 in
-    let same = at_is place fault p f (answers_one s told (Err (At place fault)) (Err (At p f)) here answer (some_refusal place fault) (some_refusal p f)) in
+    let here : IsAnswer s told (Err (At place fault)) = told_answer words (held old) r s m n cause.0 told (Err (At place fault))
+    command handed.is_command cause.1 handed.told cause.2 in
+    let same = at_is place fault p f
+    (answers_one s told (Err (At place fault)) (Err (At p f)) here answer (some_refusal place fault) (some_refusal p f)) in
     inl (said.0, subst (λ (g : Fault). Puts (refusal_line p g)) same.1 (subst (λ (q : Place). Puts (refusal_line q fault)) same.0 said.2))
-refuses held faults leaves words r s m n told old new (Broken place fault) status p f Puts command cause (inr said) handed answer none = inr said.0
+refuses held faults leaves words r s m n told old new (Broken place fault) status p f Puts command cause (inr said) handed answer
+    none = inr said.0
 refuses held faults leaves words r s m n told old new NoMemory status p f Puts command cause (inl said) handed answer none = absurd said.1
 refuses held faults leaves words r s m n told old new NoMemory status p f Puts command cause (inr said) handed answer none = inr said.0
 
 -- ---- verdicts
 
 -- a verdict that was written is the answer for the contents of the files that the words name
-pub decided : (words : List (List ℕ)) (request : Request) (names : List (List ℕ)) (held : List ℕ → Told) (verdict : Verdict) (told : Option Verdict) → IsCommand words request names → IsAnswered (file_limits request) request names held verdict → told ≡ Some verdict → IfSome told (λ v. Decided words held (Ok v))
+pub decided : (words : List (List ℕ)) (request : Request) (names : List (List ℕ)) (held : List ℕ → Told) (verdict : Verdict)
+    (told : Option Verdict) → IsCommand words request names → IsAnswered (file_limits request) request names held verdict
+    → told ≡ Some verdict → IfSome told (λ v. Decided words held (Ok v))
 decided words request names held verdict told is answered same =
     let P : Option Verdict → Type 0 = λ o. IfSome o (λ v. Decided words held (Ok v)) in
     subst P (sym same) (record {
@@ -336,15 +438,18 @@ decided words request names held verdict told is answered same =
     })
 
 -- status 6 is that of an output that was not taken: the verdict's own is at most 2
-pub unwritten : {A B R P Q : Type 0} (status own : ℕ) → own ≤ 2 → ((status ≡ own) × A) ⊎ ((status ≡ 6) × R × B) → ((status ≡ own) × P) ⊎ ((status ≡ 6) × Q) → status ≡ 6 → R × Q
+pub unwritten : {A B R P Q : Type 0} (status own : ℕ) → own ≤ 2 → ((status ≡ own) × A) ⊎ ((status ≡ 6) × R × B)
+    → ((status ≡ own) × P) ⊎ ((status ≡ 6) × Q) → status ≡ 6 → R × Q
 unwritten status own low written (inl line) six = absurd (omega (arith, low, line.0, six))
 unwritten status own low (inl w) (inr line) six = absurd (omega (arith, low, w.0, six))
 unwritten status own low (inr w) (inr line) six = (w.1, line.1)
 
 -- a verdict of status 2 is that of a refused certificate
-refused_verdict : (request : Request) (files : List (List ℕ)) (verdict : Verdict) → IsAnswer request files (Ok verdict) → verdict.status ≡ 2 → (item : ℕ) × ((cause : List ℕ) × (verdict ≡ refused_at item cause))
+refused_verdict : (request : Request) (files : List (List ℕ)) (verdict : Verdict) → IsAnswer request files (Ok verdict)
+    → verdict.status ≡ 2 → (item : ℕ) × ((cause : List ℕ) × (verdict ≡ refused_at item cause))
 refused_verdict (Prove nodes) [] verdict answer two = absurd answer
-refused_verdict (Prove nodes) (desc ∷ classes) verdict answer two = let low = proved_low nodes desc classes verdict answer in absurd (omega (arith, low, two))
+refused_verdict (Prove nodes) (desc ∷ classes) verdict answer two = let low = proved_low nodes desc classes verdict answer in absurd
+    (omega (arith, low, two))
 refused_verdict Check [] verdict answer two = absurd answer
 refused_verdict Check (cert ∷ []) verdict answer two = absurd answer
 refused_verdict Check (cert ∷ desc ∷ classes) verdict answer two = judged_refused cert desc classes verdict answer two
@@ -358,24 +463,39 @@ refused_verdict Its (text ∷ []) verdict answer two = let low = ruled_low text 
 refused_verdict Its (text ∷ more ∷ files) verdict answer two = absurd answer
 
 -- status 2 comes where the certificate is refused
-pub not_accepted : {S : Type 0} (faults : S → ℕ) (taken : S → Option (List ℕ)) (old new : S) (words : List (List ℕ)) (request : Request) (names : List (List ℕ)) (held : List ℕ → Told) (verdict : Verdict) (status : ℕ)
-    → IsCommand words request names → IsAnswered (file_limits request) request names held verdict → IsWritten faults taken old new verdict status
-    → status ≡ 2 → (item : ℕ) × (cause : List ℕ) × Decided words held (Ok (refused_at item cause)) × Appends (taken old) (taken new) (refused_line item cause)
+pub not_accepted : {S : Type 0} (faults : S → ℕ) (taken : S → Option (List ℕ)) (old new : S) (words : List (List ℕ))
+    (request : Request) (names : List (List ℕ)) (held : List ℕ → Told) (verdict : Verdict) (status : ℕ)
+    → IsCommand words request names → IsAnswered (file_limits request) request names held verdict
+    → IsWritten faults taken old new verdict status
+    → status ≡ 2 → (item : ℕ) × (cause : List ℕ) × Decided words held (Ok (refused_at item cause))
+    × Appends (taken old) (taken new) (refused_line item cause)
 not_accepted faults taken old new words request names held verdict status command answered (inl put) two =
     let is = refused_verdict request answered.contents verdict answered.answer (sym put.0 ∙ two) in
-    let answer : IsAnswer request answered.contents (Ok (refused_at is.0 is.1.0)) = subst (λ (v : Verdict). IsAnswer request answered.contents (Ok v)) is.1.1 answered.answer in (
+    let answer : IsAnswer request answered.contents (Ok (refused_at is.0 is.1.0)) = subst
+    (λ (v : Verdict). IsAnswer request answered.contents (Ok v)) is.1.1 answered.answer in (
       is.0,
       is.1.0,
-      record { request = request; names = names; is_command = command; contents = answered.contents; read = answered.read; answer = answer },
+      record {
+        request = request;
+        names = names;
+        is_command = command;
+        contents = answered.contents;
+        read = answered.read;
+        answer =
+            answer;
+      },
       subst (λ (v : Verdict). Appends (taken old) (taken new) v.out) is.1.1 put.1,
     )
-not_accepted faults taken old new words request names held verdict status command answered (inr failed) two = absurd (omega (arith, failed.0, two))
+not_accepted faults taken old new words request names held verdict status command answered (inr failed) two = absurd
+    (omega (arith, failed.0, two))
 
 -- a verdict of status 1 is that no certificate is given, for a reason; or that rules are left
 abbrev IsMaybe : Verdict → Type 0
-IsMaybe verdict = ((reason : Reason PackedPairs) × ((text : List ℕ) × (verdict ≡ not_proved_for reason text))) ⊎ ((left : ItsFound) × ((text : List ℕ) × (verdict ≡ left_for left text)))
+IsMaybe verdict = ((reason : Reason PackedPairs) × ((text : List ℕ) × (verdict ≡ not_proved_for reason text)))
+    ⊎ ((left : ItsFound) × ((text : List ℕ) × (verdict ≡ left_for left text)))
 
-unproved_verdict : (request : Request) (files : List (List ℕ)) (verdict : Verdict) → IsAnswer request files (Ok verdict) → verdict.status ≡ 1 → IsMaybe verdict
+unproved_verdict : (request : Request) (files : List (List ℕ)) (verdict : Verdict) → IsAnswer request files (Ok verdict)
+    → verdict.status ≡ 1 → IsMaybe verdict
 unproved_verdict (Prove nodes) [] verdict answer one = absurd answer
 unproved_verdict (Prove nodes) (desc ∷ classes) verdict answer one = inl (unproved nodes desc classes verdict answer one)
 unproved_verdict Check [] verdict answer one = absurd answer
@@ -391,36 +511,61 @@ unproved_verdict Its (text ∷ []) verdict answer one = inr (ruled_left text ver
 unproved_verdict Its (text ∷ more ∷ files) verdict answer one = absurd answer
 
 -- a verdict that is this one is told, decided and written
-abbrev IsTold : {S : Type 0} (taken : S → Option (List ℕ)) (old new : S) (words : List (List ℕ)) (held : List ℕ → Told) (told : Option Verdict) → (List ℕ → Verdict) → List ℕ → Type 0
-IsTold taken old new words held told verdict_for text = (told ≡ Some (verdict_for text)) × Decided words held (Ok (verdict_for text)) × Appends (taken old) (taken new) text
+abbrev IsTold : {S : Type 0} (taken : S → Option (List ℕ)) (old new : S) (words : List (List ℕ)) (held : List ℕ → Told)
+    (told : Option Verdict) → (List ℕ → Verdict) → List ℕ → Type 0
+IsTold taken old new words held told verdict_for text = (told ≡ Some (verdict_for text))
+    × Decided words held (Ok (verdict_for text)) × Appends (taken old) (taken new) text
 
-told_so : {S : Type 0} (taken : S → Option (List ℕ)) (old new : S) (words : List (List ℕ)) (request : Request) (names : List (List ℕ)) (held : List ℕ → Told) (verdict : Verdict) (told : Option Verdict) (verdict_for : List ℕ → Verdict) (text : List ℕ)
-    → IsCommand words request names → IsAnswered (file_limits request) request names held verdict → told ≡ Some verdict → Appends (taken old) (taken new) verdict.out → verdict ≡ verdict_for text → (verdict_for text).out ≡ text
+told_so : {S : Type 0} (taken : S → Option (List ℕ)) (old new : S) (words : List (List ℕ)) (request : Request)
+    (names : List (List ℕ)) (held : List ℕ → Told) (verdict : Verdict) (told : Option Verdict) (verdict_for : List ℕ → Verdict)
+    (text : List ℕ)
+    → IsCommand words request names → IsAnswered (file_limits request) request names held verdict → told ≡ Some verdict
+    → Appends (taken old) (taken new) verdict.out → verdict ≡ verdict_for text → (verdict_for text).out ≡ text
     → IsTold taken old new words held told verdict_for text
 told_so taken old new words request names held verdict told verdict_for text command answered tells put same out =
-    let answer : IsAnswer request answered.contents (Ok (verdict_for text)) = subst (λ (v : Verdict). IsAnswer request answered.contents (Ok v)) same answered.answer in (
+    let answer : IsAnswer request answered.contents (Ok (verdict_for text)) = subst
+    (λ (v : Verdict). IsAnswer request answered.contents (Ok v)) same answered.answer in (
       tells ∙ ap (λ (v : Verdict). Some v) same,
-      record { request = request; names = names; is_command = command; contents = answered.contents; read = answered.read; answer = answer },
+      record {
+        request = request;
+        names = names;
+        is_command = command;
+        contents = answered.contents;
+        read = answered.read;
+        answer =
+            answer;
+      },
       subst (λ (line : List ℕ). Appends (taken old) (taken new) line) (ap (λ (v : Verdict). v.out) same ∙ out) put,
     )
 
 -- status 1 comes where no certificate is given, or no proof
-pub not_proved : {S : Type 0} (faults : S → ℕ) (taken : S → Option (List ℕ)) (old new : S) (words : List (List ℕ)) (request : Request) (names : List (List ℕ)) (held : List ℕ → Told) (verdict : Verdict) (told : Option Verdict) (status : ℕ)
-    → IsCommand words request names → IsAnswered (file_limits request) request names held verdict → told ≡ Some verdict → IsWritten faults taken old new verdict status
-    → status ≡ 1 → ((reason : Reason PackedPairs) × (text : List ℕ) × (told ≡ Some (not_proved_for reason text)) × Decided words held (Ok (not_proved_for reason text)) × Appends (taken old) (taken new) text)
-    ⊎ ((left : ItsFound) × (text : List ℕ) × (told ≡ Some (left_for left text)) × Decided words held (Ok (left_for left text)) × Appends (taken old) (taken new) text)
-not_proved faults taken old new words request names held verdict told status command answered tells (inl put) one = by (unproved_verdict request answered.contents verdict answered.answer (sym put.0 ∙ one))
+pub not_proved : {S : Type 0} (faults : S → ℕ) (taken : S → Option (List ℕ)) (old new : S) (words : List (List ℕ))
+    (request : Request) (names : List (List ℕ)) (held : List ℕ → Told) (verdict : Verdict) (told : Option Verdict) (status : ℕ)
+    → IsCommand words request names → IsAnswered (file_limits request) request names held verdict → told ≡ Some verdict
+    → IsWritten faults taken old new verdict status
+    → status ≡ 1 → ((reason : Reason PackedPairs) × (text : List ℕ) × (told ≡ Some (not_proved_for reason text))
+    × Decided words held (Ok (not_proved_for reason text)) × Appends (taken old) (taken new) text)
+    ⊎ ((left : ItsFound) × (text : List ℕ) × (told ≡ Some (left_for left text)) × Decided words held (Ok (left_for left text))
+    × Appends (taken old) (taken new) text)
+not_proved faults taken old new words request names held verdict told status command answered tells (inl put) one = by
+    (unproved_verdict request answered.contents verdict answered.answer (sym put.0 ∙ one))
   where
-    by : IsMaybe verdict → ((reason : Reason PackedPairs) × (text : List ℕ) × (told ≡ Some (not_proved_for reason text)) × Decided words held (Ok (not_proved_for reason text)) × Appends (taken old) (taken new) text)
-        ⊎ ((left : ItsFound) × (text : List ℕ) × (told ≡ Some (left_for left text)) × Decided words held (Ok (left_for left text)) × Appends (taken old) (taken new) text)
-    by (inl is) = let all = told_so taken old new words request names held verdict told (not_proved_for is.0) is.1.0 command answered tells put.1 is.1.1 refl in inl (is.0, is.1.0, all.0, all.1, all.2)
-    by (inr is) = let all = told_so taken old new words request names held verdict told (left_for is.0) is.1.0 command answered tells put.1 is.1.1 refl in inr (is.0, is.1.0, all.0, all.1, all.2)
-not_proved faults taken old new words request names held verdict told status command answered tells (inr failed) one = absurd (omega (arith, failed.0, one))
+    by : IsMaybe verdict → ((reason : Reason PackedPairs) × (text : List ℕ) × (told ≡ Some (not_proved_for reason text))
+        × Decided words held (Ok (not_proved_for reason text)) × Appends (taken old) (taken new) text)
+        ⊎ ((left : ItsFound) × (text : List ℕ) × (told ≡ Some (left_for left text)) × Decided words held (Ok (left_for left text))
+        × Appends (taken old) (taken new) text)
+    by (inl is) = let all = told_so taken old new words request names held verdict told (not_proved_for is.0) is.1.0 command
+        answered tells put.1 is.1.1 refl in inl (is.0, is.1.0, all.0, all.1, all.2)
+    by (inr is) = let all = told_so taken old new words request names held verdict told (left_for is.0) is.1.0 command answered
+        tells put.1 is.1.1 refl in inr (is.0, is.1.0, all.0, all.1, all.2)
+not_proved faults taken old new words request names held verdict told status command answered tells (inr failed) one = absurd
+    (omega (arith, failed.0, one))
 
 -- ---- reasons
 
 -- where nothing is kept, and the status is another
-no_reason : (verdict : Verdict) → (verdict.status ≡ 1 → ⊥) → verdict.reason ≡ None → verdict.its ≡ None → (verdict.status ≡ 1) ↔ HasReason verdict
+no_reason : (verdict : Verdict) → (verdict.status ≡ 1 → ⊥) → verdict.reason ≡ None → verdict.its ≡ None
+    → (verdict.status ≡ 1) ↔ HasReason verdict
 no_reason verdict other none without = (λ one. absurd (other one), λ h. absurd (by h))
   where
     by : HasReason verdict → ⊥
@@ -428,23 +573,28 @@ no_reason verdict other none without = (λ one. absurd (other one), λ h. absurd
     by (inr h) = let e : (let o : Option ItsFound = None in o) ≡ Some h.0 = sym without ∙ h.1 in cc
 
 -- a `prove` keeps nothing of rules
-of_prove : (verdict : Verdict) → verdict.its ≡ None → (verdict.status ≡ 1) ↔ ((reason : Reason PackedPairs) × (verdict.reason ≡ Some reason)) → (verdict.status ≡ 1) ↔ HasReason verdict
+of_prove : (verdict : Verdict) → verdict.its ≡ None
+    → (verdict.status ≡ 1) ↔ ((reason : Reason PackedPairs) × (verdict.reason ≡ Some reason)) → (verdict.status ≡ 1) ↔ HasReason verdict
 of_prove verdict without kept = (λ one. inl (kept.0 one), by)
   where
     by : HasReason verdict → verdict.status ≡ 1
     by (inl h) = kept.1 h
     by (inr h) = absurd (let e : (let o : Option ItsFound = None in o) ≡ Some h.0 = sym without ∙ h.1 in cc)
 
-pub reasons_kept : (request : Request) (contents : List (List ℕ)) (verdict : Verdict) → IsAnswer request contents (Ok verdict) → (verdict.status ≡ 1) ↔ HasReason verdict
+pub reasons_kept : (request : Request) (contents : List (List ℕ)) (verdict : Verdict) → IsAnswer request contents (Ok verdict)
+    → (verdict.status ≡ 1) ↔ HasReason verdict
 reasons_kept (Prove nodes) [] verdict answer = absurd answer
 reasons_kept (Prove nodes) (desc ∷ classes) verdict answer = of_prove verdict answer.0 (reason_kept nodes desc classes verdict answer)
 reasons_kept Check [] verdict answer = absurd answer
 reasons_kept Check (cert ∷ []) verdict answer = absurd answer
-reasons_kept Check (cert ∷ desc ∷ classes) verdict answer = no_reason verdict (judged_not_one cert desc classes verdict answer) answer.0 answer.1
+reasons_kept Check (cert ∷ desc ∷ classes) verdict answer = no_reason verdict (judged_not_one cert desc classes verdict answer)
+    answer.0 answer.1
 reasons_kept (Run fuel) [] verdict answer = absurd answer
-reasons_kept (Run fuel) (state ∷ classes) verdict answer = no_reason verdict (λ one. let none = answer.0 in omega (arith, none, one)) answer.1 answer.2
+reasons_kept (Run fuel) (state ∷ classes) verdict answer = no_reason verdict
+    (λ one. let none = answer.0 in omega (arith, none, one)) answer.1 answer.2
 reasons_kept Asm [] verdict answer = absurd answer
-reasons_kept Asm (listing ∷ []) verdict answer = no_reason verdict (λ one. let none = answer.0 in omega (arith, none, one)) answer.1 answer.2
+reasons_kept Asm (listing ∷ []) verdict answer = no_reason verdict (λ one. let none = answer.0 in omega (arith, none, one)) answer.1
+    answer.2
 reasons_kept Asm (listing ∷ more ∷ files) verdict answer = absurd answer
 reasons_kept Its [] verdict answer = absurd answer
 reasons_kept Its (text ∷ []) verdict answer = ruled_reason text verdict answer

@@ -1,5 +1,6 @@
 -- Words that are numbers.
-use Rattle.std.proofs.Common.{◌≡◌, ℕ, zero, suc, ◌<◌, ◌≤◌, ◌^◌, ◌==◌, Bool, true, false, List, [], ◌∷◌, length, get_or, Result, Ok, refl, sym, ap, ◌∙◌, subst, arith, if◌then◌else◌}
+use Rattle.std.proofs.Common.{◌≡◌, ℕ, zero, suc, ◌<◌, ◌≤◌, ◌^◌, ◌==◌, Bool, true, false, List, [], ◌∷◌, length, get_or, Result, Ok}
+use Rattle.std.proofs.Common.{refl, sym, ap, ◌∙◌, subst, arith, if◌then◌else◌}
 use Rattle.std.specs.Prelude.{◌≢◌}
 use Rattle.std.specs.Fmt.{decimal}
 use Rattle.std.specs.Str.Parse.{AllDigits, digits_value, ParsesUnsigned}
@@ -28,7 +29,8 @@ plain_decimal zero low = ap is_plain (decimal_digit 0 (omega arith))
 plain_decimal (suc n) low = plain_first (decimal (suc n)) (first_decimal (suc n) (omega arith) low)
 
 -- a word that isn't plain is no number
-pub not_plain : (greatest : ℕ) → greatest < 2 ^ 64 → (word : List ℕ) → is_plain word ≡ false → (number : ℕ) → IsNumber greatest word number → ⊥
+pub not_plain : (greatest : ℕ) → greatest < 2 ^ 64 → (word : List ℕ) → is_plain word ≡ false → (number : ℕ)
+    → IsNumber greatest word number → ⊥
 not_plain greatest low word bent number f =
     let plain : is_plain word ≡ true = ap is_plain f.spelled ∙ plain_decimal number (let few = f.few in omega (arith, few, low)) in
     let e : false ≡ true = sym bent ∙ plain in
@@ -37,17 +39,20 @@ not_plain greatest low word bent number f =
 -- ---- numbers as they are read
 
 -- what is written is read
-read_number : {E : Type 0} (greatest : ℕ) → greatest < 2 ^ 64 → (word : List ℕ) (r : Result ℕ E) → ParsesUnsigned 64 10 word r → (number : ℕ) → IsNumber greatest word number → r ≡ Ok number
+read_number : {E : Type 0} (greatest : ℕ) → greatest < 2 ^ 64 → (word : List ℕ) (r : Result ℕ E) → ParsesUnsigned 64 10 word r
+    → (number : ℕ) → IsNumber greatest word number → r ≡ Ok number
 read_number greatest low word r h number f =
     let few = f.few in
     parse-decimal 64 number word r (omega (arith, few, low)) (omega (arith, few, low)) f.spelled h
 
 -- a word that isn't read is no number
-pub not_read : {E : Type 0} (greatest : ℕ) → greatest < 2 ^ 64 → (word : List ℕ) (r : Result ℕ E) → ParsesUnsigned 64 10 word r → ((n : ℕ) → r ≡ Ok n → ⊥) → (number : ℕ) → IsNumber greatest word number → ⊥
+pub not_read : {E : Type 0} (greatest : ℕ) → greatest < 2 ^ 64 → (word : List ℕ) (r : Result ℕ E) → ParsesUnsigned 64 10 word r
+    → ((n : ℕ) → r ≡ Ok n → ⊥) → (number : ℕ) → IsNumber greatest word number → ⊥
 not_read greatest low word r h none number f = none number (read_number greatest low word r h number f)
 
 -- nor is one that is read as too great a number
-pub too_great : {E : Type 0} (greatest : ℕ) → greatest < 2 ^ 64 → (word : List ℕ) (r : Result ℕ E) (n : ℕ) → ParsesUnsigned 64 10 word r → r ≡ Ok n → greatest < n → (number : ℕ) → IsNumber greatest word number → ⊥
+pub too_great : {E : Type 0} (greatest : ℕ) → greatest < 2 ^ 64 → (word : List ℕ) (r : Result ℕ E) (n : ℕ)
+    → ParsesUnsigned 64 10 word r → r ≡ Ok n → greatest < n → (number : ℕ) → IsNumber greatest word number → ⊥
 too_great {E} greatest low word r n h e more number f =
     let both : (let s : Result ℕ E = Ok n in s) ≡ Ok number = sym e ∙ read_number greatest low word r h number f in
     let same : n ≡ number = cc in
@@ -56,7 +61,8 @@ too_great {E} greatest low word r n h e more number f =
 
 plus_apart : (word : List ℕ) → is_plain word ≡ true → get_or word 0 0 ≢ 43
 plus_apart [] p e = omega arith
-plus_apart (d ∷ ds) p e = let q : is_plain (43 ∷ ds) ≡ true = subst (λ (x : ℕ). is_plain (x ∷ ds) ≡ true) e p in let f : false ≡ true = q in cc
+plus_apart (d ∷ ds) p e = let q : is_plain (43 ∷ ds) ≡ true = subst (λ (x : ℕ). is_plain (x ∷ ds) ≡ true) e p in let f : false
+    ≡ true = q in cc
 
 zero_alone : (word : List ℕ) → is_plain word ≡ true → get_or word 0 0 ≡ 48 → length word ≡ 1
 zero_alone [] p e = absurd (omega arith)
@@ -69,9 +75,11 @@ zero_alone (d ∷ ds) p e =
     one_of n t = grind (arith, nat_tests)
 
 -- a plain word that is read as a number that isn't too great is one
-pub is_number : {E : Type 0} (greatest : ℕ) (word : List ℕ) (r : Result ℕ E) (n : ℕ) → ParsesUnsigned 64 10 word r → r ≡ Ok n → is_plain word ≡ true → n ≤ greatest → IsNumber greatest word n
+pub is_number : {E : Type 0} (greatest : ℕ) (word : List ℕ) (r : Result ℕ E) (n : ℕ) → ParsesUnsigned 64 10 word r → r ≡ Ok n
+    → is_plain word ≡ true → n ≤ greatest → IsNumber greatest word n
 is_number {E} greatest word r n h e plain few =
     let read : ParsesUnsigned 64 10 word (let s : Result ℕ E = Ok n in s) = subst (λ (s : Result ℕ E). ParsesUnsigned 64 10 word s) e h in
     let said = parse_plain own 64 word (let s : Result ℕ E = Ok n in s) read (plus_apart word plain) in
-    let written : decimal (digits_value 10 word) ≡ word = decimal-digits_value own word said.0.0 said.0.1 (zero_alone word plain) said.0.2 in
+    let written : decimal (digits_value 10 word) ≡ word = decimal-digits_value own word said.0.0 said.0.1 (zero_alone word plain)
+    said.0.2 in
     record { spelled = sym written ∙ ap decimal (sym said.1); few = few }

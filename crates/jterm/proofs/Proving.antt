@@ -1,5 +1,6 @@
 -- What the answer of `prove` says.
-use Rattle.std.proofs.Common.{◌≡◌, ◌⊎◌, ◌≤◌, ◌++◌, ℕ, List, [], ◌∷◌, length, get_or, Option, Some, None, Result, Ok, Err, IfOk, refl, sym, ap, ◌∙◌, subst, inl, inr, arith}
+use Rattle.std.proofs.Common.{◌≡◌, ◌⊎◌, ◌≤◌, ◌++◌, ℕ, List, [], ◌∷◌, length, get_or, Option, Some, None, Result, Ok, Err, IfOk}
+use Rattle.std.proofs.Common.{refl, sym, ap, ◌∙◌, subst, inl, inr, arith}
 use Rattle.std.specs.Prelude.{◌↔◌}
 use Rattle.abs_cells.specs.declared.packed.PackedPairs.{PackedPairs}
 use Rattle.class_program.specs.Programs.{Program}
@@ -33,7 +34,8 @@ pub record Given {X : Type 0} (Of : Saying X) (x : X) : Type 0 where
   pub described : Desc
   pub said : Of program typing described (Ok x)
 
-abbrev pub given : {X : Type 0} (Of : Saying X) (desc : List ℕ) (files : List (List ℕ)) (x : X) → OfFiles {X = X} Of desc files (Ok x) → Given Of x
+abbrev pub given : {X : Type 0} (Of : Saying X) (desc : List ℕ) (files : List (List ℕ)) (x : X)
+    → OfFiles {X = X} Of desc files (Ok x) → Given Of x
 given Of desc files x a =
     let text = a.1.1 in
     let world = text.1.1 in
@@ -46,8 +48,10 @@ given Of desc files x a =
     record { program = program.0; typing = typing.0; described = described.0; said = built.1.1 }
 
 -- what another command says of it, it says of the files and the description
-pub said_of_files : {X Y : Type 0} (Of : Saying X) (Other : Saying Y) (desc : List ℕ) (files : List (List ℕ)) (x : X) (y : Y) (a : OfFiles {X = X} Of desc files (Ok x))
-    → Other (given Of desc files x a).program (given Of desc files x a).typing (given Of desc files x a).described (Ok y) → OfFiles {X = Y} Other desc files (Ok y)
+pub said_of_files : {X Y : Type 0} (Of : Saying X) (Other : Saying Y) (desc : List ℕ) (files : List (List ℕ)) (x : X) (y : Y)
+    (a : OfFiles {X = X} Of desc files (Ok x))
+    → Other (given Of desc files x a).program (given Of desc files x a).typing (given Of desc files x a).described (Ok y)
+    → OfFiles {X = Y} Other desc files (Ok y)
 said_of_files Of Other desc files x y a other =
     let text = a.1.1 in
     let world = text.1.1 in
@@ -56,8 +60,43 @@ said_of_files Of Other desc files x y a other =
     let calls = program.1.1 in
     let typing = calls.1.1 in
     let described = typing.1.1 in
-    let built = described.1.1 in
-    (a.0, (a.1.0, (text.0, (text.1.0, (world.0, (world.1.0, (entry.0, (entry.1.0, (program.0, (program.1.0, (calls.0, (calls.1.0, (typing.0, (typing.1.0, (described.0, (described.1.0, (built.0, (built.1.0, other))))))))))))))))))
+    let built = described.1.1 in (
+      a.0,
+      (
+        a.1.0,
+        (
+          text.0,
+          (
+            text.1.0,
+            (
+              world.0,
+              (
+                world.1.0,
+                (
+                  entry.0,
+                  (
+                    entry.1.0,
+                    (
+                      program.0,
+                      (
+                        program.1.0,
+                        (
+                          calls.0,
+                          (
+                            calls.1.0,
+                            (typing.0, (typing.1.0, (described.0, (described.1.0, (built.0, (built.1.0, other)))))),
+                          ),
+                        ),
+                      ),
+                    ),
+                  ),
+                ),
+              ),
+            ),
+          ),
+        ),
+      ),
+    )
 
 -- ---- texts
 
@@ -78,7 +117,8 @@ pub record Certifies (desc : List ℕ) (files : List (List ℕ)) (verdict : Verd
   pub accepted : check.Answers cert desc files (Ok lines.accepted)
   pub out_is : verdict.out ≡ yes_text cert
 
-module _ (nodes : ℕ) (desc : List ℕ) (files : List (List ℕ)) (verdict : Verdict) (answer : Proved (prove.Answers nodes desc files) (Ok verdict)) where
+module _ (nodes : ℕ) (desc : List ℕ) (files : List (List ℕ)) (verdict : Verdict)
+    (answer : Proved (prove.Answers nodes desc files) (Ok verdict)) where
   abbrev own : Answer
   own = record { status = verdict.status; out = verdict.out; reason = verdict.reason }
 
@@ -102,14 +142,19 @@ module _ (nodes : ℕ) (desc : List ℕ) (files : List (List ℕ)) (verdict : Ve
   -- where it is 1 there is a reason
   has_reason : Said → verdict.status ≡ 1 → (reason : Reason PackedPairs) × ((text : List ℕ) × (verdict ≡ not_proved_for reason text))
   has_reason (inl sure) one = let none = sure.status in absurd (omega (arith, none, one))
-  has_reason (inr maybe) one = (maybe.reason, (verdict.out, λ i. record { status = one i; out = verdict.out; reason = maybe.kept i; its = answer.0 i }))
+  has_reason (inr maybe) one =
+      (maybe.reason, (verdict.out, λ i. record { status = one i; out = verdict.out; reason = maybe.kept i; its = answer.0 i }))
 
   pub unproved : verdict.status ≡ 1 → (reason : Reason PackedPairs) × ((text : List ℕ) × (verdict ≡ not_proved_for reason text))
   unproved one = has_reason said one
 
   -- and there alone
   keeps : Said → (verdict.status ≡ 1) ↔ ((reason : Reason PackedPairs) × (verdict.reason ≡ Some reason))
-  keeps (inl sure) = (λ one. absurd (let none = sure.status in omega (arith, none, one)), λ h. absurd (let e : (let o : Option (Reason PackedPairs) = None in o) ≡ Some h.0 = sym sure.reason ∙ h.1 in cc))
+  keeps (inl sure) = (
+    λ one. absurd (let none = sure.status in omega (arith, none, one)),
+    λ h. absurd
+        (let e : (let o : Option (Reason PackedPairs) = None in o) ≡ Some h.0 = sym sure.reason ∙ h.1 in cc),
+  )
   keeps (inr maybe) = (λ one. (maybe.reason, maybe.kept), λ h. maybe.status)
 
   pub reason_kept : (verdict.status ≡ 1) ↔ ((reason : Reason PackedPairs) × (verdict.reason ≡ Some reason))
@@ -156,10 +201,13 @@ verdict_of_prove (Ok answer) = Ok (record { status = answer.status; out = answer
 verdict_of_prove (Err refused) = Err refused
 
 -- what YES says
-pub proved_true : (nodes : ℕ) (desc : List ℕ) (files : List (List ℕ)) (answer : Result Answer Refused) (result : Result Verdict Refused) → result ≡ verdict_of_prove answer → prove.Answers nodes desc files answer → AllEndIfYes files desc answer
+pub proved_true : (nodes : ℕ) (desc : List ℕ) (files : List (List ℕ)) (answer : Result Answer Refused)
+    (result : Result Verdict Refused) → result ≡ verdict_of_prove answer → prove.Answers nodes desc files answer
+    → AllEndIfYes files desc answer
     → IfOk result (λ verdict. Says yes_line verdict → AllEnd files desc)
 proved_true nodes desc files (Ok answer) result e a ends =
     let verdict : Verdict = record { status = answer.status; out = answer.out; reason = answer.reason; its = None } in
-    subst (λ (r : Result Verdict Refused). IfOk r (λ v. Says yes_line v → AllEnd files desc)) (sym e) (λ says. ends (proves nodes desc files verdict (refl, a) says))
+    subst (λ (r : Result Verdict Refused). IfOk r (λ v. Says yes_line v → AllEnd files desc)) (sym e)
+    (λ says. ends (proves nodes desc files verdict (refl, a) says))
 proved_true nodes desc files (Err refused) result e a ends =
     subst (λ (r : Result Verdict Refused). IfOk r (λ v. Says yes_line v → AllEnd files desc)) (sym e) tt

@@ -32,11 +32,14 @@ pub record Change (S : Type 0) : Type 0 where
 -- What a call of `jterm` with these words comes to: the files, the output and the error output before and after it, the exit
 -- status, and the verdict where there is one. What the files hold (`held`), which reads lead from one state of them to another
 -- (`leaves`), what each output took (`out_taken`, `err_taken`), and the counts of faults are those of the ports.
-pub record CallEnds {F O E : Type 0} (held : F → List ℕ → Told) (faults : F → ℕ) (leaves : F → List ℕ → F → Type 0) (out_faults : O → ℕ) (out_taken : O → Option (List ℕ)) (err_faults : E → ℕ) (err_taken : E → Option (List ℕ)) (words : List (List ℕ)) (files : Change F) (out : Change O) (err : Change E) (result : Done) : Type 0 where
+pub record CallEnds {F O E : Type 0} (held : F → List ℕ → Told) (faults : F → ℕ) (leaves : F → List ℕ → F → Type 0)
+    (out_faults : O → ℕ) (out_taken : O → Option (List ℕ)) (err_faults : E → ℕ) (err_taken : E → Option (List ℕ))
+    (words : List (List ℕ)) (files : Change F) (out : Change O) (err : Change E) (result : Done) : Type 0 where
   -- Where YES is said, a certificate stands behind it, which `check` accepts for the same files.
   pub certificate : (d : List ℕ) (cs : List (List ℕ)) (desc : List ℕ) (classes : List (List ℕ))
       → IsProve words d cs → AreTold (held files.old) (d ∷ cs) (desc ∷ classes) → result.status ≡ 0
-      → (cert : List ℕ) × (length cert ≤ most_certificate_bytes) × IsAnswer Check (cert ∷ desc ∷ classes) (Ok accepted) × Appends (out_taken out.old) (out_taken out.new) (yes_text cert)
+      → (cert : List ℕ) × (length cert ≤ most_certificate_bytes) × IsAnswer Check (cert ∷ desc ∷ classes) (Ok accepted)
+      × Appends (out_taken out.old) (out_taken out.new) (yes_text cert)
   -- A verdict is the answer for the contents of the files. Its output is written, or writing failed.
   pub verdict : IfSome result.verdict (λ v. Decided words (held files.old) (Ok v))
   pub written : IfSome result.verdict (λ v. IsWritten out_faults out_taken out.old out.new v result.status)

@@ -83,7 +83,8 @@ left_for left text = record { status = 1; out = text; reason = None; its = Some 
 
 -- a verdict with the parts of an answer of `prove` of which this holds; or a refusal of which it does
 abbrev pub Proved : (Result Answer Refused → Type 0) → Result Verdict Refused → Type 0
-Proved Answers (Ok verdict) = (verdict.its ≡ None) × Answers (Ok (record { status = verdict.status; out = verdict.out; reason = verdict.reason }))
+Proved Answers (Ok verdict) = (verdict.its ≡ None)
+    × Answers (Ok (record { status = verdict.status; out = verdict.out; reason = verdict.reason }))
 Proved Answers (Err refused) = Answers (Err refused)
 
 -- the verdict that no certificate was found, for a reason with this text
@@ -115,7 +116,8 @@ verdict_of (Err refused) = Err refused
 
 -- a verdict with the status and the output of an outcome of which this holds; or a refusal of which it does
 abbrev pub Judged : (Result Outcome Refused → Type 0) → Result Verdict Refused → Type 0
-Judged Answers (Ok verdict) = (verdict.reason ≡ None) × (verdict.its ≡ None) × Answers (Ok (record { status = verdict.status; out = verdict.out }))
+Judged Answers (Ok verdict) = (verdict.reason ≡ None) × (verdict.its ≡ None)
+    × Answers (Ok (record { status = verdict.status; out = verdict.out }))
 Judged Answers (Err refused) = Answers (Err refused)
 
 -- the answer to a request for the contents of its files: a certificate, a description or a state, and classes; or a listing; or a text of rules

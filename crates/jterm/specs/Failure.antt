@@ -21,7 +21,8 @@ use Rattle.jterm.specs.Lines.{read_line, memory_line}
 use Rattle.jterm.specs.Outside.{AreContents, IsUnread}
 
 -- a call with these limits on files, this request and these file words, which led from old files to new ones, has failed for this cause
-abbrev pub HasCause : {F : Type 0} → (F → List ℕ → Told) → (F → ℕ) → (F → List ℕ → F → Type 0) → (ℕ → ℕ) → Request → List (List ℕ) → F → F → Failure → Type 0
+abbrev pub HasCause : {F : Type 0} → (F → List ℕ → Told) → (F → ℕ) → (F → List ℕ → F → Type 0) → (ℕ → ℕ) → Request → List (List ℕ)
+    → F → F → Failure → Type 0
 HasCause held faults leaves limits request names old new (Unread name fault) = IsUnread held faults leaves limits names old new name fault
 HasCause held faults leaves limits request names old new (Broken place fault) =
     (contents : List (List ℕ)) × AreContents limits (held old) names contents × IsAnswer request contents (Err (At place fault))
@@ -53,12 +54,14 @@ AreOfCommand request names = (words : List (List ℕ)) × IsCommand words reques
 -- a `prove` that says `YES` says the truth
 abbrev pub IsTrueProof : Request → List (List ℕ) → Verdict → Type 0
 IsTrueProof request contents verdict =
-    (nodes : ℕ) (desc : List ℕ) (classes : List (List ℕ)) → request ≡ Prove nodes → contents ≡ desc ∷ classes → Says yes_line verdict → AllEnd classes desc
+    (nodes : ℕ) (desc : List ℕ) (classes : List (List ℕ)) → request ≡ Prove nodes → contents ≡ desc ∷ classes
+    → Says yes_line verdict → AllEnd classes desc
 
 -- so does a check that says `ACCEPTED`
 abbrev pub IsTrueCheck : Request → List (List ℕ) → Verdict → Type 0
 IsTrueCheck request contents verdict =
-    (cert desc : List ℕ) (classes : List (List ℕ)) → request ≡ Check → contents ≡ cert ∷ desc ∷ classes → Says accepted_line verdict → AllEnd classes desc
+    (cert desc : List ℕ) (classes : List (List ℕ)) → request ≡ Check → contents ≡ cert ∷ desc ∷ classes → Says accepted_line verdict
+    → AllEnd classes desc
 
 -- so does an `its` that says `YES`
 abbrev pub IsTrueSystem : Request → List (List ℕ) → Verdict → Type 0
@@ -66,7 +69,8 @@ IsTrueSystem request contents verdict =
     (text : List ℕ) → request ≡ Its → contents ≡ text ∷ [] → Says its.yes_line verdict → IsEnding text
 
 -- the verdict is the answer for the contents of the files, its status is at most 2, and what it says is true
-pub record IsAnswered (limits : ℕ → ℕ) (request : Request) (names : List (List ℕ)) (held : List ℕ → Told) (verdict : Verdict) : Type 0 where
+pub record IsAnswered (limits : ℕ → ℕ) (request : Request) (names : List (List ℕ)) (held : List ℕ → Told) (verdict : Verdict) : Type
+    0 where
   pub contents : List (List ℕ)
   pub read : AreContents limits held names contents
   pub answer : IsAnswer request contents (Ok verdict)

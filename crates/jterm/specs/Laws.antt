@@ -29,7 +29,8 @@ AreOne request a b = ⊥
 -- Want of memory aside, a request has one answer for the contents of its files: one place and fault; or a verdict, which for all commands but
 -- `prove` and `its` is one.
 abbrev pub AnswersAreOne : Type 0
-AnswersAreOne = (request : Request) (contents : List (List ℕ)) (a b : Result Verdict Refused) → IsAnswer request contents a → IsAnswer request contents b
+AnswersAreOne = (request : Request) (contents : List (List ℕ)) (a b : Result Verdict Refused) → IsAnswer request contents a
+    → IsAnswer request contents b
     → a ≢ Err Memory → b ≢ Err Memory → AreOne request a b
 
 -- a verdict keeps why no certificate is given, or what is left of rules
@@ -43,5 +44,6 @@ ReasonsAreKept = (request : Request) (contents : List (List ℕ)) (verdict : Ver
 
 -- behind YES stands a certificate, which `check` accepts for the same files
 abbrev pub CertificatesAreAccepted : Type 0
-CertificatesAreAccepted = (nodes : ℕ) (desc : List ℕ) (classes : List (List ℕ)) (verdict : Verdict) → IsAnswer (Prove nodes) (desc ∷ classes) (Ok verdict) → verdict.status ≡ 0
+CertificatesAreAccepted = (nodes : ℕ) (desc : List ℕ) (classes : List (List ℕ)) (verdict : Verdict)
+    → IsAnswer (Prove nodes) (desc ∷ classes) (Ok verdict) → verdict.status ≡ 0
     → (cert : List ℕ) × (verdict.out ≡ yes_text cert) × IsAnswer Check (cert ∷ desc ∷ classes) (Ok accepted)

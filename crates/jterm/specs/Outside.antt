@@ -38,7 +38,8 @@ behind limits place = limits (suc place)
 -- the contents under these names, each within the limit at its place, are no others than those that are told
 abbrev pub AreContents : (ℕ → ℕ) → (List ℕ → Told) → List (List ℕ) → List (List ℕ) → Type 0
 AreContents limits held [] [] = ⊤
-AreContents limits held (name ∷ names) (content ∷ contents) = IsContent (held name) content × (length content ≤ limits 0) × AreContents (behind limits) held names contents
+AreContents limits held (name ∷ names) (content ∷ contents) = IsContent (held name) content × (length content ≤ limits 0)
+    × AreContents (behind limits) held names contents
 AreContents limits held [] (content ∷ contents) = ⊥
 AreContents limits held (name ∷ names) [] = ⊥
 
@@ -63,7 +64,8 @@ AreRead {F} leaves (name ∷ names) old new = (between : F) × leaves old name b
 -- The file of this name is the first of the named ones that was not read, for this cause. The files before it were read, one
 -- after the other, which led from the old files to those between, and none of them failed: the count of faults stood still.
 -- The read of this very file led on from there to the new ones, and is the one that failed.
-pub record IsUnread {F : Type 0} (held : F → List ℕ → Told) (faults : F → ℕ) (leaves : F → List ℕ → F → Type 0) (limits : ℕ → ℕ) (names : List (List ℕ)) (old new : F) (name : List ℕ) (fault : FileFault) : Type 0 where
+pub record IsUnread {F : Type 0} (held : F → List ℕ → Told) (faults : F → ℕ) (leaves : F → List ℕ → F → Type 0) (limits : ℕ → ℕ)
+    (names : List (List ℕ)) (old new : F) (name : List ℕ) (fault : FileFault) : Type 0 where
   pub place : ℕ
   pub is_named : slice_get names place ≡ Some name
   pub contents : List (List ℕ)

@@ -123,4 +123,5 @@ pub record IsItsRow (words : List (List ℕ)) (request : Request) (files : List 
 -- the words are a row of the table of the commands that are built
 abbrev pub IsCommand : List (List ℕ) → Request → List (List ℕ) → Type 0
 IsCommand words request files =
-    IsProveRow words request files ⊎ (IsCheckRow words request files ⊎ (IsRunRow words request files ⊎ (IsAsmRow words request files ⊎ IsItsRow words request files)))
+    IsProveRow words request files
+    ⊎ (IsCheckRow words request files ⊎ (IsRunRow words request files ⊎ (IsAsmRow words request files ⊎ IsItsRow words request files)))

@@ -3,7 +3,8 @@ ghost use Rattle.std.specs.Prelude.{◌≡◌, ◌↔◌, ℕ, List, ◌∷◌, 
 ghost use Rattle.std.specs.List.{list_all};
 ghost use Rattle.jterm.specs.declared.verdict.Request.{Request};
 ghost use Rattle.jterm.specs.declared.verdict.Request.TheVariants.{Check, Asm, Its};
-ghost use Rattle.jterm.specs.Words.{is_file_word, AreFiles, AreCheckFiles, IsOneFile, IsNumber, IsLimit, IsProveRow, IsCheckRow, IsRunRow, IsAsmRow, IsItsRow, IsCommand};
+ghost use Rattle.jterm.specs.Words.{is_file_word, AreFiles, AreCheckFiles, IsOneFile, IsNumber, IsLimit, IsProveRow, IsCheckRow};
+ghost use Rattle.jterm.specs.Words.{IsRunRow, IsAsmRow, IsItsRow, IsCommand};
 ghost use Rattle.jterm.specs.Failure.{is_plain, NamesLimit};
 
 use crate::Request;

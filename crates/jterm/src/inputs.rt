@@ -87,7 +87,8 @@ pub(crate) fn read_inputs<'a, F: Files>(
     requires other { other ≤ 2 ^ 31 }
     ensures contents { IfOk result (λ inputs. AreContents (limit_at certificate other command.now.request) (F.held files.old)
         (map string_bytes command.now.files.now) (map (λ file. file.items) inputs.items)) }
-    ensures cause { IfErr result (λ failure. HasCause F.held F.faults F.leaves (limit_at certificate other command.now.request) command.now.request
+    ensures cause { IfErr result (λ failure. HasCause F.held F.faults F.leaves (limit_at certificate other command.now.request)
+        command.now.request
         (map string_bytes command.now.files.now) files.old files.new failure) }
     ensures reads { FirstAreRead F.leaves (map string_bytes command.now.files.now) files.old files.new }
 {

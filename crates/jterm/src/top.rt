@@ -43,8 +43,10 @@ fn answer<'a, F: Files>(
     requires certificate { certificate ≤ 2 ^ 31 }
     requires other { other ≤ 2 ^ 31 }
     requires command { AreOfCommand command.now.request (map string_bytes command.now.files.now) }
-    ensures answered { IfOk result (λ verdict. IsAnswered (limit_at certificate other command.now.request) command.now.request (map string_bytes command.now.files.now) (F.held files.old) verdict) }
-    ensures cause { IfErr result (λ failure. HasCause F.held F.faults F.leaves (limit_at certificate other command.now.request) command.now.request
+    ensures answered { IfOk result (λ verdict. IsAnswered (limit_at certificate other command.now.request) command.now.request
+        (map string_bytes command.now.files.now) (F.held files.old) verdict) }
+    ensures cause { IfErr result (λ failure. HasCause F.held F.faults F.leaves (limit_at certificate other command.now.request)
+        command.now.request
         (map string_bytes command.now.files.now) files.old files.new failure) }
     ensures reads { FirstAreRead F.leaves (map string_bytes command.now.files.now) files.old files.new }
 {

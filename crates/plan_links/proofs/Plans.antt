@@ -1,5 +1,6 @@
 -- Each step of a good state's plan keeps the sorts of ids and has rows such as the rules of paths take.
-use Rattle.std.proofs.Common.{◌≡◌, ◌∙◌, ℕ, zero, suc, true, List, [], ◌∷◌, ◌++◌, Option, Some, None, slice_get, filter, inl, inr, refl, sym, ap, subst}
+use Rattle.std.proofs.Common.{◌≡◌, ◌∙◌, ℕ, zero, suc, true, List, [], ◌∷◌, ◌++◌, Option, Some, None, slice_get, filter, inl, inr}
+use Rattle.std.proofs.Common.{refl, sym, ap, subst}
 use Rattle.std.specs.List.{AllByRecursion, find, flat_map}
 use Rattle.std.proofs.lemmas.List.Elements.{recursion_from_All}
 use Rattle.list_views.proofs.Quantified.{all_front, all_back}
@@ -45,9 +46,11 @@ use Rattle.plan_links.proofs.Operands.{local_int}
 
 -- ---- tests of operands
 
-tested_fit : (types : WorldTypes) (state : AbstractState) (operands : List (PlaceType × ℕ)) (plan : Plan) → AreFit state plan → AreFit state (tested types state operands plan)
+tested_fit : (types : WorldTypes) (state : AbstractState) (operands : List (PlaceType × ℕ)) (plan : Plan) → AreFit state plan
+    → AreFit state (tested types state operands plan)
 tested_fit types state [] plan h = h
-tested_fit types state (operand ∷ operands) plan h = at (passing_id types state operand.0 operand.1) (tested types state operands plan) (tested_fit types state operands plan h)
+tested_fit types state (operand ∷ operands) plan h = at (passing_id types state operand.0 operand.1)
+    (tested types state operands plan) (tested_fit types state operands plan h)
   where
     at : (passing : Passing) (next : Plan) → AreFit state next → AreFit state (after_test passing operand.1 next)
     at passes next k = k
@@ -56,54 +59,78 @@ tested_fit types state (operand ∷ operands) plan h = at (passing_id types stat
 
 -- ---- a handler is looked for
 
-handled_fit : (state : AbstractState) (x : ℕ) (frame : AbstractFrame) (below : List AbstractFrame) (range : Option CatchRange) → AreFit state (handled x frame below range)
+handled_fit : (state : AbstractState) (x : ℕ) (frame : AbstractFrame) (below : List AbstractFrame) (range : Option CatchRange)
+    → AreFit state (handled x frame below range)
 handled_fit state x frame below (Some range) = (bare state _ tt refl, tt)
 handled_fit state x frame [] None = tt
 handled_fit state x frame (caller ∷ below) None = (bare state _ tt refl, tt)
 
-caught_fit : (types : WorldTypes) (state : AbstractState) (x : ℕ) (frame : AbstractFrame) (below : List AbstractFrame) (ranges : List CatchRange) → AreFit state (caught_plan types state x frame below ranges)
+caught_fit : (types : WorldTypes) (state : AbstractState) (x : ℕ) (frame : AbstractFrame) (below : List AbstractFrame)
+    (ranges : List CatchRange) → AreFit state (caught_plan types state x frame below ranges)
 caught_fit types state x frame below ranges =
-    if_either (AreFit state) (is_open types state x ranges) (split_below state x (places.Ref (class_type throwable))) (handled x frame below (find (takes types state x) ranges)) (λ e. split_below_fit state x (places.Ref (class_type throwable))) (λ e. handled_fit state x frame below (find (takes types state x) ranges))
+    if_either (AreFit state) (is_open types state x ranges) (split_below state x (places.Ref (class_type throwable)))
+    (handled x frame below (find (takes types state x) ranges))
+    (λ e. split_below_fit state x (places.Ref (class_type throwable)))
+    (λ e. handled_fit state x frame below (find (takes types state x) ranges))
 
 passed_fit : (state : AbstractState) (passing : Passing) (plan : Plan) → AreFit state plan → AreFit state (if_passes passing plan)
 passed_fit state passes plan h = h
 passed_fit state fails plan h = tt
 passed_fit state splits plan h = tt
 
-throwing_fit : (types : WorldTypes) (state : AbstractState) (x : ℕ) (frame : AbstractFrame) (below : List AbstractFrame) (table : List CatchRange) → AreFit state (throwing_plan types state x frame below table)
-throwing_fit types state x frame below table = passed_fit state (passing_id types state (places.Ref (class_type throwable)) x) _ (caught_fit types state x frame below (filter (covers frame.pc) table))
+throwing_fit : (types : WorldTypes) (state : AbstractState) (x : ℕ) (frame : AbstractFrame) (below : List AbstractFrame)
+    (table : List CatchRange) → AreFit state (throwing_plan types state x frame below table)
+throwing_fit types state x frame below table = passed_fit state (passing_id types state (places.Ref (class_type throwable)) x) _
+    (caught_fit types state x frame below (filter (covers frame.pc) table))
 
 -- ---- the plan of a state of the program's typing
 
 module _ (p : Program) (typing : ℕ → CodeTypes) (state : AbstractState) (widths : HasWidths p) (good : IsGoodState p typing state) where
-  stack_of : (places_ : List PlaceType) (stack : List ℕ) (thrown : Option ℕ) → thrown ≡ None → HasRunningStack state thrown places_ stack → HasStackOf state places_ stack
+  stack_of : (places_ : List PlaceType) (stack : List ℕ) (thrown : Option ℕ) → thrown ≡ None
+      → HasRunningStack state thrown places_ stack → HasStackOf state places_ stack
   stack_of places_ stack None e h = h
   stack_of places_ stack (Some x) e h = absurd cc
 
-  module _ (frame : AbstractFrame) (below : List AbstractFrame) (frames_are : state.frames ≡ frame ∷ below) (unthrown : state.throwing ≡ None) where
+  module _ (frame : AbstractFrame) (below : List AbstractFrame) (frames_are : state.frames ≡ frame ∷ below)
+      (unthrown : state.throwing ≡ None) where
     -- the state stands at a form, with the typing's types there
     abbrev stands : List PlaceType → Option ℕ → Here
-    stands places_ next = record { program = p; state = state; frame = frame; below = below; places = places_; next = option_map_or (λ place. place) next frame.pc }
+    stands places_ next = record {
+      program = p;
+      state = state;
+      frame = frame;
+      below = below;
+      places = places_;
+      next = option_map_or
+          (λ place. place) next frame.pc;
+    }
 
     running : IsRunningPlaced p typing state (statics_under p below) frame
     running = (subst (ArePlaced p typing state) frames_are good.placed).0
 
-    form_fit : (op : Op) (next : Option ℕ) (form : Form) (places_ : List PlaceType) → insn_at p.methods frame.method frame.pc ≡ Some (op, next) → form_of op ≡ Some form → TakesInts p (stands places_ next) form → AreFit state (plan_of_form (stands places_ next) form)
+    form_fit : (op : Op) (next : Option ℕ) (form : Form) (places_ : List PlaceType)
+        → insn_at p.methods frame.method frame.pc ≡ Some (op, next) → form_of op ≡ Some form
+        → TakesInts p (stands places_ next) form → AreFit state (plan_of_form (stands places_ next) form)
     form_fit op next form places_ insn is ints =
         tested_fit (types_of p.world) state (operands_of (taken_by form) places_ frame.stack) (row_of (stands places_ next) form)
         (row_fit p (stands places_ next) good.sound form ints (forms_wide p widths frame.method frame.pc op next insn form is))
 
     -- the plan, by the instruction, its form and the types there
     abbrev plan_by : Option (Op × Option ℕ) → Option Form → Plan
-    plan_by found form = plan_here p typing state frame below form (option_map_or (λ (x : Op × Option ℕ). x.1) found None) (typing frame.method frame.pc)
+    plan_by found form = plan_here p typing state frame below form (option_map_or (λ (x : Op × Option ℕ). x.1) found None)
+        (typing frame.method frame.pc)
 
-    plan_is : plan_of p typing state ≡ plan_by (insn_at p.methods frame.method frame.pc) (option_map_or (λ (x : Op × Option ℕ). form_of x.0) (insn_at p.methods frame.method frame.pc) None)
-    plan_is = ap (λ (t : Option ℕ). plan_in p typing state t state.frames) unthrown ∙ ap (λ (frames : List AbstractFrame). plan_in p typing state None frames) frames_are
+    plan_is : plan_of p typing state ≡ plan_by (insn_at p.methods frame.method frame.pc)
+        (option_map_or (λ (x : Op × Option ℕ). form_of x.0) (insn_at p.methods frame.method frame.pc) None)
+    plan_is = ap (λ (t : Option ℕ). plan_in p typing state t state.frames) unthrown
+        ∙ ap (λ (frames : List AbstractFrame). plan_in p typing state None frames) frames_are
 
     -- the typing is the program's
     module _ (typing_is : IsTypingOf p typing) where
       at : Placed p running.placed.method (typing frame.method) frame.pc running.there
-      at = placed p running.placed.method (typing frame.method) frame.pc running.there ((typing_is.each frame.method running.placed.method running.placed.is_method).is_typing.each frame.pc running.there running.placed.is_there)
+      at = placed p running.placed.method (typing frame.method) frame.pc running.there
+          ((typing_is.each frame.method running.placed.method running.placed.is_method).is_typing.each frame.pc running.there
+          running.placed.is_there)
 
       insn : insn_at p.methods frame.method frame.pc ≡ Some (at.op, at.next)
       insn = insn_there p frame.method frame.pc running.placed.method at.op at.next running.placed.is_method at.insn_is
@@ -115,7 +142,8 @@ module _ (p : Program) (typing : ℕ → CodeTypes) (state : AbstractState) (wid
         after = at.after;
         types_are = at.types_are;
         stack = stack_of running.there.stack frame.stack state.throwing unthrown running.stack;
-        locals = λ n x is given. local_int state running.there.locals running.placed.method.max_locals frame.locals n x running.placed.locals is given;
+        locals = λ n x is given. local_int state running.there.locals running.placed.method.max_locals frame.locals n x
+            running.placed.locals is given;
       }
 
       placed_is : plan_of p typing state ≡ plan_of_form (stands running.there.stack at.next) at.form
@@ -135,7 +163,9 @@ module _ (p : Program) (typing : ℕ → CodeTypes) (state : AbstractState) (wid
       held =
           all_front (HasCell (λ _. true) state) (given_ids frame.locals ++ frame.stack) (flat_map ids_of_frame below)
           (subst (λ (frames : List AbstractFrame). AllByRecursion (HasCell (λ _. true) state) (flat_map ids_of_frame frames)) frames_are
-          (all_front (HasCell (λ _. true) state) (flat_map ids_of_frame state.frames) (given_ids (state.throwing ∷ []) ++ flat_map (λ (c : ℕ × Cell). ids_in c.1) state.cells) (recursion_from_All (HasCell (λ _. true) state) (ids_used state) good.sound.well_formed.used)))
+          (all_front (HasCell (λ _. true) state) (flat_map ids_of_frame state.frames)
+          (given_ids (state.throwing ∷ []) ++ flat_map (λ (c : ℕ × Cell). ids_in c.1) state.cells)
+          (recursion_from_All (HasCell (λ _. true) state) (ids_used state) good.sound.well_formed.used)))
 
       int_cell : (x : ℕ) → HasCell (λ _. true) state x → HasCell is_int state x
       int_cell x h = record { cell = h.cell; is = h.is; sort_is = ints.cells x h.cell h.is }
@@ -144,25 +174,30 @@ module _ (p : Program) (typing : ℕ → CodeTypes) (state : AbstractState) (wid
       all_ints [] h = tt
       all_ints (x ∷ stack) h = (int_cell x h.0, all_ints stack h.1)
 
-      given_int : (locals : List (Option ℕ)) → AllByRecursion (HasCell (λ _. true) state) (given_ids locals) → (n x : ℕ) → slice_get locals n ≡ Some (Some x) → HasCell is_int state x
+      given_int : (locals : List (Option ℕ)) → AllByRecursion (HasCell (λ _. true) state) (given_ids locals) → (n x : ℕ)
+          → slice_get locals n ≡ Some (Some x) → HasCell is_int state x
       given_int [] h n x e = absurd (none-some (Some x) e)
       given_int (None ∷ locals) h zero x e = absurd (none-some x (some_is e))
       given_int (Some y ∷ locals) h zero x e = subst (HasCell is_int state) (some_is (some_is e)) (int_cell y h.0)
       given_int (None ∷ locals) h (suc n) x e = given_int locals h n x e
       given_int (Some y ∷ locals) h (suc n) x e = given_int locals h.1 n x e
 
-      by_types : (op : Op) (next : Option ℕ) (form : Form) (there : Option PlaceTypes) → insn_at p.methods frame.method frame.pc ≡ Some (op, next) → form_of op ≡ Some form → AreFit state (plan_here p typing state frame below (Some form) next there)
+      by_types : (op : Op) (next : Option ℕ) (form : Form) (there : Option PlaceTypes)
+          → insn_at p.methods frame.method frame.pc ≡ Some (op, next) → form_of op ≡ Some form
+          → AreFit state (plan_here p typing state frame below (Some form) next there)
       by_types op next form None at_insn is = tt
       by_types op next form (Some there) at_insn is = form_fit op next form there.stack at_insn is (inr (record {
         stack = all_ints frame.stack (all_back (HasCell (λ _. true) state) (given_ids frame.locals) frame.stack held);
         locals = given_int frame.locals (all_front (HasCell (λ _. true) state) (given_ids frame.locals) frame.stack held);
       }))
 
-      by_form : (op : Op) (next : Option ℕ) (form : Option Form) → insn_at p.methods frame.method frame.pc ≡ Some (op, next) → form_of op ≡ form → AreFit state (plan_by (Some (op, next)) form)
+      by_form : (op : Op) (next : Option ℕ) (form : Option Form) → insn_at p.methods frame.method frame.pc ≡ Some (op, next)
+          → form_of op ≡ form → AreFit state (plan_by (Some (op, next)) form)
       by_form op next None at_insn is = tt
       by_form op next (Some form) at_insn is = by_types op next form (typing frame.method frame.pc) at_insn is
 
-      by_insn : (found : Option (Op × Option ℕ)) → insn_at p.methods frame.method frame.pc ≡ found → AreFit state (plan_by found (option_map_or (λ (x : Op × Option ℕ). form_of x.0) found None))
+      by_insn : (found : Option (Op × Option ℕ)) → insn_at p.methods frame.method frame.pc ≡ found
+          → AreFit state (plan_by found (option_map_or (λ (x : Op × Option ℕ). form_of x.0) found None))
       by_insn None e = tt
       by_insn (Some (op, next)) e = by_form op next (form_of op) e refl
 
@@ -173,11 +208,13 @@ module _ (p : Program) (typing : ℕ → CodeTypes) (state : AbstractState) (wid
     normal_fit (inl typing_is) = typed_fit typing_is
     normal_fit (inr ints) = ints_fit ints
 
-  by_mode : (thrown : Option ℕ) (frames : List AbstractFrame) → HasIntOperands p typing state → state.throwing ≡ thrown → state.frames ≡ frames → AreFit state (plan_of p typing state)
+  by_mode : (thrown : Option ℕ) (frames : List AbstractFrame) → HasIntOperands p typing state → state.throwing ≡ thrown
+      → state.frames ≡ frames → AreFit state (plan_of p typing state)
   by_mode thrown [] ints t f = subst (AreFit state) (sym (ap (plan_in p typing state state.throwing) f)) tt
   by_mode None (frame ∷ below) ints t f = normal_fit frame below f t ints
   by_mode (Some x) (frame ∷ below) ints t f =
-      subst (AreFit state) (sym (ap (λ (thrown : Option ℕ). plan_in p typing state thrown state.frames) t ∙ ap (plan_in p typing state (Some x)) f))
+      subst (AreFit state) (sym (ap (λ (thrown : Option ℕ). plan_in p typing state thrown state.frames) t
+      ∙ ap (plan_in p typing state (Some x)) f))
       (throwing_fit (types_of p.world) state x frame below (option_map_or (λ (m : Method). m.table) (slice_get p.methods frame.method) []))
 
   pub plan_fit : HasIntOperands p typing state → AreFit state (plan_of p typing state)

@@ -1,5 +1,6 @@
 -- Rows over operands are such as the rules of paths take.
-use Rattle.std.proofs.Common.{◌≡◌, ◌<◌, ◌≤◌, ◌+◌, ◌^◌, ℕ, ℤ, pos, negsuc, ◌+ℤ◌, ◌≤ℤ◌, List, [], ◌∷◌, ◌++◌, length, map, ◌⊎◌, inl, inr, refl, sym, subst, arith, length-append}
+use Rattle.std.proofs.Common.{◌≡◌, ◌<◌, ◌≤◌, ◌+◌, ◌^◌, ℕ, ℤ, pos, negsuc, ◌+ℤ◌, ◌≤ℤ◌, List, [], ◌∷◌, ◌++◌, length, map, ◌⊎◌, inl}
+use Rattle.std.proofs.Common.{inr, refl, sym, subst, arith, length-append}
 use Rattle.std.specs.Prelude.{unsigned_abs}
 use Rattle.std.specs.List.{AllByRecursion}
 use Rattle.std.specs.Ordering.{int_eq}
@@ -24,7 +25,8 @@ use Rattle.plan_links.proofs.SmallRows.{IsSmall, IsInt, IsSmallRow, IsPlainRow, 
 
 -- ---- lists
 
-each_mapped : {X Y : Type 0} (Q : X → Type 0) (P : Y → Type 0) (f : X → Y) (xs : List X) → ((x : X) → Q x → P (f x)) → AllByRecursion Q xs → AllByRecursion P (map f xs)
+each_mapped : {X Y : Type 0} (Q : X → Type 0) (P : Y → Type 0) (f : X → Y) (xs : List X) → ((x : X) → Q x → P (f x))
+    → AllByRecursion Q xs → AllByRecursion P (map f xs)
 each_mapped Q P f [] h all = tt
 each_mapped Q P f (x ∷ xs) h all = (h x all.0, each_mapped Q P f xs h all.1)
 
@@ -76,7 +78,11 @@ pub record IsOver (left right : Operand) (row : ShortRow) : Type 0 where
   pub constant : IsMedium (row.constant +ℤ (constant_of left row.left +ℤ constant_of right row.right))
 
 ids_over : (x y : ℕ) (row : ShortRow) → IsSmallRow row → IsOver (id x) (id y) row
-ids_over x y row small = record { small = small; constant = (omega (arith, ints, small.constant.0, small.constant.1), omega (arith, ints, small.constant.0, small.constant.1)) }
+ids_over x y row small = record {
+  small = small;
+  constant =
+      (omega (arith, ints, small.constant.0, small.constant.1), omega (arith, ints, small.constant.0, small.constant.1));
+}
 
 -- iinc, with the number that is added
 pub sum_over : (x : ℕ) (by : ℤ) → IsInt by → (way : Way) → IsOver (id x) (known by) (sum_row way)
@@ -111,7 +117,8 @@ module _ (state : AbstractState) (K : Type 0) (fresh : ℕ) where
   Terms = AllByRecursion (IsTermOf state K fresh)
 
   term_before : (x : ℕ) (times : ℤ) → HasCell is_int state x → IsSmall times → Terms (term_of Before x times)
-  term_before x times h s = if_either Terms (int_eq times (pos 0)) [] ((Before, x, times) ∷ []) (λ e. tt) (λ e. ((h, small_size times s), tt))
+  term_before x times h s = if_either Terms (int_eq times (pos 0)) [] ((Before, x, times) ∷ []) (λ e. tt)
+      (λ e. ((h, small_size times s), tt))
 
   terms_fit : (operand : Operand) (times : ℤ) → IsIntOperand state operand → IsSmall times → Terms (terms_of operand times)
   terms_fit (known n) times h s = tt
@@ -119,16 +126,19 @@ module _ (state : AbstractState) (K : Type 0) (fresh : ℕ) where
 
   term_after : (times : ℤ) → (times ≡ pos 0) ⊎ K → IsSmall times → Terms (term_of After fresh times)
   term_after times (inl none) s = subst (λ (t : ℤ). Terms (term_of After fresh t)) (sym none) tt
-  term_after times (inr k) s = if_either Terms (int_eq times (pos 0)) [] ((After, fresh, times) ∷ []) (λ e. tt) (λ e. ((refl, (k, small_size times s)), tt))
+  term_after times (inr k) s = if_either Terms (int_eq times (pos 0)) [] ((After, fresh, times) ∷ []) (λ e. tt)
+      (λ e. ((refl, (k, small_size times s)), tt))
 
   term_short : (side : Side) (x : ℕ) (times : ℤ) → length (term_of side x times) ≤ 1
-  term_short side x times = if_either (λ (terms : List (Side × ℕ × ℤ)). length terms ≤ 1) (int_eq times (pos 0)) [] ((side, x, times) ∷ []) (λ e. omega arith) (λ e. omega arith)
+  term_short side x times = if_either (λ (terms : List (Side × ℕ × ℤ)). length terms ≤ 1) (int_eq times (pos 0)) []
+      ((side, x, times) ∷ []) (λ e. omega arith) (λ e. omega arith)
 
   terms_short : (operand : Operand) (times : ℤ) → length (terms_of operand times) ≤ 1
   terms_short (known n) times = omega arith
   terms_short (id x) times = term_short Before x times
 
-  row_fits : (left right : Operand) (row : ShortRow) → IsIntOperand state left → IsIntOperand state right → IsOver left right row → (row.result ≡ pos 0) ⊎ K → IsRowFor state K fresh (row_over left right fresh row)
+  row_fits : (left right : Operand) (row : ShortRow) → IsIntOperand state left → IsIntOperand state right → IsOver left right row
+      → (row.result ≡ pos 0) ⊎ K → IsRowFor state K fresh (row_over left right fresh row)
   row_fits left right row hl hr over named =
       let first = terms_of left row.left in
       let second = terms_of right row.right in
@@ -140,12 +150,18 @@ module _ (state : AbstractState) (K : Type 0) (fresh : ℕ) where
       let rest : length (second ++ third) ≡ length second + length third = length-append second third in
       record {
         short = omega (arith, one, two, three, long, rest);
-        terms = all_joined (IsTermOf state K fresh) first (second ++ third) (terms_fit left row.left hl over.small.left) (all_joined (IsTermOf state K fresh) second third (terms_fit right row.right hr over.small.right) (term_after row.result named over.small.result));
+        terms = all_joined (IsTermOf state K fresh) first (second ++ third) (terms_fit left row.left hl over.small.left)
+            (all_joined (IsTermOf state K fresh) second third (terms_fit right row.right hr over.small.right)
+            (term_after row.result named over.small.result));
         constant = medium_size (row.constant +ℤ (constant_of left row.left +ℤ constant_of right row.right)) over.constant;
       }
 
-  pub rows_fit : (left right : Operand) (rows : List ShortRow) → IsIntOperand state left → IsIntOperand state right → K → AllByRecursion (IsOver left right) rows → AllByRecursion (IsRowFor state K fresh) (rows_over left right rows fresh)
-  rows_fit left right rows hl hr k all = each_mapped (IsOver left right) (IsRowFor state K fresh) (row_over left right fresh) rows (λ row over. row_fits left right row hl hr over (inr k)) all
+  pub rows_fit : (left right : Operand) (rows : List ShortRow) → IsIntOperand state left → IsIntOperand state right → K
+      → AllByRecursion (IsOver left right) rows → AllByRecursion (IsRowFor state K fresh) (rows_over left right rows fresh)
+  rows_fit left right rows hl hr k all = each_mapped (IsOver left right) (IsRowFor state K fresh) (row_over left right fresh) rows
+      (λ row over. row_fits left right row hl hr over (inr k)) all
 
-  pub plain_fit : (x y : ℕ) (rows : List ShortRow) → HasCell is_int state x → HasCell is_int state y → AllByRecursion IsPlainRow rows → AllByRecursion (IsRowFor state K fresh) (rows_over (id x) (id y) rows fresh)
-  plain_fit x y rows hx hy all = each_mapped IsPlainRow (IsRowFor state K fresh) (row_over (id x) (id y) fresh) rows (λ row plain. row_fits (id x) (id y) row hx hy (ids_over x y row plain.small) (inl plain.alone)) all
+  pub plain_fit : (x y : ℕ) (rows : List ShortRow) → HasCell is_int state x → HasCell is_int state y
+      → AllByRecursion IsPlainRow rows → AllByRecursion (IsRowFor state K fresh) (rows_over (id x) (id y) rows fresh)
+  plain_fit x y rows hx hy all = each_mapped IsPlainRow (IsRowFor state K fresh) (row_over (id x) (id y) fresh) rows
+      (λ row plain. row_fits (id x) (id y) row hx hy (ids_over x y row plain.small) (inl plain.alone)) all

@@ -1,5 +1,6 @@
 -- The rows of an operator's cases have small numbers, and name a result only where there is one.
-use Rattle.std.proofs.Common.{◌≡◌, ℕ, ◌<◌, ◌≤◌, ◌^◌, ◌%◌, ℤ, pos, negsuc, ◌-ℤ◌, ◌≤ℤ◌, neg_ℤ, Bool, true, false, cond, Some, None, refl, sym, ap, subst, lit<, arith}
+use Rattle.std.proofs.Common.{◌≡◌, ℕ, ◌<◌, ◌≤◌, ◌^◌, ◌%◌, ℤ, pos, negsuc, ◌-ℤ◌, ◌≤ℤ◌, neg_ℤ, Bool, true, false, cond, Some, None}
+use Rattle.std.proofs.Common.{refl, sym, ap, subst, lit<, arith}
 use Rattle.std.specs.Prelude.{int_le}
 use Rattle.std.specs.Int.{w32, cast_unsigned}
 use Rattle.std.specs.Option.{IfSome}
@@ -118,7 +119,8 @@ one_or_int : (n : ℤ) → IsInt n → IsInt (cond (int_eq n (pos 0)) (pos 1) n)
 one_or_int n h = if_either IsInt (int_eq n (pos 0)) (pos 1) n (λ t. (omega (arith, ints), omega (arith, ints))) (λ f. h)
 
 least_divisor : (b d : Bounds) → IsInt b.lo → divisors_of b ≡ Some d → IsInt d.lo
-least_divisor b d h e = subst IsInt (sym (divisor_is (cond (int_eq b.lo (pos 0)) (pos 1) b.lo) (cond (int_eq b.hi (pos 0)) (negsuc 0) b.hi) d e)) (one_or_int b.lo h)
+least_divisor b d h e = subst IsInt
+    (sym (divisor_is (cond (int_eq b.lo (pos 0)) (pos 1) b.lo) (cond (int_eq b.hi (pos 0)) (negsuc 0) b.hi) d e)) (one_or_int b.lo h)
 
 less_one_small : (n : ℤ) → IsInt n → IsSmall (n -ℤ pos 1)
 less_one_small n h = (omega (arith, ints, h.0, h.1), omega (arith, ints, h.0, h.1))
@@ -131,7 +133,13 @@ rows_small a b ha hb = record {
   differences = difference_small;
   left_times = left_small b.lo (neg_small b.lo hb.0);
   right_times = right_small a.lo (neg_small a.lo ha.0);
-  quotient = λ d e. record { left = one_small; right = none_small; result = neg_small d.lo (least_divisor b d hb.0 e); constant = none_small };
+  quotient = λ d e. record {
+    left = one_small;
+    right = none_small;
+    result = neg_small d.lo (least_divisor b d hb.0 e);
+    constant =
+        none_small;
+  };
   divisor = record { left = less_small; right = none_small; result = int_small b.lo hb.0; constant = less_one_small b.lo hb.0 };
   remainder = record { left = none_small; right = one_small; result = less_small; constant = less_small };
   power_times = left_small (power_of b) (power_neg_small b);
@@ -154,14 +162,31 @@ pub record IsPlainRow (row : ShortRow) : Type 0 where
   pub alone : row.result ≡ pos 0
 
 row_plain : (relation : Relation) → IsPlainRow (row_of relation)
-row_plain Equal = record { small = record { left = one_small; right = less_small; result = none_small; constant = none_small }; alone = refl }
-row_plain Below = record { small = record { left = less_small; right = one_small; result = none_small; constant = less_small }; alone = refl }
-row_plain AtMost = record { small = record { left = less_small; right = one_small; result = none_small; constant = none_small }; alone = refl }
-row_plain Above = record { small = record { left = one_small; right = less_small; result = none_small; constant = less_small }; alone = refl }
-row_plain AtLeast = record { small = record { left = one_small; right = less_small; result = none_small; constant = none_small }; alone = refl }
+row_plain Equal = record {
+  small = record { left = one_small; right = less_small; result = none_small; constant = none_small };
+  alone = refl;
+}
+row_plain Below = record {
+  small = record { left = less_small; right = one_small; result = none_small; constant = less_small };
+  alone = refl;
+}
+row_plain AtMost = record {
+  small = record { left = less_small; right = one_small; result = none_small; constant = none_small };
+  alone = refl;
+}
+row_plain Above = record {
+  small = record { left = one_small; right = less_small; result = none_small; constant = less_small };
+  alone = refl;
+}
+row_plain AtLeast = record {
+  small = record { left = one_small; right = less_small; result = none_small; constant = none_small };
+  alone = refl;
+}
 
 pub compared_plain : (condition : Cond) (same : Bool) (a b : Bounds) → HaveEach IsPlainRow (compared condition same a b)
 compared_plain = each_compared IsPlainRow row_plain
 
-pub related_plain : (relation : Relation) (way : Way) (a b : Bounds) (case : IntCase) → related relation way a b ≡ Some case → HasEach IsPlainRow case
-related_plain relation way a b case e = subst (λ found. IfSome found (HasEach IsPlainRow)) e (each_related IsPlainRow row_plain relation way a b)
+pub related_plain : (relation : Relation) (way : Way) (a b : Bounds) (case : IntCase) → related relation way a b ≡ Some case
+    → HasEach IsPlainRow case
+related_plain relation way a b case e = subst (λ found. IfSome found (HasEach IsPlainRow)) e
+    (each_related IsPlainRow row_plain relation way a b)

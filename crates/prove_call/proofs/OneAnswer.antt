@@ -35,9 +35,12 @@ nothing_one p typing desc (Ok x) (Err Memory) h k nr ns = absurd (ns refl)
 nothing_one p typing desc (Err (At place fault)) s h k nr ns = absurd h
 nothing_one p typing desc (Err Memory) s h k nr ns = absurd (nr refl)
 
-bare_answer : (nodes : ℕ) (desc : List ℕ) (files : List (List ℕ)) (a : Result Answer Refused) → Answers nodes desc files a → OfFiles SaysNothing desc files (bare a)
-bare_answer nodes desc files (Ok answer) h = files_on (SaysOf nodes) SaysNothing desc files answer (Ok tt) (λ p typing described says. tt) h
-bare_answer nodes desc files (Err (At place fault)) h = files_turned (Err (At place fault)) (Err (At place fault)) refl (SaysOf nodes) SaysNothing (λ p typing described none. none) desc files h
+bare_answer : (nodes : ℕ) (desc : List ℕ) (files : List (List ℕ)) (a : Result Answer Refused) → Answers nodes desc files a
+    → OfFiles SaysNothing desc files (bare a)
+bare_answer nodes desc files (Ok answer) h = files_on (SaysOf nodes) SaysNothing desc files answer (Ok tt)
+    (λ p typing described says. tt) h
+bare_answer nodes desc files (Err (At place fault)) h = files_turned (Err (At place fault)) (Err (At place fault)) refl
+    (SaysOf nodes) SaysNothing (λ p typing described none. none) desc files h
 bare_answer nodes desc files (Err Memory) h = tt
 
 bare_known : (a : Result Answer Refused) → a ≢ Err Memory → bare a ≢ Err Memory
@@ -51,5 +54,6 @@ bare_refusal (Err refused) = refl
 
 pub refusals_one : RefusalsAreOne
 refusals_one nodes others desc files a b h k na nb =
-    let same : bare a ≡ bare b = files_one SaysNothing (λ p typing described ints. nothing_one p typing described) desc files (bare a) (bare b) (bare_answer nodes desc files a h) (bare_answer others desc files b k) (bare_known a na) (bare_known b nb) in
+    let same : bare a ≡ bare b = files_one SaysNothing (λ p typing described ints. nothing_one p typing described) desc files
+    (bare a) (bare b) (bare_answer nodes desc files a h) (bare_answer others desc files b k) (bare_known a na) (bare_known b nb) in
     sym (bare_refusal a) ∙ (ap (λ (r : Bare). refusal_of r) same ∙ bare_refusal b)

@@ -24,7 +24,8 @@ use Rattle.prove_call.specs.Said.{yes_with, maybe_with, Tells}
 
 module _ (nodes : ℕ) (p : Program) (typing : ℕ → CodeTypes) (desc : Desc) (names : List (List ℕ)) (are : names ≡ names_of p.world) where
   -- a certificate is found
-  yes_says : (cert : List ℕ) (result : Result Answer Refused) → IsCertificate (aim_at p typing desc) names cert → AnswersAs (yes_with cert) result → SaysOf nodes p typing desc result
+  yes_says : (cert : List ℕ) (result : Result Answer Refused) → IsCertificate (aim_at p typing desc) names cert
+      → AnswersAs (yes_with cert) result → SaysOf nodes p typing desc result
   yes_says cert (Ok answer) is s = inl (record {
     status = ap (λ (a : Answer). a.status) s;
     reason = ap (λ (a : Answer). a.reason) s;
@@ -36,7 +37,8 @@ module _ (nodes : ℕ) (p : Program) (typing : ℕ → CodeTypes) (desc : Desc) 
   yes_says cert (Err Memory) is s = tt
 
   -- a reason is found
-  maybe_says : (reason : Reason PackedPairs) (result : Result Answer Refused) → HoldsReason (aim_at p typing desc) names nodes reason → AnswersAs (maybe_with p reason) result → SaysOf nodes p typing desc result
+  maybe_says : (reason : Reason PackedPairs) (result : Result Answer Refused)
+      → HoldsReason (aim_at p typing desc) names nodes reason → AnswersAs (maybe_with p reason) result → SaysOf nodes p typing desc result
   maybe_says reason (Ok answer) holds s = inr (record {
     status = ap (λ (a : Answer). a.status) s;
     reason = reason;
@@ -48,7 +50,8 @@ module _ (nodes : ℕ) (p : Program) (typing : ℕ → CodeTypes) (desc : Desc) 
   maybe_says reason (Err Memory) holds s = tt
 
   -- what is found
-  pub found_says : (found : Found PackedPairs) (result : Result Answer Refused) → SearchesOr (aim_at p typing desc) names nodes (Ok found) → Tells p found result → SaysOf nodes p typing desc result
+  pub found_says : (found : Found PackedPairs) (result : Result Answer Refused)
+      → SearchesOr (aim_at p typing desc) names nodes (Ok found) → Tells p found result → SaysOf nodes p typing desc result
   found_says (Certificate cert) result is s = yes_says cert result is s
   found_says (Maybe reason) result holds s = maybe_says reason result holds s
 
@@ -61,13 +64,17 @@ certificate_ends p typing desc names cert law closed widths typing_is own is =
     law p typing desc says.nodes says.content.cuts closed widths typing_is own says.certified
 
 -- maybe isn't yes
-maybe_ends : (p : Program) (desc : Desc) (reason : Reason PackedPairs) (result : Result Answer Refused) → AnswersAs (maybe_with p reason) result → IsProved result → AllFittingEnd p desc
+maybe_ends : (p : Program) (desc : Desc) (reason : Reason PackedPairs) (result : Result Answer Refused)
+    → AnswersAs (maybe_with p reason) result → IsProved result → AllFittingEnd p desc
 maybe_ends p desc reason (Ok answer) s proved = let one = ap (λ (a : Answer). a.status) s in absurd (omega (arith, one, proved))
 maybe_ends p desc reason (Err refused) s proved = absurd proved
 
 -- so yes is said only where every fitting state ends
-pub found_ends : (nodes : ℕ) (p : Program) (typing : ℕ → CodeTypes) (desc : Desc) (names : List (List ℕ)) (found : Found PackedPairs) (result : Result Answer Refused)
+pub found_ends : (nodes : ℕ) (p : Program) (typing : ℕ → CodeTypes) (desc : Desc) (names : List (List ℕ))
+    (found : Found PackedPairs) (result : Result Answer Refused)
     → CertifiedRunsEnd → IsClosed p → HasWidths p → IsTypingOf p typing → IsOwnDesc p desc
     → SearchesOr (aim_at p typing desc) names nodes (Ok found) → Tells p found result → IsProved result → AllFittingEnd p desc
-found_ends nodes p typing desc names (Certificate cert) result law closed widths typing_is own is s proved = certificate_ends p typing desc names cert law closed widths typing_is own is
-found_ends nodes p typing desc names (Maybe reason) result law closed widths typing_is own is s proved = maybe_ends p desc reason result s proved
+found_ends nodes p typing desc names (Certificate cert) result law closed widths typing_is own is s proved = certificate_ends p
+    typing desc names cert law closed widths typing_is own is
+found_ends nodes p typing desc names (Maybe reason) result law closed widths typing_is own is s proved = maybe_ends p desc reason
+    result s proved

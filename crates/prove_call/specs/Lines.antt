@@ -33,7 +33,8 @@ method_words world m = joined (method_pieces (class_name world m.class) m.name m
 
 -- where a frame is: `CLASS.NAMEDESC@PC`
 abbrev pub frame_text : Program → AbstractFrame → List ℕ
-frame_text p frame = option_map_or (λ (m : Method). joined (method_words p.world m ∷ codes "@" ∷ decimal frame.pc ∷ [])) (slice_get p.methods frame.method) []
+frame_text p frame = option_map_or (λ (m : Method). joined (method_words p.world m ∷ codes "@" ∷ decimal frame.pc ∷ []))
+    (slice_get p.methods frame.method) []
 
 -- where the running one of frames is, which is the first
 abbrev pub running_text : Program → List AbstractFrame → List ℕ
@@ -46,7 +47,8 @@ node_text p nodes n = option_map_or (λ (node : GraphNode). running_text p node.
 
 -- a rule, by its number and the cuts at its ends: `rule R FROM TO` and a newline
 abbrev pub rule_line : Program → List GraphNode → LeftRule → List ℕ
-rule_line p nodes left = joined (codes "rule " ∷ decimal left.rule ∷ codes " " ∷ node_text p nodes left.from ∷ codes " " ∷ node_text p nodes left.to ∷ codes "\n" ∷ [])
+rule_line p nodes left = joined (codes "rule " ∷ decimal left.rule ∷ codes " " ∷ node_text p nodes left.from ∷ codes " " ∷ node_text
+    p nodes left.to ∷ codes "\n" ∷ [])
 
 -- why no certificate is given
 abbrev pub reason_text : {P : Type 0} → Program → Reason P → List ℕ

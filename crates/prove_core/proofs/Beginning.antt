@@ -10,12 +10,17 @@ use Rattle.prove_core.specs.Growth.{growth_of}
 use Rattle.prove_core.specs.Reasons.{HasManyNodes, HasManyIds}
 use Rattle.prove_core.specs.Words.{aim_of, IsGrownGraph}
 
-module _ (p : Program) (typing : ℕ → CodeTypes) (first state : AbstractState) (is_first : first ≡ state) (limit : ℕ) (nodes : List GraphNode) where
-  pub grown_from : (IsDisciplined (growth_of p typing) first nodes × IsClosed nodes) × (length nodes ≤ limit) → IsGrownGraph (aim_of p typing state) nodes
+module _ (p : Program) (typing : ℕ → CodeTypes) (first state : AbstractState) (is_first : first ≡ state) (limit : ℕ)
+    (nodes : List GraphNode) where
+  pub grown_from : (IsDisciplined (growth_of p typing) first nodes × IsClosed nodes) × (length nodes ≤ limit)
+      → IsGrownGraph (aim_of p typing state) nodes
   grown_from h = subst (λ (s : AbstractState). IsGrownGraph (aim_of p typing s) nodes) is_first h.0
 
-  pub nodes_from : IsStopped (growth_of p typing) first nodes (λ parent n s. PassesLimit (growth_of p typing) nodes parent n s limit) × (length nodes ≤ limit) → HasManyNodes (aim_of p typing state) limit nodes
+  pub nodes_from : IsStopped (growth_of p typing) first nodes
+      (λ parent n s. PassesLimit (growth_of p typing) nodes parent n s limit) × (length nodes ≤ limit)
+      → HasManyNodes (aim_of p typing state) limit nodes
   nodes_from h = subst (λ (s : AbstractState). HasManyNodes (aim_of p typing s) limit nodes) is_first h
 
-  pub ids_from : IsStopped (growth_of p typing) first nodes (λ parent n s. HasLarge (growth_of p typing) nodes parent n s) × (length nodes ≤ limit) → HasManyIds (aim_of p typing state) limit nodes
+  pub ids_from : IsStopped (growth_of p typing) first nodes (λ parent n s. HasLarge (growth_of p typing) nodes parent n s)
+      × (length nodes ≤ limit) → HasManyIds (aim_of p typing state) limit nodes
   ids_from h = subst (λ (s : AbstractState). HasManyIds (aim_of p typing s) limit nodes) is_first h

@@ -1,5 +1,6 @@
 -- An int at the start of a rule is bounded on both sides.
-use Rattle.std.proofs.Common.{◌≡◌, ◌==◌, ℕ, zero, suc, ◌≤◌, ◌^◌, Bool, true, false, cond, eqb, List, [], ◌∷◌, ◌++◌, map, ℤ, pos, negsuc, ◌-ℤ◌, Some, refl, sym, ap, subst, arith}
+use Rattle.std.proofs.Common.{◌≡◌, ◌==◌, ℕ, zero, suc, ◌≤◌, ◌^◌, Bool, true, false, cond, eqb, List, [], ◌∷◌, ◌++◌, map, ℤ, pos}
+use Rattle.std.proofs.Common.{negsuc, ◌-ℤ◌, Some, refl, sym, ap, subst, arith}
 use Rattle.std.specs.Prelude.{unsigned_abs}
 use Rattle.std.specs.List.{AllByRecursion, flat_map}
 use Rattle.std.proofs.lemmas.Bool.{false≢true, eqb-true}
@@ -13,7 +14,8 @@ use Rattle.abs_cells.specs.declared.cells.Cell.TheVariants.{Int, Null, Obj, Nums
 use Rattle.abs_cells.specs.Cells.{is_int, cell_in, HasCell}
 use Rattle.term_graph.specs.Edges.{is_size_variable}
 use Rattle.path_rules.specs.Stops.{Stop, Leg}
-use Rattle.path_rules.specs.Rules.{at_least_zero, ids_with, variable_of, bounds_of, rows_of_stop, rows_of_leg, variables_after, rows_along, int_slot}
+use Rattle.path_rules.specs.Rules.{at_least_zero, ids_with, variable_of, bounds_of, rows_of_stop, rows_of_leg, variables_after}
+use Rattle.path_rules.specs.Rules.{rows_along, int_slot}
 use Rattle.path_rules.specs.Bare.{IsBounded, AreBounded}
 use Rattle.rule_links.specs.Links.{IsAmong}
 use Rattle.rank_forms.specs.Graphs.{HasClose, IsCloseInt, IsSizeSlot}
@@ -29,25 +31,35 @@ among_second : (xs ys : List WRow) (row : WRow) → IsAmong ys row → IsAmong (
 among_second [] ys row a = a
 among_second (x ∷ xs) ys row a = let r = among_second xs ys row a in (suc r.0, r.1)
 
-among_cells : (f : ℕ → ℕ) (cells : List (ℕ × Cell)) (id : ℕ) (cell : Cell) (row : WRow) → cell_in cells id ≡ Some cell → IsAmong (bounds_of (f id) cell) row → IsAmong (flat_map (λ (c : ℕ × Cell). bounds_of (f c.0) c.1) cells) row
+among_cells : (f : ℕ → ℕ) (cells : List (ℕ × Cell)) (id : ℕ) (cell : Cell) (row : WRow) → cell_in cells id ≡ Some cell
+    → IsAmong (bounds_of (f id) cell) row → IsAmong (flat_map (λ (c : ℕ × Cell). bounds_of (f c.0) c.1) cells) row
 among_cells f [] id cell row e a = absurd (none-some cell e)
 among_cells f (c ∷ cells) id cell row e a = at (c.0 == id) refl e (λ k. among_cells f cells id cell row k a)
   where
-    at : (b : Bool) → eqb c.0 id ≡ b → cond b (Some c.1) (cell_in cells id) ≡ Some cell → (cell_in cells id ≡ Some cell → IsAmong (flat_map (λ (x : ℕ × Cell). bounds_of (f x.0) x.1) cells) row) → IsAmong (bounds_of (f c.0) c.1 ++ flat_map (λ (x : ℕ × Cell). bounds_of (f x.0) x.1) cells) row
+    at : (b : Bool) → eqb c.0 id ≡ b → cond b (Some c.1) (cell_in cells id) ≡ Some cell
+        → (cell_in cells id ≡ Some cell → IsAmong (flat_map (λ (x : ℕ × Cell). bounds_of (f x.0) x.1) cells) row)
+        → IsAmong (bounds_of (f c.0) c.1 ++ flat_map (λ (x : ℕ × Cell). bounds_of (f x.0) x.1) cells) row
     at true h k later =
         among_first (bounds_of (f c.0) c.1) (flat_map (λ (x : ℕ × Cell). bounds_of (f x.0) x.1) cells) row
-        (subst (λ (n : ℕ). IsAmong (bounds_of (f n) c.1) row) (sym (eqb-true c.0 id h)) (subst (λ (x : Cell). IsAmong (bounds_of (f id) x) row) (sym (some_is k)) a))
+        (subst (λ (n : ℕ). IsAmong (bounds_of (f n) c.1) row) (sym (eqb-true c.0 id h))
+        (subst (λ (x : Cell). IsAmong (bounds_of (f id) x) row) (sym (some_is k)) a))
     at false h k later = among_second (bounds_of (f c.0) c.1) (flat_map (λ (x : ℕ × Cell). bounds_of (f x.0) x.1) cells) row (later k)
 
-among_along : (first : ℕ) (stop : Stop) (rides : List (Leg × Stop)) (row : WRow) → IsAmong (rows_of_stop first stop.state) row → IsAmong (rows_along first stop rides) row
+among_along : (first : ℕ) (stop : Stop) (rides : List (Leg × Stop)) (row : WRow) → IsAmong (rows_of_stop first stop.state) row
+    → IsAmong (rows_along first stop rides) row
 among_along first stop [] row a = a
-among_along first stop (ride ∷ rides) row a = among_first (rows_of_stop first stop.state) (rows_of_leg first stop ride.0 (variables_after first stop) ride.1 ++ rows_along (variables_after first stop) ride.1 rides) row a
+among_along first stop (ride ∷ rides) row a = among_first (rows_of_stop first stop.state)
+    (rows_of_leg first stop ride.0 (variables_after first stop) ride.1 ++ rows_along (variables_after first stop) ride.1 rides) row a
 
 -- the rows of an int's interval are among those of the path
-among_rows : (first : ℕ) (stop : Stop) (rides : List (Leg × Stop)) (id : ℕ) (cell : Cell) (row : WRow) → cell_in stop.state.cells id ≡ Some cell → IsAmong (bounds_of (variable_of first stop.state id) cell) row → IsAmong (rows_along first stop rides) row
+among_rows : (first : ℕ) (stop : Stop) (rides : List (Leg × Stop)) (id : ℕ) (cell : Cell) (row : WRow)
+    → cell_in stop.state.cells id ≡ Some cell → IsAmong (bounds_of (variable_of first stop.state id) cell) row
+    → IsAmong (rows_along first stop rides) row
 among_rows first stop rides id cell row e a =
     among_along first stop rides row
-    (among_first (flat_map (λ (c : ℕ × Cell). bounds_of (variable_of first stop.state c.0) c.1) stop.state.cells) (map (λ (x : ℕ). at_least_zero ((variable_of first stop.state x, pos 1) ∷ []) (pos 0)) (ids_with is_size_variable stop.state)) row
+    (among_first (flat_map (λ (c : ℕ × Cell). bounds_of (variable_of first stop.state c.0) c.1) stop.state.cells)
+    (map (λ (x : ℕ). at_least_zero ((variable_of first stop.state x, pos 1) ∷ []) (pos 0))
+    (ids_with is_size_variable stop.state)) row
     (among_cells (variable_of first stop.state) stop.state.cells id cell row e a))
 
 -- ---- a bounded int
@@ -58,16 +70,33 @@ IsClose rows v = HasClose rows v (pos 1) × HasClose rows v (negsuc 0)
 opposite_small : (n : ℤ) → unsigned_abs n ≤ 2 ^ 31 → unsigned_abs (pos 0 -ℤ n) ≤ 2 ^ 31
 opposite_small n l = omega (arith, ints, l)
 
-cell_close : (rows : List WRow) (v : ℕ) (cell : Cell) → is_int cell ≡ true → IsBounded cell → ((row : WRow) → IsAmong (bounds_of v cell) row → IsAmong rows row) → IsClose rows v
+cell_close : (rows : List WRow) (v : ℕ) (cell : Cell) → is_int cell ≡ true → IsBounded cell
+    → ((row : WRow) → IsAmong (bounds_of v cell) row → IsAmong rows row) → IsClose rows v
 cell_close rows v (Int interval) int bounded among = (
   record {
     constant = pos 0 -ℤ interval.lo;
-    bound = record { row = at_least_zero ((v, pos 1) ∷ []) (pos 0 -ℤ interval.lo); among = among (at_least_zero ((v, pos 1) ∷ []) (pos 0 -ℤ interval.lo)) (0, refl); inequality = refl; terms = refl; number = refl; weights = refl };
+    bound = record {
+      row = at_least_zero ((v, pos 1) ∷ []) (pos 0 -ℤ interval.lo);
+      among = among
+          (at_least_zero ((v, pos 1) ∷ []) (pos 0 -ℤ interval.lo)) (0, refl);
+      inequality = refl;
+      terms = refl;
+      number = refl;
+      weights = refl;
+    };
     small = opposite_small interval.lo bounded.0;
   },
   record {
     constant = interval.hi;
-    bound = record { row = at_least_zero ((v, negsuc 0) ∷ []) interval.hi; among = among (at_least_zero ((v, negsuc 0) ∷ []) interval.hi) (1, refl); inequality = refl; terms = refl; number = refl; weights = refl };
+    bound = record {
+      row = at_least_zero ((v, negsuc 0) ∷ []) interval.hi;
+      among = among
+          (at_least_zero ((v, negsuc 0) ∷ []) interval.hi) (1, refl);
+      inequality = refl;
+      terms = refl;
+      number = refl;
+      weights = refl;
+    };
     small = bounded.1;
   },
 )
@@ -77,7 +106,8 @@ cell_close rows v (Nums kind len) int bounded among = absurd (false≢true int)
 cell_close rows v (Refs element len shape) int bounded among = absurd (false≢true int)
 cell_close rows v (Unk bound nullable shape) int bounded among = absurd (false≢true int)
 
-bounded_in : (cells : List (ℕ × Cell)) (id : ℕ) (cell : Cell) → AllByRecursion (λ (c : ℕ × Cell). IsBounded c.1) cells → cell_in cells id ≡ Some cell → IsBounded cell
+bounded_in : (cells : List (ℕ × Cell)) (id : ℕ) (cell : Cell) → AllByRecursion (λ (c : ℕ × Cell). IsBounded c.1) cells
+    → cell_in cells id ≡ Some cell → IsBounded cell
 bounded_in [] id cell all e = absurd (none-some cell e)
 bounded_in (c ∷ cells) id cell all e = at (c.0 == id) e (λ k. bounded_in cells id cell all.1 k)
   where
@@ -85,7 +115,8 @@ bounded_in (c ∷ cells) id cell all e = at (c.0 == id) e (λ k. bounded_in cell
     at true k later = subst IsBounded (some_is k) all.0
     at false k later = later k
 
-int_close : (first : ℕ) (stop : Stop) (rides : List (Leg × Stop)) (id : ℕ) → AreBounded stop.state → HasCell is_int stop.state id → IsClose (rows_along first stop rides) (variable_of first stop.state id)
+int_close : (first : ℕ) (stop : Stop) (rides : List (Leg × Stop)) (id : ℕ) → AreBounded stop.state → HasCell is_int stop.state id
+    → IsClose (rows_along first stop rides) (variable_of first stop.state id)
 int_close first stop rides id bounded has =
     cell_close (rows_along first stop rides) (variable_of first stop.state id) has.cell has.sort_is
     (bounded_in stop.state.cells id has.cell (recursion_from_All (λ (c : ℕ × Cell). IsBounded c.1) stop.state.cells bounded) has.is)
@@ -97,14 +128,20 @@ abbrev first_name : List (ℕ × ℤ) → ℕ
 first_name [] = 0
 first_name (term ∷ terms) = term.0
 
-slot_close : (first : ℕ) (stop : Stop) (rides : List (Leg × Stop)) (id : ℕ) → AreBounded stop.state → HasCell is_int stop.state id → IsCloseInt (rows_along first stop rides) (int_slot first stop id)
-slot_close first stop rides id bounded has size v is = subst (IsClose (rows_along first stop rides)) (ap first_name is.terms) (int_close first stop rides id bounded has)
+slot_close : (first : ℕ) (stop : Stop) (rides : List (Leg × Stop)) (id : ℕ) → AreBounded stop.state → HasCell is_int stop.state id
+    → IsCloseInt (rows_along first stop rides) (int_slot first stop id)
+slot_close first stop rides id bounded has size v is = subst (IsClose (rows_along first stop rides)) (ap first_name is.terms)
+    (int_close first stop rides id bounded has)
 
-pub slots_close : (first : ℕ) (stop : Stop) (rides : List (Leg × Stop)) (ids : List ℕ) → AreBounded stop.state → AllByRecursion (HasCell is_int stop.state) ids → AllByRecursion (IsCloseInt (rows_along first stop rides)) (map (int_slot first stop) ids)
+pub slots_close : (first : ℕ) (stop : Stop) (rides : List (Leg × Stop)) (ids : List ℕ) → AreBounded stop.state
+    → AllByRecursion (HasCell is_int stop.state) ids → AllByRecursion (IsCloseInt (rows_along first stop rides))
+    (map (int_slot first stop) ids)
 slots_close first stop rides [] bounded all = tt
-slots_close first stop rides (id ∷ ids) bounded all = (slot_close first stop rides id bounded all.0, slots_close first stop rides ids bounded all.1)
+slots_close first stop rides (id ∷ ids) bounded all =
+    (slot_close first stop rides id bounded all.0, slots_close first stop rides ids bounded all.1)
 
 -- none of them is a size
-pub slots_no_sizes : (rows : List WRow) (first : ℕ) (stop : Stop) (ids : List ℕ) → AllByRecursion (IsSizeSlot rows (λ _. false)) (map (int_slot first stop) ids)
+pub slots_no_sizes : (rows : List WRow) (first : ℕ) (stop : Stop) (ids : List ℕ)
+    → AllByRecursion (IsSizeSlot rows (λ _. false)) (map (int_slot first stop) ids)
 slots_no_sizes rows first stop [] = tt
 slots_no_sizes rows first stop (id ∷ ids) = ((λ size. absurd (false≢true size)), slots_no_sizes rows first stop ids)

@@ -11,7 +11,8 @@ use Rattle.abs_cells.specs.AbstractStates.{AbstractState}
 use Rattle.abs_cells.specs.Cells.{is_int}
 use Rattle.term_graph.specs.Edges.{is_size_variable}
 use Rattle.path_rules.specs.Stops.{Stop, Leg}
-use Rattle.path_rules.specs.Rules.{at_least_zero, ids_with, is_variable, variables, variable_of, bounds_of, rows_of_stop, rows_of_leg, variables_after, rows_along, last_along}
+use Rattle.path_rules.specs.Rules.{at_least_zero, ids_with, is_variable, variables, variable_of, bounds_of, rows_of_stop}
+use Rattle.path_rules.specs.Rules.{rows_of_leg, variables_after, rows_along, last_along}
 use Rattle.path_rules.specs.Conditions.{HasIntsAlone}
 use Rattle.path_rules.proofs.Walking.{AreGoodAlong}
 
@@ -19,7 +20,8 @@ fewer : (sort : Cell → Bool) (cells : List (ℕ × Cell)) → length (filter (
 fewer sort [] = omega arith
 fewer sort (c ∷ cells) = at (sort c.1) (fewer sort cells)
   where
-    at : (b : Bool) → length (filter (λ (x : ℕ × Cell). sort x.1) cells) ≤ length cells → length (cond b (c ∷ filter (λ (x : ℕ × Cell). sort x.1) cells) (filter (λ (x : ℕ × Cell). sort x.1) cells)) ≤ suc (length cells)
+    at : (b : Bool) → length (filter (λ (x : ℕ × Cell). sort x.1) cells) ≤ length cells
+        → length (cond b (c ∷ filter (λ (x : ℕ × Cell). sort x.1) cells) (filter (λ (x : ℕ × Cell). sort x.1) cells)) ≤ suc (length cells)
     at true l = omega (arith, l)
     at false l = omega (arith, l)
 
@@ -37,7 +39,8 @@ cell_long v (Nums kind len) e = absurd (false≢true e)
 cell_long v (Refs element len shape) e = absurd (false≢true e)
 cell_long v (Unk bound nullable shape) e = absurd (false≢true e)
 
-cells_long : (f : ℕ → ℕ) (cells : List (ℕ × Cell)) → AllByRecursion (λ (c : ℕ × Cell). IsTrue (is_int c.1)) cells → length cells ≤ length (flat_map (λ (c : ℕ × Cell). bounds_of (f c.0) c.1) cells)
+cells_long : (f : ℕ → ℕ) (cells : List (ℕ × Cell)) → AllByRecursion (λ (c : ℕ × Cell). IsTrue (is_int c.1)) cells
+    → length cells ≤ length (flat_map (λ (c : ℕ × Cell). bounds_of (f c.0) c.1) cells)
 cells_long f [] ints = omega arith
 cells_long f (c ∷ cells) ints =
     let here = cell_long (f c.0) c.1 ints.0 in
@@ -47,12 +50,15 @@ cells_long f (c ∷ cells) ints =
 
 stop_long : (first : ℕ) (state : AbstractState) → HasIntsAlone state → length (variables state) ≤ length (rows_of_stop first state)
 stop_long first state ints =
-    let here = cells_long (variable_of first state) state.cells (recursion_from_All (λ (c : ℕ × Cell). IsTrue (is_int c.1)) state.cells ints) in
+    let here = cells_long (variable_of first state) state.cells
+    (recursion_from_All (λ (c : ℕ × Cell). IsTrue (is_int c.1)) state.cells ints) in
     let few = variables_few state in
-    let long = length-append (flat_map (λ (c : ℕ × Cell). bounds_of (variable_of first state c.0) c.1) state.cells) (map (λ (id : ℕ). at_least_zero ((variable_of first state id, pos 1) ∷ []) (pos 0)) (ids_with is_size_variable state)) in
+    let long = length-append (flat_map (λ (c : ℕ × Cell). bounds_of (variable_of first state c.0) c.1) state.cells)
+    (map (λ (id : ℕ). at_least_zero ((variable_of first state id, pos 1) ∷ []) (pos 0)) (ids_with is_size_variable state)) in
     omega (arith, here, few, long)
 
-pub variables_long : (first : ℕ) (stop : Stop) (rides : List (Leg × Stop)) → AreGoodAlong stop rides → variables_after (last_along first stop rides).0 (last_along first stop rides).1 ≤ first + length (rows_along first stop rides)
+pub variables_long : (first : ℕ) (stop : Stop) (rides : List (Leg × Stop)) → AreGoodAlong stop rides
+    → variables_after (last_along first stop rides).0 (last_along first stop rides).1 ≤ first + length (rows_along first stop rides)
 variables_long first stop [] good = let here = stop_long first stop.state good.ints in omega (arith, here)
 variables_long first stop (ride ∷ rides) good =
     let next = variables_after first stop in

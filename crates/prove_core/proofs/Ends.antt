@@ -1,5 +1,6 @@
 -- The ends of rules: their ids rise, and ends at one cut have the same ids, kinds and places.
-use Rattle.std.proofs.Common.{◌≡◌, ◌∙◌, ℕ, ℤ, suc, ◌≤◌, Bool, true, false, cond, List, [], ◌∷◌, ◌++◌, map, Some, refl, sym, ap, subst, arith}
+use Rattle.std.proofs.Common.{◌≡◌, ◌∙◌, ℕ, ℤ, suc, ◌≤◌, Bool, true, false, cond, List, [], ◌∷◌, ◌++◌, map, Some, refl, sym, ap}
+use Rattle.std.proofs.Common.{subst, arith}
 use Rattle.std.specs.Prelude.{filter}
 use Rattle.std.proofs.lemmas.List.{append-nil}
 use Rattle.lin_core.proofs.Coefficients.{rise_lower}
@@ -22,26 +23,35 @@ use Rattle.rank_forms.specs.Graphs.{AreNamed, head_of, heads, ids_of}
 
 -- ---- slots are of ints alone
 
-pub slots_are : (first : ℕ) (stop : Stop) → HasIntsAlone stop.state → AreSizes stop.state stop.sizes → slots_of first stop ≡ map (int_slot first stop) (ids_with is_int stop.state)
+pub slots_are : (first : ℕ) (stop : Stop) → HasIntsAlone stop.state → AreSizes stop.state stop.sizes
+    → slots_of first stop ≡ map (int_slot first stop) (ids_with is_int stop.state)
 slots_are first stop alone sizes =
-    ap (λ (s : List (ℕ × Pattern)). map (int_slot first stop) (ids_with is_int stop.state) ++ map (size_slot first stop) s) (no_pattern stop.state stop.sizes alone sizes)
+    ap (λ (s : List (ℕ × Pattern)). map (int_slot first stop) (ids_with is_int stop.state) ++ map (size_slot first stop) s)
+    (no_pattern stop.state stop.sizes alone sizes)
     ∙ append-nil (map (int_slot first stop) (ids_with is_int stop.state))
 
 -- ---- their ids rise
 
-names_rise : (first : ℕ) (stop : Stop) (low : ℕ) (cells : List (ℕ × Cell)) → AreIdsRising low cells → RiseFrom low 65536 (ids_of false (map (int_slot first stop) (ids_in_cells is_int cells)))
+names_rise : (first : ℕ) (stop : Stop) (low : ℕ) (cells : List (ℕ × Cell)) → AreIdsRising low cells
+    → RiseFrom low 65536 (ids_of false (map (int_slot first stop) (ids_in_cells is_int cells)))
 names_rise first stop low [] rising = tt
 names_rise first stop low (c ∷ cells) rising = at (is_int c.1) (names_rise first stop (suc c.0) cells rising.1.1)
   where
-    at : (b : Bool) → RiseFrom (suc c.0) 65536 (ids_of false (map (int_slot first stop) (ids_in_cells is_int cells))) → RiseFrom low 65536 (ids_of false (map (int_slot first stop) (map (λ (x : ℕ × Cell). x.0) (cond b (c ∷ filter (λ (x : ℕ × Cell). is_int x.1) cells) (filter (λ (x : ℕ × Cell). is_int x.1) cells)))))
+    at : (b : Bool) → RiseFrom (suc c.0) 65536 (ids_of false (map (int_slot first stop) (ids_in_cells is_int cells)))
+        → RiseFrom low 65536 (ids_of false
+        (map (int_slot first stop)
+        (map (λ (x : ℕ × Cell). x.0)
+        (cond b (c ∷ filter (λ (x : ℕ × Cell). is_int x.1) cells) (filter (λ (x : ℕ × Cell). is_int x.1) cells)))))
     at true rest = let few = rising.1.0 in (rising.0, omega (arith, few), rest)
-    at false rest = let l = rising.0 in rise_lower low (suc c.0) 65536 (ids_of false (map (int_slot first stop) (ids_in_cells is_int cells))) (omega (arith, l)) rest
+    at false rest = let l = rising.0 in rise_lower low (suc c.0) 65536
+        (ids_of false (map (int_slot first stop) (ids_in_cells is_int cells))) (omega (arith, l)) rest
 
 no_names : (first : ℕ) (stop : Stop) (ids : List ℕ) → ids_of true (map (int_slot first stop) ids) ≡ []
 no_names first stop [] = refl
 no_names first stop (id ∷ ids) = no_names first stop ids
 
-pub slots_named : (first : ℕ) (stop : Stop) → AreIdsRising 0 stop.state.cells → HasIntsAlone stop.state → AreSizes stop.state stop.sizes → AreNamed (slots_of first stop)
+pub slots_named : (first : ℕ) (stop : Stop) → AreIdsRising 0 stop.state.cells → HasIntsAlone stop.state
+    → AreSizes stop.state stop.sizes → AreNamed (slots_of first stop)
 slots_named first stop rising alone sizes =
     subst AreNamed (sym (slots_are first stop alone sizes))
     (names_rise first stop 0 stop.state.cells rising, subst (RiseFrom 0 65536) (sym (no_names first stop (ids_with is_int stop.state))) tt)
@@ -51,16 +61,19 @@ slots_named first stop rising alone sizes =
 abbrev Head : Type 0
 Head = ℕ × Bool × List Place
 
-size_heads : (f g : ℕ) (stop : Stop) (sizes : List (ℕ × Pattern)) → heads (map (size_slot f stop) sizes) ≡ heads (map (size_slot g stop) sizes)
+size_heads : (f g : ℕ) (stop : Stop) (sizes : List (ℕ × Pattern))
+    → heads (map (size_slot f stop) sizes) ≡ heads (map (size_slot g stop) sizes)
 size_heads f g stop [] = refl
 size_heads f g stop (entry ∷ sizes) = ap (λ (hs : List Head). head_of (size_slot f stop entry) ∷ hs) (size_heads f g stop sizes)
 
-int_heads : (f g : ℕ) (stop : Stop) (ids : List ℕ) (xs ys : List SlotForm) → heads xs ≡ heads ys → heads (map (int_slot f stop) ids ++ xs) ≡ heads (map (int_slot g stop) ids ++ ys)
+int_heads : (f g : ℕ) (stop : Stop) (ids : List ℕ) (xs ys : List SlotForm) → heads xs ≡ heads ys
+    → heads (map (int_slot f stop) ids ++ xs) ≡ heads (map (int_slot g stop) ids ++ ys)
 int_heads f g stop [] xs ys e = e
 int_heads f g stop (id ∷ ids) xs ys e = ap (λ (hs : List Head). head_of (int_slot f stop id) ∷ hs) (int_heads f g stop ids xs ys e)
 
 pub same_heads : (f g : ℕ) (stop : Stop) → heads (slots_of f stop) ≡ heads (slots_of g stop)
-same_heads f g stop = int_heads f g stop (ids_with is_int stop.state) (map (size_slot f stop) stop.sizes) (map (size_slot g stop) stop.sizes) (size_heads f g stop stop.sizes)
+same_heads f g stop = int_heads f g stop (ids_with is_int stop.state) (map (size_slot f stop) stop.sizes)
+    (map (size_slot g stop) stop.sizes) (size_heads f g stop stop.sizes)
 
 -- ---- a path's last stop is that of the cut where it ends
 
@@ -68,17 +81,26 @@ none_left : (places : List ℕ) (at to : ℕ) → only_last places at ≡ Some t
 none_left [] at to e = (refl, cc)
 none_left (place ∷ places) at to e = absurd (cc)
 
-pub end_stop : (linked : LinkedGraph) (cuts : List ℕ) (first node : ℕ) (places : List ℕ) (stop : Stop) (rides : List (Leg × Stop)) (to : ℕ) → end_of linked.graph cuts node places ≡ Some to → rides_from linked node places ≡ Some rides → stop_at linked to ≡ Some (last_along first stop rides).1
+pub end_stop : (linked : LinkedGraph) (cuts : List ℕ) (first node : ℕ) (places : List ℕ) (stop : Stop) (rides : List (Leg × Stop))
+    (to : ℕ) → end_of linked.graph cuts node places ≡ Some to → rides_from linked node places ≡ Some rides
+    → stop_at linked to ≡ Some (last_along first stop rides).1
 end_stop linked cuts first node [] stop rides to ends goes = absurd (cc)
 end_stop linked cuts first node (place ∷ places) stop rides to ends goes =
     let r = ride_first linked node place places rides goes in
-    let f = then_some (λ (t : ℕ). cond (is_cut cuts t) (only_last places t) (end_of linked.graph cuts t places)) (edges linked.graph node place) to ends in
+    let f = then_some (λ (t : ℕ). cond (is_cut cuts t) (only_last places t) (end_of linked.graph cuts t places))
+    (edges linked.graph node place) to ends in
     let same : f.0 ≡ r.to = one_answer (edges linked.graph node place) f.0 r.to f.1.0 r.edge in
-    let more : cond (is_cut cuts r.to) (only_last places r.to) (end_of linked.graph cuts r.to places) ≡ Some to = subst (λ (t : ℕ). cond (is_cut cuts t) (only_last places t) (end_of linked.graph cuts t places) ≡ Some to) same f.1.1 in
+    let more : cond (is_cut cuts r.to) (only_last places r.to) (end_of linked.graph cuts r.to places) ≡ Some to = subst
+    (λ (t : ℕ). cond (is_cut cuts t) (only_last places t) (end_of linked.graph cuts t places) ≡ Some to) same f.1.1 in
     subst (λ (rs : List (Leg × Stop)). stop_at linked to ≡ Some (last_along first stop rs).1) r.are
-    (at r.to r.ride r.rest (is_cut cuts r.to) r.there r.more more (λ e. end_stop linked cuts (variables_after first stop) r.to places r.ride.1 r.rest to e r.more))
+    (at r.to r.ride r.rest (is_cut cuts r.to) r.there r.more more
+    (λ e. end_stop linked cuts (variables_after first stop) r.to places r.ride.1 r.rest to e r.more))
   where
-    at : (t : ℕ) (ride : Leg × Stop) (rest : List (Leg × Stop)) (b : Bool) → stop_at linked t ≡ Some ride.1 → rides_from linked t places ≡ Some rest → cond b (only_last places t) (end_of linked.graph cuts t places) ≡ Some to → (end_of linked.graph cuts t places ≡ Some to → stop_at linked to ≡ Some (last_along (variables_after first stop) ride.1 rest).1) → stop_at linked to ≡ Some (last_along (variables_after first stop) ride.1 rest).1
+    at : (t : ℕ) (ride : Leg × Stop) (rest : List (Leg × Stop)) (b : Bool) → stop_at linked t ≡ Some ride.1
+        → rides_from linked t places ≡ Some rest → cond b (only_last places t) (end_of linked.graph cuts t places) ≡ Some to
+        → (end_of linked.graph cuts t places ≡ Some to
+        → stop_at linked to ≡ Some (last_along (variables_after first stop) ride.1 rest).1)
+        → stop_at linked to ≡ Some (last_along (variables_after first stop) ride.1 rest).1
     at t ride rest false there goes_on e later = later e
     at t ride rest true there goes_on e later =
         let n = none_left places t to e in

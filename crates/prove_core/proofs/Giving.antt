@@ -18,12 +18,32 @@ use Rattle.prove_core.specs.Answers.{IsCertificate, SaysValid}
 use Rattle.prove_core.specs.Reasons.{Aim, IsWholeWithSome, IsTooLong}
 use Rattle.prove_core.specs.Words.{aim_of}
 
-pub says : (p : Program) (typing : ℕ → CodeTypes) (root : AbstractState) (names : List (List ℕ)) (bytes : List ℕ) (content : CertContent) (nodes : List GraphNode) → SaysOf (cert_of names) bytes (Ok content) → IsFilled p typing content.parts nodes → HasIntStates p typing nodes → IsValid (case_of p typing root nodes content.cuts content.proof) → IsCertified p typing nodes content.cuts root → SaysValid (aim_of p typing root) names bytes
-says p typing root names bytes content nodes said filled ints valid certified = record { content = content; says = said; nodes = nodes; filled = filled; ints = ints; valid = valid; certified = certified }
+pub says : (p : Program) (typing : ℕ → CodeTypes) (root : AbstractState) (names : List (List ℕ)) (bytes : List ℕ)
+    (content : CertContent) (nodes : List GraphNode) → SaysOf (cert_of names) bytes (Ok content)
+    → IsFilled p typing content.parts nodes → HasIntStates p typing nodes
+    → IsValid (case_of p typing root nodes content.cuts content.proof) → IsCertified p typing nodes content.cuts root
+    → SaysValid (aim_of p typing root) names bytes
+says p typing root names bytes content nodes said filled ints valid certified = record
+    { content = content; says = said; nodes = nodes; filled = filled; ints = ints; valid = valid; certified = certified }
 
-pub is_certificate : (aim : Aim) (names : List (List ℕ)) (nodes : List GraphNode) (cuts : List ℕ) (steps : List ProofStep) (bytes : List ℕ) → bytes ≡ compact_text (certificate names (content_of nodes cuts steps)) → length bytes ≤ 16777216 → SaysValid aim names bytes → IsCertificate aim names bytes
-is_certificate aim names nodes cuts steps bytes e short valid = record { short = short; form = record { content = content_of nodes cuts steps; is = e }; says = valid }
+pub is_certificate : (aim : Aim) (names : List (List ℕ)) (nodes : List GraphNode) (cuts : List ℕ) (steps : List ProofStep)
+    (bytes : List ℕ) → bytes ≡ compact_text (certificate names (content_of nodes cuts steps)) → length bytes ≤ 16777216
+    → SaysValid aim names bytes → IsCertificate aim names bytes
+is_certificate aim names nodes cuts steps bytes e short valid = record
+    { short = short; form = record { content = content_of nodes cuts steps; is = e }; says = valid }
 
-pub too_long : (p : Program) (typing : ℕ → CodeTypes) (root : AbstractState) (names : List (List ℕ)) (nodes : List GraphNode) (cuts : List ℕ) (steps : List ProofStep) (bytes : List ℕ) → bytes ≡ compact_text (certificate names (content_of nodes cuts steps)) → 16777216 < length bytes → IsWholeWithSome (aim_of p typing root) nodes cuts → IsValid (case_of p typing root nodes cuts steps) → AreSteps steps
+pub too_long : (p : Program) (typing : ℕ → CodeTypes) (root : AbstractState) (names : List (List ℕ)) (nodes : List GraphNode)
+    (cuts : List ℕ) (steps : List ProofStep) (bytes : List ℕ)
+    → bytes ≡ compact_text (certificate names (content_of nodes cuts steps)) → 16777216 < length bytes
+    → IsWholeWithSome (aim_of p typing root) nodes cuts → IsValid (case_of p typing root nodes cuts steps) → AreSteps steps
     → (limit : ℕ) → length nodes ≤ limit → IsTooLong (aim_of p typing root) limit names nodes cuts steps (length bytes)
-too_long p typing root names nodes cuts steps bytes e many whole valid limits limit few = record { few = few; links = whole.0; whole = whole.1; valid = valid; limits = limits; size_is = ap (λ (xs : List ℕ). length xs) e; many = many }
+too_long p typing root names nodes cuts steps bytes e many whole valid limits limit few = record {
+  few = few;
+  links = whole.0;
+  whole = whole.1;
+  valid = valid;
+  limits = limits;
+  size_is = ap (λ (xs : List ℕ). length xs) e;
+  many
+      = many;
+}

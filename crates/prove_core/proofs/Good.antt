@@ -23,25 +23,35 @@ use Rattle.prove_core.proofs.ShortLinks.{links_are_short}
 -- ---- nodes
 
 module _ (p : Program) (typing : ℕ → CodeTypes) (nodes : List GraphNode) where
-  child_links : (children : List GraphChild) → AllByRecursion (λ (child : GraphChild). IsShortLink child.link) children → AllByRecursion IsShortLink (map (λ (child : GraphChild). child.link) children)
+  child_links : (children : List GraphChild) → AllByRecursion (λ (child : GraphChild). IsShortLink child.link) children
+      → AllByRecursion IsShortLink (map (λ (child : GraphChild). child.link) children)
   child_links [] short = tt
   child_links (child ∷ children) short = (short.0, child_links children short.1)
 
-  left_short : (state : AbstractState) (by : By) (links : List Link) → IsLeftBy p typing nodes state by links → AllByRecursion IsShortLink links
-  left_short state (Expand named) links left = subst (AllByRecursion IsShortLink) (sym left.links_are) (child_links left.children (links_are_short p typing state left.children left.are.1))
+  left_short : (state : AbstractState) (by : By) (links : List Link) → IsLeftBy p typing nodes state by links
+      → AllByRecursion IsShortLink links
+  left_short state (Expand named) links left = subst (AllByRecursion IsShortLink) (sym left.links_are)
+      (child_links left.children (links_are_short p typing state left.children left.are.1))
   left_short state (Instance target entries) links left = subst (AllByRecursion IsShortLink) (sym left.1) tt
   left_short state End links left = subst (AllByRecursion IsShortLink) (sym left.1) tt
   left_short state Todo links left = absurd left
 
-  all_bounded : (list : List GraphNode) (links : List (List Link)) → AllZip (IsGoodNode p typing nodes) list links → AllByRecursion (λ (n : GraphNode). AreBounded n.state) list
+  all_bounded : (list : List GraphNode) (links : List (List Link)) → AllZip (IsGoodNode p typing nodes) list links
+      → AllByRecursion (λ (n : GraphNode). AreBounded n.state) list
   all_bounded [] links each = tt
   all_bounded (node ∷ list) [] each = absurd each
-  all_bounded (node ∷ list) (own ∷ links) each = (sound_bounded (types_of p.world) node.state (good_by p typing nodes node.state node.by own each.0).sound, all_bounded list links each.1)
+  all_bounded (node ∷ list) (own ∷ links) each = (
+    sound_bounded (types_of p.world) node.state (good_by p typing nodes node.state node.by own each.0).sound,
+    all_bounded list
+        links each.1,
+  )
 
-  all_short : (list : List GraphNode) (links : List (List Link)) → AllZip (IsGoodNode p typing nodes) list links → AllByRecursion (λ (own : List Link). All IsShortLink own) links
+  all_short : (list : List GraphNode) (links : List (List Link)) → AllZip (IsGoodNode p typing nodes) list links
+      → AllByRecursion (λ (own : List Link). All IsShortLink own) links
   all_short list [] each = tt
   all_short [] (own ∷ links) each = absurd each
-  all_short (node ∷ list) (own ∷ links) each = (All-from_recursion IsShortLink own (left_short node.state node.by own each.0), all_short list links each.1)
+  all_short (node ∷ list) (own ∷ links) each =
+      (All-from_recursion IsShortLink own (left_short node.state node.by own each.0), all_short list links each.1)
 
 pub good_graph_rules_are_plain : GoodGraphRulesArePlain
 good_graph_rules_are_plain p typing nodes root links cuts rules graph ready answer limits =

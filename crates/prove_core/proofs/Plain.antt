@@ -1,5 +1,6 @@
 -- The rules of a graph's paths are plain.
-use Rattle.std.proofs.Common.{◌≡◌, ◌∙◌, inl, inr, ℕ, zero, suc, ◌≤◌, false, List, [], ◌∷◌, length, map, take, Some, refl, sym, ap, subst, arith}
+use Rattle.std.proofs.Common.{◌≡◌, ◌∙◌, inl, inr, ℕ, zero, suc, ◌≤◌, false, List, [], ◌∷◌, length, map, take, Some, refl, sym, ap}
+use Rattle.std.proofs.Common.{subst, arith}
 use Rattle.std.specs.Prelude.{All, slice_get}
 use Rattle.std.specs.List.{AllByRecursion, AllZip}
 use Rattle.std.proofs.lemmas.Bool.{false≢true}
@@ -30,13 +31,15 @@ use Rattle.prove_core.proofs.Close.{slots_close, slots_no_sizes}
 
 -- ---- lists side by side
 
-zip_all : {A B : Type 0} (R : A → B → Type 0) (P Q : B → Type 0) (xs : List A) (ys : List B) → AllZip R xs ys → AllByRecursion P ys → ((x : A) (y : B) → R x y → P y → Q y) → AllByRecursion Q ys
+zip_all : {A B : Type 0} (R : A → B → Type 0) (P Q : B → Type 0) (xs : List A) (ys : List B) → AllZip R xs ys → AllByRecursion P ys
+    → ((x : A) (y : B) → R x y → P y → Q y) → AllByRecursion Q ys
 zip_all R P Q [] [] zip all h = tt
 zip_all R P Q [] (y ∷ ys) zip all h = absurd zip
 zip_all R P Q (x ∷ xs) [] zip all h = tt
 zip_all R P Q (x ∷ xs) (y ∷ ys) zip all h = (h x y zip.0 all.0, zip_all R P Q xs ys zip.1 all.1 h)
 
-zip_of : {A B : Type 0} (R : A → B → Type 0) (xs : List A) (ys : List B) (n : ℕ) (y : B) → AllZip R xs ys → slice_get ys n ≡ Some y → (x : A) × R x y
+zip_of : {A B : Type 0} (R : A → B → Type 0) (xs : List A) (ys : List B) (n : ℕ) (y : B) → AllZip R xs ys → slice_get ys n ≡ Some y
+    → (x : A) × R x y
 zip_of R xs [] n y zip e = absurd (none-some y e)
 zip_of R [] (z ∷ ys) n y zip e = absurd zip
 zip_of R (x ∷ xs) (z ∷ ys) zero y zip e = (x, subst (R x) (some_is e) zip.0)
@@ -72,14 +75,23 @@ module _ (linked : LinkedGraph) (cuts : List ℕ) (ready : IsReady linked.graph 
     are : slots_of first stop ≡ slots
 
   first_end : (path : Path) (rule : PathRule) → IsOf path rule → IsEnd rule.from rule.first
-  first_end path rule is = subst (λ (r : PathRule). IsEnd r.from r.first) (sym is.is) (record { first = 0; stop = is.start; there = is.starts; are = refl })
+  first_end path rule is = subst (λ (r : PathRule). IsEnd r.from r.first) (sym is.is)
+      (record { first = 0; stop = is.start; there = is.starts; are = refl })
 
   last_end : (path : Path) (rule : PathRule) → IsOf path rule → IsEnd rule.to rule.last
   last_end path rule is =
       let last = last_along 0 is.start is.rides in
-      subst (λ (r : PathRule). IsEnd r.to r.last) (sym is.is) (record { first = last.0; stop = last.1; there = end_stop linked cuts 0 path.from path.places is.start is.rides is.to is.ends is.goes; are = refl })
+      subst (λ (r : PathRule). IsEnd r.to r.last) (sym is.is)
+      (record {
+        first = last.0;
+        stop = last.1;
+        there = end_stop linked cuts 0 path.from path.places is.start is.rides is.to
+            is.ends is.goes;
+        are = refl;
+      })
 
-  end_at : (paths : List Path) (rules : List PathRule) (cut : ℕ) (slots : List SlotForm) → AllZip IsOf paths rules → IsEndAt rules cut slots → IsEnd cut slots
+  end_at : (paths : List Path) (rules : List PathRule) (cut : ℕ) (slots : List SlotForm) → AllZip IsOf paths rules
+      → IsEndAt rules cut slots → IsEnd cut slots
   end_at paths rules cut slots zip end =
       let of = zip_of IsOf paths rules end.0 end.1 zip end.2 in
       elim end.3 as (λ o. IsEnd cut slots) [
@@ -100,14 +112,18 @@ module _ (linked : LinkedGraph) (cuts : List ℕ) (ready : IsReady linked.graph 
         let rows = rows_along 0 is.start is.rides in
         let ids = ids_with is_int is.start.state in
         let here = stop_is linked path.from is.start is.starts in
-        let close : AreBounded is.start.state = subst AreBounded here.state_is (all_at (λ (n : GraphNode). AreBounded n.state) linked.graph path.from here.there bounded here.is) in
+        let close : AreBounded is.start.state = subst AreBounded here.state_is
+        (all_at (λ (n : GraphNode). AreBounded n.state) linked.graph path.from here.there bounded here.is) in
         let slots = slots_are 0 is.start of.ints (stop_sized linked path.from is.start sized is.starts) in
         subst IsPlainRule (sym is.is) (record {
-          ints = subst (All (IsCloseInt rows)) (sym slots) (All-from_recursion (IsCloseInt rows) (map (int_slot 0 is.start) ids) (slots_close 0 is.start is.rides ids close (ints_of is.start.state of)));
+          ints = subst (All (IsCloseInt rows)) (sym slots)
+              (All-from_recursion (IsCloseInt rows) (map (int_slot 0 is.start) ids)
+              (slots_close 0 is.start is.rides ids close (ints_of is.start.state of)));
           short = All-from_recursion IsShort rows (rows_short linked 0 path.from path.places is.start is.rides short good is.goes);
           sizes = record {
             sizes = λ _. false;
-            slots = subst (All (IsSizeSlot rows (λ _. false))) (sym slots) (All-from_recursion (IsSizeSlot rows (λ _. false)) (map (int_slot 0 is.start) ids) (slots_no_sizes rows 0 is.start ids));
+            slots = subst (All (IsSizeSlot rows (λ _. false))) (sym slots)
+                (All-from_recursion (IsSizeSlot rows (λ _. false)) (map (int_slot 0 is.start) ids) (slots_no_sizes rows 0 is.start ids));
             kinds = λ k d l. record { alike = λ kind n term e size. absurd (false≢true size) };
           };
         })
@@ -126,10 +142,16 @@ path_rules_are_plain graph links cuts rules ready bounded short answer limits =
       paths = record {
         limits = limits;
         few = omega (arith, whole, few);
-        each = All-from_recursion IsPathRule rules (zip_all (IsRuleOf linked cuts) (λ (rule : PathRule). length rule.rows ≤ 65536) IsPathRule paths rules has.are.are rows (λ path rule is l. path_rule linked cuts ready has.are.are_sizes path rule is l));
-        ends = λ cut one other a b. same_ends linked cuts ready has.are.are_sizes cut one other (end_at linked cuts ready has.are.are_sizes paths rules cut one has.are.are a) (end_at linked cuts ready has.are.are_sizes paths rules cut other has.are.are b);
+        each = All-from_recursion IsPathRule rules
+            (zip_all (IsRuleOf linked cuts) (λ (rule : PathRule). length rule.rows ≤ 65536) IsPathRule paths rules has.are.are rows
+            (λ path rule is l. path_rule linked cuts ready has.are.are_sizes path rule is l));
+        ends = λ cut one other a b. same_ends linked cuts ready has.are.are_sizes cut one other
+            (end_at linked cuts ready has.are.are_sizes paths rules cut one has.are.are a)
+            (end_at linked cuts ready has.are.are_sizes paths rules cut other has.are.are b);
       };
-      plain = All-from_recursion IsPlainRule rules (zip_all (IsRuleOf linked cuts) (λ (rule : PathRule). length rule.rows ≤ 65536) IsPlainRule paths rules has.are.are rows (λ path rule is l. plain_rule linked cuts ready has.are.are_sizes bounded short path rule is));
+      plain = All-from_recursion IsPlainRule rules
+          (zip_all (IsRuleOf linked cuts) (λ (rule : PathRule). length rule.rows ≤ 65536) IsPlainRule paths rules has.are.are rows
+          (λ path rule is l. plain_rule linked cuts ready has.are.are_sizes bounded short path rule is));
     }
 
 -- ---- some rules
@@ -143,7 +165,8 @@ kept_all P rules (rule ∷ some) all among =
     let at = among 0 rule refl in
     (all_at P rules at.0 rule all at.1, kept_all P rules some all (λ n r e. among (suc n) r e))
 
-kept_end : (rules some : List PathRule) (cut : ℕ) (slots : List SlotForm) → AreAmong rules some → IsEndAt some cut slots → IsEndAt rules cut slots
+kept_end : (rules some : List PathRule) (cut : ℕ) (slots : List SlotForm) → AreAmong rules some → IsEndAt some cut slots
+    → IsEndAt rules cut slots
 kept_end rules some cut slots among end = let at = among end.0 end.1 end.2 in (at.0, end.1, at.1, end.3)
 
 pub some_rules_are_plain : SomeRulesArePlain
@@ -154,7 +177,8 @@ some_rules_are_plain rules some plain fewer among =
         limits = All-from_recursion IsRule some (kept_all IsRule rules some plain.paths.limits among);
         few = omega (arith, few, fewer);
         each = All-from_recursion IsPathRule some (kept_all IsPathRule rules some plain.paths.each among);
-        ends = λ cut one other a b. plain.paths.ends cut one other (kept_end rules some cut one among a) (kept_end rules some cut other among b);
+        ends = λ cut one other a b. plain.paths.ends cut one other (kept_end rules some cut one among a)
+            (kept_end rules some cut other among b);
       };
       plain = All-from_recursion IsPlainRule some (kept_all IsPlainRule rules some plain.plain among);
     }

@@ -22,7 +22,8 @@ use Rattle.steady_plans.proofs.EachRow.{HasEach, HaveEach, HoldsOfRows, fine_eac
 
 -- an equation lacks an operand, or its coefficients are together at most 4,096 in size
 abbrev pub IsLow : ShortRow → Type 0
-IsLow row = row.kind ≡ IsZero → (row.left ≡ pos 0) ⊎ ((row.right ≡ pos 0) ⊎ (unsigned_abs row.left + (unsigned_abs row.right + unsigned_abs row.result) ≤ 4096))
+IsLow row = row.kind ≡ IsZero → (row.left ≡ pos 0)
+    ⊎ ((row.right ≡ pos 0) ⊎ (unsigned_abs row.left + (unsigned_abs row.right + unsigned_abs row.result) ≤ 4096))
 
 abbrev pub AreLow : List ShortRow → Type 0
 AreLow rows = AllByRecursion IsLow rows

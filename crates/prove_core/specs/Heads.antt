@@ -14,7 +14,8 @@ use Rattle.op_forms.specs.Forms.{Form, form_of}
 
 -- a form may jump to a place
 abbrev pub jumps_to : ℕ → Form → Bool
-jumps_to place form = option_map_or (nat_eq place) (jump form) false || (list_any (nat_eq place) (table_targets form) || list_any (λ (case : Case). nat_eq place case.target) (lookup_cases form))
+jumps_to place form = option_map_or (nat_eq place) (jump form) false
+    || (list_any (nat_eq place) (table_targets form) || list_any (λ (case : Case). nat_eq place case.target) (lookup_cases form))
 
 abbrev pub op_jumps_to : ℕ → Op → Bool
 op_jumps_to place op = option_map_or (jumps_to place) (form_of op) false

@@ -35,7 +35,8 @@ PathRulesArePlain =
 -- Those of a good graph are.
 abbrev pub GoodGraphRulesArePlain : Type 0
 GoodGraphRulesArePlain =
-    (p : Program) (typing : ℕ → CodeTypes) (nodes : List GraphNode) (root : AbstractState) (links : List (List Link)) (cuts : List ℕ) (rules : List PathRule)
+    (p : Program) (typing : ℕ → CodeTypes) (nodes : List GraphNode) (root : AbstractState) (links : List (List Link))
+    (cuts : List ℕ) (rules : List PathRule)
     → GraphOk p typing nodes root links → IsReady nodes links cuts
     → Answers nodes links cuts (Ok rules) → AreRules rules → ArePlainRules rules
 

@@ -35,12 +35,14 @@ pub record Aim : Type 0 where
 -- the next growth would give the graph more nodes than the limit
 abbrev pub HasManyNodes : Aim → ℕ → List GraphNode → Type 0
 HasManyNodes aim limit nodes =
-    IsStopped (growth_of aim.program aim.typing) aim.root nodes (λ parent n state. PassesLimit (growth_of aim.program aim.typing) nodes parent n state limit) × (length nodes ≤ limit)
+    IsStopped (growth_of aim.program aim.typing) aim.root nodes
+    (λ parent n state. PassesLimit (growth_of aim.program aim.typing) nodes parent n state limit) × (length nodes ≤ limit)
 
 -- the next growth has a state with more than 512 ids
 abbrev pub HasManyIds : Aim → ℕ → List GraphNode → Type 0
 HasManyIds aim limit nodes =
-    IsStopped (growth_of aim.program aim.typing) aim.root nodes (λ parent n state. HasLarge (growth_of aim.program aim.typing) nodes parent n state) × (length nodes ≤ limit)
+    IsStopped (growth_of aim.program aim.typing) aim.root nodes
+    (λ parent n state. HasLarge (growth_of aim.program aim.typing) nodes parent n state) × (length nodes ≤ limit)
 
 -- ---- whole graphs
 
@@ -78,7 +80,8 @@ abbrev pub written : List (List ℕ) → List GraphNode → List ℕ → List Pr
 written names nodes cuts steps = compact_text (certificate names (content_of nodes cuts steps))
 
 -- the certificate is valid, its graph has no more nodes than the limit, and it has so many bytes, which are more than 16 MiB
-pub record IsTooLong (aim : Aim) (limit : ℕ) (names : List (List ℕ)) (nodes : List GraphNode) (cuts : List ℕ) (steps : List ProofStep) (size : ℕ) : Type 0 where
+pub record IsTooLong (aim : Aim) (limit : ℕ) (names : List (List ℕ)) (nodes : List GraphNode) (cuts : List ℕ)
+    (steps : List ProofStep) (size : ℕ) : Type 0 where
   pub few : length nodes ≤ limit
   pub links : List (List Link)
   pub whole : IsWhole aim nodes links cuts
@@ -91,7 +94,8 @@ pub record IsTooLong (aim : Aim) (limit : ℕ) (names : List (List ℕ)) (nodes 
 -- ---- rules that no form ranks
 
 -- the graph has no more nodes than the limit; the steps so far are within the limits of proofs and hold, and leave rules to the next one that are stuck
-pub record IsComponent (aim : Aim) (limit : ℕ) (nodes : List GraphNode) (cuts : List ℕ) (steps : List ProofStep) (left : List LeftRule) : Type 0 where
+pub record IsComponent (aim : Aim) (limit : ℕ) (nodes : List GraphNode) (cuts : List ℕ) (steps : List ProofStep)
+    (left : List LeftRule) : Type 0 where
   pub few : length nodes ≤ limit
   pub links : List (List Link)
   pub whole : IsWhole aim nodes links cuts

@@ -7,7 +7,8 @@ use Rattle.term_graph.specs.declared.links.Link.{Link}
 
 -- the coefficients of an equation of three terms are together at most 4,096 in size
 abbrev pub IsShortRow : LinkRow → Type 0
-IsShortRow row = row.kind ≡ IsZero → (a b c : Side × ℕ × ℤ) → row.terms ≡ a ∷ b ∷ c ∷ [] → unsigned_abs a.2 + (unsigned_abs b.2 + unsigned_abs c.2) ≤ 4096
+IsShortRow row = row.kind ≡ IsZero → (a b c : Side × ℕ × ℤ) → row.terms ≡ a ∷ b ∷ c ∷ []
+    → unsigned_abs a.2 + (unsigned_abs b.2 + unsigned_abs c.2) ≤ 4096
 
 abbrev pub IsShortLink : Link → Type 0
 IsShortLink link = All IsShortRow link.rows

@@ -1,5 +1,6 @@
 -- Words for the calls that grow graphs and give what is found.
-use Rattle.std.specs.Prelude.{◌≡◌, ℕ, suc, ◌==◌, ◌||◌, nat_eq, nat_lt, slice_set, length, reverse, true, Bool, if◌then◌else◌, List, [], ◌∷◌, map, Option, Some, None, Result, Ok, Err}
+use Rattle.std.specs.Prelude.{◌≡◌, ℕ, suc, ◌==◌, ◌||◌, nat_eq, nat_lt, slice_set, length, reverse, true, Bool, if◌then◌else◌, List}
+use Rattle.std.specs.Prelude.{[], ◌∷◌, map, Option, Some, None, Result, Ok, Err}
 use Rattle.std.specs.List.{AllByRecursion, list_any, list_all}
 use Rattle.abs_cells.specs.declared.cells.Cell.{Cell}
 use Rattle.abs_cells.specs.AbstractStates.{AbstractFrame, AbstractState}
@@ -53,7 +54,8 @@ AreGrowing p typing (Some states) = AllByRecursion (IsGrowing p typing) states
 -- what a state with these children becomes
 abbrev pub GrowsFrom : {P : Type 0} → Program → (ℕ → CodeTypes) → List GraphChild → Result (Grown P) GrowFault → Type 0
 GrowsFrom p typing children (Ok grown.End) = ⊥
-GrowsFrom p typing children (Ok (grown.Children states)) = (states ≡ map (λ (child : GraphChild). child.state) children) × AllByRecursion (IsGrowing p typing) states
+GrowsFrom p typing children (Ok (grown.Children states)) = (states ≡ map (λ (child : GraphChild). child.state) children)
+    × AllByRecursion (IsGrowing p typing) states
 GrowsFrom p typing children (Err TooManyIds) = ⊥
 GrowsFrom p typing children (Err Memory) = Unit {0}
 

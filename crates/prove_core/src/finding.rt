@@ -39,7 +39,8 @@ fn is_valid<P: Pairs>(
     requires ints { HasIntStates (program_of program.now) (typing_at typing.now) graph.old }
     requires few { length graph.old ≤ most_nodes }
     requires steps { AreSteps proof.now.steps }
-    ensures valid { IsTrue result → IsValid (case_of (program_of program.now) (typing_at typing.now) root.now graph.old cuts.now proof.now.steps) }
+    ensures valid { IsTrue result
+        → IsValid (case_of (program_of program.now) (typing_at typing.now) root.now graph.old cuts.now proof.now.steps) }
     ensures certified { IsTrue result → IsCertified (program_of program.now) (typing_at typing.now) graph.old cuts.now root.now }
     ensures same { graph.new ≡ graph.old }
 {
@@ -62,7 +63,8 @@ fn is_valid_over_ints<P: Pairs>(
     requires few { length graph.old ≤ most_nodes }
     requires steps { AreSteps proof.now.steps }
     ensures ints { IsTrue result → HasIntStates (program_of program.now) (typing_at typing.now) graph.old }
-    ensures valid { IsTrue result → IsValid (case_of (program_of program.now) (typing_at typing.now) root.now graph.old cuts.now proof.now.steps) }
+    ensures valid { IsTrue result
+        → IsValid (case_of (program_of program.now) (typing_at typing.now) root.now graph.old cuts.now proof.now.steps) }
     ensures certified { IsTrue result → IsCertified (program_of program.now) (typing_at typing.now) graph.old cuts.now root.now }
 {
     match first_other_state(alloc, program, typing, graph) {
@@ -121,7 +123,8 @@ pub(crate) fn given<P: Pairs>(
     requires ints { HasIntStates (program_of program.now) (typing_at typing.now) cert.graph }
     requires few { length cert.graph ≤ most_nodes }
     requires steps { AreSteps cert.proof.steps }
-    ensures { (limit : ℕ) → length cert.graph ≤ limit → SearchesOr (aim_of (program_of program.now) (typing_at typing.now) root.now) names.now limit result }
+    ensures { (limit : ℕ) → length cert.graph ≤ limit → SearchesOr (aim_of (program_of program.now) (typing_at typing.now) root.now)
+        names.now limit result }
 {
     let Cert { graph, cuts, proof } = cert;
     let mut graph = graph;

@@ -92,7 +92,8 @@ fn expanded<P: Pairs>(
     marks: &mut Marks,
 ) -> Result<Grown<P>, GrowFault>
     requires { IsGrowing (program_of program.now) (typing_at typing.now) state.now }
-    ensures { GrowsOr (growth_of (program_of program.now) (typing_at typing.now)) (IsGrowing (program_of program.now) (typing_at typing.now)) state.now result }
+    ensures { GrowsOr (growth_of (program_of program.now) (typing_at typing.now))
+        (IsGrowing (program_of program.now) (typing_at typing.now)) state.now result }
 {
     match expand(alloc, program, typing, state, marks) {
         Ok(Some(children)) => grown_of(alloc, program, typing, children),
@@ -146,7 +147,8 @@ fn widened<P: Pairs>(
 ) -> Result<AbsState<P>, GrowFault>
     requires above { IsGrowing (program_of program.now) (typing_at typing.now) above.now }
     requires state { IsGrowing (program_of program.now) (typing_at typing.now) state.now }
-    ensures { WidensOr (growth_of (program_of program.now) (typing_at typing.now)) (IsGrowing (program_of program.now) (typing_at typing.now)) above.now state.now result }
+    ensures { WidensOr (growth_of (program_of program.now) (typing_at typing.now))
+        (IsGrowing (program_of program.now) (typing_at typing.now)) above.now state.now result }
 {
     if !stand_alike(above, state) {
         return Err(GrowFault::Memory);

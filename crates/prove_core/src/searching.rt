@@ -76,7 +76,8 @@ fn of_rules<P: Pairs>(
     requires few { length graph ≤ most_nodes }
     requires paths { PathAnswers graph links.now.nodes cuts (Ok rules.now) }
     requires plain { ArePlainRules rules.now }
-    ensures { (limit : ℕ) → length graph ≤ limit → SearchesOr (aim_of (program_of program.now) (typing_at typing.now) root.now) names.now limit result }
+    ensures { (limit : ℕ) → length graph ≤ limit → SearchesOr (aim_of (program_of program.now) (typing_at typing.now) root.now)
+        names.now limit result }
 {
     match prove(alloc, rules)? {
         Proved::Whole(proof) => {
@@ -107,7 +108,8 @@ fn of_links<P: Pairs>(
     requires ints { HasIntStates (program_of program.now) (typing_at typing.now) graph }
     requires few { length graph ≤ most_nodes }
     requires good { GraphOk (program_of program.now) (typing_at typing.now) graph root.now links.now.nodes }
-    ensures { (limit : ℕ) → length graph ≤ limit → SearchesOr (aim_of (program_of program.now) (typing_at typing.now) root.now) names.now limit result }
+    ensures { (limit : ℕ) → length graph ≤ limit → SearchesOr (aim_of (program_of program.now) (typing_at typing.now) root.now)
+        names.now limit result }
 {
     links_fit();
     program.is_good();
@@ -140,7 +142,8 @@ fn of_graph<P: Pairs>(
     requires names { IsTrue (list_all is_class_name names.now) }
     requires grown { IsGrownGraph (aim_of (program_of program.now) (typing_at typing.now) root.now) graph }
     requires few { length graph ≤ most_nodes }
-    ensures { (limit : ℕ) → length graph ≤ limit → SearchesOr (aim_of (program_of program.now) (typing_at typing.now) root.now) names.now limit result }
+    ensures { (limit : ℕ) → length graph ≤ limit → SearchesOr (aim_of (program_of program.now) (typing_at typing.now) root.now)
+        names.now limit result }
 {
     if !has_int_states(&graph) {
         return Err(SearchFault::Memory);
@@ -164,9 +167,12 @@ fn of_closed<P: Pairs>(
     requires forms { HasIntForms (program_of program.now) }
     requires good { IsGoodDesc (program_of program.now) desc.now }
     requires names { IsTrue (list_all is_class_name names.now) }
-    requires grown { IsGrownGraph (aim_of (program_of program.now) (typing_at typing.now) (initial_of (program_of program.now) desc.now)) graph }
+    requires grown { IsGrownGraph
+        (aim_of (program_of program.now) (typing_at typing.now) (initial_of (program_of program.now) desc.now)) graph }
     requires few { length graph ≤ most_nodes }
-    ensures { (limit : ℕ) → length graph ≤ limit → SearchesOr (aim_of (program_of program.now) (typing_at typing.now) (initial_of (program_of program.now) desc.now)) names.now limit result }
+    ensures { (limit : ℕ) → length graph ≤ limit
+        → SearchesOr (aim_of (program_of program.now) (typing_at typing.now) (initial_of (program_of program.now) desc.now))
+        names.now limit result }
 {
     let root = initial(alloc, desc, program)?;
     of_graph(alloc, program, typing, &root, names, graph)
@@ -216,7 +222,8 @@ pub fn search<P: Pairs>(
     requires names { IsTrue (list_all is_class_name names.now) }
     requires positive { 1 ≤ limit }
     requires small { limit ≤ most_nodes }
-    ensures { SearchesOr (aim_of (program_of program.now) (typing_at typing.now) (initial_of (program_of program.now) desc.now)) names.now limit result }
+    ensures { SearchesOr (aim_of (program_of program.now) (typing_at typing.now) (initial_of (program_of program.now) desc.now))
+        names.now limit result }
 {
     let first = initial(alloc, desc, program)?;
     match grown(alloc, program, typing, first, limit) {

@@ -37,11 +37,14 @@ module _ (p : Program) (first : MachineState) where
   threw_stays r = refl
 
   -- the last steps of two runs that end are the same
-  no_longer : (x : Step) → step_on p x ≡ x → (a b : ℕ) (s t : MachineState) → run p a first ≡ Step.Going s → step p s ≡ x → run p b first ≡ Step.Going t → ((k : MachineState) → x ≡ Step.Going k → ⊥) → a < b → ⊥
+  no_longer : (x : Step) → step_on p x ≡ x → (a b : ℕ) (s t : MachineState) → run p a first ≡ Step.Going s → step p s ≡ x
+      → run p b first ≡ Step.Going t → ((k : MachineState) → x ≡ Step.Going k → ⊥) → a < b → ⊥
   no_longer x fixed a b s t e end f apart l =
       apart t (sym (later x fixed (suc a) b (omega (arith, l)) (step_of a s e ∙ end)) ∙ f)
 
-  last_one : (x y : Step) → step_on p x ≡ x → step_on p y ≡ y → (a b : ℕ) (s t : MachineState) → run p a first ≡ Step.Going s → step p s ≡ x → run p b first ≡ Step.Going t → step p t ≡ y → ((k : MachineState) → x ≡ Step.Going k → ⊥) → ((k : MachineState) → y ≡ Step.Going k → ⊥) → s ≡ t
+  last_one : (x y : Step) → step_on p x ≡ x → step_on p y ≡ y → (a b : ℕ) (s t : MachineState) → run p a first ≡ Step.Going s
+      → step p s ≡ x → run p b first ≡ Step.Going t → step p t ≡ y → ((k : MachineState) → x ≡ Step.Going k → ⊥)
+      → ((k : MachineState) → y ≡ Step.Going k → ⊥) → s ≡ t
   last_one x y fx fy a b s t e end f stop nx ny =
       let same = neither_below a b (no_longer x fx a b s t e end f nx) (no_longer y fy b a t s f stop e ny) in
       let there : Step.Going s ≡ Step.Going t = sym e ∙ ap (λ (n : ℕ). run p n first) same ∙ f in
@@ -74,7 +77,8 @@ module _ (p : Program) (first : MachineState) where
   left_one : (fuel : ℕ) (ended : Ended) (s t : MachineState) → EndsAs p first fuel ended s → EndsAs p first fuel ended t → s ≡ t
   left_one fuel ends.Out s t h k = let e : Step.Going s ≡ Step.Going t = sym h ∙ k in cc
   left_one fuel (ends.Returned value) s t h k =
-      last_one (Step.Returned value) (Step.Returned value) (returned_stays value) (returned_stays value) h.0.0 k.0.0 s t h.0.2 h.1 k.0.2 k.1 (λ n e. cc) (λ n e. cc)
+      last_one (Step.Returned value) (Step.Returned value) (returned_stays value) (returned_stays value) h.0.0 k.0.0 s t h.0.2 h.1
+      k.0.2 k.1 (λ n e. cc) (λ n e. cc)
   left_one fuel (ends.Threw r) s t h k =
       last_one (Step.Threw r) (Step.Threw r) (threw_stays r) (threw_stays r) h.0.0 k.0.0 s t h.0.2 h.1 k.0.2 k.1 (λ n e. cc) (λ n e. cc)
 

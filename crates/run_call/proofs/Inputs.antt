@@ -27,17 +27,21 @@ use Rattle.input_steps.specs.Programs.{HasTypings}
 
 -- ---- arguments and static fields
 
-argument_place : (types : WorldTypes) (heap : Heap) (slot : Slot) (value : Value) → Holds types heap (argument_slot slot) value → HasPlaceType types heap (place_of types slot) (Some value)
+argument_place : (types : WorldTypes) (heap : Heap) (slot : Slot) (value : Value) → Holds types heap (argument_slot slot) value
+    → HasPlaceType types heap (place_of types slot) (Some value)
 argument_place types heap (slots.Num kind) (values.Int n) h = h
 argument_place types heap (slots.Num kind) values.Null h = absurd h
 argument_place types heap (slots.Num kind) (values.Ref r) h = absurd h
 argument_place types heap (slots.Ref t) value h = h
 
-argument_places : (types : WorldTypes) (heap : Heap) (params : List Slot) (args : List Value) → AllZip (Holds types heap) (map argument_slot params) args → AllZip (λ slot value. HasPlaceType types heap (place_of types slot) (Some value)) params args
+argument_places : (types : WorldTypes) (heap : Heap) (params : List Slot) (args : List Value)
+    → AllZip (Holds types heap) (map argument_slot params) args
+    → AllZip (λ slot value. HasPlaceType types heap (place_of types slot) (Some value)) params args
 argument_places types heap [] [] h = tt
 argument_places types heap [] (arg ∷ args) h = absurd h
 argument_places types heap (slot ∷ params) [] h = absurd h
-argument_places types heap (slot ∷ params) (arg ∷ args) h = (argument_place types heap slot arg h.0, argument_places types heap params args h.1)
+argument_places types heap (slot ∷ params) (arg ∷ args) h =
+    (argument_place types heap slot arg h.0, argument_places types heap params args h.1)
 
 -- ---- the start
 
@@ -50,18 +54,21 @@ entry_by (Some m) n = (m, refl)
 entry_by None n = absurd (n refl)
 
 -- where a run begins, there is an entry
-entry_there : (p : Program) (args statics : List Value) (heap : Heap) (state : MachineState) → start p args statics heap ≡ Some state → (m : Method) × (slice_get p.methods 0 ≡ Some m)
+entry_there : (p : Program) (args statics : List Value) (heap : Heap) (state : MachineState)
+    → start p args statics heap ≡ Some state → (m : Method) × (slice_get p.methods 0 ≡ Some m)
 entry_there p args statics heap state e =
     entry_by (slice_get p.methods 0) (λ none. let f : Some state ≡ None = sym e ∙ no_start p args statics heap none in cc)
 
 params_are : (p : Program) (m : Method) → slice_get p.methods 0 ≡ Some m → params_of p ≡ m.params
 params_are p m e = ap (λ (o : Option Method). option_map_or (λ (k : Method). k.params) o []) e
 
-inputs_are : (p : Program) (given : StateInput) (state : MachineState) → IsTypedInput p given → start p given.args given.statics given.heap ≡ Some state → AreInputs p given.args given.statics given.heap
+inputs_are : (p : Program) (given : StateInput) (state : MachineState) → IsTypedInput p given
+    → start p given.args given.statics given.heap ≡ Some state → AreInputs p given.args given.statics given.heap
 inputs_are p given state typed e =
     let types = types_of p.world in
     let entry = entry_there p given.args given.statics given.heap state e in
-    let held = subst (λ (params : List Slot). AllZip (Holds types given.heap) (map argument_slot params) given.args) (params_are p entry.0 entry.1) typed.args_are in
+    let held = subst (λ (params : List Slot). AllZip (Holds types given.heap) (map argument_slot params) given.args)
+    (params_are p entry.0 entry.1) typed.args_are in
     record {
       entry = entry.0;
       is_entry = entry.1;
@@ -71,6 +78,8 @@ inputs_are p given state typed e =
     }
 
 -- the run never gets stuck
-pub input_never_stuck : (p : Program) (given : StateInput) (state : MachineState) → IsClosed p → HasWidths p → HasTypings p → IsTypedInput p given → start p given.args given.statics given.heap ≡ Some state → IsNeverStuck p state
+pub input_never_stuck : (p : Program) (given : StateInput) (state : MachineState) → IsClosed p → HasWidths p → HasTypings p
+    → IsTypedInput p given → start p given.args given.statics given.heap ≡ Some state → IsNeverStuck p state
 input_never_stuck p given state closed widths typings typed e =
-    never_stuck p typings.0 closed widths typings.1 state (starts_typed p typings.0 closed typings.1 given.args given.statics given.heap (inputs_are p given state typed e) state e)
+    never_stuck p typings.0 closed widths typings.1 state
+    (starts_typed p typings.0 closed typings.1 given.args given.statics given.heap (inputs_are p given state typed e) state e)

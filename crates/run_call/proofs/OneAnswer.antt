@@ -18,8 +18,10 @@ use Rattle.input_steps.specs.declared.refused.Fault.TheVariants as faults
 use Rattle.input_steps.specs.Programs.{IsProgramOf, RefusesProgram, IsAcyclic, RefusesCalls, HasTypings, RefusesTypes}
 use Rattle.input_steps.specs.Classes.{AllSpell, RefusesClasses, IsWorldOf, RefusesWorld}
 use Rattle.input_steps.proofs.OneText.{said_exact, text_exact}
-use Rattle.input_steps.proofs.OneAnswer.{map_some_one, IsExact, IsOne, at_one, then_one, none_some, classes_exact, world_exact, program_exact, calls_exact, types_exact}
-use Rattle.run_call.specs.Answers.{IsStateText, RefusesState, RefusesEntry, IsInput, input_fault, RefusesInput, AnswersRun, AnswersProgram, AnswersEntry, AnswersNamed}
+use Rattle.input_steps.proofs.OneAnswer.{map_some_one, IsExact, IsOne, at_one, then_one, none_some, classes_exact, world_exact}
+use Rattle.input_steps.proofs.OneAnswer.{program_exact, calls_exact, types_exact}
+use Rattle.run_call.specs.Answers.{IsStateText, RefusesState, RefusesEntry, IsInput, input_fault, RefusesInput, AnswersRun}
+use Rattle.run_call.specs.Answers.{AnswersProgram, AnswersEntry, AnswersNamed}
 use Rattle.run_call.specs.Laws.{AnswersAreOne}
 use Rattle.run_call.specs.Lines.{ended_line}
 use Rattle.run_call.proofs.Endings.{ends_one}
@@ -37,17 +39,20 @@ input_exact : (p : Program) (text : StateText) → IsExact (IsInput p text) (Ref
 input_exact p text = record {
   one = input_one p text;
   apart = λ input place fault h r. none_some (input_fault p text) r.cause h.0 r.holds;
-  named = at_one {C = DescFault} (λ fault. places.State) faults.Desc (λ fault. input_fault p text ≡ Some fault) (λ f g h k. one_answer (input_fault p text) f g h k);
+  named = at_one {C = DescFault} (λ fault. places.State) faults.Desc (λ fault. input_fault p text ≡ Some fault)
+      (λ f g h k. one_answer (input_fault p text) f g h k);
 }
 
 -- ---- the run
 
 run_one : (fuel : ℕ) (p : Program) (input : StateInput) → IsOne (AnswersRun fuel p input)
 run_one fuel p input (Ok x) (Ok y) h k nr ns =
-    let first : h.runs.first ≡ k.runs.first = one_answer (start p input.args input.statics input.heap) h.runs.first k.runs.first h.runs.starts k.runs.starts in
+    let first : h.runs.first ≡ k.runs.first = one_answer (start p input.args input.statics input.heap) h.runs.first k.runs.first
+    h.runs.starts k.runs.starts in
     let here = subst (λ (s : MachineState). EndsAs p s fuel h.ended h.last) first h.runs.ends in
     let same = ends_one p k.runs.first fuel h.ended k.ended h.last k.last here k.runs.ends in
-    let lines : ended_line p.world h.last.heap fuel h.ended ≡ ended_line p.world k.last.heap fuel k.ended = λ i. ended_line p.world (same.1 i).heap fuel (same.0 i) in
+    let lines : ended_line p.world h.last.heap fuel h.ended ≡ ended_line p.world k.last.heap fuel k.ended = λ i. ended_line p.world
+    (same.1 i).heap fuel (same.0 i) in
     let e : x ≡ y = h.line_is ∙ lines ∙ sym k.line_is in
     λ i. Ok (e i)
 run_one fuel p input (Ok x) (Err (At place fault)) h k nr ns = absurd k
@@ -65,11 +70,14 @@ program_one fuel text p =
 
 entry_one : (fuel : ℕ) (text : StateText) (world : World) (entry : MethodRef) → IsOne (AnswersEntry fuel text world entry)
 entry_one fuel text world entry =
-    then_one (IsProgramOf world entry) (RefusesProgram world entry) (AnswersProgram fuel text) (program_exact world entry) (λ p h. program_one fuel text p)
+    then_one (IsProgramOf world entry) (RefusesProgram world entry) (AnswersProgram fuel text) (program_exact world entry)
+    (λ p h. program_one fuel text p)
 
 pub answers_one : AnswersAreOne
 answers_one fuel state files =
     then_one (AllSpell files) (RefusesClasses files) _ (classes_exact files) (λ classes s.
-    then_one (IsStateText state) (RefusesState state) (λ text. AnswersNamed fuel text classes) (text_exact state_of state places.State) (λ text t.
+    then_one (IsStateText state) (RefusesState state) (λ text. AnswersNamed fuel text classes)
+    (text_exact state_of state places.State) (λ text t.
     then_one (IsWorldOf classes) (RefusesWorld classes) _ (world_exact classes) (λ world w.
-    then_one (λ entry. entry_of world text.entry ≡ Ok entry) (RefusesEntry world text) (AnswersEntry fuel text world) (said_exact places.State (entry_of world text.entry)) (λ entry e. entry_one fuel text world entry))))
+    then_one (λ entry. entry_of world text.entry ≡ Ok entry) (RefusesEntry world text) (AnswersEntry fuel text world)
+    (said_exact places.State (entry_of world text.entry)) (λ entry e. entry_one fuel text world entry))))

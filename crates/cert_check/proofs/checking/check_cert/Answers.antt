@@ -18,19 +18,25 @@ returns-in-Err-clause-tells g c = c.in-Err.ensures.graph c.args.cuts.now c.args.
 
 pub rules_between-requires-clause-graph : goal.rules_between-requires-clause-graph
 rules_between-requires-clause-graph g c =
-    subst (λ (ns : List GraphNode). GraphOk (program_of c.args.program.now) (typing_at c.args.typing.now) ns c.args.root.now c.in-Ok.links.nodes) (sym c.in-Ok.ensures.same) (c.in-Ok.ensures.graph c.args.cuts.now c.args.proof.now.steps)
+    subst (λ (ns : List GraphNode). GraphOk (program_of c.args.program.now) (typing_at c.args.typing.now) ns c.args.root.now
+    c.in-Ok.links.nodes) (sym c.in-Ok.ensures.same) (c.in-Ok.ensures.graph c.args.cuts.now c.args.proof.now.steps)
 
 pub rules_between-requires-clause-prepared : goal.rules_between-requires-clause-prepared
 rules_between-requires-clause-prepared g c =
     subst (λ (ns : List GraphNode). IsPrepared ns c.in-Ok.links.nodes) (sym c.in-Ok.ensures.same)
-    (prepared c.links_fit.ensures (program_of c.args.program.now) (typing_at c.args.typing.now) c.is_good.ensures.widths (g.S.NodeSource.graph c.args.source.now) c.args.root.now c.in-Ok.links.nodes c.requires.ints (c.in-Ok.ensures.graph c.args.cuts.now c.args.proof.now.steps))
+    (prepared c.links_fit.ensures (program_of c.args.program.now) (typing_at c.args.typing.now) c.is_good.ensures.widths
+    (g.S.NodeSource.graph c.args.source.now) c.args.root.now c.in-Ok.links.nodes c.requires.ints
+    (c.in-Ok.ensures.graph c.args.cuts.now c.args.proof.now.steps))
 
 pub returns-in-Err-rules_between-clause-tells : goal.returns-in-Err-rules_between-clause-tells
 returns-in-Err-rules_between-clause-tells g c =
-    subst (λ (ns : List GraphNode). Tells (case_of (program_of c.args.program.now) (typing_at c.args.typing.now) c.args.root.now ns c.args.cuts.now c.args.proof.now.steps) (Err c.in-Err-rules_between.refusal)) c.in-Ok.ensures.same (c.in-Err-rules_between.ensures.rules c.args.proof.now.steps)
+    subst (λ (ns : List GraphNode). Tells (case_of (program_of c.args.program.now) (typing_at c.args.typing.now) c.args.root.now ns
+    c.args.cuts.now c.args.proof.now.steps) (Err c.in-Err-rules_between.refusal)) c.in-Ok.ensures.same
+    (c.in-Err-rules_between.ensures.rules c.args.proof.now.steps)
 
 pub check_proof-requires-clause-rules : goal.check_proof-requires-clause-rules
-check_proof-requires-clause-rules g c = subst (λ (rs : List PathRule). AreRules rs) (sym c.as_slice.ensures) c.in-Ok-rules_between.ensures.fit
+check_proof-requires-clause-rules g c = subst (λ (rs : List PathRule). AreRules rs) (sym c.as_slice.ensures)
+    c.in-Ok-rules_between.ensures.fit
 
 pub returns-in-Ok-check_proof-clause-tells : goal.returns-in-Ok-check_proof-clause-tells
 returns-in-Ok-check_proof-clause-tells g c =
@@ -38,8 +44,10 @@ returns-in-Ok-check_proof-clause-tells g c =
     let typing = typing_at c.args.typing.now in
     let cuts = c.args.cuts.now in
     let steps = c.args.proof.now.steps in
-    valid (case_of p typing c.args.root.now (g.S.NodeSource.graph c.args.source.now) cuts steps) c.in-Ok.links.nodes c.in-Ok-rules_between.rules (c.in-Ok.ensures.graph cuts steps)
-    (subst (λ (ns : List GraphNode). RulesOr (case_of p typing c.args.root.now ns cuts steps) c.in-Ok.links.nodes (Ok c.in-Ok-rules_between.rules)) c.in-Ok.ensures.same (c.in-Ok-rules_between.ensures.rules steps))
+    valid (case_of p typing c.args.root.now (g.S.NodeSource.graph c.args.source.now) cuts steps) c.in-Ok.links.nodes
+    c.in-Ok-rules_between.rules (c.in-Ok.ensures.graph cuts steps)
+    (subst (λ (ns : List GraphNode). RulesOr (case_of p typing c.args.root.now ns cuts steps) c.in-Ok.links.nodes
+    (Ok c.in-Ok-rules_between.rules)) c.in-Ok.ensures.same (c.in-Ok-rules_between.ensures.rules steps))
     (subst (λ (rs : List PathRule). proof_fault rs steps ≡ None) c.as_slice.ensures c.in-Ok-check_proof.ensures.answer)
 
 pub returns-in-Ok-check_proof-clause-certified : goal.returns-in-Ok-check_proof-clause-certified
@@ -52,7 +60,8 @@ returns-in-Ok-check_proof-clause-certified g c =
     let graph = c.in-Ok.ensures.graph cuts steps in
     certified p typing nodes cuts c.args.root.now steps c.in-Ok.links.nodes c.in-Ok-rules_between.rules graph
     (prepared c.links_fit.ensures p typing c.is_good.ensures.widths nodes c.args.root.now c.in-Ok.links.nodes c.requires.ints graph)
-    (subst (λ (ns : List GraphNode). RulesOr (case_of p typing c.args.root.now ns cuts steps) c.in-Ok.links.nodes (Ok c.in-Ok-rules_between.rules)) c.in-Ok.ensures.same (c.in-Ok-rules_between.ensures.rules steps))
+    (subst (λ (ns : List GraphNode). RulesOr (case_of p typing c.args.root.now ns cuts steps) c.in-Ok.links.nodes
+    (Ok c.in-Ok-rules_between.rules)) c.in-Ok.ensures.same (c.in-Ok-rules_between.ensures.rules steps))
     (subst (λ (rs : List PathRule). ChainsEnd rs) c.as_slice.ensures c.in-Ok-check_proof.ensures.ends)
 
 pub returns-clause-tells : goal.returns-clause-tells
@@ -65,5 +74,7 @@ returns-clause-tells g c =
     proof_refused p typing c.args.root.now nodes c.in-Ok.links.nodes cuts c.count-nodes.result (c.in-Ok.ensures.graph cuts steps)
     (c.count-nodes.ensures ∙ ap (λ (ns : List GraphNode). length ns) (c.in-Ok-rules_between.ensures.same ∙ c.in-Ok.ensures.same))
     steps c.in-Ok-rules_between.rules c.in-Err-check_proof.fault _
-    (subst (λ (ns : List GraphNode). RulesOr (case_of p typing c.args.root.now ns cuts steps) c.in-Ok.links.nodes (Ok c.in-Ok-rules_between.rules)) c.in-Ok.ensures.same (c.in-Ok-rules_between.ensures.rules steps))
-    (subst (λ (rs : List PathRule). ProofRefuses (Err c.in-Err-check_proof.fault) (proof_fault rs steps)) c.as_slice.ensures c.in-Err-check_proof.ensures.answer) c.proof_refusal.ensures
+    (subst (λ (ns : List GraphNode). RulesOr (case_of p typing c.args.root.now ns cuts steps) c.in-Ok.links.nodes
+    (Ok c.in-Ok-rules_between.rules)) c.in-Ok.ensures.same (c.in-Ok-rules_between.ensures.rules steps))
+    (subst (λ (rs : List PathRule). ProofRefuses (Err c.in-Err-check_proof.fault) (proof_fault rs steps)) c.as_slice.ensures
+    c.in-Err-check_proof.ensures.answer) c.proof_refusal.ensures

@@ -5,14 +5,20 @@ use Rattle.cert_check.proofs.checking.rules_between.Goals as goal
 
 pub paths-requires-clause-ready : goal.paths-requires-clause-ready
 paths-requires-clause-ready g c =
-    ready_for (g.S.NodeSource.graph c.args.source.now) c.args.links.now.nodes c.args.cuts.now c.count-nodes.result c.are_cuts.result c.requires.prepared c.count-nodes.ensures c.are_cuts.ensures c.if-not-are_cuts.false
+    ready_for (g.S.NodeSource.graph c.args.source.now) c.args.links.now.nodes c.args.cuts.now c.count-nodes.result c.are_cuts.result
+    c.requires.prepared c.count-nodes.ensures c.are_cuts.ensures c.if-not-are_cuts.false
 
 pub returns-in-Ok-clause-rules : goal.returns-in-Ok-clause-rules
 returns-in-Ok-clause-rules g c =
-    rules_given (program_of c.args.program.now) (typing_at c.args.typing.now) c.args.root.now (g.S.NodeSource.graph c.args.source.now) c.args.links.now.nodes c.args.cuts.now c.count-nodes.result c.requires.graph c.count-nodes.ensures
+    rules_given (program_of c.args.program.now) (typing_at c.args.typing.now) c.args.root.now
+    (g.S.NodeSource.graph c.args.source.now) c.args.links.now.nodes c.args.cuts.now c.count-nodes.result c.requires.graph
+    c.count-nodes.ensures
     c.are_cuts.result c.in-Ok.rules c.are_cuts.ensures c.if-not-are_cuts.false c.in-Ok.ensures.answers
 
 pub returns-in-Err-clause-rules : goal.returns-in-Err-clause-rules
 returns-in-Err-clause-rules g c =
-    paths_refused (program_of c.args.program.now) (typing_at c.args.typing.now) c.args.root.now (g.S.NodeSource.graph c.args.source.now) c.args.links.now.nodes c.args.cuts.now c.count-nodes.result c.requires.graph c.count-nodes.ensures
-    c.are_cuts.result c.in-Err.fault c.path_refusal.result c.are_cuts.ensures c.if-not-are_cuts.false c.in-Err.ensures.answers c.path_refusal.ensures
+    paths_refused (program_of c.args.program.now) (typing_at c.args.typing.now) c.args.root.now
+    (g.S.NodeSource.graph c.args.source.now) c.args.links.now.nodes c.args.cuts.now c.count-nodes.result c.requires.graph
+    c.count-nodes.ensures
+    c.are_cuts.result c.in-Err.fault c.path_refusal.result c.are_cuts.ensures c.if-not-are_cuts.false c.in-Err.ensures.answers
+    c.path_refusal.ensures

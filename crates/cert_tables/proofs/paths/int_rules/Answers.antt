@@ -8,9 +8,6 @@ use Rattle.cert_check.proofs.Preparing.{prepared}
 use Rattle.cert_tables.proofs.Testing.{all}
 use Rattle.cert_tables.proofs.paths.int_rules.Goals as goal
 
-pub good_links-requires-clause-ints : goal.good_links-requires-clause-ints
-good_links-requires-clause-ints c = all (program_of c.args.program.now) (typing_at c.args.typing.now) c.args.graph.now c.requires.ints
-
 pub rules_between-requires-clause-graph : goal.rules_between-requires-clause-graph
 rules_between-requires-clause-graph c =
     subst (λ (ns : List GraphNode). GraphOk (program_of c.args.program.now) (typing_at c.args.typing.now) ns c.args.root.now c.in-Ok.links.nodes) (sym c.in-Ok.ensures.same) (c.in-Ok.ensures.graph [] [])

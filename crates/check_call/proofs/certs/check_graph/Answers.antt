@@ -14,12 +14,19 @@ pub returns-clause-checked : goal.returns-clause-checked
 returns-clause-checked c =
     let p = program_of c.args.program.now in
     let typing = typing_at c.args.typing.now in
-    let tells = subst (λ (root : AbstractState). Tells (case_of p typing root c.args.graph.now c.args.cuts.now c.args.proof.now.steps) c.check_cert-checked.result) c.in_ok-root.ensures c.check_cert-checked.ensures.tells in
-    said_tells (case_of p typing (initial_of p c.args.desc.now) c.args.graph.now c.args.cuts.now c.args.proof.now.steps) c.check_cert-checked.result c.said.result tells c.said.ensures
+    let tells = subst (λ (root : AbstractState). Tells
+    (case_of p typing root c.args.graph.now c.args.cuts.now c.args.proof.now.steps) c.check_cert-checked.result)
+    c.in_ok-root.ensures c.check_cert-checked.ensures.tells in
+    said_tells (case_of p typing (initial_of p c.args.desc.now) c.args.graph.now c.args.cuts.now c.args.proof.now.steps)
+    c.check_cert-checked.result c.said.result tells c.said.ensures
 
 pub returns-clause-ends : goal.returns-clause-ends
 returns-clause-ends c =
     let p = program_of c.args.program.now in
     let typing = typing_at c.args.typing.now in
-    let certified = subst (λ (root : AbstractState). OnOk c.check_cert-checked.result (IsCertified p typing c.args.graph.now c.args.cuts.now root)) c.in_ok-root.ensures c.check_cert-checked.ensures.certified in
-    said_ends p typing c.args.desc.now c.args.graph.now c.args.cuts.now c.check_cert-checked.result c.said.result c.certified_runs_end.ensures c.is_good.ensures.closed c.is_good.ensures.widths c.requires.typing c.requires.own certified c.said.ensures
+    let certified = subst
+    (λ (root : AbstractState). OnOk c.check_cert-checked.result (IsCertified p typing c.args.graph.now c.args.cuts.now root))
+    c.in_ok-root.ensures c.check_cert-checked.ensures.certified in
+    said_ends p typing c.args.desc.now c.args.graph.now c.args.cuts.now c.check_cert-checked.result c.said.result
+    c.certified_runs_end.ensures c.is_good.ensures.closed c.is_good.ensures.widths c.requires.typing c.requires.own certified
+    c.said.ensures

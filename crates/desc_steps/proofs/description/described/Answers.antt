@@ -14,5 +14,7 @@ returns-in-Err c =
       described = tt;
       own = tt;
       good = tt;
-      refused = subst (IsCaused (RefusesDesc (program_of c.args.program.now) c.args.text)) (sym c.refuse_desc.ensures) (caused Description (λ fault. wanted ≡ Some fault) c.in-Err.fault (λ other. due_is c.in-Err.fault wanted other c.in-Err.ensures.described));
+      refused = subst (IsCaused (RefusesDesc (program_of c.args.program.now) c.args.text)) (sym c.refuse_desc.ensures)
+          (caused Description (λ fault. wanted ≡ Some fault) c.in-Err.fault
+          (λ other. due_is c.in-Err.fault wanted other c.in-Err.ensures.described));
     }

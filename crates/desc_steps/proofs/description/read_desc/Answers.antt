@@ -10,5 +10,6 @@ use Rattle.desc_steps.proofs.description.read_desc.Goals as goal
 pub returns-in-Err : goal.returns-in-Err
 returns-in-Err c = record {
   text = tt;
-  refused = subst (IsCaused (RefusesText c.args.bytes.now)) (sym c.refuse_desc.ensures) (caused Description (IsTextFault description_of c.args.bytes.now) c.in-Err.fault (λ other. (other, c.in-Err.ensures)));
+  refused = subst (IsCaused (RefusesText c.args.bytes.now)) (sym c.refuse_desc.ensures)
+      (caused Description (IsTextFault description_of c.args.bytes.now) c.in-Err.fault (λ other. (other, c.in-Err.ensures)));
 }

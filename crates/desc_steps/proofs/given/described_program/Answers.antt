@@ -5,7 +5,8 @@ use Rattle.desc_steps.proofs.Answering.{classes_refused, files_go, named_if_give
 use Rattle.desc_steps.proofs.given.described_program.Goals as goal
 
 pub returns-in-Err-clause-answers : goal.returns-in-Err-clause-answers
-returns-in-Err-clause-answers c = classes_refused c.args.desc.now (map (λ file. file.items) c.args.files.now) c.in-Err.refused c.in-Err.ensures.refused
+returns-in-Err-clause-answers c = classes_refused c.args.desc.now (map (λ file. file.items) c.args.files.now) c.in-Err.refused
+    c.in-Err.ensures.refused
 
 pub of_classes-requires-clause-few : goal.of_classes-requires-clause-few
 of_classes-requires-clause-few c =
@@ -18,14 +19,19 @@ of_classes-requires-clause-read c = spell_read _ _ c.in-Ok.ensures.classes
 
 pub returns-in-Ok-read_desc-clause-answers : goal.returns-in-Ok-read_desc-clause-answers
 returns-in-Ok-read_desc-clause-answers c =
-    files_go c.args.desc.now (map (λ file. file.items) c.args.files.now) c.in-Ok.classes.items c.in-Ok-read_desc.text c.of_classes.result c.in-Ok.ensures.classes c.in-Ok-read_desc.ensures.text c.of_classes.ensures.answers
+    files_go c.args.desc.now (map (λ file. file.items) c.args.files.now) c.in-Ok.classes.items c.in-Ok-read_desc.text
+    c.of_classes.result c.in-Ok.ensures.classes c.in-Ok-read_desc.ensures.text c.of_classes.ensures.answers
 
 pub returns-in-Ok-read_desc-clause-named : goal.returns-in-Ok-read_desc-clause-named
 returns-in-Ok-read_desc-clause-named c =
     let files = map (λ file. file.items) c.args.files.now in
-    named_if_given c.args.desc.now files c.of_classes.result (files_go c.args.desc.now files c.in-Ok.classes.items c.in-Ok-read_desc.text c.of_classes.result c.in-Ok.ensures.classes c.in-Ok-read_desc.ensures.text c.of_classes.ensures.answers)
+    named_if_given c.args.desc.now files c.of_classes.result
+    (files_go c.args.desc.now files c.in-Ok.classes.items c.in-Ok-read_desc.text c.of_classes.result c.in-Ok.ensures.classes
+    c.in-Ok-read_desc.ensures.text c.of_classes.ensures.answers)
 
 pub returns-in-Ok-read_desc-clause-names : goal.returns-in-Ok-read_desc-clause-names
 returns-in-Ok-read_desc-clause-names c =
     let files = map (λ file. file.items) c.args.files.now in
-    names_if_given c.args.desc.now files c.of_classes.result (files_go c.args.desc.now files c.in-Ok.classes.items c.in-Ok-read_desc.text c.of_classes.result c.in-Ok.ensures.classes c.in-Ok-read_desc.ensures.text c.of_classes.ensures.answers)
+    names_if_given c.args.desc.now files c.of_classes.result
+    (files_go c.args.desc.now files c.in-Ok.classes.items c.in-Ok-read_desc.text c.of_classes.result c.in-Ok.ensures.classes
+    c.in-Ok-read_desc.ensures.text c.of_classes.ensures.answers)

@@ -10,12 +10,16 @@ use Rattle.graph_fill.proofs.children.children_or_none.Goals as goal
 
 pub returns-in-Err-BadState : goal.returns-in-Err-BadState
 returns-in-Err-BadState g c =
-    subst (λ (cs : List GraphChild). HasChildrenOrNone (program_of c.args.program.now) (typing_at c.args.typing.now) c.args.state.now cs) (sym c.new-in-Err-BadState.ensures)
+    subst (λ (cs : List GraphChild). HasChildrenOrNone (program_of c.args.program.now) (typing_at c.args.typing.now)
+    c.args.state.now cs) (sym c.new-in-Err-BadState.ensures)
     (none_bad (program_of c.args.program.now) (typing_at c.args.typing.now) c.args.state.now c.in-Err-BadState.field-0-0
-    (subst (λ (f : ExpandFault). Answers (program_of c.args.program.now) (typing_at c.args.typing.now) c.args.state.now (Err f)) c.in-Err-BadState.field-0-is c.in-Err-BadState.ensures))
+    (subst (λ (f : ExpandFault). Answers (program_of c.args.program.now) (typing_at c.args.typing.now) c.args.state.now (Err f))
+    c.in-Err-BadState.field-0-is c.in-Err-BadState.ensures))
 
 pub returns-in-Err-TooManyIds : goal.returns-in-Err-TooManyIds
 returns-in-Err-TooManyIds g c =
-    subst (λ (cs : List GraphChild). HasChildrenOrNone (program_of c.args.program.now) (typing_at c.args.typing.now) c.args.state.now cs) (sym c.new-in-Err-TooManyIds.ensures)
+    subst (λ (cs : List GraphChild). HasChildrenOrNone (program_of c.args.program.now) (typing_at c.args.typing.now)
+    c.args.state.now cs) (sym c.new-in-Err-TooManyIds.ensures)
     (none_many (program_of c.args.program.now) (typing_at c.args.typing.now) c.args.state.now c.in-Err-TooManyIds.field-0-0
-    (subst (λ (f : ExpandFault). Answers (program_of c.args.program.now) (typing_at c.args.typing.now) c.args.state.now (Err f)) c.in-Err-TooManyIds.field-0-is c.in-Err-TooManyIds.ensures).1)
+    (subst (λ (f : ExpandFault). Answers (program_of c.args.program.now) (typing_at c.args.typing.now) c.args.state.now (Err f))
+    c.in-Err-TooManyIds.field-0-is c.in-Err-TooManyIds.ensures).1)

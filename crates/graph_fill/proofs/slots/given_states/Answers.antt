@@ -5,4 +5,5 @@ use Rattle.graph_fill.proofs.slots.given_states.Goals as goal
 pub loop-number-preserved : goal.loop-number-preserved
 loop-number-preserved g c =
     c.in_ok-push.ensures.items
-    ∙ given_next (g.S.PartSource.parts c.args.parts.now) c.loop-number.number c.in_ok-state.field-0 c.loop-number.slots c.in_ok-state.ensures c.loop-number.invariant
+    ∙ given_next (g.S.PartSource.parts c.args.parts.now) c.loop-number.number c.in_ok-state.field-0 c.loop-number.slots
+    c.in_ok-state.ensures c.loop-number.invariant

@@ -4,4 +4,5 @@ use Rattle.graph_fill.specs.Words.{is_wanted}
 use Rattle.graph_fill.proofs.slots.is_any_wanted.Given as goal
 
 abbrev pub invariant-loop-number : goal.invariant-loop-number
-invariant-loop-number g l = list_any (λ (n : ℕ). is_wanted l.slots l.low n) (drop l.number-index l.named) ≡ list_any (λ (n : ℕ). is_wanted l.slots l.low n) l.named
+invariant-loop-number g l = list_any (λ (n : ℕ). is_wanted l.slots l.low n) (drop l.number-index l.named) ≡ list_any
+    (λ (n : ℕ). is_wanted l.slots l.low n) l.named

@@ -8,7 +8,8 @@ invariant-loop-word g l =
     let files = g.F.Files in
     let names = map string_bytes l.command.files.now in
     record {
-      contents : AreContents (limit_at l.certificate l.other l.command.request) (files.held l.initial.files) (take l.word-index names) (map (λ file. file.items) l.inputs.items);
+      contents : AreContents (limit_at l.certificate l.other l.command.request) (files.held l.initial.files)
+          (take l.word-index names) (map (λ file. file.items) l.inputs.items);
       count : vec_len l.inputs ≡ l.word-index;
       held : files.held l.files ≡ files.held l.initial.files;
       still : files.faults l.files ≡ files.faults l.initial.files;

@@ -4,11 +4,14 @@ use Rattle.jterm.proofs.top.answer.Goals as goal
 
 pub returns-in-Ok-clause-answered : goal.returns-in-Ok-clause-answered
 returns-in-Ok-clause-answered g c =
-    is_answered _ _ _ _ _ _ _ (ap (map (λ file. file.items)) c.deref.ensures.value) c.in_ok-inputs.ensures.contents c.in-Ok.ensures.answer (λ nodes desc classes. c.in-Ok.ensures.headline nodes desc classes) c.in-Ok.ensures.headline_of_check c.in-Ok.ensures.headline_of_its
+    is_answered _ _ _ _ _ _ _ (ap (map (λ file. file.items)) c.deref.ensures.value) c.in_ok-inputs.ensures.contents
+    c.in-Ok.ensures.answer (λ nodes desc classes. c.in-Ok.ensures.headline nodes desc classes) c.in-Ok.ensures.headline_of_check
+    c.in-Ok.ensures.headline_of_its
 
 pub returns-in-Err-At-clause-cause : goal.returns-in-Err-At-clause-cause
 returns-in-Err-At-clause-cause g c =
-    is_broken g.F.Files.held g.F.Files.faults g.F.Files.leaves _ _ _ c.args.files.now c.args.files.now _ _ _ _ (ap (map (λ file. file.items)) c.deref.ensures.value) c.in_ok-inputs.ensures.contents
+    is_broken g.F.Files.held g.F.Files.faults g.F.Files.leaves _ _ _ c.args.files.now c.args.files.now _ _ _ _
+    (ap (map (λ file. file.items)) c.deref.ensures.value) c.in_ok-inputs.ensures.contents
     (rw c.in-Err-At.field-0-is at c.in-Err-At.ensures.answer)
 
 pub decide-requires : goal.decide-requires

@@ -7,43 +7,59 @@ use Rattle.jterm.proofs.WaysOut.{no_command, with_verdict, stopped}
 use Rattle.jterm.proofs.top.jterm.Goals as goal
 
 pub returns-in_default-clause-headline : goal.returns-in_default-clause-headline
-returns-in_default-clause-headline g c d cs desc classes prove told claims = absurd (unclaimed yes_line g.O.Sink.taken c.args.out.now 4 (omega arith) (λ e. omega arith) claims)
+returns-in_default-clause-headline g c d cs desc classes prove told claims = absurd
+    (unclaimed yes_line g.O.Sink.taken c.args.out.now 4 (omega arith) (λ e. omega arith) claims)
 
 pub returns-in-Ok-clause-headline : goal.returns-in-Ok-clause-headline
 returns-in-Ok-clause-headline g c d cs desc classes prove told claims =
-    headline g.O.Sink.faults g.O.Sink.taken c.args.out.now _ _ _ _ _ _ _ d cs desc classes c.in-Some.ensures c.in-Ok.ensures.answered c.write_out.ensures.written prove told claims
+    headline g.O.Sink.faults g.O.Sink.taken c.args.out.now _ _ _ _ _ _ _ d cs desc classes c.in-Some.ensures
+    c.in-Ok.ensures.answered c.write_out.ensures.written prove told claims
 
 pub returns-in-Err-clause-headline : goal.returns-in-Err-clause-headline
-returns-in-Err-clause-headline g c d cs desc classes prove told claims = absurd (unclaimed yes_line g.O.Sink.taken c.args.out.now c.report.result (omega arith) (λ e. not_low c.in-Err.failure c.report.result _ _ _ c.report.ensures (omega (arith, e))) claims)
+returns-in-Err-clause-headline g c d cs desc classes prove told claims = absurd
+    (unclaimed yes_line g.O.Sink.taken c.args.out.now c.report.result (omega arith)
+    (λ e. not_low c.in-Err.failure c.report.result _ _ _ c.report.ensures (omega (arith, e))) claims)
 
 pub returns-in_default-clause-headline_of_check : goal.returns-in_default-clause-headline_of_check
-returns-in_default-clause-headline_of_check g c cert d cs content desc classes check told claims = absurd (unclaimed accepted_line g.O.Sink.taken c.args.out.now 4 (omega arith) (λ e. omega arith) claims)
+returns-in_default-clause-headline_of_check g c cert d cs content desc classes check told claims = absurd
+    (unclaimed accepted_line g.O.Sink.taken c.args.out.now 4 (omega arith) (λ e. omega arith) claims)
 
 pub returns-in-Ok-clause-headline_of_check : goal.returns-in-Ok-clause-headline_of_check
 returns-in-Ok-clause-headline_of_check g c cert d cs content desc classes check told claims =
-    headline_of_check g.O.Sink.faults g.O.Sink.taken c.args.out.now _ _ _ _ _ _ _ cert d cs content desc classes c.in-Some.ensures c.in-Ok.ensures.answered c.write_out.ensures.written check told claims
+    headline_of_check g.O.Sink.faults g.O.Sink.taken c.args.out.now _ _ _ _ _ _ _ cert d cs content desc classes c.in-Some.ensures
+    c.in-Ok.ensures.answered c.write_out.ensures.written check told claims
 
 pub returns-in-Err-clause-headline_of_check : goal.returns-in-Err-clause-headline_of_check
-returns-in-Err-clause-headline_of_check g c cert d cs content desc classes check told claims = absurd (unclaimed accepted_line g.O.Sink.taken c.args.out.now c.report.result (omega arith) (λ e. not_low c.in-Err.failure c.report.result _ _ _ c.report.ensures (omega (arith, e))) claims)
+returns-in-Err-clause-headline_of_check g c cert d cs content desc classes check told claims = absurd
+    (unclaimed accepted_line g.O.Sink.taken c.args.out.now c.report.result (omega arith)
+    (λ e. not_low c.in-Err.failure c.report.result _ _ _ c.report.ensures (omega (arith, e))) claims)
 
 pub returns-in_default-clause-headline_of_its : goal.returns-in_default-clause-headline_of_its
-returns-in_default-clause-headline_of_its g c r text is told claims = absurd (unclaimed its.yes_line g.O.Sink.taken c.args.out.now 4 (omega arith) (λ e. omega arith) claims)
+returns-in_default-clause-headline_of_its g c r text is told claims = absurd
+    (unclaimed its.yes_line g.O.Sink.taken c.args.out.now 4 (omega arith) (λ e. omega arith) claims)
 
 pub returns-in-Ok-clause-headline_of_its : goal.returns-in-Ok-clause-headline_of_its
 returns-in-Ok-clause-headline_of_its g c r text is told claims =
-    headline_of_its g.O.Sink.faults g.O.Sink.taken c.args.out.now _ _ _ _ _ _ _ r text c.in-Some.ensures c.in-Ok.ensures.answered c.write_out.ensures.written is told claims
+    headline_of_its g.O.Sink.faults g.O.Sink.taken c.args.out.now _ _ _ _ _ _ _ r text c.in-Some.ensures c.in-Ok.ensures.answered
+    c.write_out.ensures.written is told claims
 
 pub returns-in-Err-clause-headline_of_its : goal.returns-in-Err-clause-headline_of_its
-returns-in-Err-clause-headline_of_its g c r text is told claims = absurd (unclaimed its.yes_line g.O.Sink.taken c.args.out.now c.report.result (omega arith) (λ e. not_low c.in-Err.failure c.report.result _ _ _ c.report.ensures (omega (arith, e))) claims)
+returns-in-Err-clause-headline_of_its g c r text is told claims = absurd
+    (unclaimed its.yes_line g.O.Sink.taken c.args.out.now c.report.result (omega arith)
+    (λ e. not_low c.in-Err.failure c.report.result _ _ _ c.report.ensures (omega (arith, e))) claims)
 
 pub returns-in_default-clause-ends : goal.returns-in_default-clause-ends
 returns-in_default-clause-ends g c =
-    no_command g.F.Files.held g.F.Files.faults g.F.Files.leaves g.O.Sink.faults g.O.Sink.taken g.E.Sink.faults g.E.Sink.taken _ _ _ _ _ c.in_default.ensures c.usage_text.ensures c.put_line.ensures
+    no_command g.F.Files.held g.F.Files.faults g.F.Files.leaves g.O.Sink.faults g.O.Sink.taken g.E.Sink.faults g.E.Sink.taken _ _ _
+    _ _ c.in_default.ensures c.usage_text.ensures c.put_line.ensures
 
 pub returns-in-Ok-clause-ends : goal.returns-in-Ok-clause-ends
 returns-in-Ok-clause-ends g c =
-    with_verdict g.F.Files.held g.F.Files.faults g.F.Files.leaves g.O.Sink.faults g.O.Sink.taken g.E.Sink.faults g.E.Sink.taken _ _ _ _ _ _ _ _ c.in-Some.ensures c.in-Ok.ensures.answered c.answer.ensures.reads c.write_out.ensures.verdict c.write_out.ensures.written c.write_out.ensures.line
+    with_verdict g.F.Files.held g.F.Files.faults g.F.Files.leaves g.O.Sink.faults g.O.Sink.taken g.E.Sink.faults g.E.Sink.taken _ _
+    _ _ _ _ _ _ c.in-Some.ensures c.in-Ok.ensures.answered c.answer.ensures.reads c.write_out.ensures.verdict
+    c.write_out.ensures.written c.write_out.ensures.line
 
 pub returns-in-Err-clause-ends : goal.returns-in-Err-clause-ends
 returns-in-Err-clause-ends g c =
-    stopped g.F.Files.held g.F.Files.faults g.F.Files.leaves g.O.Sink.faults g.O.Sink.taken g.E.Sink.faults g.E.Sink.taken _ _ _ _ _ _ _ c.in-Err.failure c.in-Some.ensures c.in-Err.ensures.cause c.answer.ensures.reads c.report.ensures
+    stopped g.F.Files.held g.F.Files.faults g.F.Files.leaves g.O.Sink.faults g.O.Sink.taken g.E.Sink.faults g.E.Sink.taken _ _ _ _ _
+    _ _ c.in-Err.failure c.in-Some.ensures c.in-Err.ensures.cause c.answer.ensures.reads c.report.ensures

@@ -12,4 +12,5 @@ returns-in-Certificate c =
     (subst (λ (bytes : List ℕ). AnswersAs (yes_with bytes) c.yes.result) c.as_slice.ensures c.yes.ensures)
 
 pub returns-in-Maybe : goal.returns-in-Maybe
-returns-in-Maybe c = subst (λ (found : Found PackedPairs). Tells (program_of c.args.program.now) found c.maybe.result) (sym c.in-Maybe.is) c.maybe.ensures
+returns-in-Maybe c = subst (λ (found : Found PackedPairs). Tells (program_of c.args.program.now) found c.maybe.result)
+    (sym c.in-Maybe.is) c.maybe.ensures

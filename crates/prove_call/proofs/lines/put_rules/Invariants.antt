@@ -6,4 +6,5 @@ use Rattle.prove_call.proofs.lines.put_rules.Given as goal
 
 -- the lines so far, and those that are to come
 abbrev pub invariant-loop-rule : goal.invariant-loop-rule
-invariant-loop-rule g l = l.text ++ flat_map (rule_line (program_of l.program) l.graph) (drop l.rule-index l.left) ≡ l.initial.text ++ flat_map (rule_line (program_of l.program) l.graph) l.left
+invariant-loop-rule g l = l.text ++ flat_map (rule_line (program_of l.program) l.graph) (drop l.rule-index l.left) ≡ l.initial.text
+    ++ flat_map (rule_line (program_of l.program) l.graph) l.left

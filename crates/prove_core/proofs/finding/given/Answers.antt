@@ -11,4 +11,5 @@ returns-then-says_valid g c =
     let aim = aim_of (program_of c.args.program.now) (typing_at c.args.typing.now) c.args.root.now in
     let names = c.args.names.now in
     let valid = subst (λ (bytes : List ℕ). SaysValid aim names bytes) c.as_slice-2.ensures (c.says_valid.ensures c.if-says_valid.true) in
-    λ limit few. is_certificate aim names c.args.cert.graph c.as_slice.result.now c.args.cert.proof.steps c.in_ok-bytes.bytes c.in_ok-bytes.ensures.text (omega (arith, c.len.ensures, c.if-len-gt-MOST_CERTIFICATE_BYTES.false)) valid
+    λ limit few. is_certificate aim names c.args.cert.graph c.as_slice.result.now c.args.cert.proof.steps c.in_ok-bytes.bytes
+    c.in_ok-bytes.ensures.text (omega (arith, c.len.ensures, c.if-len-gt-MOST_CERTIFICATE_BYTES.false)) valid

@@ -16,4 +16,5 @@ returns-in-Ok-Some g c =
     c.grown_of.ensures
 
 pub returns-in-Err : goal.returns-in-Err
-returns-in-Err g c = fails (program_of c.args.program.now) (typing_at c.args.typing.now) c.args.state.now c.in-Err.fault c.fault_of.result c.in-Err.ensures c.fault_of.ensures
+returns-in-Err g c = fails (program_of c.args.program.now) (typing_at c.args.typing.now) c.args.state.now c.in-Err.fault
+    c.fault_of.result c.in-Err.ensures c.fault_of.ensures

@@ -16,4 +16,5 @@ pub returns : goal.returns
 returns g c =
     let p = program_of c.args.program.now in
     let typing = typing_at c.args.typing.now in
-    λ limit few. subst (λ (root : AbstractState). SearchesOr (aim_of p typing root) c.args.names.now limit c.of_graph.result) c.in_ok-root.ensures (c.of_graph.ensures limit few)
+    λ limit few. subst (λ (root : AbstractState). SearchesOr (aim_of p typing root) c.args.names.now limit c.of_graph.result)
+    c.in_ok-root.ensures (c.of_graph.ensures limit few)

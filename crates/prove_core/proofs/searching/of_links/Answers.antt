@@ -15,21 +15,26 @@ pub paths-requires-clause-ready : goal.paths-requires-clause-ready
 paths-requires-clause-ready g c =
     let cuts = c.as_slice.result.now in
     let targets = subst (λ (cs : List ℕ). AreTargets c.args.graph cs) (sym c.as_slice.ensures) c.in_ok-cuts.ensures in
-    ready c.links_fit.ensures (program_of c.args.program.now) (typing_at c.args.typing.now) c.args.graph c.args.root.now c.args.links.now.nodes cuts c.is_good.ensures.widths c.requires.ints c.requires.good targets
+    ready c.links_fit.ensures (program_of c.args.program.now) (typing_at c.args.typing.now) c.args.graph c.args.root.now
+    c.args.links.now.nodes cuts c.is_good.ensures.widths c.requires.ints c.requires.good targets
 
 pub of_rules-requires-clause-paths : goal.of_rules-requires-clause-paths
 of_rules-requires-clause-paths g c =
-    moved c.args.graph c.paths.new.source c.args.links.now.nodes c.as_slice.result.now c.in_ok-cuts.cuts c.in-Ok.rules c.as_slice-rules.result.now c.paths.ensures.same c.as_slice.ensures c.as_slice-rules.ensures c.in-Ok.ensures.answers
+    moved c.args.graph c.paths.new.source c.args.links.now.nodes c.as_slice.result.now c.in_ok-cuts.cuts c.in-Ok.rules
+    c.as_slice-rules.result.now c.paths.ensures.same c.as_slice.ensures c.as_slice-rules.ensures c.in-Ok.ensures.answers
 
 pub of_rules-requires-clause-plain : goal.of_rules-requires-clause-plain
 of_rules-requires-clause-plain g c =
     let cuts = c.as_slice.result.now in
     let targets = subst (λ (cs : List ℕ). AreTargets c.args.graph cs) (sym c.as_slice.ensures) c.in_ok-cuts.ensures in
     subst ArePlainRules (sym c.as_slice-rules.ensures)
-    (plain c.good_graph_rules_are_plain.ensures c.links_fit.ensures (program_of c.args.program.now) (typing_at c.args.typing.now) c.args.graph c.args.root.now c.args.links.now.nodes cuts c.in-Ok.rules c.is_good.ensures.widths c.requires.ints c.requires.good targets c.in-Ok.ensures.answers c.in-Ok.ensures.fit)
+    (plain c.good_graph_rules_are_plain.ensures c.links_fit.ensures (program_of c.args.program.now) (typing_at c.args.typing.now)
+    c.args.graph c.args.root.now c.args.links.now.nodes cuts c.in-Ok.rules c.is_good.ensures.widths c.requires.ints
+    c.requires.good targets c.in-Ok.ensures.answers c.in-Ok.ensures.fit)
 
 pub returns-in-Ok : goal.returns-in-Ok
-returns-in-Ok g c = λ limit few. c.of_rules.ensures limit (subst (λ (nodes : List GraphNode). length nodes ≤ limit) (sym c.paths.ensures.same) few)
+returns-in-Ok g c = λ limit few. c.of_rules.ensures limit
+    (subst (λ (nodes : List GraphNode). length nodes ≤ limit) (sym c.paths.ensures.same) few)
 
 pub returns-in-Err-TooManyPaths : goal.returns-in-Err-TooManyPaths
 returns-in-Err-TooManyPaths g c =
@@ -40,9 +45,11 @@ returns-in-Err-TooManyPaths g c =
     let links = c.args.links.now.nodes in
     let cuts = c.as_slice.result.now in
     let targets = subst (λ (cs : List ℕ). AreTargets graph cs) (sym c.as_slice.ensures) c.in_ok-cuts.ensures in
-    let fails = subst (λ (f : PathFault). PathAnswers graph links cuts (Err f)) c.in-Err-TooManyPaths.field-0-is c.in-Err-TooManyPaths.ensures.answers in
+    let fails = subst (λ (f : PathFault). PathAnswers graph links cuts (Err f)) c.in-Err-TooManyPaths.field-0-is
+    c.in-Err-TooManyPaths.ensures.answers in
     λ limit few. subst (λ (nodes : List GraphNode). HasLongPaths (aim_of p typing root) limit nodes) (sym c.paths.ensures.same)
-    (long_paths (aim_of p typing root) graph links cuts (whole p typing root graph links cuts c.requires.grown c.requires.good targets) fails limit few)
+    (long_paths (aim_of p typing root) graph links cuts
+    (whole p typing root graph links cuts c.requires.grown c.requires.good targets) fails limit few)
 
 pub returns-in-Err-TooManyRows : goal.returns-in-Err-TooManyRows
 returns-in-Err-TooManyRows g c =
@@ -53,6 +60,8 @@ returns-in-Err-TooManyRows g c =
     let links = c.args.links.now.nodes in
     let cuts = c.as_slice.result.now in
     let targets = subst (λ (cs : List ℕ). AreTargets graph cs) (sym c.as_slice.ensures) c.in_ok-cuts.ensures in
-    let fails = subst (λ (f : PathFault). PathAnswers graph links cuts (Err f)) c.in-Err-TooManyRows.field-0-is c.in-Err-TooManyRows.ensures.answers in
+    let fails = subst (λ (f : PathFault). PathAnswers graph links cuts (Err f)) c.in-Err-TooManyRows.field-0-is
+    c.in-Err-TooManyRows.ensures.answers in
     λ limit few. subst (λ (nodes : List GraphNode). HasLongPaths (aim_of p typing root) limit nodes) (sym c.paths.ensures.same)
-    (long_rows (aim_of p typing root) graph links cuts c.in-Err-TooManyRows.field-0-0 (whole p typing root graph links cuts c.requires.grown c.requires.good targets) fails limit few)
+    (long_rows (aim_of p typing root) graph links cuts c.in-Err-TooManyRows.field-0-0
+    (whole p typing root graph links cuts c.requires.grown c.requires.good targets) fails limit few)

@@ -15,7 +15,8 @@ returns g c = λ t.
     let typing = typing_at c.args.typing.now in
     let state = c.args.state.now in
     growing p typing state c.requires
-    (subst (λ (o : Option ℕ). MatchOption o (IsGoodState p typing state) (λ (clause : ℕ). IsBadState p typing state clause)) c.in_default.is c.bad_clause.ensures)
+    (subst (λ (o : Option ℕ). MatchOption o (IsGoodState p typing state) (λ (clause : ℕ). IsBadState p typing state clause))
+    c.in_default.is c.bad_clause.ensures)
     (c.is_int_state.ensures.ints c.if-not-is_int_state.false)
     (subst (λ (cells : List (ℕ × Cell)). all_stand cells (reverse state.frames) ≡ true) c.cells.ensures
     (subst (λ (frames : List AbstractFrame). all_stand c.cells.result.now frames ≡ true) c.frames.ensures (sym c.all_stand.ensures ∙ t)))

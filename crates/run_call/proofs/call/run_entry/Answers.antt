@@ -7,4 +7,5 @@ pub returns-in-Err : goal.returns-in-Err
 returns-in-Err c = program_refused c.args.fuel c.args.text (classes_of c.args.world) c.args.entry c.in-Err.refused c.in-Err.ensures.refused
 
 pub returns-in-Ok : goal.returns-in-Ok
-returns-in-Ok c = entry_runs c.args.fuel c.args.text (classes_of c.args.world) c.args.entry (program_of c.in-Ok.program) _ c.in-Ok.ensures.program c.run_program.ensures
+returns-in-Ok c = entry_runs c.args.fuel c.args.text (classes_of c.args.world) c.args.entry (program_of c.in-Ok.program) _
+    c.in-Ok.ensures.program c.run_program.ensures

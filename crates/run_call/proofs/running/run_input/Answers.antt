@@ -10,6 +10,8 @@ pub returns : goal.returns
 returns c =
     let p = program_of c.args.program.now in
     let first = state_of c.in_ok-state.state in
-    let begins = ap (λ (args : List Value). start p args c.args.input.statics c.args.input.heap) (sym c.as_slice.ensures) ∙ c.in_ok-state.ensures.state in
-    let never = input_never_stuck p c.args.input first c.is_good.ensures.closed c.is_good.ensures.widths c.requires.typings c.requires.typed begins in
+    let begins = ap (λ (args : List Value). start p args c.args.input.statics c.args.input.heap) (sym c.as_slice.ensures)
+    ∙ c.in_ok-state.ensures.state in
+    let never = input_never_stuck p c.args.input first c.is_good.ensures.closed c.is_good.ensures.widths c.requires.typings
+    c.requires.typed begins in
     record { first = first; starts = begins; ends = c.in_ok-ended.ensures.run never }

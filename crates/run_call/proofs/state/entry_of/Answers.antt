@@ -11,5 +11,7 @@ pub returns-in-Err : goal.returns-in-Err
 returns-in-Err c = record {
   entry = tt;
   body = tt;
-  refused = subst (IsCaused (RefusesEntry (classes_of c.args.world.now) c.args.text.now)) (sym c.refuse_desc.ensures) (caused State (λ fault. entry_of (classes_of c.args.world.now) c.args.text.now.entry ≡ Err fault) c.in-Err.fault (λ other. sym c.in-Err.ensures.found));
+  refused = subst (IsCaused (RefusesEntry (classes_of c.args.world.now) c.args.text.now)) (sym c.refuse_desc.ensures)
+      (caused State (λ fault. entry_of (classes_of c.args.world.now) c.args.text.now.entry ≡ Err fault) c.in-Err.fault
+      (λ other. sym c.in-Err.ensures.found));
 }

@@ -12,5 +12,7 @@ returns-in-Err c =
     let wanted = input_fault (program_of c.args.program.now) c.args.text in record {
       input = tt;
       typed = tt;
-      refused = subst (IsCaused (RefusesInput (program_of c.args.program.now) c.args.text)) (sym c.refuse_desc.ensures) (caused State (λ fault. wanted ≡ Some fault) c.in-Err.fault (λ other. due_is c.in-Err.fault wanted other c.in-Err.ensures.given));
+      refused = subst (IsCaused (RefusesInput (program_of c.args.program.now) c.args.text)) (sym c.refuse_desc.ensures)
+          (caused State (λ fault. wanted ≡ Some fault) c.in-Err.fault
+          (λ other. due_is c.in-Err.fault wanted other c.in-Err.ensures.given));
     }

@@ -10,5 +10,6 @@ use Rattle.run_call.proofs.state.read_state.Goals as goal
 pub returns-in-Err : goal.returns-in-Err
 returns-in-Err c = record {
   text = tt;
-  refused = subst (IsCaused (RefusesState c.args.bytes.now)) (sym c.refuse_desc.ensures) (caused State (IsTextFault state_of c.args.bytes.now) c.in-Err.fault (λ other. (other, c.in-Err.ensures)));
+  refused = subst (IsCaused (RefusesState c.args.bytes.now)) (sym c.refuse_desc.ensures)
+      (caused State (IsTextFault state_of c.args.bytes.now) c.in-Err.fault (λ other. (other, c.in-Err.ensures)));
 }
