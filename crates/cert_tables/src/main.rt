@@ -9,7 +9,6 @@ mod graphs;
 mod names;
 mod paths;
 mod printing;
-mod ready;
 
 use anyhow::Result;
 use entry_cases::answer_in_program;

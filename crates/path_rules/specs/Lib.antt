@@ -6,4 +6,5 @@ pub mod Answers
 pub mod Conditions
 pub mod Walks
 pub mod Ways
-pub mod Bare
+pub mod Sizing
+pub mod Building

@@ -7,6 +7,8 @@ mod fault;
 mod laws;
 mod legs;
 mod limits;
+mod numbers;
+mod sizes;
 mod slots;
 mod stops;
 mod successors;

@@ -12,5 +12,6 @@ mod RuleRows
 mod ShortCases
 mod ShortLinks
 mod ShortTurns
+mod SizeKinds
 mod Standing
 mod Targets
