@@ -11,7 +11,7 @@ use Rattle.abs_cells.specs.declared.cells.Cell.{Cell}
 use Rattle.abs_cells.specs.declared.cells.Cell.TheVariants.{Int, Null, Obj, Nums, Refs, Unk}
 use Rattle.abs_cells.specs.AbstractStates.{AbstractState}
 use Rattle.abs_cells.specs.Sound.{IsSoundCell, IsSound}
-use Rattle.path_rules.specs.Building.{IsBounded, AreBounded}
+use Rattle.path_rules.specs.Bare.{IsBounded, AreBounded}
 
 int_small : (n : ℤ) → IsOfKind kinds.Int n → unsigned_abs n ≤ 2 ^ 31
 int_small (pos n) h = omega (arith, ints, h.0, h.1)

@@ -14,7 +14,7 @@ use Rattle.term_graph.specs.declared.links.Links.{Links}
 use Rattle.term_graph.specs.Graphs.{GraphNode}
 use Rattle.path_rules.specs.declared.fault.PathFault.{PathFault}
 use Rattle.path_rules.specs.declared.fault.PathFault.TheVariants as paths
-use Rattle.path_rules.specs.Conditions.{IsGoodBy}
+use Rattle.path_rules.specs.Conditions.{HasIntsAlone, IsGoodBy}
 use Rattle.graph_check.specs.declared.fault.CheckFault.{CheckFault}
 use Rattle.graph_check.specs.declared.fault.CheckFault.TheVariants as graphs
 use Rattle.cert_check.specs.declared.refusal.Cause.TheVariants.{Graph, Path, Proof}
@@ -65,4 +65,5 @@ RulesOr case links (Err refusal) = Tells case (Err refusal)
 -- what the rules of paths ask of a graph's nodes and links
 pub record IsPrepared (nodes : List GraphNode) (links : List (List Link)) : Type 0 where
   pub states : All (λ (n : GraphNode). IsWellFormed n.state) nodes
+  pub ints : All (λ (n : GraphNode). HasIntsAlone n.state) nodes
   pub ways : AllZip (λ (n : GraphNode) (l : List Link). IsGoodBy nodes n.state n.by l) nodes links

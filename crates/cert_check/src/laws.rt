@@ -6,6 +6,7 @@ use descent::closed_proofs_end;
 use graph_check::graphs_hold_runs;
 use input_root::{fitting_states_are_described, fitting_states_are_typed};
 use jvm_run::{runs_are_never_stuck, steps_are_typed};
+use jvm_values::typed_heaps_are_closed;
 use path_rules::walks_meet_rules;
 use plan_links::links_fit;
 
@@ -16,6 +17,7 @@ pub fn certified_walks_end()
     ensures finite { CertifiedWalksEnd }
     ensures last { LastNodesEnd }
 {
+    typed_heaps_are_closed();
     steps_are_typed();
     walks_meet_rules();
     graphs_hold_runs();
@@ -26,6 +28,7 @@ pub fn certified_walks_end()
 pub fn certified_runs_end()
     ensures { CertifiedRunsEnd }
 {
+    typed_heaps_are_closed();
     steps_are_typed();
     runs_are_never_stuck();
     fitting_states_are_typed();
@@ -34,7 +37,8 @@ pub fn certified_runs_end()
     graphs_hold_runs();
 }
 
-/// A valid certificate shows that walks and runs end, where its rules and steps are within the limits of proofs.
+/// A valid certificate shows that walks and runs end, where the states of its graph are such as rules take, and its rules and steps are
+/// within the limits of proofs.
 pub fn valid_is_certified()
     ensures { ValidIsCertified }
 {
@@ -43,7 +47,7 @@ pub fn valid_is_certified()
 }
 
 /// Every state that a description fits ends, and none of its runs is stuck, if a valid certificate begins with the description's initial
-/// state, and its rules and steps are within the limits of proofs.
+/// state, the states of its graph are such as rules take, and its rules and steps are within the limits of proofs.
 pub fn valid_certificates_end()
     ensures { ValidCertificatesEnd }
 {

@@ -9,6 +9,7 @@ mod graphs;
 mod names;
 mod paths;
 mod printing;
+mod ready;
 
 use anyhow::Result;
 use entry_cases::answer_in_program;

@@ -2,13 +2,16 @@
 //! paths of its graph, or what is first in their way.
 ghost use Rattle.std.specs.Prelude.{◌≤◌, length};
 ghost use Rattle.class_program.specs.Views.{program_of};
-ghost use Rattle.code_verify.specs.Typings.{IsTypingOf, typing_at};
+ghost use Rattle.abs_expand.specs.IntForms.{HasIntForms};
 ghost use Rattle.term_graph.specs.Limits.{most_nodes};
+ghost use Rattle.cert_tables.specs.Tests.{HaveIntStates};
 
 use crate::certs::value_of;
 use crate::graphs::graph;
 use crate::printing::{fault_text, rules_text};
+use crate::ready::is_int_graph;
 use abs_cells::{AbsState, ListPairs};
+use abs_expand::has_int_forms;
 use anyhow::{Context, Result, bail};
 use cert_check::{Cause, Refusal, good_links, rules_between};
 use class_program::Program;
@@ -21,7 +24,7 @@ use list_views::Seq;
 use plan_links::links_fit;
 use std::alloc::Global;
 use table_cases::Case;
-use term_graph::{Graph, MOST_NODES, copied_state};
+use term_graph::{Graph, copied_state};
 
 /// The cases of paths.
 pub struct Paths;
@@ -41,9 +44,7 @@ fn answer_for(
     case: &Case<'_>,
     program: &Program<'_>,
     typing: &Typing,
-) -> Result<String>
-    requires { IsTypingOf (program_of program.now) (typing_at typing.now) }
-{
+) -> Result<String> {
     let bytes = case.bytes(alloc, 0)?;
     let value = value_of(alloc, bytes.as_slice())?;
     answer_by(alloc, program, typing, &View::root(&value))
@@ -55,9 +56,7 @@ fn answer_by(
     program: &Program<'_>,
     typing: &Typing,
     view: &View<'_, '_>,
-) -> Result<String>
-    requires { IsTypingOf (program_of program.now) (typing_at typing.now) }
-{
+) -> Result<String> {
     let graph = graph(alloc, &program.world, &field(alloc, view, "nodes")?)?;
     let cuts = naturals_of(alloc, &field(alloc, view, "cuts")?)?;
     told(
@@ -73,15 +72,44 @@ fn rules(
     typing: &Typing,
     graph: Graph<ListPairs>,
     cuts: &[u32],
-) -> Result<std::result::Result<Seq<PathRule>, Refusal>>
-    requires { IsTypingOf (program_of program.now) (typing_at typing.now) }
-{
-    if graph.len() > MOST_NODES {
-        bail!("fewer nodes are wanted");
+) -> Result<std::result::Result<Seq<PathRule>, Refusal>> {
+    if !has_int_forms(program) {
+        bail!("instructions about ints are wanted");
     }
+    rules_of_ints(alloc, program, typing, graph, cuts)
+}
+
+/// The same of a program of ints.
+fn rules_of_ints(
+    alloc: Global,
+    program: &Program<'_>,
+    typing: &Typing,
+    graph: Graph<ListPairs>,
+    cuts: &[u32],
+) -> Result<std::result::Result<Seq<PathRule>, Refusal>>
+    requires { HasIntForms (program_of program.now) }
+{
+    if !is_int_graph(&graph) {
+        bail!("states of ints are wanted");
+    }
+    rules_from_root(alloc, program, typing, graph, cuts)
+}
+
+/// The same of a graph of ints.
+fn rules_from_root(
+    alloc: Global,
+    program: &Program<'_>,
+    typing: &Typing,
+    graph: Graph<ListPairs>,
+    cuts: &[u32],
+) -> Result<std::result::Result<Seq<PathRule>, Refusal>>
+    requires forms { HasIntForms (program_of program.now) }
+    requires ints { HaveIntStates graph (length graph) }
+    requires few { length graph ≤ most_nodes }
+{
     let root = first_state(alloc, &graph)?;
     let mut graph = graph;
-    rules_from_root(alloc, program, typing, &mut graph, &root, cuts)
+    int_rules(alloc, program, typing, &mut graph, &root, cuts)
 }
 
 /// The state of a graph's first node.
@@ -93,7 +121,7 @@ fn first_state(alloc: Global, graph: &Graph<ListPairs>) -> Result<AbsState<ListP
 }
 
 /// The same where the first node has this state.
-fn rules_from_root(
+fn int_rules(
     alloc: Global,
     program: &Program<'_>,
     typing: &Typing,
@@ -101,7 +129,8 @@ fn rules_from_root(
     root: &AbsState<ListPairs>,
     cuts: &[u32],
 ) -> Result<std::result::Result<Seq<PathRule>, Refusal>>
-    requires typing { IsTypingOf (program_of program.now) (typing_at typing.now) }
+    requires forms { HasIntForms (program_of program.now) }
+    requires ints { HaveIntStates graph.old (length graph.old) }
     requires few { length graph.old ≤ most_nodes }
 {
     links_fit();

@@ -19,7 +19,7 @@ use Rattle.descent.specs.declared.proof.ProofStep.{ProofStep}
 use Rattle.descent.specs.Conditions.{AreSteps}
 use Rattle.descent.proofs.Walked.{closed_ends}
 use Rattle.term_graph.specs.Graphs.{GraphNode}
-use Rattle.path_rules.specs.Building.{AreBounded}
+use Rattle.path_rules.specs.Bare.{AreBounded}
 use Rattle.cert_check.specs.IntStates.{HasIntStates}
 use Rattle.plan_links.specs.Laws.{LinksFit}
 use Rattle.json_view.specs.Located.{root_of}

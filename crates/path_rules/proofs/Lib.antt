@@ -1,4 +1,3 @@
-pub mod Adding
 pub mod Answering
 pub mod Bounding
 pub mod Collecting
@@ -6,20 +5,15 @@ pub mod Counted
 pub mod Cycles
 pub mod Existing
 pub mod Finding
-pub mod Finite
 pub mod EdgeRows
 pub mod Fitting
 pub mod Following
 pub mod Listed
-pub mod Numbering
-pub mod PatternIds
-pub mod PatternLists
-pub mod PatternNames
 pub mod Picking
 pub mod Ready
 pub mod Riding
 pub mod Ruling
-pub mod Sized
+pub mod Summing
 pub mod Telling
 pub mod Walking
 pub mod Whole

@@ -1,6 +1,7 @@
 -- Graphs whose paths have rules.
-use Rattle.std.specs.Prelude.{◌≡◌, ℕ, suc, ◌<◌, ◌≤◌, ◌^◌, ℤ, List, [], ◌∷◌, All, length, unsigned_abs, Some, slice_get}
+use Rattle.std.specs.Prelude.{◌≡◌, ℕ, suc, ◌<◌, ◌≤◌, ◌^◌, ℤ, IsTrue, List, [], ◌∷◌, All, length, unsigned_abs, Some, slice_get}
 use Rattle.std.specs.List.{AllZip}
+use Rattle.abs_cells.specs.declared.cells.Cell.{Cell}
 use Rattle.abs_cells.specs.AbstractStates.{AbstractState}
 use Rattle.abs_cells.specs.Cells.{is_int, HasCell}
 use Rattle.abs_cells.specs.Sound.{IsWellFormed}
@@ -38,10 +39,13 @@ pub record IsLinkBetween (state child : AbstractState) (link : Link) : Type 0 wh
 pub record IsMapBetween (state target : AbstractState) (entries : List (ℕ × ℕ)) : Type 0 where
   pub lists : ListsIds target entries
   pub ints : (id : ℕ) → HasCell is_int target id → (image : ℕ) × ((image_in entries id ≡ Some image) × HasCell is_int state image)
-  pub references : (id : ℕ) → HasCell is_no_int target id → (image : ℕ)
-      × ((image_in entries id ≡ Some image) × HasCell is_no_int state image)
+  pub references : (id : ℕ) → HasCell is_no_int target id → (image : ℕ) × ((image_in entries id ≡ Some image) × HasCell is_no_int state image)
 
 -- ---- graphs
+
+-- every cell is an int
+abbrev pub HasIntsAlone : AbstractState → Type 0
+HasIntsAlone state = All (λ (c : ℕ × Cell). IsTrue (is_int c.1)) state.cells
 
 -- a child by its number, and the link to it
 abbrev pub IsGoodChild : List GraphNode → AbstractState → ℕ → Link → Type 0
@@ -50,8 +54,7 @@ IsGoodChild graph state child link = (n : GraphNode) × ((slice_get graph child 
 -- how a node is left, with the links of its children, of which there is one for each
 abbrev pub IsGoodBy : List GraphNode → AbstractState → By → List Link → Type 0
 IsGoodBy graph state (Expand children) links = AllZip (IsGoodChild graph state) children links
-IsGoodBy graph state (Instance target entries) links = (n : GraphNode)
-    × ((slice_get graph target ≡ Some n) × IsMapBetween state n.state entries)
+IsGoodBy graph state (Instance target entries) links = (n : GraphNode) × ((slice_get graph target ≡ Some n) × IsMapBetween state n.state entries)
 IsGoodBy graph state End links = Unit {0}
 IsGoodBy graph state Todo links = Unit {0}
 
@@ -60,9 +63,11 @@ abbrev pub CutsRise : ℕ → List ℕ → Type 0
 CutsRise low [] = Unit {0}
 CutsRise low (cut ∷ cuts) = (low ≤ cut) × CutsRise (suc cut) cuts
 
--- states are well-formed, children, targets, links and maps are good; cuts are nodes, rise, and begin with node 0
+-- states are well-formed and have ints alone, children, targets, links and maps are good; cuts are nodes, rise, and begin with
+-- node 0
 pub record IsReady (graph : List GraphNode) (links : List (List Link)) (cuts : List ℕ) : Type 0 where
   pub states : All (λ (n : GraphNode). IsWellFormed n.state) graph
+  pub ints : All (λ (n : GraphNode). HasIntsAlone n.state) graph
   pub nodes : AllZip (λ (n : GraphNode) (l : List Link). IsGoodBy graph n.state n.by l) graph links
   pub first : slice_get cuts 0 ≡ Some 0
   pub rise : CutsRise 0 cuts

@@ -6,5 +6,4 @@ pub mod Answers
 pub mod Conditions
 pub mod Walks
 pub mod Ways
-pub mod Sizing
-pub mod Building
+pub mod Bare

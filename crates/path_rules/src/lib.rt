@@ -7,8 +7,6 @@ mod fault;
 mod laws;
 mod legs;
 mod limits;
-mod numbers;
-mod sizes;
 mod slots;
 mod stops;
 mod successors;

@@ -14,7 +14,7 @@ use Rattle.term_graph.specs.Graphs.{GraphNode, GraphChild}
 use Rattle.graph_check.specs.Good.{IsLeftBy, IsGoodNode}
 use Rattle.graph_check.proofs.Excluding.{good_by}
 use Rattle.cert_check.proofs.Bounded.{sound_bounded}
-use Rattle.path_rules.specs.Building.{AreBounded}
+use Rattle.path_rules.specs.Bare.{AreBounded}
 use Rattle.prove_core.specs.ShortLinks.{IsShortLink}
 use Rattle.prove_core.specs.PlainRules.{GoodGraphRulesArePlain}
 use Rattle.prove_core.proofs.Plain.{path_rules_are_plain}

@@ -12,6 +12,5 @@ mod RuleRows
 mod ShortCases
 mod ShortLinks
 mod ShortTurns
-mod SizeKinds
 mod Standing
 mod Targets

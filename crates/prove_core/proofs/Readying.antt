@@ -1,4 +1,4 @@
--- A whole graph is such as the rules of paths take.
+-- A whole graph of ints is such as the rules of paths take.
 use Rattle.std.proofs.Common.{◌≡◌, inl, inr, ◌<◌, ◌≤◌, ◌==◌, ℕ, suc, true, false, List, [], ◌∷◌, length, Some, Ok, Err, slice_get}
 use Rattle.std.proofs.Common.{sym, ap, subst, arith}
 use Rattle.std.proofs.lemmas.Bool.{or_cases, eqb-true, false≢true}
@@ -50,6 +50,7 @@ ready fit p typing nodes root links cuts widths states graph are =
     let some : 0 < length nodes = slice_get_within nodes 0 graph.rooted.node graph.rooted.is in
     record {
       states = is.states;
+      ints = is.ints;
       nodes = is.ways;
       first = first_is_0 cuts are.rise (are.are 0 some);
       rise = are.rise;

@@ -12,7 +12,7 @@ use Rattle.term_graph.specs.Graphs.{GraphNode, GraphChild}
 use Rattle.abs_expand.specs.Expansions.{plan_of, AreExpanded}
 use Rattle.graph_check.specs.Good.{GraphOk}
 use Rattle.path_rules.specs.Answers.{Answers}
-use Rattle.path_rules.specs.Building.{AreBounded}
+use Rattle.path_rules.specs.Bare.{AreBounded}
 use Rattle.path_rules.specs.Conditions.{IsReady}
 use Rattle.rank_forms.specs.Graphs.{ArePlainRules}
 use Rattle.prove_core.specs.ShortLinks.{IsShortLink, AreShortLinks}
