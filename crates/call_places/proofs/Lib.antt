@@ -1,0 +1,4 @@
+pub mod CallRows
+pub mod FormTable
+pub mod ReturnRows
+pub mod Throwing

@@ -1,0 +1,4 @@
+pub mod IntRows
+pub mod MoveRows
+pub mod Spots
+pub mod Turns

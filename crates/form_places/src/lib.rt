@@ -1,0 +1,2 @@
+//! The forms of instructions keep what graphs grow from: lemmas for the crates above.
+#![tactic(auto)]

@@ -1,0 +1,2 @@
+pub mod ArrayRoots
+pub mod ObjectRows

@@ -1,0 +1,4 @@
+pub mod NewCells
+pub mod Steps
+pub mod Wholes
+pub mod Writes

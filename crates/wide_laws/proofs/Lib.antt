@@ -1,0 +1,2 @@
+pub mod StandAlike
+pub mod Widened
