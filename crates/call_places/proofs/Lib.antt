@@ -1,4 +1,0 @@
-pub mod CallRows
-pub mod FormTable
-pub mod ReturnRows
-pub mod Throwing

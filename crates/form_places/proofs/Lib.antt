@@ -1,4 +1,0 @@
-pub mod IntRows
-pub mod MoveRows
-pub mod Spots
-pub mod Turns

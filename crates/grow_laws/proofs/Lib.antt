@@ -1,3 +1,0 @@
-pub mod Merges
-pub mod Plans
-pub mod Splits

@@ -1,2 +1,0 @@
-pub mod ArrayRoots
-pub mod ObjectRows

@@ -1,2 +1,0 @@
-//! Instructions on objects keep what graphs grow from: lemmas for the crates above.
-#![tactic(auto)]

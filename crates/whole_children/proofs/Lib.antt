@@ -1,4 +1,0 @@
-pub mod NewCells
-pub mod Steps
-pub mod Wholes
-pub mod Writes

@@ -1,2 +1,0 @@
-pub mod StandAlike
-pub mod Widened
