@@ -27,8 +27,7 @@ use Rattle.input_steps.specs.Programs.{IsProgramOf, RefusesProgram, IsAcyclic, R
 use Rattle.input_steps.proofs.OneAnswer.{map_some_one, IsExact, IsOne, at_one, then_one, none_some, classes_exact, world_exact}
 use Rattle.input_steps.proofs.OneAnswer.{program_exact, calls_exact, types_exact}
 use Rattle.input_steps.proofs.OneText.{said_exact, text_exact}
-use Rattle.desc_steps.specs.Answers.{Saying, OfFiles}
-use Rattle.desc_steps.proofs.Rest.{OfInputs, OfProgram, OfEntry, OfClasses}
+use Rattle.desc_steps.specs.Answers.{OfInputs, OfProgram, OfEntry, OfClasses, OfFiles}
 use Rattle.desc_steps.specs.Descriptions.{IsDescText, RefusesText, RefusesEntry, IsDesc, RefusesDesc}
 use Rattle.desc_steps.specs.Ints.{IsIntProgram, RefusesOthers}
 
@@ -77,8 +76,8 @@ others_exact p = record {
 
 -- ---- the whole
 
-module _ {X : Type 0} (Says : Saying X) (one : (p : Program) (typing : ℕ → CodeTypes) (described : Desc) → IsIntProgram p
-    → IsOne (Says p typing described)) where
+module _ {X : Type 0} (Says : Program → (ℕ → CodeTypes) → Desc → Result X Refused → Type 0)
+    (one : (p : Program) (typing : ℕ → CodeTypes) (described : Desc) → IsIntProgram p → IsOne (Says p typing described)) where
   inputs_one : (p : Program) (typing : ℕ → CodeTypes) (described : Desc) → IsOne (OfInputs Says p typing described)
   inputs_one p typing described =
       then_one {A = Unit {0}} (λ nothing. IsIntProgram p) (RefusesOthers p) (λ nothing. Says p typing described) (others_exact p)

@@ -11,7 +11,7 @@ use Rattle.input_steps.specs.declared.refused.Place.{Place}
 use Rattle.input_steps.specs.declared.refused.Place.TheVariants as places
 use Rattle.input_steps.specs.declared.refused.Fault.{Fault}
 use Rattle.input_steps.specs.declared.refused.Fault.TheVariants as faults
-use Rattle.input_steps.specs.Steps.{IsAt, Step}
+use Rattle.input_steps.specs.Steps.{IsAt}
 use Rattle.abs_expand.specs.IntForms.{are_int_insns}
 
 -- a number of any kind, and no reference
@@ -38,7 +38,3 @@ RefusesOthers p = IsAt {C = Unit {0}} (λ nothing. places.Link) (λ nothing. fau
 -- what is said of it
 abbrev pub not_built : Refused
 not_built = At places.Link faults.NotBuilt
-
--- other programs than those that are built so far are refused
-abbrev pub testing_ints : Program → Step (Unit {0})
-testing_ints p = record { gives = λ nothing. IsIntProgram p; refuses = RefusesOthers p }

@@ -1,21 +1,30 @@
 //! From bytes to a program about ints whose inputs are described.
-ghost use Rattle.std.specs.Prelude.{◌≡◌, ◌≤◌, length, map, IfOk, IsTrue};
-ghost use Rattle.std.specs.List.{list_all};
+ghost use Rattle.std.specs.Prelude.{◌≡◌, ◌≤◌, ℕ, length, map, Err, IfOk, IfErr, IsTrue};
+ghost use Rattle.std.specs.List.{AllByRecursion, list_all};
 ghost use Rattle.class_base.specs.ClassNames.{is_class_name};
 ghost use Rattle.class_base.specs.Limits.{most_classes};
+ghost use Rattle.class_world.specs.Linking.{CanBeRead};
+ghost use Rattle.class_world.specs.Resolve.{has_body};
 ghost use Rattle.class_world.specs.Worlds.{classes_of};
 ghost use Rattle.class_program.specs.Views.{program_of};
-ghost use Rattle.desc_steps.specs.Answers.{OfFiles};
-ghost use Rattle.desc_steps.specs.Given.{IsGiven, IsReady};
+ghost use Rattle.code_verify.specs.Typings.{IsTypingOf, typing_at};
+ghost use Rattle.frame_types.specs.Tables.{CodeTypes};
+ghost use Rattle.input_steps.specs.Programs.{IsAcyclic};
+ghost use Rattle.desc_steps.specs.Answers.{OfProgram, OfEntry, OfClasses, OfFiles};
+ghost use Rattle.desc_steps.specs.Given.{IsGiven, IsIntDesc, IsReady, IsTyped, OfWorld};
 ghost use Rattle.desc_steps.specs.Headline.{NameProgram};
+ghost use Rattle.desc_steps.specs.Ints.{IsIntProgram, not_built};
 ghost use Rattle.desc_steps.specs.Names.{names_of};
 
 use crate::description::{described, entry_of, read_desc};
-use crate::ints::test_ints;
+use crate::ints::{is_int_program, not_built};
 use class_program::Program;
+use class_read::ClassView;
+use class_world::{MethodRef, World};
 use code_verify::Typing;
 use input_desc::Desc;
 use input_steps::{Refused, close, link, read_classes, test_calls, typings};
+use input_text::DescText;
 use std::alloc::Global;
 
 /// A program about ints alone with its typing, and what is described of its inputs.
@@ -27,6 +36,149 @@ pub struct DescribedProgram<'a> {
     pub typing: Typing,
     /// What is described of its inputs.
     pub desc: Desc,
+}
+
+/// The types of a program's places, and what is described of its inputs.
+#[derive(Drop)]
+pub(crate) struct TypedDesc {
+    pub(crate) typing: Typing,
+    pub(crate) desc: Desc,
+}
+
+/// What is described of a program's inputs, where the program is about ints alone.
+fn ints_alone(program: &Program<'_>, desc: Desc) -> Result<Desc, Refused>
+    ensures given { IfOk result (λ given. (given ≡ desc) × IsIntProgram (program_of program.now)) }
+    ensures refused { IfErr result (λ refused. (refused ≡ not_built) × (IsIntProgram (program_of program.now) → ⊥)) }
+{
+    if is_int_program(program) {
+        Ok(desc)
+    } else {
+        Err(not_built())
+    }
+}
+
+/// What a description says of the inputs of a program about ints alone.
+#[tactic(auto, using(crate::proofs::Answering::desc_is_refused, crate::proofs::Answering::ints_given))]
+fn int_desc(alloc: Global, text: DescText, program: &Program<'_>) -> Result<Desc, Refused>
+    ensures given { IfOk result (λ desc. IsIntDesc (program_of program.now) text desc) }
+    ensures refused { IfErr result (λ refused. (typing : ℕ → CodeTypes) → IsAcyclic (program_of program.now)
+        → IsTypingOf (program_of program.now) typing → OfProgram IsGiven text (program_of program.now) (Err refused)) }
+{
+    match described(alloc, program, text) {
+        Ok(desc) => ints_alone(program, desc),
+        Err(refused) => Err(refused),
+    }
+}
+
+/// The types of the places of a program whose calls have no cycle.
+#[tactic(auto, using(crate::proofs::Answering::calls_refused, crate::proofs::Answering::types_refused))]
+fn typing_of(alloc: Global, program: &Program<'_>) -> Result<Typing, Refused>
+    ensures acyclic { IfOk result (λ _. IsAcyclic (program_of program.now)) }
+    ensures typing { IfOk result (λ typing. IsTypingOf (program_of program.now) (typing_at typing)) }
+    ensures refused { IfErr result (λ refused. (text : DescText) → OfProgram IsGiven text (program_of program.now) (Err refused)) }
+{
+    match test_calls(alloc, program) {
+        Ok(()) => typings(alloc, program),
+        Err(refused) => Err(refused),
+    }
+}
+
+/// A typing, with what is described of its program's inputs.
+fn with_typing(
+    alloc: Global,
+    text: DescText,
+    program: &Program<'_>,
+    typing: Typing,
+) -> Result<TypedDesc, Refused>
+    requires acyclic { IsAcyclic (program_of program.now) }
+    requires typing { IsTypingOf (program_of program.now) (typing_at typing) }
+    ensures given { IfOk result (λ typed. IsTyped (program_of program.now) text typed) }
+    ensures refused { IfErr result (λ refused. OfProgram IsGiven text (program_of program.now) (Err refused)) }
+{
+    match int_desc(alloc, text, program) {
+        Ok(desc) => Ok(TypedDesc { typing, desc }),
+        Err(refused) => Err(refused),
+    }
+}
+
+/// The types of a program's places, and what a description says of its inputs.
+fn typed_desc(alloc: Global, text: DescText, program: &Program<'_>) -> Result<TypedDesc, Refused>
+    ensures given { IfOk result (λ typed. IsTyped (program_of program.now) text typed) }
+    ensures refused { IfErr result (λ refused. OfProgram IsGiven text (program_of program.now) (Err refused)) }
+{
+    match typing_of(alloc, program) {
+        Ok(typing) => with_typing(alloc, text, program, typing),
+        Err(refused) => Err(refused),
+    }
+}
+
+/// A program that a description names, with what is described of its inputs.
+#[tactic(auto, using(crate::proofs::Answering::program_given, crate::proofs::IntForms::int_forms))]
+fn of_program(
+    alloc: Global,
+    text: DescText,
+    program: Program<'_>,
+) -> Result<DescribedProgram<'_>, Refused>
+    ensures answers { OfProgram IsGiven text (program_of program.entry) result }
+    ensures ready { IfOk result IsReady }
+{
+    match typed_desc(alloc, text, &program) {
+        Ok(typed) => Ok(DescribedProgram {
+            program,
+            typing: typed.typing,
+            desc: typed.desc,
+        }),
+        Err(refused) => Err(refused),
+    }
+}
+
+/// The program of an entry.
+fn of_entry(
+    alloc: Global,
+    text: DescText,
+    world: World<'_>,
+    entry: MethodRef,
+) -> Result<DescribedProgram<'_>, Refused>
+    requires { IsTrue (has_body (classes_of world) entry) }
+    ensures answers { OfEntry IsGiven text (classes_of world.entry) entry result }
+    ensures ready { IfOk result IsReady }
+{
+    match close(alloc, world, entry) {
+        Ok(program) => of_program(alloc, text, program),
+        Err(refused) => Err(refused),
+    }
+}
+
+/// The program of the entry that a description names in a world.
+fn of_world(
+    alloc: Global,
+    text: DescText,
+    world: World<'_>,
+) -> Result<DescribedProgram<'_>, Refused>
+    ensures answers { OfWorld text (classes_of world.entry) result }
+    ensures ready { IfOk result IsReady }
+{
+    match entry_of(&world, &text) {
+        Ok(entry) => of_entry(alloc, text, world, entry),
+        Err(refused) => Err(refused),
+    }
+}
+
+/// The program of the entry that a description names among classes.
+fn of_classes(
+    alloc: Global,
+    text: DescText,
+    classes: Vec<ClassView<'_>>,
+) -> Result<DescribedProgram<'_>, Refused>
+    requires few { length classes.items ≤ most_classes }
+    requires read { AllByRecursion CanBeRead classes.items }
+    ensures answers { OfClasses IsGiven text classes.entry.items result }
+    ensures ready { IfOk result IsReady }
+{
+    match link(alloc, classes) {
+        Ok(world) => of_world(alloc, text, world),
+        Err(refused) => Err(refused),
+    }
 }
 
 /// The program that a description names among the classes of files, its typing, and what is described of its inputs. There are at most
@@ -49,18 +201,12 @@ pub fn described_program<'a>(
         given.desc) }
     ensures names { IfOk result (λ given. IsTrue (list_all is_class_name (names_of (classes_of given.program.world)))) }
 {
-    let classes = read_classes(alloc, files)?;
-    let text = read_desc(alloc, desc)?;
-    let world = link(alloc, classes)?;
-    let entry = entry_of(&world, &text)?;
-    let program = close(alloc, world, entry)?;
-    test_calls(alloc, &program)?;
-    let typing = typings(alloc, &program)?;
-    let desc = described(alloc, &program, text)?;
-    test_ints(&program)?;
-    Ok(DescribedProgram {
-        program,
-        typing,
-        desc,
-    })
+    let classes = match read_classes(alloc, files) {
+        Ok(classes) => classes,
+        Err(refused) => return Err(refused),
+    };
+    match read_desc(alloc, desc) {
+        Ok(text) => of_classes(alloc, text, classes),
+        Err(refused) => Err(refused),
+    }
 }

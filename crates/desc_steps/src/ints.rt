@@ -1,9 +1,8 @@
 //! Programs about ints alone.
-ghost use Rattle.std.specs.Prelude.{◌≡◌, ◌↔◌, IsTrue, IfOk, IfErr};
+ghost use Rattle.std.specs.Prelude.{◌≡◌, ◌↔◌, IsTrue};
 ghost use Rattle.std.specs.List.{list_all};
 ghost use Rattle.class_program.specs.Views.{program_of};
-ghost use Rattle.desc_steps.specs.Ints.{is_number, is_int_method, is_one_int_method, IsIntProgram, RefusesOthers, not_built};
-ghost use Rattle.input_steps.specs.Steps.{IsCaused};
+ghost use Rattle.desc_steps.specs.Ints.{is_number, is_int_method, is_one_int_method, IsIntProgram, not_built};
 
 use abs_expand::are_int_insns;
 use class_program::{Method, Program};
@@ -47,7 +46,7 @@ fn is_one_int_method(methods: &[Method<'_>]) -> bool
 }
 
 /// Whether a program is one method that is about ints alone.
-fn is_int_program(program: &Program<'_>) -> bool
+pub(crate) fn is_int_program(program: &Program<'_>) -> bool
     ensures { IsTrue result ↔ IsIntProgram (program_of program.now) }
 {
     is_one_int_method(program.methods.as_slice())
@@ -60,21 +59,5 @@ pub fn not_built() -> Refused
     Refused::At {
         place: Place::Link,
         fault: Fault::NotBuilt,
-    }
-}
-
-/// Tests that a program is one of those that are built so far.
-///
-/// # Errors
-///
-/// At `Link` `NotBuilt`, where it isn't.
-pub(crate) fn test_ints(program: &Program<'_>) -> Result<(), Refused>
-    ensures ints { IfOk result (λ _. IsIntProgram (program_of program.now)) }
-    ensures refused { IfErr result (IsCaused (RefusesOthers (program_of program.now))) }
-{
-    if is_int_program(program) {
-        Ok(())
-    } else {
-        Err(not_built())
     }
 }

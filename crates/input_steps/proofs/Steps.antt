@@ -4,7 +4,7 @@ use Rattle.input_steps.specs.declared.refused.Refused.{Refused}
 use Rattle.input_steps.specs.declared.refused.Refused.TheVariants.{At, Memory}
 use Rattle.input_steps.specs.declared.refused.Place.{Place}
 use Rattle.input_steps.specs.declared.refused.Fault.{Fault}
-use Rattle.input_steps.specs.Steps.{IsCaused, Then, Step, ◌>>=◌}
+use Rattle.input_steps.specs.Steps.{IsCaused, Then}
 
 -- the first step refuses
 pub then_refused : {A X : Type 0} (Gives : A → Type 0) (Refuses : Place → Fault → Type 0) (Next : A → Result X Refused → Type 0)
@@ -18,14 +18,3 @@ pub then_goes : {A X : Type 0} (Gives : A → Type 0) (Refuses : Place → Fault
 then_goes Gives Refuses Next a (Ok x) g n = (a, (g, n))
 then_goes Gives Refuses Next a (Err (At place fault)) g n = inr (a, (g, n))
 then_goes Gives Refuses Next a (Err Memory) g n = tt
-
--- ---- the same of named steps
-
-pub step_refused : {A X : Type 0} (step : Step A) (next : A → Result X Refused → Type 0) (refused : Refused)
-    → IsCaused step.refuses refused
-    → (step >>= next) (Err refused)
-step_refused step next refused h = then_refused step.gives step.refuses next refused h
-
-pub step_goes : {A X : Type 0} (step : Step A) (next : A → Result X Refused → Type 0) (a : A) (result : Result X Refused) → step.gives a
-    → next a result → (step >>= next) result
-step_goes step next a result g n = then_goes step.gives step.refuses next a result g n
