@@ -1,3 +1,4 @@
+pub mod Fillings
 pub mod Growing
 pub mod Lacking
 pub mod Lists

@@ -1,2 +1,4 @@
 pub mod Laws
 pub mod Words
+pub mod Fillings
+pub mod Holding
