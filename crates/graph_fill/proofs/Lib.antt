@@ -1,4 +1,3 @@
-pub mod Fillings
 pub mod Growing
 pub mod Lacking
 pub mod Lists
