@@ -9,5 +9,4 @@ pub mod PackedLooks
 pub mod PairLaws
 pub mod PatternLaws
 pub mod Replaying
-pub mod RisingPairs
 pub mod CellLaws

@@ -460,8 +460,6 @@ impl Pairs for PackedPairs {
         nth_pair(&self.packed, n)
     }
 
-    fn rise(&self) {}
-
     fn list(&self, alloc: Global) -> Result<Vec<(Id, Id)>, AllocError> {
         list_pairs(&self.packed, alloc)
     }

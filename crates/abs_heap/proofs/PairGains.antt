@@ -2,7 +2,7 @@
 use Rattle.std.proofs.Common.{◌≡◌, ◌≢◌, ℕ, zero, suc, ◌+◌, ◌*◌, ◌<◌, ◌≤◌, ◌==◌, ◌&&◌, ◌||◌, min, max, Bool, true, false, not, eqb, List, [], ◌∷◌, ◌++◌, length, get_or, take, Option, Some, None, ◌⊎◌, inl, inr, refl, sym, ap, subst, ◌∙◌, arith, eq-eqb}
 use Rattle.std.specs.Prelude.{slice_get}
 use Rattle.std.specs.List.{list_any}
-use Rattle.std.proofs.lemmas.Bool.{false≢true, eqb-true, eqb-false, cases_lt, and_parts, or_cases, or_left, or_right, cond-true, cond-false, cases_Bool}
+use Rattle.std.proofs.lemmas.Bool.{false≢true, eqb-true, cases_lt, and_parts, or_cases, or_left, or_right, cond-true, cond-false, cases_Bool}
 use Rattle.std.proofs.lemmas.List.{take_more, take_all}
 use Rattle.std.proofs.lemmas.Option.{slice_get_within, slice_get-get_or, none-some}
 use Rattle.abs_reach.proofs.Answering.{any_sort}
@@ -16,7 +16,6 @@ use Rattle.abs_cells.specs.PairLists.{pair_of, is_same, IsRising, has_pair, has,
 use Rattle.abs_cells.specs.Sound.{AreIdsRising, may_join}
 use Rattle.abs_cells.proofs.PairLaws.{same_is, is_same_from, before_is}
 use Rattle.abs_cells.proofs.Checking.{low_pair}
-use Rattle.abs_cells.proofs.RisingPairs.{no_pair}
 use Rattle.abs_reach.proofs.Room.{has_cell_low}
 use Rattle.abs_heap.specs.Given.{IsPair}
 use Rattle.abs_heap.specs.Names.{IsImage}
@@ -292,36 +291,17 @@ pub place_low : (pairs : List (ℕ × ℕ)) (n : ℕ) (p : ℕ × ℕ) → IsRis
 place_low pairs n p r e = let l = slice_get_within pairs n p e in let m = few_pairs pairs r in (l, omega (arith, l, m))
 
 -- partners
-pub partner_next : (id : ℕ) (pairs : List (ℕ × ℕ)) (n m : ℕ) (wanted old new : Bool) → wanted ≡ has id n pairs
-    → new ≡ ((wanted && (m == n)) || old) → (m < n → old ≡ has id m pairs) × (n ≤ m → old ≡ false)
-    → (m < n + 1 → new ≡ has id m pairs) × (n + 1 ≤ m → new ≡ false)
-partner_next id pairs n m wanted old new w f h = at (m == n) refl
+pub partner_next : (id : ℕ) (pairs : List (ℕ × ℕ)) (n : ℕ) (p : ℕ × ℕ) (m : ℕ) (old new : Bool) → slice_get pairs n ≡ Some p → old ≡ has id m (take n pairs) → new ≡ (is_same (pair_of id m) p || old) → new ≡ has id m (take (n + 1) pairs)
+partner_next id pairs n p m old new e f g = g ∙ ap (λ (b : Bool). is_same (pair_of id m) p || b) f ∙ turned (is_same (pair_of id m) p) (has id m (take n pairs)) ∙ sym (has_next id m pairs n p e)
   where
-    met : (a b : Bool) → b ≡ false → ((a && true) || b) ≡ a
-    met true b e = refl
-    met false b e = e
+    turned : (a b : Bool) → (a || b) ≡ (b || a)
+    turned true true = refl
+    turned true false = refl
+    turned false true = refl
+    turned false false = refl
 
-    missed : (a b : Bool) → ((a && false) || b) ≡ b
-    missed true b = refl
-    missed false b = refl
-
-    at : (b : Bool) → eqb m n ≡ b → (m < n + 1 → new ≡ has id m pairs) × (n + 1 ≤ m → new ≡ false)
-    at true e =
-        let same : m ≡ n = eqb-true m n e in (
-          λ l. f ∙ ap (λ (b : Bool). (wanted && b) || old) e ∙ met wanted old (h.1 (omega (arith, same))) ∙ w
-              ∙ ap (λ (k : ℕ). has id k pairs) (sym same),
-          λ l. absurd (omega (arith, l, same)),
-        )
-    at false e =
-        let kept : new ≡ old = f ∙ ap (λ (b : Bool). (wanted && b) || old) e ∙ missed wanted old in
-        (λ l. kept ∙ h.0 (omega (arith, l, eqb-false m n e)), λ l. kept ∙ h.1 (omega (arith, l)))
-
-pub partners_all : (id : ℕ) (pairs : List (ℕ × ℕ)) (n m : ℕ) (b : Bool) → IsRising pairs → 2048 ≤ n
-    → (m < n → b ≡ has id m pairs) × (n ≤ m → b ≡ false) → b ≡ has id m pairs
-partners_all id pairs n m b r l h = elim (cases_lt m n) [
-  | inl s ↦ h.0 s
-  | inr s ↦ h.1 s ∙ sym (no_pair id m pairs r (λ d x y. omega (arith, y, l, s)))
-]
+pub partners_all : (id : ℕ) (pairs : List (ℕ × ℕ)) (n m : ℕ) (b : Bool) → slice_get pairs n ≡ None → b ≡ has id m (take n pairs) → b ≡ has id m pairs
+partners_all id pairs n m b e f = f ∙ ap (has id m) (take_all n pairs (get_past pairs n e))
 
 -- ---- as code reads it
 

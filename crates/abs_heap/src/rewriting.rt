@@ -2,7 +2,6 @@
 ghost use Rattle.std.specs.Prelude.{◌≡◌, ◌↔◌, ◌<◌, ◌||◌, ◌==◌, ℕ, true, false, IfOk, OnOk, All, Some, map, slice_set, if◌then◌else◌};
 ghost use Rattle.std.specs.List.{list_any};
 ghost use Rattle.abs_cells.specs.IdSets.{has_id};
-ghost use Rattle.abs_cells.specs.PairLists.{IsRising};
 ghost use Rattle.abs_cells.specs.Sound.{AreIdsRising};
 ghost use Rattle.abs_heap.specs.Building.{Gains, IsOver};
 ghost use Rattle.abs_heap.specs.Names.{name_in};
@@ -10,7 +9,7 @@ ghost use Rattle.abs_heap.specs.Renaming.{is_beside, IsBeside, is_named, ids_wri
 ghost use Rattle.abs_heap.specs.Writing.{shape_after, is_renamed, cell_after};
 
 use crate::compatible::put_if;
-use crate::gaining::{pair_at, put_between};
+use crate::gaining::put_between;
 use crate::naming::{name_of, named_ids};
 use crate::putting::put_cell;
 use crate::shapes::shape_after;
@@ -193,13 +192,12 @@ fn put_beside(set: &mut IdSet, others: &IdSet, pair: (Id, Id))
 }
 
 /// The ids that are a pair with one of a set.
-pub(crate) fn ids_beside(pairs: &[(Id, Id)], others: &IdSet) -> IdSet
-    requires { IsRising pairs.now }
-    ensures { (n : ℕ) → (has_id result n ≡ true) ↔ IsBeside pairs.now others.now n }
+pub(crate) fn ids_beside<P: Pairs>(pairs: &P, others: &IdSet) -> IdSet
+    ensures { (n : ℕ) → (has_id result n ≡ true) ↔ IsBeside (P.pairs pairs.now) others.now n }
 {
     let mut set = IdSet::new();
     let mut n = 0;
-    while let Some((a, b)) = pair_at(pairs, n) {
+    while let Some((a, b)) = pairs.nth(n) {
         put_beside(&mut set, others, (a, b));
         n += 1;
     }

@@ -12,7 +12,7 @@ ghost use Rattle.abs_turns.specs.Turns.{frames_at, with_stack, interval_in, inte
 ghost use Rattle.abs_turns.specs.Needs.{may_be_null, is_unknown, known_partner};
 ghost use Rattle.abs_turns.specs.Table.{local_here, is_null_here, place_under, bottom_of, locals_of_method, static_local};
 
-use abs_cells::{AbsFrame, AbsState, Cell, Id, Pairs, copied_frames, is_pair};
+use abs_cells::{AbsFrame, AbsState, Cell, Id, Pairs, copied_frames};
 use abs_reach::cell_of;
 use class_program::Program;
 use jvm_values::{FrameType, PlaceType};
@@ -319,7 +319,18 @@ impl<'a, 'p, P: Pairs> Spot<'a, 'p, P> {
     pub fn may_be_one(&self, a: Id, b: Id) -> bool
         ensures { result ≡ has a b self.now.state.eq }
     {
-        is_pair(self.state.eq(), a, b)
+        let pairs = self.state.eq();
+        let _first = pairs.nth(0);
+        if a == b {
+            return false;
+        }
+        if a >= 2048 {
+            return false;
+        }
+        if b >= 2048 {
+            return false;
+        }
+        pairs.has(a, b)
     }
 
     /// Whether an id is known, and may be the same object as another one.

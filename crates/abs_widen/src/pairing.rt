@@ -19,7 +19,7 @@ fn are_equal<P: Pairs>(state: &AbsState<P>, x: Id, y: Id) -> bool
     ensures { IsTrue result ↔ AreEqual state.now x y }
 {
     let pairs = state.eq();
-    pairs.rise();
+    let _first = pairs.nth(0);
     x != y && pairs.has(x, y)
 }
 
@@ -322,7 +322,7 @@ pub(crate) fn joined<P: Pairs>(
     for n in 0..pairs.len() {
         join_row(a, b, pairs, cells, n, &mut eq, &mut shared, marks)?;
     }
-    eq.rise();
-    shared.rise();
+    let _one = eq.nth(0);
+    let _share = shared.nth(0);
     Ok((eq, shared))
 }

@@ -114,7 +114,7 @@ pub fn widen<T: Types, P: Pairs>(
     ensures sound { IfOk result (λ wide. IsSound (world_types (T.sub types.now) (T.erase types.now) (T.classes types.now) (T.fields types.now) (T.can_be_made types.now)) wide) }
     ensures err { result ≡ Err TooManyIds → AreTooMany a.now b.now }
 {
-    a.eq().rise();
-    b.eq().rise();
+    let _first = a.eq().nth(0);
+    let _second = b.eq().nth(0);
     widening_of(alloc, types, a, b, marks)
 }
